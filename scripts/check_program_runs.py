@@ -212,6 +212,7 @@ FAULTS = [
     ("echo network 16 0 | ncroute run --filter a=examples/no_bogons.filter --filter b=no_such.filter --filter c=examples 2>&1; echo $?",
      b"no_such.filter: No such file or directory (E1)\n1\n"),
     ("echo network 16 0 | ncroute run --filter b=<(head -c 1048577 /dev/zero) 2>&1 | sed 's/.*: //'; echo $?", b"longer than 1048576 bytes (E4)\n1\n"),
+    ("ncroute import <(head -c 16777217 /dev/zero) 2>&1 | sed 's/.*: //'; echo $?", b"longer than 16777216 bytes (E4)\n1\n"),
     ("printf 'up 1\\nnetwork 16 0\\nup 1\\n' | ncroute run --explain never --filter b=examples/backup_link.filter --filter c=<(echo 'filter c { acept; }') 2>&1 | sed 's/^[^:]*:1/FILE:1/'; echo ${PIPESTATUS[1]}",
      b"refused O4 1\nFILE:1:12: `acept` is no command; did you mean `accept`? (P2)\nfilter c { acept; }\n           ^\n1\n"),
     ("echo network 16 0 | ncroute run --filter c=<(echo 'filter c { acept; }') 2>/dev/full; echo $?", b"1\n"),

@@ -1,7 +1,10 @@
 pub mod Sources
 pub mod Tested
 pub mod Untold
+mod FileNames
 mod FiltersRead
+mod Gathered
+mod Imported
 mod JoinedRead
 mod Loaded
 mod PlanAdded

@@ -4,11 +4,14 @@ pub mod Ending
 pub mod Filters
 pub mod Following
 pub mod Guiding
+pub mod Importing
+pub mod Including
 pub mod Joining
 pub mod Linting
 pub mod Loading
 pub mod Marking
 pub mod Networking
+pub mod Places
 pub mod Planning
 pub mod Reading
 pub mod Replaying
@@ -19,3 +22,4 @@ pub mod Scripts
 pub mod Streaming
 pub mod Testing
 pub mod Trying
+pub mod Watching

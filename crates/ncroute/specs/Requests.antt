@@ -1,5 +1,5 @@
 -- What the program does for what it is asked, and its exit status. (This project's own choice.)
-use Rattle.std.specs.Prelude.{◌≡◌, ◌⊎◌, ◌≤◌, ℕ, Bool, List, Option, IfSome, Result}
+use Rattle.std.specs.Prelude.{◌≡◌, ◌⊎◌, ℕ, Bool, List, Option, IfSome, Result}
 use Rattle.std.specs.Prelude.{is_some, string_bytes, ⊤}
 use Rattle.std.specs.declared.io.Error.{Error}
 use Rattle.filter_source.specs.Limits.{source_limit}
@@ -18,6 +18,7 @@ use Rattle.ncroute.specs.Checking.{ChecksAll, ChecksSome}
 use Rattle.ncroute.specs.Comparing.{ComparesSources, StopsComparing}
 use Rattle.ncroute.specs.Ending.{fault_line, status_of, status_of_found}
 use Rattle.ncroute.specs.Guiding.{RunsGuided, StopsRun}
+use Rattle.ncroute.specs.Importing.{ImportsSource}
 use Rattle.ncroute.specs.Joining.{RunsJoined, StopsJoined}
 use Rattle.ncroute.specs.Linting.{LintsAll, StopsLinting}
 use Rattle.ncroute.specs.Reading.{Reads, SkipsUnread, StopsReading, name_of}
@@ -99,13 +100,13 @@ module _ (opens : List ℕ → Result (Option (List ℕ)) Error → Type 0) wher
 
   -- `creates name` says what may come of making a file of this name: what it holds at first, or why there is none.
   module _ (creates : List ℕ → Result (Option (List ℕ)) Error → Type 0) where
-    -- What was asked for was done to its end, with this exit status. Of an import nothing more is said.
+    -- What was asked for was done to its end, with this exit status.
     abbrev pub Answers : Request → Streams → Streams → ℕ → Type 0
     Answers (request.Check how sources) before after status = ChecksAll opens how sources.items before after status
     Answers (request.Diff how old new) before after status = ComparesSources opens how old new before after status
     Answers (request.Eval is_told) before after status = EvaluatesTold is_told before after status
     Answers (request.Explain page) before after status = Writes (string_bytes page) before after × (status ≡ 0)
-    Answers (request.Import how source) before after status = status ≤ 1
+    Answers (request.Import how source) before after status = ImportsSource creates opens how source before after status
     Answers (request.List size is_code source is_explained) before after status =
         ListsSource size is_code is_explained source before after status
     Answers (request.Filter how source) before after status = TriesFilter opens how source before after status
@@ -117,7 +118,7 @@ module _ (opens : List ℕ → Result (Option (List ℕ)) Error → Type 0) wher
     Answers (request.Script engine source is_explained) before after status = RunsSource opens engine source is_explained before after status
     Answers (request.Test how sources) before after status = TestsSources opens how sources.items before after status
 
-    -- A fault ended it.
+    -- A fault ended it. Of an import nothing more is said.
     abbrev pub StopsAnswer : StreamFault → Request → Streams → Streams → Type 0
     StopsAnswer fault (request.Check how sources) before after = ChecksSome opens fault how sources.items before after
     StopsAnswer fault (request.Diff how old new) before after = StopsComparing opens fault how old new before after

@@ -1,17 +1,26 @@
 //! From a configuration of BIRD to verified filters, in files of their own: the engine of `import`.
-ghost use Rattle.std.specs.Prelude.{◌≤◌, IfOk};
+ghost use Rattle.std.specs.Option.{option_map};
+ghost use Rattle.std.specs.Prelude.{◌≡◌, ◌≤◌, [], ◌∷◌, ◌++◌, IfOk, IfSome, OnOk, is_some, length, string_bytes};
+ghost use Rattle.ncroute.specs.Following.{DoesFirst};
+ghost use Rattle.ncroute.specs.Importing.{ImportsConfig, ImportsCut, ImportsDraft, ImportsMade, ImportsRead, ImportsSource, ImportsWords, IsMade, IsOfWords, IsVerifiedText};
+ghost use Rattle.ncroute.specs.Importing.{SavesFilter, SavesText, TellsEnd, TellsStrange, TellsWord, byte_line, end_words, ends_in_slash, fate_words, file_name, file_path, made_line, path_words, slash_behind, strange_words, text_in};
+ghost use Rattle.ncroute.specs.Places.{config_of, place_of};
+ghost use Rattle.ncroute.specs.Streaming.{Tells, Writes};
+ghost use Rattle.filter_source.specs.VerifiedLine.{verified_line};
 
+use crate::checking::is_any;
 use crate::console::Console;
-use crate::ending::FAILED;
+use crate::ending::{FAILED, status_of_found};
 use crate::including::{Whole, push_place, push_texts, read_whole};
-use crate::texts::{Folder, tell_unmade, write_line};
+use crate::texts::{Folder, tell_unmade};
 use bird_import::{
-    Config, Cut, Draft, Fate, FilterText, Outcome, Why, Word, cut_words, find_definitions,
-    find_items, make_drafts, origin_of, write_filter,
+    Config, Cut, Draft, Fate, FilterText, Outcome, Why, Word, WordKind, cut_words,
+    find_definitions, find_items, make_drafts, origin_of, write_filter,
 };
 use command_line::{Importing, Source};
 use filter_commands::ProgramFault;
 use filter_source::{Diagnosis, Failure, compile_text_mapped, push_verified, verify_mapped};
+use filter_tokens::TokenFault;
 use filter_tools::{explain, push_shown};
 use filter_verifier::Verified;
 use line_protocol::write_text;
@@ -47,7 +56,10 @@ struct Made {
 }
 
 /// What is told of a filter that is left out.
-fn left_out(alloc: Global, at: usize, why: Why<'_>) -> Result<Made, AllocError> {
+fn left_out(alloc: Global, at: usize, why: Why<'_>) -> Result<Made, AllocError>
+    ensures text { IfOk result (λ made. text_in made ≡ None) }
+    ensures place { IfOk result (λ made. made.at ≡ at) }
+{
     let words = format!(in alloc; "{why}")?;
     Ok(Made {
         text: None,
@@ -57,11 +69,9 @@ fn left_out(alloc: Global, at: usize, why: Why<'_>) -> Result<Made, AllocError> 
 }
 
 /// The text of a filter that is verified for domains of a size, or why it is left out.
-fn verified(
-    alloc: Global,
-    text: &[u8],
-    size: u32,
-) -> Result<Result<Vec<u8>, Diagnosis>, AllocError> {
+fn verified(alloc: Global, text: &[u8], size: u32) -> Result<Result<Vec<u8>, Diagnosis>, AllocError>
+    ensures { IfOk result (λ verified. IfOk verified (λ line. IsVerifiedText size text.now line.items)) }
+{
     let mapped = match compile_text_mapped(alloc, text) {
         Ok(mapped) => mapped,
         Err(Failure::Refused(told)) => return Ok(Err(told)),
@@ -75,7 +85,9 @@ fn verified(
 }
 
 /// The line of a filter that is verified.
-fn verified_line(alloc: Global, verified: &Verified) -> Result<Vec<u8>, AllocError> {
+fn verified_line(alloc: Global, verified: &Verified) -> Result<Vec<u8>, AllocError>
+    ensures { IfOk result (λ line. line.items ≡ verified_line verified.now.program) }
+{
     let mut line = Vec::new(alloc);
     push_verified(&mut line, verified)?;
     Ok(line)
@@ -110,7 +122,9 @@ fn push_origin(
     whole: &Whole,
     words: &[u8],
     at: usize,
-) -> Result<(), AllocError> {
+) -> Result<(), AllocError>
+    ensures { OnOk result (head.new.items ≡ head.old.items ++ words.now ++ place_of (config_of whole.now) at ++ 10 ∷ []) }
+{
     head.extend_from_slice(words)?;
     push_place(alloc, head, whole, at)?;
     head.push(b'\n')?;
@@ -136,21 +150,66 @@ fn make_filter(
     size: u32,
     draft: &Draft<'_>,
     words: &[Word<'_>],
-) -> Result<Made, AllocError> {
+) -> Result<Made, AllocError>
+    ensures { IfOk result (λ made. IfSome (text_in made) (IsOfWords size draft.now.at words.now made)) }
+{
     let head = head_of(alloc, whole, draft.at, draft.end, words)?;
     let written = write_filter(alloc, head.as_slice(), words)?;
     match written.fate {
-        Fate::Garbled => left_out(alloc, draft.at, Why::Unwritten),
+        Fate::Taken => verify_filter(alloc, size, draft.at, written),
+        _ => refuse_filter(alloc, size, draft.at, &written),
+    }
+}
+
+/// Why a filter is left out whose text is not written for its words, or reads a variable before it is assigned.
+fn refuse_filter(
+    alloc: Global,
+    size: u32,
+    at: usize,
+    written: &FilterText,
+) -> Result<Made, AllocError>
+    ensures { IfOk result (λ made. text_in made ≡ None) }
+{
+    match written.fate {
         Fate::Unset(byte) => {
             let name = name_at(written.text.as_slice(), byte);
-            left_out(
-                alloc,
-                place_of(&written, Some(byte), draft.at),
-                Why::Unset(name),
-            )
+            left_out(alloc, place_of(written, Some(byte), at), Why::Unset(name))
         }
-        Fate::Taken | Fate::Refused(_) => verify_filter(alloc, size, draft.at, written),
+        Fate::Refused(_) => refuse_text(alloc, size, at, written),
+        Fate::Taken | Fate::Garbled => left_out(alloc, at, Why::Unwritten),
     }
+}
+
+/// Why a filter is left out whose text was refused when it was written.
+fn refuse_text(
+    alloc: Global,
+    size: u32,
+    at: usize,
+    written: &FilterText,
+) -> Result<Made, AllocError>
+    ensures { IfOk result (λ made. text_in made ≡ None) }
+{
+    match verified(alloc, written.text.as_slice(), size)? {
+        Err(told) => refused(alloc, at, written, &told),
+        // Memory was refused when it was parsed, and is there now.
+        Ok(_line) => left_out(alloc, at, Why::Unwritten),
+    }
+}
+
+/// What is told of a filter whose text is refused.
+fn refused(
+    alloc: Global,
+    at: usize,
+    written: &FilterText,
+    told: &Diagnosis,
+) -> Result<Made, AllocError>
+    ensures { IfOk result (λ made. text_in made ≡ None) }
+{
+    Ok(Made {
+        text: None,
+        at: place_of(written, told.byte, at),
+        words: words_of(alloc, written.text.as_slice(), told)?,
+    })
 }
 
 /// The place of a configuration from which a byte of a filter's text comes; that of the filter if there is none.
@@ -167,50 +226,84 @@ fn verify_filter(
     size: u32,
     at: usize,
     written: FilterText,
-) -> Result<Made, AllocError> {
+) -> Result<Made, AllocError>
+    ensures verified { IfOk result (λ made. IfSome (text_in made) (λ text. IsVerifiedText size text made.words.items)) }
+    ensures place { IfOk result (λ made. IfSome (text_in made) (λ text. made.at ≡ at)) }
+    ensures text { IfOk result (λ made. IfSome (text_in made) (λ text. text ≡ written.text.items)) }
+{
     match verified(alloc, written.text.as_slice(), size)? {
         Ok(words) => Ok(Made {
             text: Some(written.text),
             at,
             words,
         }),
-        Err(told) => Ok(Made {
-            text: None,
-            at: place_of(&written, told.byte, at),
-            words: words_of(alloc, written.text.as_slice(), &told)?,
-        }),
+        Err(told) => refused(alloc, at, &written, &told),
     }
 }
 
 /// What comes of a filter.
-fn make(alloc: Global, whole: &Whole, size: u32, draft: &Draft<'_>) -> Result<Made, AllocError> {
+fn make(alloc: Global, whole: &Whole, size: u32, draft: &Draft<'_>) -> Result<Made, AllocError>
+    ensures { IfOk result (IsMade size draft.now.at draft.now.outcome) }
+{
     match &draft.outcome {
         Outcome::LeftOut(reason) => left_out(alloc, reason.at, reason.why),
         Outcome::Drafted(words) => make_filter(alloc, whole, size, draft, words.as_slice()),
     }
 }
 
-/// The name of the file of a filter in a folder.
-fn file_name(alloc: Global, folder: &str, name: &[u8]) -> Result<String, AllocError> {
+/// Whether the last byte of a text is a slash.
+fn ends_in_slash(text: &[u8]) -> bool
+    ensures { result ≡ ends_in_slash text.now }
+{
+    match text.last() {
+        Some(byte) => *byte == b'/',
+        None => false,
+    }
+}
+
+/// What stands between the path of a folder and a name in it.
+fn slash_behind(folder: &str) -> &'static str
+    ensures { result.now ≡ slash_behind folder.now }
+{
+    if ends_in_slash(folder.as_bytes()) {
+        ""
+    } else {
+        "/"
+    }
+}
+
+/// A name that can be that of a file: nothing of one that is not UTF-8.
+#[tactic(auto, using(crate::proofs::FileNames::utf8_name, crate::proofs::FileNames::no_name))]
+fn file_name(name: &[u8]) -> &str
+    ensures { result.now ≡ file_name name.now }
+{
+    match str::from_utf8(name) {
+        Ok(name) => name,
+        Err(_) => "",
+    }
+}
+
+/// The path of the file of a filter in a folder.
+fn file_path(alloc: Global, folder: &str, name: &[u8]) -> Result<String, AllocError>
+    ensures { IfOk result (λ path. string_bytes path ≡ file_path folder.now name.now) }
+{
     let mut path = String::from_str(alloc, folder)?;
-    if !folder.ends_with('/') {
-        path.push_str("/")?;
-    }
-    if let Ok(name) = str::from_utf8(name) {
-        path.push_str(name)?;
-    }
+    path.push_str(slash_behind(folder))?;
+    path.push_str(file_name(name))?;
     path.push_str(".filter")?;
     Ok(path)
 }
 
-/// Writes a text into a new file. Returns whether that was done, which is told otherwise.
-fn save<F: Folder, E: Write>(
+/// Writes a text into a new file. Returns whether that was done; people are told where no file was made.
+fn save<F: Folder, R: Read, W: Write, E: Write>(
     files: &F,
     alloc: Global,
     path: &str,
     text: &[u8],
-    errors: &mut E,
-) -> Result<bool, ProgramFault> {
+    console: &mut Console<R, W, E>,
+) -> Result<bool, ProgramFault>
+    ensures { IfOk result (SavesText (F.creates files.now) path.now text.now console.old console.new) }
+{
     match files.create(path) {
         Ok(file) => {
             let mut file = file;
@@ -218,7 +311,7 @@ fn save<F: Folder, E: Write>(
             Ok(true)
         }
         Err(error) => {
-            tell_unmade(alloc, errors, path, &error)?;
+            tell_unmade(alloc, &mut console.errors, path, &error)?;
             Ok(false)
         }
     }
@@ -231,7 +324,9 @@ fn made_line(
     name: &[u8],
     made: &Made,
     path: Option<&str>,
-) -> Result<Vec<u8>, AllocError> {
+) -> Result<Vec<u8>, AllocError>
+    ensures { IfOk result (λ line. line.items ≡ made_line (config_of whole.now) name.now made.now (option_map (λ path. path.now) path.entry)) }
+{
     let mut line = Vec::new(alloc);
     push_place(alloc, &mut line, whole, made.at)?;
     line.extend_from_slice(b" filter ")?;
@@ -242,7 +337,9 @@ fn made_line(
 }
 
 /// Adds the name of the file of a filter, where it has one.
-fn push_path(alloc: Global, line: &mut Vec<u8>, path: Option<&str>) -> Result<(), AllocError> {
+fn push_path(alloc: Global, line: &mut Vec<u8>, path: Option<&str>) -> Result<(), AllocError>
+    ensures { OnOk result (line.new.items ≡ line.old.items ++ path_words (option_map (λ path. path.now) path.entry)) }
+{
     match path {
         Some(path) => {
             line.extend_from_slice(b" -> ")?;
@@ -253,7 +350,9 @@ fn push_path(alloc: Global, line: &mut Vec<u8>, path: Option<&str>) -> Result<()
 }
 
 /// Adds what comes of a filter, to the end of the line.
-fn push_fate(line: &mut Vec<u8>, made: &Made) -> Result<(), AllocError> {
+fn push_fate(line: &mut Vec<u8>, made: &Made) -> Result<(), AllocError>
+    ensures { OnOk result (line.new.items ≡ line.old.items ++ fate_words (is_some (text_in made.now)) made.now.words.items) }
+{
     let words = made.words.as_slice();
     match made.text {
         Some(_) => push_texts(line, &[b" ", words]),
@@ -262,19 +361,22 @@ fn push_fate(line: &mut Vec<u8>, made: &Made) -> Result<(), AllocError> {
 }
 
 /// Tells what comes of a filter. `path` is the name of its file, where it has one.
-fn tell_made<W: Write>(
+fn tell_made<R: Read, W: Write, E: Write>(
     alloc: Global,
     whole: &Whole,
     name: &[u8],
     made: &Made,
     path: Option<&str>,
-    writer: &mut W,
-) -> Result<(), ProgramFault> {
+    console: &mut Console<R, W, E>,
+) -> Result<(), ProgramFault>
+    ensures { OnOk result (Writes (made_line (config_of whole.now) name.now made.now (option_map (λ path. path.now) path.entry))
+        console.old console.new) }
+{
     let line = made_line(alloc, whole, name, made, path)?;
-    write_line(writer, line.as_slice())
+    console.write(line.as_slice())
 }
 
-/// Writes the text of a filter into a new file, and tells what came of it. Returns whether it was written.
+/// Writes the text of a filter into a new file, and tells what came of it. Returns whether the filter is left out.
 fn save_made<F: Folder, R: Read, W: Write, E: Write>(
     files: &F,
     alloc: Global,
@@ -284,16 +386,17 @@ fn save_made<F: Folder, R: Read, W: Write, E: Write>(
     text: &[u8],
     path: &str,
     console: &mut Console<R, W, E>,
-) -> Result<bool, ProgramFault> {
-    if !save(files, alloc, path, text, &mut console.errors)? {
-        return Ok(false);
+) -> Result<bool, ProgramFault>
+    ensures { IfOk result (SavesFilter (F.creates files.now) (config_of whole.now) name.now made.now text.now path.now console.old console.new) }
+{
+    if !save(files, alloc, path, text, console)? {
+        return Ok(true);
     }
-    tell_made(alloc, whole, name, made, Some(path), &mut console.writer)?;
-    Ok(true)
+    tell_made(alloc, whole, name, made, Some(path), console)?;
+    Ok(false)
 }
 
-/// Writes a filter into its file, if there is a folder for it and it is verified, and tells what came of it. Returns whether it was
-/// verified, and written where it was to be.
+/// Writes a filter into its file, if there is a folder for it and it is verified, and tells what came of it. Returns whether it is left out.
 fn import_made<F: Folder, R: Read, W: Write, E: Write>(
     files: &F,
     alloc: Global,
@@ -302,25 +405,24 @@ fn import_made<F: Folder, R: Read, W: Write, E: Write>(
     name: &[u8],
     made: &Made,
     console: &mut Console<R, W, E>,
-) -> Result<bool, ProgramFault> {
-    let (Some(folder), Some(text)) = (&how.folder, &made.text) else {
-        tell_made(alloc, whole, name, made, None, &mut console.writer)?;
-        return Ok(made.text.is_some());
-    };
-    let path = file_name(alloc, folder.as_str(), name)?;
-    save_made(
-        files,
-        alloc,
-        whole,
-        name,
-        made,
-        text.as_slice(),
-        path.as_str(),
-        console,
-    )
+) -> Result<bool, ProgramFault>
+    ensures { IfOk result (ImportsMade (F.creates files.now) how.now.folder (text_in made.now) (config_of whole.now) name.now made.now
+        console.old console.new) }
+{
+    match (&how.folder, &made.text) {
+        (Some(folder), Some(text)) => {
+            let path = file_path(alloc, folder.as_str(), name)?;
+            let (text, path) = (text.as_slice(), path.as_str());
+            save_made(files, alloc, whole, name, made, text, path, console)
+        }
+        (_, text) => {
+            tell_made(alloc, whole, name, made, None, console)?;
+            Ok(text.is_none())
+        }
+    }
 }
 
-/// Makes a filter of a draft, and imports it. Returns whether it was imported.
+/// Makes a filter of a draft, and imports it. Returns whether it is left out.
 fn import_one<F: Folder, R: Read, W: Write, E: Write>(
     files: &F,
     alloc: Global,
@@ -328,13 +430,17 @@ fn import_one<F: Folder, R: Read, W: Write, E: Write>(
     whole: &Whole,
     draft: &Draft<'_>,
     console: &mut Console<R, W, E>,
-) -> Result<bool, ProgramFault> {
+) -> Result<bool, ProgramFault>
+    ensures { IfOk result (ImportsDraft (F.creates files.now) how.now (config_of whole.now) draft.now console.old console.new) }
+{
     let made = make(alloc, whole, how.size, draft)?;
     import_made(files, alloc, how, whole, draft.name, &made, console)
 }
 
 /// The line that tells of a byte of a configuration.
-fn byte_line(alloc: Global, whole: &Whole, at: usize, words: &str) -> Result<Vec<u8>, AllocError> {
+fn byte_line(alloc: Global, whole: &Whole, at: usize, words: &str) -> Result<Vec<u8>, AllocError>
+    ensures { IfOk result (λ line. line.items ≡ byte_line (config_of whole.now) at words.now) }
+{
     let mut line = Vec::new(alloc);
     push_place(alloc, &mut line, whole, at)?;
     push_texts(&mut line, &[b" ", words.as_bytes(), b"\n"])?;
@@ -342,18 +448,20 @@ fn byte_line(alloc: Global, whole: &Whole, at: usize, words: &str) -> Result<Vec
 }
 
 /// Tells of a byte of a configuration that begins no word, or behind which nothing is known.
-fn tell_byte<W: Write>(
+fn tell_byte<R: Read, W: Write, E: Write>(
     alloc: Global,
     whole: &Whole,
     at: usize,
     words: &str,
-    writer: &mut W,
-) -> Result<(), ProgramFault> {
+    console: &mut Console<R, W, E>,
+) -> Result<(), ProgramFault>
+    ensures { OnOk result (Writes (byte_line (config_of whole.now) at words.now) console.old console.new) }
+{
     let line = byte_line(alloc, whole, at, words)?;
-    write_line(writer, line.as_slice())
+    console.write(line.as_slice())
 }
 
-/// Imports the filters that drafts are of. Returns whether all of them were.
+/// Imports the filters that drafts are of. Returns whether one of them is left out.
 fn import_drafts<F: Folder, R: Read, W: Write, E: Write>(
     files: &F,
     alloc: Global,
@@ -361,29 +469,34 @@ fn import_drafts<F: Folder, R: Read, W: Write, E: Write>(
     whole: &Whole,
     drafts: &[Draft<'_>],
     console: &mut Console<R, W, E>,
-) -> Result<bool, ProgramFault> {
-    let mut is_whole = true;
+) -> Result<bool, ProgramFault>
+    ensures { IfOk result (DoesFirst (ImportsDraft (F.creates files.now) how.now (config_of whole.now)) drafts.now (length drafts.now)
+        console.old console.new) }
+{
+    let mut is_left = false;
     for draft in drafts {
         let one = import_one(files, alloc, how, whole, draft, console)?;
-        is_whole = is_whole && one;
+        is_left = is_any(is_left, one);
     }
-    Ok(is_whole)
+    Ok(is_left)
 }
 
-/// Imports the filters of a configuration whose parts are found. Returns whether all of them were.
-fn import_config<F: Folder, R: Read, W: Write, E: Write>(
+/// Imports the filters of a configuration whose parts are found. Returns whether one of them is left out.
+fn import_parts<F: Folder, R: Read, W: Write, E: Write>(
     files: &F,
     alloc: Global,
     how: &Importing,
     whole: &Whole,
     config: &Config<'_>,
     console: &mut Console<R, W, E>,
-) -> Result<bool, ProgramFault> {
+) -> Result<bool, ProgramFault>
+    ensures { IfOk result (ImportsWords (F.creates files.now) how.now (config_of whole.now) config.now.words.now console.old console.new) }
+{
     let drafts = make_drafts(alloc, config)?;
     import_drafts(files, alloc, how, whole, drafts.as_slice(), console)
 }
 
-/// Imports the filters among words. Returns whether all of them were.
+/// Imports the filters among words. Returns whether one of them is left out.
 fn import_words<F: Folder, R: Read, W: Write, E: Write>(
     files: &F,
     alloc: Global,
@@ -391,7 +504,9 @@ fn import_words<F: Folder, R: Read, W: Write, E: Write>(
     whole: &Whole,
     words: &[Word<'_>],
     console: &mut Console<R, W, E>,
-) -> Result<bool, ProgramFault> {
+) -> Result<bool, ProgramFault>
+    ensures { IfOk result (ImportsWords (F.creates files.now) how.now (config_of whole.now) words.now console.old console.new) }
+{
     let definitions = find_definitions(alloc, words)?;
     let items = find_items(alloc, words)?;
     let config = Config {
@@ -399,43 +514,79 @@ fn import_words<F: Folder, R: Read, W: Write, E: Write>(
         definitions: definitions.as_slice(),
         items: items.as_slice(),
     };
-    import_config(files, alloc, how, whole, &config, console)
+    import_parts(files, alloc, how, whole, &config, console)
 }
 
-/// Tells of each byte with which no word begins. Returns whether there is none.
-fn tell_strange<W: Write>(
+/// What is said of a byte that begins no word.
+#[tactic(auto, unfolding(crate::specs::Importing::strange_words))]
+fn strange_words() -> &'static str
+    ensures { result.now ≡ strange_words }
+{
+    "no word begins with this byte"
+}
+
+/// What is said of a byte behind which nothing is known.
+#[tactic(auto, unfolding(crate::specs::Importing::end_words))]
+fn end_words() -> &'static str
+    ensures { result.now ≡ end_words }
+{
+    "a comment or a text begins here that is not closed: nothing behind it was read"
+}
+
+/// Tells of a word if it is a byte that begins none. Returns whether it is.
+fn tell_word<R: Read, W: Write, E: Write>(
+    alloc: Global,
+    whole: &Whole,
+    word: &Word<'_>,
+    console: &mut Console<R, W, E>,
+) -> Result<bool, ProgramFault>
+    ensures { IfOk result (TellsWord (config_of whole.now) word.now console.old console.new) }
+{
+    match word.kind {
+        WordKind::Strange => {
+            tell_byte(alloc, whole, word.at, strange_words(), console)?;
+            Ok(true)
+        }
+        _ => Ok(false),
+    }
+}
+
+/// Tells of each byte with which no word begins. Returns whether there is one.
+fn tell_strange<R: Read, W: Write, E: Write>(
     alloc: Global,
     whole: &Whole,
     words: &[Word<'_>],
-    writer: &mut W,
-) -> Result<bool, ProgramFault> {
-    let mut has_none = true;
+    console: &mut Console<R, W, E>,
+) -> Result<bool, ProgramFault>
+    ensures { IfOk result (TellsStrange (config_of whole.now) words.now console.old console.new) }
+{
+    let mut has_any = false;
     for word in words {
-        if word.is_strange() {
-            let why = "no word begins with this byte";
-            tell_byte(alloc, whole, word.at, why, writer)?;
-            has_none = false;
-        }
+        let one = tell_word(alloc, whole, word, console)?;
+        has_any = is_any(has_any, one);
     }
-    Ok(has_none)
+    Ok(has_any)
 }
 
-/// Tells where the words of a configuration end before its end, if they do. Returns whether they do not.
-fn tell_end<W: Write>(
+/// Tells where the words of a configuration end before its end, if they do. Returns whether they do.
+fn tell_end<R: Read, W: Write, E: Write>(
     alloc: Global,
     whole: &Whole,
-    cut: &Cut<'_>,
-    writer: &mut W,
-) -> Result<bool, ProgramFault> {
-    let Some(fault) = cut.end else {
-        return Ok(true);
-    };
-    let why = "a comment or a text begins here that is not closed: nothing behind it was read";
-    tell_byte(alloc, whole, fault.at(), why, writer)?;
-    Ok(false)
+    end: Option<TokenFault>,
+    console: &mut Console<R, W, E>,
+) -> Result<bool, ProgramFault>
+    ensures { IfOk result (TellsEnd (config_of whole.now) end console.old console.new) }
+{
+    match end {
+        Some(fault) => {
+            tell_byte(alloc, whole, fault.at(), end_words(), console)?;
+            Ok(true)
+        }
+        None => Ok(false),
+    }
 }
 
-/// Imports the filters among the words of a configuration. Returns whether all of it was.
+/// Imports the filters among the words of a configuration. Returns whether something of it is left out.
 fn import_cut<F: Folder, R: Read, W: Write, E: Write>(
     files: &F,
     alloc: Global,
@@ -443,27 +594,46 @@ fn import_cut<F: Folder, R: Read, W: Write, E: Write>(
     whole: &Whole,
     cut: &Cut<'_>,
     console: &mut Console<R, W, E>,
-) -> Result<bool, ProgramFault> {
+) -> Result<bool, ProgramFault>
+    ensures { IfOk result (ImportsCut (F.creates files.now) how.now (config_of whole.now) cut.now.words.items cut.now.end console.old console.new) }
+{
     let words = cut.words.as_slice();
-    let are_taken = import_words(files, alloc, how, whole, words, console)?;
-    let are_words = tell_strange(alloc, whole, words, &mut console.writer)?;
-    let are_all = tell_end(alloc, whole, cut, &mut console.writer)?;
-    Ok(are_taken && are_words && are_all)
+    let is_filter_left = import_words(files, alloc, how, whole, words, console)?;
+    let is_strange = tell_strange(alloc, whole, words, console)?;
+    let is_cut = tell_end(alloc, whole, cut.end, console)?;
+    Ok(is_filter_left || is_strange || is_cut)
 }
 
-/// Imports the filters of a configuration. Returns whether all of it was.
+/// Imports the filters of a configuration. Returns whether something of it is left out.
 fn import_whole<F: Folder, R: Read, W: Write, E: Write>(
     files: &F,
     alloc: Global,
     how: &Importing,
     whole: &Whole,
     console: &mut Console<R, W, E>,
-) -> Result<bool, ProgramFault> {
+) -> Result<bool, ProgramFault>
+    ensures { IfOk result (ImportsConfig (F.creates files.now) how.now (config_of whole.now) console.old console.new) }
+{
     let cut = cut_words(alloc, whole.text.as_slice())?;
     import_cut(files, alloc, how, whole, &cut, console)
 }
 
+/// The exit status of an import, where something of a configuration that was read is left out or nothing.
+fn import_read<F: Folder, R: Read, W: Write, E: Write>(
+    files: &F,
+    alloc: Global,
+    how: &Importing,
+    whole: &Whole,
+    console: &mut Console<R, W, E>,
+) -> Result<u8, ProgramFault>
+    ensures { IfOk result (ImportsRead (F.creates files.now) how.now (config_of whole.now) console.old console.new) }
+{
+    let is_left = import_whole(files, alloc, how, whole, console)?;
+    Ok(status_of_found(is_any(whole.is_partial, is_left)))
+}
+
 /// Imports the filters of the configuration that a source is, and returns the exit status: 0, or 1 where something was left out.
+#[tactic(auto, unfolding(crate::specs::Importing::ImportsSource))]
 pub fn import_source<F: Folder, R: Read, W: Write, E: Write>(
     files: &F,
     alloc: Global,
@@ -471,17 +641,11 @@ pub fn import_source<F: Folder, R: Read, W: Write, E: Write>(
     source: &Source,
     console: &mut Console<R, W, E>,
 ) -> Result<u8, ProgramFault>
-    ensures { IfOk result (λ status. status ≤ 1) }
+    ensures status { IfOk result (λ status. status ≤ 1) }
+    ensures finished { IfOk result (ImportsSource (F.creates files.now) (F.opens files.now) how.now source.now console.old console.new) }
 {
     match read_whole(files, alloc, source, console)? {
-        Some(whole) => {
-            let is_whole = import_whole(files, alloc, how, &whole, console)?;
-            Ok(if is_whole && !whole.is_partial {
-                0
-            } else {
-                FAILED
-            })
-        }
+        Some(whole) => import_read(files, alloc, how, &whole, console),
         None => Ok(FAILED),
     }
 }

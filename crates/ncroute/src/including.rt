@@ -1,6 +1,14 @@
 //! A configuration of BIRD, with the files that it includes in their places.
+ghost use Rattle.std.specs.List.{flat_map};
+ghost use Rattle.std.specs.Option.{option_map};
+ghost use Rattle.std.specs.Prelude.{◌≡◌, ◌++◌, [], ◌∷◌, IfOk, OnOk, decimal, length};
+ghost use Rattle.ncroute.specs.Including.{IsConfig, IsText, LeavesOut, PutsFile, PutsIncluded, TakesWithin, bytes_between, closed, include_depth, last_file, left_behind, left_line, left_words, long_config};
+ghost use Rattle.ncroute.specs.Including.{long_config_line, nothing, opened, why_words, with_part};
+ghost use Rattle.ncroute.specs.Places.{IsAlike, config_of, file_of, place_in, place_of, stretch_of, view_of};
+ghost use Rattle.ncroute.specs.Streaming.{Tells};
+
 use crate::console::{Console, Loaded};
-use crate::texts::{Folder, Unread, name_of, tell_unread, write_line};
+use crate::texts::{Folder, name_of, tell_of};
 use bird_import::{Include, cut_words, find_includes};
 use command_line::Source;
 use filter_commands::ProgramFault;
@@ -48,7 +56,9 @@ pub struct Whole {
 }
 
 /// Puts texts at the end of `out`, one behind another.
-pub fn push_texts(out: &mut Vec<u8>, texts: &[&[u8]]) -> Result<(), AllocError> {
+pub fn push_texts(out: &mut Vec<u8>, texts: &[&[u8]]) -> Result<(), AllocError>
+    ensures { OnOk result (out.new.items ≡ out.old.items ++ flat_map (λ text. text.now) texts.now) }
+{
     for text in texts {
         out.extend_from_slice(text)?;
     }
@@ -56,7 +66,9 @@ pub fn push_texts(out: &mut Vec<u8>, texts: &[&[u8]]) -> Result<(), AllocError> 
 }
 
 /// The stretch that a byte of a configuration is in.
-fn stretch_of(whole: &Whole, byte: usize) -> Option<Stretch> {
+fn stretch_of(whole: &Whole, byte: usize) -> Option<Stretch>
+    ensures { result ≡ stretch_of whole.now.stretches.items byte }
+{
     let mut found = None;
     for stretch in whole.stretches.as_slice() {
         if stretch.from <= byte {
@@ -72,7 +84,9 @@ pub fn push_place(
     out: &mut Vec<u8>,
     whole: &Whole,
     byte: usize,
-) -> Result<(), AllocError> {
+) -> Result<(), AllocError>
+    ensures { OnOk result (out.new.items ≡ out.old.items ++ place_of (config_of whole.now) byte) }
+{
     match stretch_of(whole, byte) {
         Some(stretch) => {
             let at = stretch.at.saturating_add(byte.saturating_sub(stretch.from));
@@ -88,7 +102,9 @@ fn push_file_place(
     out: &mut Vec<u8>,
     file: Option<&File>,
     at: usize,
-) -> Result<(), AllocError> {
+) -> Result<(), AllocError>
+    ensures { OnOk result (out.new.items ≡ out.old.items ++ place_in (option_map (λ file. file_of file.now) file.entry) at) }
+{
     match file {
         Some(file) => {
             let place = place_in(file.text.as_slice(), at);
@@ -101,9 +117,22 @@ fn push_file_place(
 }
 
 /// Puts a number behind a colon at the end of `out`.
-fn push_number(out: &mut Vec<u8>, number: usize) -> Result<(), AllocError> {
+fn push_number(out: &mut Vec<u8>, number: usize) -> Result<(), AllocError>
+    ensures { OnOk result (out.new.items ≡ out.old.items ++ 58 ∷ decimal number) }
+{
     out.push(b':')?;
     push_decimal(out, number as u64)
+}
+
+/// The bytes of a text from a place to another; none where the text has no such places.
+fn bytes_between(text: &[u8], from: usize, to: usize) -> &[u8]
+    ensures { result.now ≡ bytes_between text.now from to }
+{
+    if from <= to && to <= text.len() {
+        &text[from..to]
+    } else {
+        b""
+    }
 }
 
 /// Adds bytes of a file to a configuration.
@@ -113,10 +142,10 @@ fn push_stretch(
     text: &[u8],
     from: usize,
     to: usize,
-) -> Result<(), AllocError> {
-    let Some(bytes) = text.get(from..to) else {
-        return Ok(());
-    };
+) -> Result<(), AllocError>
+    ensures { OnOk result (config_of whole.new ≡ with_part (config_of whole.old) file text.now from to) }
+{
+    let bytes = bytes_between(text, from, to);
     whole.stretches.push(Stretch {
         from: whole.text.len(),
         file,
@@ -193,11 +222,39 @@ fn inclusion_of(alloc: Global, whole: &Whole, name: &[u8]) -> Result<Inclusion, 
 }
 
 /// The last of the files that are being read.
-fn last_file(whole: &Whole) -> Option<&File> {
+fn last_file(whole: &Whole) -> Option<&File>
+    ensures { option_map (λ file. file_of file.now) result ≡ last_file (config_of whole.now) }
+{
     match whole.open.last() {
         Some(index) => whole.files.get(*index),
         None => None,
     }
+}
+
+/// What ends the line of a file that is left out.
+#[tactic(auto, unfolding(crate::specs::Including::left_behind))]
+fn left_behind() -> &'static str
+    ensures { result.now ≡ left_behind }
+{
+    ": this file was left out\n"
+}
+
+/// Adds why a file is left out, to the end of the line.
+fn push_why(line: &mut Vec<u8>, why: &str) -> Result<(), AllocError>
+    ensures { OnOk result (line.new.items ≡ line.old.items ++ why_words why.now) }
+{
+    line.extend_from_slice(b": ")?;
+    line.extend_from_slice(why.as_bytes())?;
+    line.extend_from_slice(left_behind().as_bytes())
+}
+
+/// Adds that a file of a name is left out, and why, to the end of the line.
+fn push_left(alloc: Global, line: &mut Vec<u8>, name: &[u8], why: &str) -> Result<(), AllocError>
+    ensures { OnOk result (line.new.items ≡ line.old.items ++ left_words name.now why.now) }
+{
+    line.extend_from_slice(b" include ")?;
+    push_shown(alloc, line, name)?;
+    push_why(line, why)
 }
 
 /// The line that tells that a file was not included at a place of another one, and why.
@@ -206,29 +263,69 @@ fn left_line(
     whole: &Whole,
     included: &Include<'_>,
     why: &str,
-) -> Result<Vec<u8>, AllocError> {
+) -> Result<Vec<u8>, AllocError>
+    ensures { IfOk result (λ line. line.items ≡ left_line (config_of whole.now) included.now why.now) }
+{
     let mut line = Vec::new(alloc);
     push_file_place(alloc, &mut line, last_file(whole), included.from)?;
-    line.extend_from_slice(b" include ")?;
-    push_shown(alloc, &mut line, included.name)?;
-    push_texts(
-        &mut line,
-        &[b": ", why.as_bytes(), b": this file was left out\n"],
-    )?;
+    push_left(alloc, &mut line, included.name, why)?;
     Ok(line)
 }
 
-/// Tells that a file was not included at a place of another one, and why.
-fn tell_left<W: Write>(
+/// Leaves out a file that is included at a place of another one, and tells why.
+fn leave_out<R: Read, W: Write, E: Write>(
     alloc: Global,
     whole: &mut Whole,
     included: &Include<'_>,
     why: &str,
-    writer: &mut W,
-) -> Result<(), ProgramFault> {
-    whole.is_partial = true;
+    console: &mut Console<R, W, E>,
+) -> Result<(), ProgramFault>
+    ensures { OnOk result (LeavesOut included.now why.now (config_of whole.old) (config_of whole.new) console.old console.new) }
+{
     let line = left_line(alloc, whole, included, why)?;
-    write_line(writer, line.as_slice())
+    whole.is_partial = true;
+    console.write(line.as_slice())
+}
+
+/// What is said of a configuration that is longer than its limit.
+#[tactic(auto, unfolding(crate::specs::Including::long_config))]
+fn long_config() -> &'static str
+    ensures { result.now ≡ long_config }
+{
+    "longer than 16777216 bytes"
+}
+
+/// Tells that a configuration is longer than its limit.
+fn tell_long_config<R: Read, W: Write, E: Write>(
+    alloc: Global,
+    source: &Source,
+    console: &mut Console<R, W, E>,
+) -> Result<(), ProgramFault>
+    ensures { OnOk result (Tells (long_config_line source.now) console.old console.new) }
+{
+    tell_of(
+        alloc,
+        &mut console.errors,
+        name_of(source),
+        long_config(),
+        b" (E4)\n",
+    )
+}
+
+/// The text of a configuration, unless it is longer than the limit, which people are told.
+fn take_within<R: Read, W: Write, E: Write>(
+    alloc: Global,
+    source: &Source,
+    text: Vec<u8>,
+    console: &mut Console<R, W, E>,
+) -> Result<Option<Vec<u8>>, ProgramFault>
+    ensures { IfOk result (λ found. TakesWithin source.now text.items (option_map (λ text. text.items) found) console.old console.new) }
+{
+    if text.len() <= INPUT_LIMIT {
+        return Ok(Some(text));
+    }
+    tell_long_config(alloc, source, console)?;
+    Ok(None)
 }
 
 /// Reads a file of a configuration. One that cannot be read is told of.
@@ -237,13 +334,11 @@ fn read_config<F: Folder, R: Read, W: Write, E: Write>(
     alloc: Global,
     source: &Source,
     console: &mut Console<R, W, E>,
-) -> Result<Option<Vec<u8>>, ProgramFault> {
+) -> Result<Option<Vec<u8>>, ProgramFault>
+    ensures { IfOk result (λ found. IsText (F.opens files.now) source.now (option_map (λ text. text.items) found) console.old console.new) }
+{
     match console.read(files, alloc, source, INPUT_LIMIT) {
-        Loaded::Text(text) if text.len() <= INPUT_LIMIT => Ok(Some(text)),
-        Loaded::Text(_) => {
-            tell_unread(alloc, &mut console.errors, source, Unread::TooLong)?;
-            Ok(None)
-        }
+        Loaded::Text(text) => take_within(alloc, source, text, console),
         Loaded::Skipped => Ok(None),
         Loaded::Stopped(fault) => Err(fault),
     }
@@ -255,7 +350,10 @@ fn open_file(
     whole: &mut Whole,
     source: Source,
     text: &[u8],
-) -> Result<usize, AllocError> {
+) -> Result<usize, AllocError>
+    ensures index { IfOk result (λ index. index ≡ length (config_of whole.old).files) }
+    ensures opened { OnOk result (config_of whole.new ≡ opened (config_of whole.old) (view_of source text.now)) }
+{
     let index = whole.files.len();
     let text = Vec::from_slice(alloc, text)?;
     whole.files.push(File { source, text })?;
@@ -264,7 +362,9 @@ fn open_file(
 }
 
 /// Adds what stands behind the last file that a file includes, and ends the file.
-fn close_file(whole: &mut Whole, file: usize, text: &[u8], done: usize) -> Result<(), AllocError> {
+fn close_file(whole: &mut Whole, file: usize, text: &[u8], done: usize) -> Result<(), AllocError>
+    ensures { OnOk result (config_of whole.new ≡ closed (config_of whole.old) file text.now done) }
+{
     push_stretch(whole, file, text, done, text.len())?;
     whole.text.push(b'\n')?;
     let _ = whole.open.pop();
@@ -281,7 +381,10 @@ fn push_source<F: Folder, R: Read, W: Write, E: Write>(
     text: &[u8],
     depth: u8,
     console: &mut Console<R, W, E>,
-) -> Result<(), ProgramFault> {
+) -> Result<(), ProgramFault>
+    ensures { OnOk result (PutsFile (PutsIncluded (F.opens files.now) depth) (view_of source text.now) (config_of whole.old) (config_of whole.new)
+        console.old console.new) }
+{
     let file = open_file(alloc, whole, source, text)?;
     let included = included_in(alloc, text)?;
     let mut done = 0;
@@ -303,13 +406,16 @@ fn push_included<F: Folder, R: Read, W: Write, E: Write>(
     included: &Include<'_>,
     depth: u8,
     console: &mut Console<R, W, E>,
-) -> Result<(), ProgramFault> {
+) -> Result<(), ProgramFault>
+    ensures { OnOk result (PutsIncluded (F.opens files.now) depth included.now (config_of whole.old) (config_of whole.new)
+        console.old console.new) }
+{
     let Some(depth) = depth.checked_sub(1) else {
         let why = "files are included at most 8 deep";
-        return tell_left(alloc, whole, included, why, &mut console.writer);
+        return leave_out(alloc, whole, included, why, console);
     };
     match inclusion_of(alloc, whole, included.name)? {
-        Inclusion::Left(why) => tell_left(alloc, whole, included, why, &mut console.writer),
+        Inclusion::Left(why) => leave_out(alloc, whole, included, why, console),
         Inclusion::Read(source) => match read_config(files, alloc, &source, console)? {
             Some(text) => {
                 let text = text.as_slice();
@@ -317,14 +423,16 @@ fn push_included<F: Folder, R: Read, W: Write, E: Write>(
             }
             None => {
                 let why = "it cannot be read";
-                tell_left(alloc, whole, included, why, &mut console.writer)
+                leave_out(alloc, whole, included, why, console)
             }
         },
     }
 }
 
 /// A copy of a source.
-fn copy_of(alloc: Global, source: &Source) -> Result<Source, AllocError> {
+fn copy_of(alloc: Global, source: &Source) -> Result<Source, AllocError>
+    ensures { IfOk result (IsAlike source.now) }
+{
     match source {
         Source::Input => Ok(Source::Input),
         Source::File(name) => Ok(Source::File(String::from_str(alloc, name.as_str())?)),
@@ -332,7 +440,9 @@ fn copy_of(alloc: Global, source: &Source) -> Result<Source, AllocError> {
 }
 
 /// A configuration of which nothing is read.
-fn nothing(alloc: Global) -> Whole {
+fn nothing(alloc: Global) -> Whole
+    ensures { config_of result ≡ nothing }
+{
     Whole {
         text: Vec::new(alloc),
         stretches: Vec::new(alloc),
@@ -342,6 +452,23 @@ fn nothing(alloc: Global) -> Whole {
     }
 }
 
+/// The configuration that the text of a source is, with the files that it includes.
+fn read_includes<F: Folder, R: Read, W: Write, E: Write>(
+    files: &F,
+    alloc: Global,
+    source: &Source,
+    text: &[u8],
+    console: &mut Console<R, W, E>,
+) -> Result<Whole, ProgramFault>
+    ensures { IfOk result (λ whole. PutsFile (PutsIncluded (F.opens files.now) include_depth) (view_of source.now text.now) nothing
+        (config_of whole) console.old console.new) }
+{
+    let mut whole = nothing(alloc);
+    let copy = copy_of(alloc, source)?;
+    push_source(files, alloc, &mut whole, copy, text, INCLUDE_DEPTH, console)?;
+    Ok(whole)
+}
+
 /// Reads the configuration that a source is, with the files that it includes. What is not read is told of; None if the source itself is
 /// not.
 pub fn read_whole<F: Folder, R: Read, W: Write, E: Write>(
@@ -349,21 +476,14 @@ pub fn read_whole<F: Folder, R: Read, W: Write, E: Write>(
     alloc: Global,
     source: &Source,
     console: &mut Console<R, W, E>,
-) -> Result<Option<Whole>, ProgramFault> {
+) -> Result<Option<Whole>, ProgramFault>
+    ensures { IfOk result (λ found. IsConfig (F.opens files.now) source.now (option_map config_of found) console.old console.new) }
+{
     match read_config(files, alloc, source, console)? {
-        Some(text) => {
-            let mut whole = nothing(alloc);
-            push_source(
-                files,
-                alloc,
-                &mut whole,
-                copy_of(alloc, source)?,
-                text.as_slice(),
-                INCLUDE_DEPTH,
-                console,
-            )?;
-            Ok(Some(whole))
-        }
+        Some(text) => match read_includes(files, alloc, source, text.as_slice(), console) {
+            Ok(whole) => Ok(Some(whole)),
+            Err(fault) => Err(fault),
+        },
         None => Ok(None),
     }
 }

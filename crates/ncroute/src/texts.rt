@@ -213,7 +213,7 @@ pub fn write_line<W: Write>(writer: &mut W, line: &[u8]) -> Result<(), ProgramFa
 }
 
 /// Tells something of what has a name.
-fn tell_of<E: Write>(
+pub fn tell_of<E: Write>(
     alloc: Global,
     errors: &mut E,
     name: &[u8],

@@ -1,4 +1,8 @@
 //! Who watches a script: people are told in words why a line is refused, and where a script ends.
+ghost use Rattle.std.specs.Prelude.{◌≡◌, ◌++◌, ◌∷◌, IfOk, codes, decimal};
+ghost use Rattle.filter_tools.specs.Shown.{shown};
+ghost use Rattle.ncroute.specs.Watching.{name_in, number_in, part_of, stopped_line};
+
 use command_line::Engine;
 use filter_tools::push_shown;
 use line_protocol::{push_decimal, write_text};
@@ -57,12 +61,18 @@ pub struct Part<'a> {
 }
 
 /// A script that people know by one name.
-pub fn whole(name: &[u8]) -> Part<'_> {
+pub fn whole(name: &[u8]) -> Part<'_>
+    ensures name { result.name.now ≡ name.now }
+    ensures before { result.before ≡ 0 }
+{
     Part { name, before: 0 }
 }
 
 /// The part that has the line of a number, and the line's number in it. The parts are in order, and there is one.
-fn place_of<'a>(parts: &[Part<'a>], number: u32) -> (&'a [u8], u32) {
+fn place_of<'a>(parts: &[Part<'a>], number: u32) -> (&'a [u8], u32)
+    ensures name { result.0.now ≡ name_in (part_of parts.now number) }
+    ensures number { result.1 ≡ number_in number (part_of parts.now number) }
+{
     let mut place: (&'a [u8], u32) = (b"", number);
     for part in parts {
         if part.before < number {
@@ -101,7 +111,9 @@ impl<'a, E: Write> Watch for Guide<'a, E> {
 }
 
 /// The line that tells where a script ends.
-fn stopped_line(alloc: Global, name: &[u8], number: u32) -> Result<Vec<u8>, AllocError> {
+fn stopped_line(alloc: Global, name: &[u8], number: u32) -> Result<Vec<u8>, AllocError>
+    ensures { IfOk result (λ line. line.items ≡ stopped_line name.now number) }
+{
     let mut line = Vec::new(alloc);
     push_shown(alloc, &mut line, name)?;
     line.push(b':')?;

@@ -1,4 +1,4 @@
-use Rattle.std.proofs.Common.{◌≡◌, ℕ, ◌∙◌, ap, arith, inr, length, map, refl, sym}
+use Rattle.std.proofs.Common.{◌≡◌, ℕ, ◌∙◌, ap, arith, inr, length, map, refl}
 use Rattle.std.proofs.lemmas.List.{length-map}
 use Rattle.filter_checks.specs.Files.{test_view}
 use Rattle.ncroute.specs.Testing.{StopsBy, tally_after}

@@ -1,0 +1,16 @@
+-- What comes of a filter that was made of a draft.
+use Rattle.std.proofs.Common.{ℕ, Bool, List, Option, Result, Ok, Err, IfOk}
+use Rattle.std.specs.declared.io.Error.{Error}
+use Rattle.bird_import.specs.declared.drafts.Draft.{Draft}
+use Rattle.command_line.specs.declared.requests.Importing.{Importing}
+use Rattle.ncroute.specs.Importing.{ImportsDraft, ImportsMade, IsMade, text_in}
+use Rattle.ncroute.specs.Places.{ConfigView}
+use Rattle.ncroute.specs.Streaming.{Streams}
+use Rattle.ncroute.specs.declared.importing.Made.{Made}
+
+pub of_made : {E : Type 0} (creates : List ℕ → Result (Option (List ℕ)) Error → Type 0) (how : Importing) (config : ConfigView) (draft : Draft)
+    (made : Made) (before after : Streams) (r : Result Bool E) → IsMade how.size draft.at draft.outcome made
+    → IfOk r (ImportsMade creates how.folder (text_in made) config draft.name.now made before after)
+    → IfOk r (ImportsDraft creates how config draft before after)
+of_made creates how config draft made before after (Ok left) is imported = record { made = made; is_made = is; imported = imported }
+of_made creates how config draft made before after (Err fault) is imported = tt

@@ -1,0 +1,199 @@
+-- What the program does with a configuration of BIRD whose filters are imported. (This project's own choice.)
+use Rattle.std.specs.Prelude.{◌≡◌, ◌⊎◌, ◌||◌, ◌==◌, ◌-◌, ◌++◌, ℕ, Bool, true, false, not, if◌then◌else◌, is_some, List, [], ◌∷◌, Option, Some, None, IfSome, Result, Ok, Err}
+use Rattle.std.specs.Prelude.{codes, length, slice_get, string_bytes}
+use Rattle.std.specs.Option.{option_map}
+use Rattle.std.specs.Str.{is_utf8}
+use Rattle.std.specs.Io.KnownBytes.{Appends}
+use Rattle.std.specs.declared.alloc.Global.{Global}
+use Rattle.std.specs.declared.io.Error.{Error}
+use Rattle.std.specs.declared.string.String.{String}
+use Rattle.bird_import.specs.Drafts.{HaveDrafts}
+use Rattle.bird_import.specs.Spelling.{IsWritten}
+use Rattle.bird_import.specs.declared.drafts.Draft.{Draft}
+use Rattle.bird_import.specs.declared.drafts.Outcome.{Outcome}
+use Rattle.bird_import.specs.declared.drafts.Outcome.TheVariants.{Drafted, LeftOut}
+use Rattle.bird_import.specs.declared.items.Item.{Item}
+use Rattle.bird_import.specs.declared.word.Word.{Word}
+use Rattle.bird_import.specs.declared.word.WordKind.{WordKind}
+use Rattle.bird_import.specs.declared.word.WordKind.TheVariants.{Strange}
+use Rattle.command_line.specs.declared.requests.Importing.{Importing}
+use Rattle.command_line.specs.declared.requests.Source.{Source}
+use Rattle.filter_code.specs.CodeView.{CodeView}
+use Rattle.filter_parser.specs.SyntaxText.{FilterView}
+use Rattle.filter_source.specs.Sources.{Translates}
+use Rattle.filter_source.specs.VerifiedLine.{verified_line}
+use Rattle.filter_tokens.specs.Codes.{fault_place}
+use Rattle.filter_tokens.specs.declared.fault.TokenFault.{TokenFault}
+use Rattle.filter_tools.specs.Shown.{shown}
+use Rattle.filter_verifier.specs.Safe.{IsSafe}
+use Rattle.ncroute.specs.Ending.{status_of_found}
+use Rattle.ncroute.specs.Following.{DoesFirst}
+use Rattle.ncroute.specs.Including.{ReadsConfig, SkipsText}
+use Rattle.ncroute.specs.Places.{ConfigView, place_of}
+use Rattle.ncroute.specs.Reading.{unmade_line}
+use Rattle.ncroute.specs.Streaming.{Streams, Tells, Writes}
+use Rattle.ncroute.specs.declared.importing.Made.{Made}
+
+-- A text is verified for domains of a size, and this is the line of its bounds.
+pub record IsVerifiedText (size : ℕ) (text line : List ℕ) : Type 0 where
+  pub filter : FilterView
+  pub program : CodeView
+  pub translates : Translates text filter program
+  pub safe : IsSafe program size
+  pub bounds : line ≡ verified_line program
+
+-- A text that is written of a draft is written for the words that are drafted, and verified for domains of a size; the place is that of the
+-- draft. None is written of a draft that is left out, and the place is that of the reason.
+pub record IsOfWords (size at : ℕ) (words : List Word) (made : Made) (text : List ℕ) : Type 0 where
+  pub written : IsWritten words text
+  pub verified : IsVerifiedText size text made.words.items
+  pub place : made.at ≡ at
+
+-- the text that is written of a filter, if one is
+abbrev pub text_in : Made → Option (List ℕ)
+text_in made = option_map (λ text. text.items) made.text
+
+abbrev pub IsMade : ℕ → ℕ → Outcome → Made → Type 0
+IsMade size at (LeftOut reason) made = (text_in made ≡ None) × (made.at ≡ reason.at)
+IsMade size at (Drafted words) made = IfSome (text_in made) (IsOfWords size at words.items made)
+
+-- the last byte of a text is a slash
+abbrev pub is_slash : Option ℕ → Bool
+is_slash None = false
+is_slash (Some byte) = byte == 47
+
+abbrev pub ends_in_slash : List ℕ → Bool
+ends_in_slash text = is_slash (slice_get text (length text - 1))
+
+-- what stands between the path of a folder and a name in it
+abbrev pub slash_behind : List ℕ → List ℕ
+slash_behind folder = if ends_in_slash folder then [] else 47 ∷ []
+
+-- a name that can be that of a file: nothing of one that is not UTF-8
+unfoldable pub file_name : List ℕ → List ℕ
+file_name name = if is_utf8 name then name else []
+
+-- the path of a filter's file in a folder
+abbrev pub file_path : List ℕ → List ℕ → List ℕ
+file_path folder name = folder ++ slash_behind folder ++ file_name name ++ codes ".filter"
+
+-- what is told of the file of a filter, where it has one
+abbrev pub path_words : Option (List ℕ) → List ℕ
+path_words None = []
+path_words (Some path) = codes " -> " ++ shown path
+
+-- what is told of what comes of a filter, to the end of the line
+abbrev pub fate_words : Bool → List ℕ → List ℕ
+fate_words true words = codes " " ++ words
+fate_words false words = codes ": " ++ words ++ codes ": this filter was left out" ++ 10 ∷ []
+
+-- the line of a filter: its place, its name as it is shown, the name of its file, and what comes of it
+abbrev pub made_line : ConfigView → List ℕ → Made → Option (List ℕ) → List ℕ
+made_line config name made path = place_of config made.at ++ codes " filter " ++ shown name ++ path_words path
+    ++ fate_words (is_some (text_in made)) made.words.items
+
+-- the line that tells something of a byte of a configuration
+abbrev pub byte_line : ConfigView → ℕ → List ℕ → List ℕ
+byte_line config at words = place_of config at ++ codes " " ++ words ++ 10 ∷ []
+
+-- what is told of a byte that begins no word, and of one behind which nothing is known
+unfoldable pub strange_words : List ℕ
+strange_words = codes "no word begins with this byte"
+
+unfoldable pub end_words : List ℕ
+end_words = codes "a comment or a text begins here that is not closed: nothing behind it was read"
+
+-- A word that begins with a byte that begins none was told of, and it is said whether it is one.
+abbrev pub TellsKind : WordKind → ConfigView → ℕ → Streams → Streams → Bool → Type 0
+TellsKind Strange config at before after is_strange = Writes (byte_line config at strange_words) before after × (is_strange ≡ true)
+TellsKind kind config at before after is_strange = (after ≡ before) × (is_strange ≡ false)
+
+abbrev pub TellsWord : ConfigView → Word → Streams → Streams → Bool → Type 0
+TellsWord config word before after is_strange = TellsKind word.kind config word.at before after is_strange
+
+-- All of them were told of, and it is said whether there is one.
+abbrev pub TellsStrange : ConfigView → List Word → Streams → Streams → Bool → Type 0
+TellsStrange config words before after found = DoesFirst (TellsWord config) words (length words) before after found
+
+-- It was told where the words end before the end of the configuration, if they do, and it is said whether they do.
+abbrev pub TellsEnd : ConfigView → Option TokenFault → Streams → Streams → Bool → Type 0
+TellsEnd config None before after is_cut = (after ≡ before) × (is_cut ≡ false)
+TellsEnd config (Some fault) before after is_cut = Writes (byte_line config (fault_place fault) end_words) before after × (is_cut ≡ true)
+
+-- `creates name` says what may come of making a file of this name: what it holds at first, or why there is none.
+module _ (creates : List ℕ → Result (Option (List ℕ)) Error → Type 0) where
+  -- A text was written into a new file of this path, all of it.
+  abbrev pub IsSaved : List ℕ → List ℕ → Type 0
+  IsSaved path text = (held : Option (List ℕ)) × (holds : Option (List ℕ)) × creates path (Ok held) × Appends held holds text
+
+  -- There is no new file of this path, which standard error was told.
+  abbrev pub IsUnmade : List ℕ → Streams → Streams → Type 0
+  IsUnmade path before after = (error : Error) × (words : List ℕ) × creates path (Err error) × Tells (unmade_line path words) before after
+
+  -- it is said which
+  abbrev pub SavesText : List ℕ → List ℕ → Streams → Streams → Bool → Type 0
+  SavesText path text before after true = IsSaved path text × (after ≡ before)
+  SavesText path text before after false = IsUnmade path before after
+
+  -- The text of a filter was written into a new file, and the filter's line was written; or there is no such file, and the filter is left out.
+  abbrev pub SavesFilter : ConfigView → List ℕ → Made → List ℕ → List ℕ → Streams → Streams → Bool → Type 0
+  SavesFilter config name made text path before after is_left =
+      (IsSaved path text × Writes (made_line config name made (Some path)) before after × (is_left ≡ false))
+      ⊎ (IsUnmade path before after × (is_left ≡ true))
+
+  -- What came of a filter: it was saved, where there is a folder and it is verified; and otherwise its line was written. It is said whether the
+  -- filter is left out.
+  abbrev pub ImportsMade : Option (String Global) → Option (List ℕ) → ConfigView → List ℕ → Made → Streams → Streams → Bool → Type 0
+  ImportsMade None text config name made before after is_left =
+      Writes (made_line config name made None) before after × (is_left ≡ not (is_some text))
+  ImportsMade (Some folder) None config name made before after is_left = Writes (made_line config name made None) before after × (is_left ≡ true)
+  ImportsMade (Some folder) (Some text) config name made before after is_left =
+      SavesFilter config name made text (file_path (string_bytes folder) name) before after is_left
+
+  -- A filter was made of a draft, and imported.
+  pub record ImportsDraft (how : Importing) (config : ConfigView) (draft : Draft) (before after : Streams) (is_left : Bool) : Type 0 where
+    pub made : Made
+    pub is_made : IsMade how.size draft.at draft.outcome made
+    pub imported : ImportsMade how.folder (text_in made) config draft.name.now made before after is_left
+
+  -- The filters among the words of a configuration were imported, in order, and it is said whether one of them is left out.
+  pub record ImportsWords (how : Importing) (config : ConfigView) (words : List Word) (before after : Streams) (is_left : Bool) : Type 0 where
+    pub items : List Item
+    pub drafts : List Draft
+    pub drafted : HaveDrafts words items (length items) drafts
+    pub imported : DoesFirst (ImportsDraft how config) drafts (length drafts) before after is_left
+
+  -- And then it was told of the bytes that begin no word, and where the words end before the end of the configuration. It is said whether
+  -- something of it is left out: a filter, a byte, or what stands behind the words.
+  pub record ImportsCut (how : Importing) (config : ConfigView) (words : List Word) (end : Option TokenFault) (before after : Streams)
+      (is_left : Bool) : Type 0 where
+    pub imported : Streams
+    pub told : Streams
+    pub is_filter_left : Bool
+    pub is_strange : Bool
+    pub is_cut : Bool
+    pub filters : ImportsWords how config words before imported is_filter_left
+    pub strange : TellsStrange config words imported told is_strange
+    pub ends : TellsEnd config end told after is_cut
+    pub judged : is_left ≡ (is_filter_left || is_strange || is_cut)
+
+  -- A configuration was cut into words, and imported.
+  pub record ImportsConfig (how : Importing) (config : ConfigView) (before after : Streams) (is_left : Bool) : Type 0 where
+    pub words : List Word
+    pub end : Option TokenFault
+    pub imported : ImportsCut how config words end before after is_left
+
+  -- The exit status says whether something of it was left out, or was when it was read.
+  pub record ImportsRead (how : Importing) (config : ConfigView) (before after : Streams) (status : ℕ) : Type 0 where
+    pub is_left : Bool
+    pub imported : ImportsConfig how config before after is_left
+    pub ends : status ≡ status_of_found (config.is_partial || is_left)
+
+  -- `opens name` says what may come of opening a file of this name.
+  module _ (opens : List ℕ → Result (Option (List ℕ)) Error → Type 0) where
+    -- The configuration that a source is was read, with the files that it includes, and imported, and the exit status says whether something
+    -- was left out: a file that is included, or what `ImportsCut` names. Or the source was not read, and nothing was written.
+    unfoldable pub ImportsSource : Importing → Source → Streams → Streams → ℕ → Type 0
+    ImportsSource how source before after status =
+        ((config : ConfigView) × (mid : Streams) × ReadsConfig opens source config before mid × ImportsRead how config mid after status)
+        ⊎ (SkipsText opens source before after × (status ≡ 1))

@@ -1,0 +1,161 @@
+-- How a configuration is read, with the files that it includes in their places. (This project's own choice; includes are those of the BIRD
+-- 2.0 User's Guide.)
+use Rattle.std.specs.Prelude.{◌≡◌, ◌⊎◌, ◌<◌, ◌≤◌, ◌-◌, ◌&&◌, ◌++◌, ℕ, zero, suc, nat_le, true, false, if◌then◌else◌, List, [], ◌∷◌, Option, Some, None, Result}
+use Rattle.std.specs.Prelude.{codes, drop, length, slice_get, take}
+use Rattle.std.specs.declared.io.Error.{Error}
+use Rattle.filter_tools.specs.Shown.{shown}
+use Rattle.line_protocol.specs.Limits.{input_limit}
+use Rattle.bird_import.specs.declared.includes.Include.{Include}
+use Rattle.command_line.specs.declared.requests.Source.{Source}
+use Rattle.ncroute.specs.Places.{ConfigView, FileView, place_in, view_of}
+use Rattle.ncroute.specs.Reading.{Reads, SkipsUnread, name_of, told_line}
+use Rattle.ncroute.specs.Streaming.{Streams, Tells, Writes}
+
+-- how deep files include files at most, as in BIRD
+abbrev pub include_depth : ℕ
+include_depth = 8
+
+-- a configuration of which nothing is read
+abbrev pub nothing : ConfigView
+nothing = record { text = []; stretches = []; files = []; reading = []; is_partial = false }
+
+-- the bytes of a text from a place to another; none where the text has no such places
+abbrev pub bytes_between : List ℕ → ℕ → ℕ → List ℕ
+bytes_between text from to = if nat_le from to && nat_le to (length text) then take (to - from) (drop from text) else []
+
+-- a configuration that has bytes of a file behind it, which stand at a place of the file
+abbrev pub with_stretch : ConfigView → ℕ → ℕ → List ℕ → ConfigView
+with_stretch config file at bytes = record config {
+  text = config.text ++ bytes;
+  stretches = config.stretches ++ record { from = length config.text; file = file; at = at } ∷ [];
+}
+
+-- the bytes of a file's text from a place to another
+abbrev pub with_part : ConfigView → ℕ → List ℕ → ℕ → ℕ → ConfigView
+with_part config file text from to = with_stretch config file from (bytes_between text from to)
+
+-- the list without its last element
+abbrev pub without_last : List ℕ → List ℕ
+without_last all = take (length all - 1) all
+
+-- a file begins to be read: it is the last of the files
+abbrev pub opened : ConfigView → FileView → ConfigView
+opened config file = record config { files = config.files ++ file ∷ []; reading = config.reading ++ length config.files ∷ [] }
+
+-- it is read to its end: what is left of its text stands behind the rest, and a line feed behind that
+abbrev pub closed : ConfigView → ℕ → List ℕ → ℕ → ConfigView
+closed config file text from =
+    let last = with_part config file text from (length text) in
+    record last { text = last.text ++ 10 ∷ []; reading = without_last last.reading }
+
+-- something is left out
+abbrev pub partial : ConfigView → ConfigView
+partial config = record config { is_partial = true }
+
+-- the file of an index, if there is one, and the last of those that are being read
+abbrev pub file_at : List FileView → Option ℕ → Option FileView
+file_at files None = None
+file_at files (Some index) = slice_get files index
+
+abbrev pub last_file : ConfigView → Option FileView
+last_file config = file_at config.files (slice_get config.reading (length config.reading - 1))
+
+-- what ends the line of a file that is left out
+unfoldable pub left_behind : List ℕ
+left_behind = codes ": this file was left out" ++ 10 ∷ []
+
+-- why it is, to the end of the line
+abbrev pub why_words : List ℕ → List ℕ
+why_words why = codes ": " ++ why ++ left_behind
+
+-- what is told of a file that is left out, and why
+abbrev pub left_words : List ℕ → List ℕ → List ℕ
+left_words name why = codes " include " ++ shown name ++ why_words why
+
+-- the line that tells of it, at the place of its include
+abbrev pub left_line : ConfigView → Include → List ℕ → List ℕ
+left_line config one why = place_in (last_file config) one.from ++ left_words one.name.now why
+
+-- A file was left out, which was told where the configuration's filters are told of.
+pub record LeavesOut (one : Include) (why : List ℕ) (config after : ConfigView) (before now : Streams) : Type 0 where
+  pub told : Writes (left_line config one why) before now
+  pub is : after ≡ partial config
+
+-- the words where a configuration is longer than its limit
+unfoldable pub long_config : List ℕ
+long_config = codes "longer than 16777216 bytes"
+
+abbrev pub long_config_line : Source → List ℕ
+long_config_line source = told_line (name_of source) long_config (codes " (E4)" ++ 10 ∷ [])
+
+-- A text is taken, if it is within the limit; and otherwise standard error was told that it is not.
+abbrev pub TakesWithin : Source → List ℕ → Option (List ℕ) → Streams → Streams → Type 0
+TakesWithin source text None before after = (input_limit < length text) × Tells (long_config_line source) before after
+TakesWithin source text (Some taken) before after = (length text ≤ input_limit) × (taken ≡ text) × (after ≡ before)
+
+-- `opens name` says what may come of opening a file of this name.
+module _ (opens : List ℕ → Result (Option (List ℕ)) Error → Type 0) where
+  -- This is all the text of a source, which is within the limit.
+  pub record ReadsText (source : Source) (text : List ℕ) (before after : Streams) : Type 0 where
+    pub reads : Reads opens input_limit source text before after
+    pub within : length text ≤ input_limit
+
+  -- The text goes beyond the limit, which standard error was told.
+  pub record SkipsLong (source : Source) (before after : Streams) : Type 0 where
+    pub text : List ℕ
+    pub mid : Streams
+    pub reads : Reads opens input_limit source text before mid
+    pub long : input_limit < length text
+    pub told : Tells (long_config_line source) mid after
+
+  -- A source was not read, which standard error was told: there is no such file or it cannot be read, or it is too long.
+  abbrev pub SkipsText : Source → Streams → Streams → Type 0
+  SkipsText source before after = SkipsUnread opens input_limit source before after ⊎ SkipsLong source before after
+
+  -- the text of a source, or none where it was not read
+  abbrev pub IsText : Source → Option (List ℕ) → Streams → Streams → Type 0
+  IsText source None before after = SkipsText source before after
+  IsText source (Some text) before after = ReadsText source text before after
+
+-- `Puts one config after before now` says how a file that is included is put behind a configuration, or left out.
+module _ (Puts : Include → ConfigView → ConfigView → Streams → Streams → Type 0) where
+  -- The first n of the files that a file includes were put behind a configuration, each behind what stands before its include in the file.
+  -- `from` is the place behind the last of these includes.
+  unfoldable pub PutsFirst : ℕ → List ℕ → List Include → ℕ → ConfigView → ConfigView → Streams → Streams → ℕ → Type 0
+  PutsFirst file text included zero config after before now from = (after ≡ config) × (now ≡ before) × (from ≡ 0)
+  PutsFirst file text included (suc n) config after before now from = (one : Include) × (earlier : ConfigView) × (mid : Streams) × (done : ℕ)
+      × (slice_get included n ≡ Some one) × PutsFirst file text included n config earlier before mid done
+      × Puts one (with_part earlier file text done one.from) after mid now × (from ≡ one.to)
+
+  -- All of the text of a file was put behind a configuration: the files that it includes in the places of their includes, and behind the last
+  -- of these the rest.
+  pub record PutsFile (file : FileView) (config after : ConfigView) (before now : Streams) : Type 0 where
+    pub included : List Include
+    pub last : ConfigView
+    pub from : ℕ
+    pub first : PutsFirst (length config.files) file.text included (length included) (opened config file) last before now from
+    pub ends : after ≡ closed last (length config.files) file.text from
+
+module _ (opens : List ℕ → Result (Option (List ℕ)) Error → Type 0) where
+  -- A file that is included, with those that it includes, was put behind a configuration; or it was left out. `deep` is how deep files may be
+  -- included in it.
+  unfoldable pub PutsIncluded : ℕ → Include → ConfigView → ConfigView → Streams → Streams → Type 0
+  PutsIncluded zero one config after before now = LeavesOut one (codes "files are included at most 8 deep") config after before now
+  PutsIncluded (suc deep) one config after before now =
+      ((why : List ℕ) × LeavesOut one why config after before now)
+      ⊎ (((source : Source) × (text : List ℕ) × (mid : Streams) × ReadsText opens source text before mid
+      × PutsFile (PutsIncluded deep) (view_of source text) config after mid now)
+      ⊎ ((source : Source) × (mid : Streams) × SkipsText opens source before mid
+      × LeavesOut one (codes "it cannot be read") config after mid now))
+
+  -- A configuration is the text of a source, with the files that it includes in their places.
+  pub record ReadsConfig (source : Source) (config : ConfigView) (before after : Streams) : Type 0 where
+    pub text : List ℕ
+    pub mid : Streams
+    pub reads : ReadsText opens source text before mid
+    pub puts : PutsFile (PutsIncluded include_depth) (view_of source text) nothing config mid after
+
+  -- the configuration that a source is, or none where the source itself was not read
+  abbrev pub IsConfig : Source → Option ConfigView → Streams → Streams → Type 0
+  IsConfig source None before after = SkipsText opens source before after
+  IsConfig source (Some config) before after = ReadsConfig source config before after
