@@ -3,13 +3,13 @@
 asks for memory what it answered, how many allocations were refused, and at last 'N passed, M failed'.
 
 usage: NCROUTE=PATH scripts/check_memory.py [NAME..]
-       (NAMEs: `calls` and `routers` for the tests of test_calls and of test_routers that are swept, `runs` for runs of the program; without them all)
+       (NAMEs: `calls` for the tests of test_calls that are swept, `runs` for runs of the program; without them both)
 
-The tests of a crate are crates/NAME/out/NAME_tests, which the gate and `rt test` leave there; where there are none, `rt test` builds them. Swept are
-those of the modules `memory`, and those of the lock.
+The tests are crates/test_calls/out/test_calls_tests, which the gate and `rt test` leave there; where there are none, `rt test` builds them. Swept are
+those of the modules `memory` and `memory_routers`, and those of the lock.
 
-A test that meets a refused allocation ends with the error that it was handed (by `?`, or at once by `some` or `done` of its module `asserts`, or
-after it compared what a refused call left behind; then it also says what the call answered). A test that passes all the same did without the memory.
+A test that meets a refused allocation ends with the error that it was handed (at once, by `some` or `done` of its module `asserts`, or after it made
+the refused call again; then it also says what the call answered). A test that passes all the same did without the memory.
 Anything else is a fault: a wrong answer (a failed assertion, or an expectation, which is told without `error: `), a bad access, a test that does not
 end within a minute.
 
@@ -31,15 +31,12 @@ sys.dont_write_bytecode = True
 import program  # noqa: E402
 
 AT_ONCE = max(2, os.cpu_count() or 1)
-# The crates whose tests are swept, and the modules of these.
-MODULES = {"calls": ("test_calls", "memory"), "routers": ("test_routers", "memory", "lock")}
+# The modules whose tests are swept.
+MODULES = ("memory", "memory_routers", "lock")
 
 # The calls that these tests make and that answer refused memory. `close` is made too, and asks for none.
-CALLS = {
-    "calls": """build read_code write_code parse check compile compile_mapped verify compile_text read_file read_hexadecimal verify_code
-    Tables::open Tables::apply Journal::open Journal::apply replay answer_lines run_script""".split(),
-    "routers": ["Router::open", "try_call", "call", "run_sessions"],
-}
+CALLS = """build read_code write_code parse check compile compile_mapped verify compile_text read_file read_hexadecimal verify_code Tables::open
+Tables::apply Journal::open Journal::apply replay answer_lines run_script Router::open try_call call run_sessions""".split()
 
 # How a program ends that was refused memory: in any call of most commands, and in `net` also in those of a lock, a session or a channel.
 # Each of these ends has to come about.
@@ -82,28 +79,27 @@ class Sweep:
             first = block.stop
 
 
-def built_tests(crate):
-    """The path of a crate's built tests."""
-    tests = os.path.join(program.TOP, "crates", crate, "out", f"{crate}_tests")
+def built_tests():
+    """The path of the built tests."""
+    folder = os.path.join(program.TOP, "crates", "test_calls")
+    tests = os.path.join(folder, "out", "test_calls_tests")
     if not os.path.exists(tests):
-        subprocess.run(["rt", "test"], cwd=os.path.join(program.TOP, "crates", crate), check=True, stdout=subprocess.DEVNULL)
+        subprocess.run(["rt", "test"], cwd=folder, check=True, stdout=subprocess.DEVNULL)
     return tests
 
 
 def is_refusal(status, errors):
     """Whether a test ended with the error that it was handed, or that a call in it answered."""
-    if status == -signal.SIGABRT:
-        return re.search(rb"(?m)^error: ", errors)
-    return status == 101 and b"its result gives status 1\n" in errors and re.search(rb"(?m)^error: | answered ", errors)
+    return status == -signal.SIGABRT and re.search(rb"(?m)^error: ", errors)
 
 
-def sweep_tests(sweep, pool, crate, *modules):
-    """Sweeps each test of some modules of a crate, and returns how many passed and failed, and what their calls answered."""
-    tests, answers = built_tests(crate), collections.defaultdict(collections.Counter)
+def sweep_tests(sweep, pool):
+    """Sweeps each test of the modules, and returns how many passed and failed, and what their calls answered."""
+    tests, answers = built_tests(), collections.defaultdict(collections.Counter)
     passed = failed = all_refused = without = 0
     listed = subprocess.run([tests, "--list"], capture_output=True, check=True)
     for name in re.findall(r"(?m)^(.+): test$", (listed.stdout + listed.stderr).decode()):
-        if name.split("::")[-2] not in modules:
+        if name.split("::")[-2] not in MODULES:
             continue
         faults = 0
         for nth, (status, output, errors) in sweep.all(pool, [tests, name]):
@@ -112,20 +108,20 @@ def sweep_tests(sweep, pool, crate, *modules):
             if status == 0:
                 without += 1
             elif is_refusal(status, told):
-                for call, answer in re.findall(r"(?m)^(\S+) answered (.+)$", told.decode(errors="replace")):
+                for call, answer in re.findall(r"(?m)^error: (\S+) answered (.+)$", told.decode(errors="replace")):
                     answers[call][answer] += 1
             else:
                 faults += 1
-                print(f"{crate} {name}: without allocation {nth}: status {status}\n{told.decode(errors='replace')}")
+                print(f"{name}: without allocation {nth}: status {status}\n{told.decode(errors='replace')}")
         passed, failed = passed + (not faults), failed + bool(faults)
-    print(f"{crate}: {all_refused} allocations refused, {without} of them in tests that did without")
+    print(f"tests: {all_refused} allocations refused, {without} of them in tests that did without")
     return passed, failed, answers
 
 
-def count_calls(calls, answers):
+def count_calls(answers):
     """Says how often each of the calls was refused memory and what it answered. Each has to be."""
     passed = failed = 0
-    for call in calls:
+    for call in CALLS:
         told = ", ".join(f"{answer} ({times})" for answer, times in sorted(answers[call].items()))
         print(f"{call}: {told or 'was never refused memory'}")
         passed, failed = passed + bool(told), failed + (not told)
@@ -179,7 +175,7 @@ def sweep_runs(sweep, pool):
 
 
 def main():
-    names = sys.argv[1:] or [*MODULES, "runs"]
+    names = sys.argv[1:] or ["calls", "runs"]
     passed = failed = 0
     with tempfile.TemporaryDirectory() as folder, concurrent.futures.ThreadPoolExecutor(AT_ONCE) as pool:
         sweep = Sweep(folder)
@@ -187,8 +183,8 @@ def main():
             if name == "runs":
                 counts = [sweep_runs(sweep, pool)]
             else:
-                well, ill, answers = sweep_tests(sweep, pool, *MODULES[name])
-                counts = [(well, ill), count_calls(CALLS[name], answers)]
+                well, ill, answers = sweep_tests(sweep, pool)
+                counts = [(well, ill), count_calls(answers)]
             passed, failed = passed + sum(it[0] for it in counts), failed + sum(it[1] for it in counts)
     program.finish(passed, failed)
 

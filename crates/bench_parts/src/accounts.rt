@@ -4,11 +4,16 @@ use crate::input::Step;
 use crate::waits::Waits;
 use filter_verifier::Verified;
 use netchange_core::{Event, Reply};
-use std::alloc::Global;
 use std::sync::Arc;
 
-/// Numbers with their names.
-pub type Counts = Vec<(&'static str, u64)>;
+/// Numbers with their names. One without a name is not told.
+#[derive(Drop)]
+pub struct Counts {
+    pub rows: [(&'static str, u64); 6],
+}
+
+/// How many nodes a domain has at most.
+const MOST_NODES: usize = 250;
 
 /// What all replies to a caller said, so that two routers can be compared; how long calls took; and the session of each neighbour, by node.
 #[derive(Drop)]
@@ -19,21 +24,24 @@ pub struct Account {
     messages: u64,
     distances: u64,
     pub waits: Waits,
-    sessions: Vec<u32>,
+    sessions: [u32; MOST_NODES],
 }
 
 /// The neighbour whose session the event of a step names; any node where it names none.
-fn neighbour_of(step: Step) -> u16 {
-    match step {
-        Step::Up(node) | Step::Down(node) | Step::Take(node) | Step::Show(node) => node,
-        Step::Receive(node, _, _) => node,
-        Step::SetImport(node, _) | Step::SetExport(node, _) => node,
-    }
+fn neighbour_of(step: Step) -> usize {
+    let (Step::Up(node)
+    | Step::Down(node)
+    | Step::Take(node)
+    | Step::Show(node)
+    | Step::Receive(node, _, _)
+    | Step::SetImport(node, _)
+    | Step::SetExport(node, _)) = step;
+    usize::from(node)
 }
 
 impl Account {
-    /// No replies yet, with these sessions.
-    pub fn new(sessions: Vec<u32>) -> Account {
+    /// No replies yet, and no sessions.
+    pub fn new() -> Account {
         Account {
             events: 0,
             refused: 0,
@@ -41,19 +49,21 @@ impl Account {
             messages: 0,
             distances: 0,
             waits: Waits::new(),
-            sessions,
+            sessions: [0; MOST_NODES],
         }
     }
 
     /// No replies yet, with the same sessions.
-    pub fn another(&self, alloc: Global) -> Option<Account> {
-        Some(Account::new(self.sessions.as_slice().to_vec(alloc).ok()?))
+    pub fn another(&self) -> Account {
+        Account {
+            sessions: self.sessions,
+            ..Account::new()
+        }
     }
 
     /// The event of a step.
     pub fn event(&self, step: Step, filters: &[Arc<Verified>]) -> Option<Event> {
-        let node = usize::from(neighbour_of(step));
-        let session = *self.sessions.get(node).unwrap_or(&0);
+        let session = *self.sessions.get(neighbour_of(step)).unwrap_or(&0);
         match step {
             Step::Up(node) => Some(Event::Up(node)),
             Step::Down(_) => Some(Event::Down(session)),
@@ -76,22 +86,22 @@ impl Account {
         self.events = self.events.wrapping_add(1);
         match reply {
             Reply::Opened(session) => {
-                if let Some(kept) = self.sessions.get_mut(usize::from(neighbour_of(step))) {
+                if let Some(kept) = self.sessions.get_mut(neighbour_of(step)) {
                     *kept = *session;
                 }
             }
-            Reply::Done { changed } => self.changed = self
-                .changed
-                .wrapping_add(u64::from(*changed)),
+            Reply::Done { changed } => {
+                self.changed = self.changed.wrapping_add(u64::from(*changed));
+            }
             Reply::Messages(messages) => {
                 for message in messages.as_slice() {
                     self.messages = self.messages.wrapping_add(1);
                     self.distances = self.distances.wrapping_add(u64::from(message.dist));
                 }
             }
-            Reply::Route { dist, via: _ } => self.distances = self
-                .distances
-                .wrapping_add(u64::from(*dist)),
+            Reply::Route { dist, via: _ } => {
+                self.distances = self.distances.wrapping_add(u64::from(*dist));
+            }
             Reply::Refused(_) => self.refused = self.refused.wrapping_add(1),
         }
     }
@@ -107,16 +117,17 @@ impl Account {
     }
 
     /// What is told of it, with the tail of the times of calls if these were taken.
-    pub fn counts(&self, alloc: Global, is_timed: bool) -> Option<Counts> {
-        let counts = [
-            ("events", self.events),
-            ("refused", self.refused),
-            ("changed", self.changed),
-            ("messages", self.messages),
-            ("distances", self.distances),
-            ("tail", self.waits.tail()),
-        ];
-        let told = if is_timed { 6 } else { 5 };
-        counts.get(..told)?.to_vec(alloc).ok()
+    pub fn counts(&self, is_timed: bool) -> Counts {
+        let tail = if is_timed { "tail" } else { "" };
+        Counts {
+            rows: [
+                ("events", self.events),
+                ("refused", self.refused),
+                ("changed", self.changed),
+                ("messages", self.messages),
+                ("distances", self.distances),
+                (tail, self.waits.tail()),
+            ],
+        }
     }
 }

@@ -1,6 +1,9 @@
 //! Events through a router that callers call, each in a thread of its own, and through a journal under a `Mutex`, which threads lock in turn: what
 //! the passes of a router are compared with.
 
+ghost use Rattle.std.specs.Prelude.{IfSome};
+ghost use Rattle.slot_lock.specs.Held.{IsFirst};
+
 use crate::accounts::Account;
 use crate::routers::{Answering, Work, answer_first, answer_rounds, journal_of};
 use netchange_core::{Event, Reply};
@@ -39,8 +42,10 @@ impl<'a, R: Wait> Model for Caller<'a, R> {
 
 impl<'a, R: Wait> Answering for Caller<'a, R> {
     fn answer(&mut self, event: Event) -> Option<Reply> {
-        let answer = self.router.call(self.rt, &mut self.pass, event).ok()?;
-        Some(answer.reply)
+        match self.router.call(self.rt, &mut self.pass, event) {
+            Ok(answer) => Some(answer.reply),
+            Err(_) => None,
+        }
     }
 }
 
@@ -66,8 +71,7 @@ struct Locked<'a, R: Wait> {
 
 impl<'a, R: Wait> Answering for Locked<'a, R> {
     fn answer(&mut self, event: Event) -> Option<Reply> {
-        let (_, reply) = self.journal.lock(self.rt).apply(event).ok()?;
-        Some(reply)
+        self.journal.lock(self.rt).answer(event)
     }
 }
 
@@ -93,8 +97,10 @@ fn serve<R: Clock, A: Answering + Drop>(rt: &R, worker: Worker<A>, work: &Work) 
         mut answering,
         mut account,
     } = worker;
-    answer_rounds(rt, &mut answering, work, work.rounds, &mut account)?;
-    Some(account)
+    match answer_rounds(rt, &mut answering, work, work.rounds, &mut account) {
+        Some(()) => Some(account),
+        None => None,
+    }
 }
 
 /// So many callers beside one, which has had the first events answered.
@@ -106,10 +112,21 @@ fn workers<A: Sharing + Drop>(
 ) -> Option<Vec<Worker<A>>> {
     let mut workers = Vec::new(alloc);
     for _ in 0..count {
-        let (answering, account) = (first.another()?, account.another(alloc)?);
-        workers.push(Worker { answering, account }).ok()?;
+        let worker = Worker {
+            answering: first.another()?,
+            account: account.another(),
+        };
+        workers.push(worker).ok()?;
     }
     Some(workers)
+}
+
+/// Adds up what callers came to.
+fn merged(mut account: Account, served: &[Option<Account>]) -> Option<Account> {
+    for one in served {
+        account.merge(one.as_ref()?);
+    }
+    Some(account)
 }
 
 /// Has the first events answered once, and those of all rounds for each of so many callers, each in a thread of its own.
@@ -120,22 +137,27 @@ fn serve_all<R: Threads + Wait + Clock + Sync, A: Sharing + Send + Drop>(
     work: &Work,
     count: u32,
 ) -> Option<Account> {
-    let mut account = answer_first(rt, alloc, &mut first, work)?;
+    let account = answer_first(rt, &mut first, work)?;
     let workers = workers(alloc, first, &account, count)?;
-    let served = thread::map_vec(rt, workers, &|worker: Worker<A>| serve(rt, worker, work)).ok()?;
-    for one in served {
-        account.merge(&one?);
-    }
-    Some(account)
+    let served = thread::map_vec(rt, workers, &|worker: Worker<A>| serve(rt, worker, work));
+    merged(account, served.ok()?.as_slice())
 }
 
 /// What callers came to, if a journal has an entry for each of their events.
-fn checked(account: Account, journal: &Journal) -> Option<Account> {
+fn checked(account: Option<Account>, journal: &Journal) -> Option<Account> {
+    let account = account?;
     if journal.entries().len() as u64 == account.events {
         Some(account)
     } else {
         None
     }
+}
+
+/// A router that nobody has called, and its first pass.
+fn open(alloc: Global, work: &Work) -> Option<(Router, Pass)>
+    ensures { IfSome result (λ r. IsFirst r.0 r.1) }
+{
+    Router::open(alloc, journal_of(alloc, work)?).ok()
 }
 
 /// Has a router answer the events of so many callers.
@@ -145,14 +167,17 @@ pub fn measure_passes<R: Threads + Wait + Clock + Sync>(
     work: &Work,
     count: u32,
 ) -> Option<Account> {
-    let (router, mut pass) = Router::open(alloc, journal_of(alloc, work)?).ok()?;
+    let (router, mut pass) = open(alloc, work)?;
     let first = Caller {
         rt,
         router: &router,
         pass: router.split(&mut pass, 1_000),
     };
-    let account = serve_all(rt, alloc, first, work, count)?;
-    checked(account, &router.close(pass).ok()?)
+    let account = serve_all(rt, alloc, first, work, count);
+    match router.close(pass) {
+        Ok(journal) => checked(account, &journal),
+        Err(_) => None,
+    }
 }
 
 /// Has a journal under a `Mutex` answer the events of so many callers.
@@ -167,6 +192,6 @@ pub fn measure_mutex<R: Threads + Wait + Clock + Sync>(
         rt,
         journal: &journal,
     };
-    let account = serve_all(rt, alloc, first, work, count)?;
+    let account = serve_all(rt, alloc, first, work, count);
     checked(account, &journal.into_inner())
 }

@@ -52,6 +52,28 @@ fn verified_round(verified: &Verified, routes: &[Route], sums: &mut Sums) {
     }
 }
 
+/// Takes routes through code so many times.
+fn measure(verified: &Verified, routes: &[Route], is_verified: bool, rounds: u32) -> Counts {
+    let mut sums = Sums::default();
+    for _round in 0..rounds {
+        if is_verified {
+            verified_round(verified, routes, &mut sums);
+        } else {
+            checked_round(verified, routes, &mut sums);
+        }
+    }
+    Counts {
+        rows: [
+            ("accepted", sums.accepted),
+            ("rejected", sums.rejected),
+            ("metrics", sums.metrics),
+            ("steps", sums.steps),
+            ("", 0),
+            ("", 0),
+        ],
+    }
+}
+
 /// Takes the routes of an input through its code so many times.
 pub fn measure_machine(
     alloc: Global,
@@ -59,21 +81,9 @@ pub fn measure_machine(
     is_verified: bool,
     rounds: u32,
 ) -> Option<Counts> {
-    let routes = input.routes;
-    let verified = verify(alloc, input.code?, SIZE).ok()?;
-    let mut sums = Sums::default();
-    for _round in 0..rounds {
-        if is_verified {
-            verified_round(&verified, &routes, &mut sums);
-        } else {
-            checked_round(&verified, &routes, &mut sums);
-        }
+    let Input { code, routes, .. } = input;
+    match verify(alloc, code?, SIZE) {
+        Ok(verified) => Some(measure(&verified, &routes, is_verified, rounds)),
+        Err(_) => None,
     }
-    let counts = [
-        ("accepted", sums.accepted),
-        ("rejected", sums.rejected),
-        ("metrics", sums.metrics),
-        ("steps", sums.steps),
-    ];
-    counts.to_vec(alloc).ok()
 }

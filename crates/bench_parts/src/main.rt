@@ -37,19 +37,23 @@ fn is_machine(part: &str) -> bool {
     part == "verified" || part == "checked"
 }
 
+/// What is on standard input, for a machine or for a router.
+fn given(rt: &HostRuntime, is_for_machine: bool) -> Option<Input> {
+    let mut input = Input::new(rt.alloc(), is_for_machine);
+    match answer_lines(rt.alloc(), &mut rt.stdin(), &mut io::writer(rt), &mut input) {
+        Ok(0) => Some(input),
+        _ => None,
+    }
+}
+
 /// What the words of the command line ask for: a part, the rounds, and what is on standard input.
 fn asked(rt: &HostRuntime) -> Option<(String, u32, Input)> {
-    let alloc = rt.alloc();
-    let words: Vec<String> = env::args(rt).ok()?.collect(alloc).ok()?;
-    let [_, part, rounds] = words.as_slice() else {
-        return None;
-    };
-    let rounds = read_number(rounds.as_bytes(), u32::MAX)?;
-    let mut input = Input::new(alloc, is_machine(part));
-    if answer_lines(alloc, &mut rt.stdin(), &mut io::writer(rt), &mut input).ok()? != 0 {
-        return None;
-    }
-    Some((part.clone().ok()?, rounds, input))
+    let mut words = env::args(rt).ok()?;
+    let _program = words.next()?;
+    let part = words.next()?;
+    let rounds = read_number(words.next()?.as_bytes(), u32::MAX)?;
+    let input = given(rt, is_machine(part.as_str()))?;
+    Some((part, rounds, input))
 }
 
 /// Has so many callers answered, by passes of a router or under a `Mutex`.
@@ -100,19 +104,29 @@ fn measured<R: Threads + Wait + Clock + Sync>(
         rounds,
         is_timed: timed.is_some(),
     };
-    let account = measure_router(rt, alloc, timed.unwrap_or(part), &work)?;
-    account.counts(alloc, work.is_timed)
+    match measure_router(rt, alloc, timed.unwrap_or(part), &work) {
+        Some(account) => Some(account.counts(work.is_timed)),
+        None => None,
+    }
+}
+
+/// What is told, behind its name.
+fn tell(rt: &HostRuntime, counts: &Counts) -> io::Result<()> {
+    for (name, count) in &counts.rows {
+        if !name.is_empty() {
+            println!(rt; "{name} {count}")?;
+        }
+    }
+    Ok(())
 }
 
 fn main(rt: HostRuntime) -> io::Result<()> {
-    let Some((part, rounds, input)) = asked(&rt) else {
-        return Err(io::Error::from(io::ErrorKind::InvalidInput));
+    let counts = match asked(&rt) {
+        Some((part, rounds, input)) => measured(&rt, rt.alloc(), part.as_str(), rounds, input),
+        None => None,
     };
-    let Some(counts) = measured(&rt, rt.alloc(), part.as_str(), rounds, input) else {
-        return Err(io::Error::from(io::ErrorKind::InvalidInput));
-    };
-    for (name, count) in &counts {
-        println!(rt; "{name} {count}")?;
+    match counts {
+        Some(counts) => tell(&rt, &counts),
+        None => Err(io::Error::from(io::ErrorKind::InvalidInput)),
     }
-    Ok(())
 }

@@ -78,12 +78,10 @@ fn answer_all<R: Clock, A: Answering>(
 /// Has the first events answered: what that came to.
 pub fn answer_first<R: Clock, A: Answering>(
     rt: &R,
-    alloc: Global,
     answering: &mut A,
     work: &Work,
 ) -> Option<Account> {
-    let sessions = Vec::from_elem(alloc, 0, usize::from(work.input.size)).ok()?;
-    let mut account = Account::new(sessions);
+    let mut account = Account::new();
     answer_all(rt, answering, work, work.input.parts().0, &mut account)?;
     Some(account)
 }
@@ -102,39 +100,45 @@ pub fn answer_rounds<R: Clock, A: Answering>(
     Some(())
 }
 
-/// Has tables answer all events.
-pub fn measure_tables<R: Clock>(rt: &R, alloc: Global, work: &Work) -> Option<Account> {
-    let mut tables = Tables::open(alloc, opening_of(alloc, &work.input)?).ok()?;
-    let mut account = answer_first(rt, alloc, &mut tables, work)?;
-    answer_rounds(rt, &mut tables, work, work.rounds, &mut account)?;
-    Some(account)
-}
-
-/// Has a journal, which keeps each event with its reply, answer the first events and those of so many rounds.
-fn keep<R: Clock>(
+/// Has the first events answered, and those of so many rounds: what that came to.
+fn measure<R: Clock, A: Answering>(
     rt: &R,
-    alloc: Global,
-    journal: &mut Journal,
+    answering: &mut A,
     work: &Work,
     rounds: u32,
 ) -> Option<Account> {
-    let mut account = answer_first(rt, alloc, journal, work)?;
-    answer_rounds(rt, journal, work, rounds, &mut account)?;
+    let mut account = answer_first(rt, answering, work)?;
+    answer_rounds(rt, answering, work, rounds, &mut account)?;
     Some(account)
 }
 
-/// Has a journal answer all events.
+/// Has tables answer all events.
+pub fn measure_tables<R: Clock>(rt: &R, alloc: Global, work: &Work) -> Option<Account> {
+    match Tables::open(alloc, opening_of(alloc, &work.input)?) {
+        Ok(mut tables) => measure(rt, &mut tables, work, work.rounds),
+        Err(_) => None,
+    }
+}
+
+/// Has a journal, which keeps each event with its reply, answer all events.
 pub fn measure_journal<R: Clock>(rt: &R, alloc: Global, work: &Work) -> Option<Account> {
-    let mut journal = journal_of(alloc, work)?;
-    keep(rt, alloc, &mut journal, work, work.rounds)
+    measure(rt, &mut journal_of(alloc, work)?, work, work.rounds)
+}
+
+/// Replays a journal so many times.
+fn replay_all(alloc: Global, journal: &Journal, rounds: u32) -> Option<()> {
+    for _round in 0..rounds {
+        let _tables = replay(alloc, journal.opening(), journal.entries()).ok()?;
+    }
+    Some(())
 }
 
 /// Replays the journal of one round so many times.
 pub fn measure_replay<R: Clock>(rt: &R, alloc: Global, work: &Work) -> Option<Account> {
     let mut journal = journal_of(alloc, work)?;
-    let account = keep(rt, alloc, &mut journal, work, 1)?;
-    for _round in 0..work.rounds {
-        let _tables = replay(alloc, journal.opening(), journal.entries()).ok()?;
+    let account = measure(rt, &mut journal, work, 1);
+    match replay_all(alloc, &journal, work.rounds) {
+        Some(()) => account,
+        None => None,
     }
-    Some(account)
 }

@@ -2,31 +2,25 @@
 
 use std::fmt::{Debug, Display};
 use std::process::Abort;
+use std::rt::Clock;
 use std::str;
+use std::sync::Wait;
+use std::thread::Threads;
 
 /// The runtime of a test.
 pub trait Host: AllocGlobal + Abort {}
 
 impl<R: AllocGlobal + Abort> Host for R {}
 
+/// The runtime of a test with routers, which threads may call.
+pub trait RouterHost: Host + Clock + Threads + Wait + Sync {}
+
+impl<R: Host + Clock + Threads + Wait + Sync> RouterHost for R {}
+
 /// Ends the test with the name of a row, unless something holds of it.
 pub fn must<R: Abort>(rt: &R, holds: bool, row: &str) {
     if !holds {
         rt.panic(row);
-    }
-}
-
-/// Ends the test, unless a number is this one.
-pub fn must_number<R: Abort>(rt: &R, found: u64, wanted: u64) {
-    if found != wanted {
-        rt.panic(format_args!("{found}, and not {wanted}"));
-    }
-}
-
-/// Ends the test, unless a text is this one.
-pub fn must_str<R: Abort>(rt: &R, found: &str, wanted: &str) {
-    if found != wanted {
-        rt.panic(format_args!("{found}, and not {wanted}"));
     }
 }
 
@@ -41,7 +35,7 @@ pub fn must_bytes<R: Abort>(rt: &R, found: &[u8], wanted: &[u8]) {
 /// Ends the test, unless people are shown this of something.
 pub fn must_read<R: Host, T: Display>(rt: &R, shown: &T, wanted: &str) {
     let text = done(rt, format!(in rt.alloc(); "{shown}"));
-    must_str(rt, text.as_str(), wanted);
+    must(rt, text.as_str() == wanted, wanted);
 }
 
 /// What there is. Where there is nothing, for want of memory for one, the test ends with this error.

@@ -1,25 +1,38 @@
-//! Tests of what no command shows and needs no thread: values of calls below the commands, what can be made and what cannot, streams that fail, refused
-//! memory, and what each fault says. What the commands answer is in `tests/rows/`.
+//! Tests of what no command shows and no clause says: texts that people are shown, lines and streams that come in pieces or fail, filters that were
+//! worked out by hand, refused memory, and routers that threads call: the lock, sessions and what they run over, a network, and all of it together for
+//! some time. What the commands answer is in `tests/rows/`.
 #![tactic(auto)]
 
 #[cfg(test)]
+mod accounts;
+#[cfg(test)]
 mod asserts;
 #[cfg(test)]
-mod check_tests;
+mod callers;
+#[cfg(test)]
+mod channels;
 #[cfg(test)]
 mod code_tests;
 #[cfg(test)]
+mod crews;
+#[cfg(test)]
 mod embedding_tests;
 #[cfg(test)]
-mod faults;
+mod ends;
 #[cfg(test)]
-mod int_sets_tests;
+mod events;
+#[cfg(test)]
+mod gates;
+#[cfg(test)]
+mod histories;
 #[cfg(test)]
 mod line_tests;
 #[cfg(test)]
-mod machine_agreement_tests;
+mod lock;
 #[cfg(test)]
 mod machine_tests;
+#[cfg(test)]
+mod meanwhile;
 #[cfg(test)]
 mod memory;
 #[cfg(test)]
@@ -29,23 +42,37 @@ mod memory_filters;
 #[cfg(test)]
 mod memory_lines;
 #[cfg(test)]
+mod memory_routers;
+#[cfg(test)]
 mod memory_tables;
+#[cfg(test)]
+mod message_tests;
+#[cfg(test)]
+mod numbers;
+#[cfg(test)]
+mod operators;
 #[cfg(test)]
 mod player_tests;
 #[cfg(test)]
 mod prefix_tests;
 #[cfg(test)]
-mod script_lines;
+mod random_link;
+#[cfg(test)]
+mod ring;
+#[cfg(test)]
+mod runs;
 #[cfg(test)]
 mod script_saves;
+#[cfg(test)]
+mod shifts;
+#[cfg(test)]
+mod soak;
 #[cfg(test)]
 mod stream_tests;
 #[cfg(test)]
 mod streams;
 #[cfg(test)]
-mod tables_tests;
-#[cfg(test)]
-mod text_tests;
+mod texts;
 #[cfg(test)]
 mod tools;
 #[cfg(test)]

@@ -1,15 +1,18 @@
 //! Each call that asks for memory, where it is refused.
 //!
-//! `scripts/check_memory.py` runs this test with one allocation refused at a time, from the first to the last. So in each of its runs at most one
+//! `scripts/check_memory.py` runs these tests with one allocation refused at a time, from the first to the last. So in each of its runs at most one
 //! call is refused memory. That one has to say so, and to answer as ever when it is made again; the test then ends with what the call answered.
 
-use crate::asserts::{Host, must};
+use crate::asserts::{RouterHost, must};
+use crate::callers::Way;
 use crate::memory_code::{Source, built, read, sourced, verified, verified_source, written};
 use crate::memory_filters::{compiled, judged, judged_plainly, mapped, parsed};
 use crate::memory_lines::{answered, run};
-use crate::memory_tables::{Change, applied, entered, kept, looked, opened, replayed};
-use expectations::{Answered, is_refused, refused};
-use std::test::Fail;
+use crate::memory_routers::{called, started};
+use crate::memory_tables::{Change, applied, entered, kept, opened, replayed};
+
+/// What a call answered: whether that is what it answers with ample memory, or the code of its refusal.
+pub type Answered = Result<bool, &'static str>;
 
 /// A call of the tables below, on what it is made.
 #[derive(Clone, Copy)]
@@ -27,16 +30,17 @@ enum Call {
     VerifyCode,
     OpenTables,
     Apply(Change),
-    Look,
     OpenJournal,
     Enter,
     Replay,
     Answer,
     Run,
+    OpenRouter,
+    CallRouter(Way),
 }
 
 /// Each call, its name, and how it tells that memory was refused. Those that need none tell nothing.
-const CALLS: [(Call, &str, &str); 27] = [
+const CALLS: [(Call, &str, &str); 29] = [
     (Call::Build(2), "build", "S2"),
     (Call::Build(20), "build", "S2"),
     (Call::Read, "read_code", "C7"),
@@ -62,16 +66,18 @@ const CALLS: [(Call, &str, &str); 27] = [
     (Call::Apply(Change::Take), "Tables::apply", "AllocError"),
     (Call::Apply(Change::Import), "Tables::apply", "AllocError"),
     (Call::Apply(Change::Export), "Tables::apply", "AllocError"),
-    (Call::Look, "Tables::apply of a look or a refused event", ""),
     (Call::OpenJournal, "Journal::open", "AllocError"),
     (Call::Enter, "Journal::apply", "J2"),
     (Call::Replay, "replay", "Memory"),
     (Call::Answer, "answer_lines", "E3"),
     (Call::Run, "run_script", "E3"),
+    (Call::OpenRouter, "Router::open", "L3"),
+    (Call::CallRouter(Way::Try), "try_call", "J2"),
+    (Call::CallRouter(Way::Call), "call", "J2"),
 ];
 
 /// Makes a call, on values that are made for it.
-fn made<R: Host>(rt: &R, call: Call) -> Answered {
+fn made<R: RouterHost>(rt: &R, call: Call) -> Answered {
     match call {
         Call::Build(count) => built(rt, count),
         Call::Read => read(rt.alloc()),
@@ -86,22 +92,29 @@ fn made<R: Host>(rt: &R, call: Call) -> Answered {
         Call::VerifyCode => verified_source(rt),
         Call::OpenTables => opened(rt),
         Call::Apply(change) => applied(rt, change),
-        Call::Look => looked(rt),
         Call::OpenJournal => kept(rt),
         Call::Enter => entered(rt),
         Call::Replay => replayed(rt),
         Call::Answer => answered(rt.alloc()),
         Call::Run => run(rt.alloc()),
+        Call::OpenRouter => started(rt),
+        Call::CallRouter(way) => called(rt, way),
     }
 }
 
+/// Ends the test with what a call answered to refused memory. `scripts/check_memory.py` counts these by the call.
+fn end_with<R: RouterHost>(rt: &R, name: &str, code: &str, answered: Answered) {
+    must(rt, answered == Err(code), name);
+    rt.panic(format_args!("error: {name} answered {code}"))
+}
+
 #[test]
-fn calls_are_answered_or_refused(rt: HostRuntime) -> Result<(), Fail> {
+fn calls_are_answered_or_refused(rt: HostRuntime) {
     for (call, name, code) in &CALLS {
-        if is_refused(name, code, made(&rt, *call))? {
+        let answered = made(&rt, *call);
+        if answered != Ok(true) {
             must(&rt, made(&rt, *call) == Ok(true), name);
-            return Err(refused(name, code));
+            end_with(&rt, name, code, answered);
         }
     }
-    Ok(())
 }

@@ -1,77 +1,37 @@
-//! Sets, codes and their files, and sources of code: built, read, written and verified, with memory and without.
+//! Sets, codes and their files, and sources of code: built, read, written and verified, with memory and without. What each of them is the clauses of
+//! these calls say.
 
 use crate::asserts::{Host, done, must, some};
+use crate::memory::Answered;
 use code_file::{read_code, write_code};
-use expectations::Answered;
-use filter_code::{Code, Instr, IntSet};
+use filter_code::Code;
 use filter_source::{Failure, compile_text, read_file, read_hexadecimal, verify_code};
 use filter_verifier::{Verified, verify};
 use prefix_patterns::{Ip, Pattern, PatternSet, Prefix};
 use std::alloc::Global;
 
-/// Two patterns: 10.0.0.0/8 with lengths from 8 to 16, and 11.0.0.0/8 alone.
-fn patterns() -> Option<[Pattern; 2]> {
-    let first = Prefix::new(Ip(0x0a00_0000), 8)?;
-    let second = Prefix::new(Ip(0x0b00_0000), 8)?;
-    Some([Pattern::new(first, 8, 16)?, Pattern::new(second, 8, 8)?])
+/// The pattern of 10.0.0.0/8 with lengths from 8 to 16.
+fn pattern() -> Option<Pattern> {
+    Pattern::new(Prefix::new(Ip(0x0a00_0000), 8)?, 8, 16)
 }
 
-/// Whether a set has these patterns, and matches the prefix of each.
-fn is_set(set: &PatternSet, given: &[Pattern]) -> bool {
-    for pattern in given {
-        if !set.matches(&pattern.prefix()) {
-            return false;
-        }
-    }
-    set.patterns() == given
-}
-
-/// Builds a set of so many patterns, up to 20.
+/// Builds a set of a pattern so many times.
 pub fn built<R: Host>(rt: &R, count: usize) -> Answered {
-    let [first, second] = some(rt, patterns(), "two patterns");
-    let mut all = [second; 20];
-    all[1] = first;
-    let given = some(rt, all.get(..count), "20 patterns");
-    match PatternSet::build(rt.alloc(), given) {
-        Ok(set) => Ok(is_set(&set, given)),
+    let pattern = some(rt, pattern(), "a pattern");
+    let given = done(rt, vec![in rt.alloc(); pattern; count]);
+    match PatternSet::build(rt.alloc(), &given) {
+        Ok(set) => Ok(set.patterns().len() == count && set.matches(&pattern.prefix())),
         Err(fault) => Err(fault.code()),
     }
 }
 
-/// A set of those patterns, a set of one range of ints, and nine instructions that use the first.
-const FILE: [u8; 51] =
-    *b"NCF2\x01\x01\0\x02\x0a\0\0\0\x08\x08\x10\x0b\0\0\0\x08\x08\x08\x01\0\x01\0\0\0\x02\0\0\0\x05\0\x09\x12\x51\0\x61\0\x05\x13\x01\0\0\0\x02\x20\x15\x70\x71";
-
-/// The instructions of that file.
-const INSTRS: [Instr; 9] = [
-    Instr::Net,
-    Instr::Member(0),
-    Instr::JumpIfNot(5),
-    Instr::Metric,
-    Instr::Int(2),
-    Instr::Add,
-    Instr::SetMetric,
-    Instr::Accept,
-    Instr::Reject,
-];
-
-/// Whether a set has the ints from 2 to 5.
-fn is_range(set: &IntSet) -> bool {
-    set.ranges().len() == 1 && set.holds(2) && set.holds(5) && !set.holds(6)
-}
-
-/// Whether a code has one set of patterns, of those two.
-fn has_patterns(code: &Code) -> bool {
-    match patterns() {
-        Some(wanted) => matches!(code.sets(), [set] if set.patterns() == wanted.as_slice()),
-        None => false,
-    }
-}
+/// A set of two patterns, a set of one range of ints, and eight instructions. Two ways lead on to SETMETRIC, each with one int on the stack.
+const FILE: [u8; 48] =
+    *b"NCF2\x01\x01\0\x02\x0a\0\0\0\x08\x08\x10\x0b\0\0\0\x08\x08\x08\x01\0\x01\0\0\0\x02\0\0\0\x05\0\x08\x12\x51\0\x61\0\x02\x13\x60\0\x01\x14\x15\x70";
 
 /// Whether a code is that of the file.
 fn is_code(code: &Code) -> bool {
-    let is_set = matches!(code.int_sets(), [set] if is_range(set));
-    is_set && has_patterns(code) && code.locals() == 1 && code.instrs() == INSTRS.as_slice()
+    code.instrs().len() == 8 && code.sets().len() == 1 && code.int_sets().len() == 1
 }
 
 /// Reads the file.
@@ -87,90 +47,24 @@ pub fn written<R: Host>(rt: &R) -> Answered {
     let code = done(rt, read_code(rt.alloc(), &FILE));
     match write_code(rt.alloc(), &code) {
         Ok(bytes) => Ok(bytes.as_slice() == FILE.as_slice()),
-        Err(fault) => {
-            must(rt, is_code(&code), "the same code");
-            Err(fault.code())
-        }
+        Err(fault) => Err(fault.code()),
     }
 }
 
-/// Two ways lead on to SETMETRIC, each with one int on the stack.
-const TWO_WAYS: [Instr; 8] = [
-    Instr::Net,
-    Instr::Member(0),
-    Instr::JumpIfNot(2),
-    Instr::Metric,
-    Instr::Jump(1),
-    Instr::Received,
-    Instr::SetMetric,
-    Instr::Accept,
-];
-
-/// The code of those instructions, with the sets of the file.
-fn two_ways<R: Host>(rt: &R) -> Code {
-    let patterns = some(rt, patterns(), "two patterns");
-    let sets = done(
-        rt,
-        vec![in rt.alloc(); done(rt, PatternSet::build(rt.alloc(), &patterns))],
-    );
-    let code = Code::new(
-        1,
-        sets,
-        Vec::new(rt.alloc()),
-        done(rt, TWO_WAYS.to_vec(rt.alloc())),
-    );
-    some(rt, code, "a code")
+/// Whether a code was verified for 8 nodes, and has these bounds.
+fn has_bounds(verified: &Verified, budget: u32, depth: u32) -> bool {
+    verified.size() == 8 && verified.budget() == budget && verified.depth() == depth
 }
 
-/// Whether a code is that one.
-fn is_two_ways(code: &Code) -> bool {
-    has_patterns(code) && code.locals() == 1 && code.instrs() == TWO_WAYS.as_slice()
-}
-
-/// Whether it was verified for 8 nodes: its longest way has seven steps, and one operand on the stack.
-fn is_verified(verified: &Verified) -> bool {
-    let are_bounds = verified.size() == 8 && verified.budget() == 7 && verified.depth() == 1;
-    are_bounds && is_two_ways(verified.code())
-}
-
-/// Verifies that code. The same code is handed back where memory is refused, and can be verified then.
+/// Verifies the code of the file, whose longest way has seven steps. The code is handed back where memory is refused, and can be verified then.
 pub fn verified<R: Host>(rt: &R) -> Answered {
-    match verify(rt.alloc(), two_ways(rt), 8) {
-        Ok(verified) => Ok(is_verified(&verified)),
+    match verify(rt.alloc(), done(rt, read_code(rt.alloc(), &FILE)), 8) {
+        Ok(verified) => Ok(has_bounds(&verified, 7, 1)),
         Err((code, fault)) => {
-            must(rt, is_two_ways(&code), "the same code");
-            match verify(rt.alloc(), code, 8) {
-                Ok(verified) => must(rt, is_verified(&verified), "verified again"),
-                Err((_, again)) => rt.panic(format_args!("error: {again:?}")),
-            }
+            must(rt, verify(rt.alloc(), code, 8).is_ok(), "verified again");
             Err(fault.code())
         }
     }
-}
-
-/// A filter, whose code raises the metric by two.
-const UP_TWO: &[u8] = b"filter up2 { rip_metric = rip_metric + 2; accept; }";
-
-/// The file of that code, and its digits.
-const UP_TWO_FILE: &[u8] = b"NCF1\0\0\0\x08\x13\x01\0\0\0\x02\x20\x14\x24\x15\x70\x71";
-
-const UP_TWO_DIGITS: &[u8] = b"4e43463100000008130100000002201424157071";
-
-/// That code.
-const UP_TWO_INSTRS: [Instr; 8] = [
-    Instr::Metric,
-    Instr::Int(2),
-    Instr::Add,
-    Instr::Received,
-    Instr::Max,
-    Instr::SetMetric,
-    Instr::Accept,
-    Instr::Reject,
-];
-
-/// Whether a code is that of the filter.
-fn is_up_two(code: &Code) -> bool {
-    code.locals() == 0 && code.sets().is_empty() && code.instrs() == UP_TWO_INSTRS.as_slice()
 }
 
 /// What a code is made of.
@@ -181,31 +75,30 @@ pub enum Source {
     Digits,
 }
 
-/// The code of a source.
-fn code_of(alloc: Global, source: Source) -> Result<Code, Failure> {
-    match source {
-        Source::Text => compile_text(alloc, UP_TWO),
-        Source::File => read_file(alloc, UP_TWO_FILE),
-        Source::Digits => read_hexadecimal(alloc, UP_TWO_DIGITS),
-    }
-}
+/// The file of the code of a filter that raises the metric by two.
+const UP_TWO_FILE: &[u8] = b"NCF1\0\0\0\x08\x13\x01\0\0\0\x02\x20\x14\x24\x15\x70\x71";
 
-/// Makes a code of a source.
+/// Makes that code of a source.
 pub fn sourced(alloc: Global, source: Source) -> Answered {
-    match code_of(alloc, source) {
-        Ok(code) => Ok(is_up_two(&code)),
+    let made = match source {
+        Source::Text => compile_text(
+            alloc,
+            b"filter up2 { rip_metric = rip_metric + 2; accept; }",
+        ),
+        Source::File => read_file(alloc, UP_TWO_FILE),
+        Source::Digits => read_hexadecimal(alloc, b"4e43463100000008130100000002201424157071"),
+    };
+    match made {
+        Ok(code) => Ok(code.instrs().len() == 8),
         Err(Failure::Memory) => Err("Memory"),
         Err(_) => Ok(false),
     }
 }
 
-/// Verifies the code of a source, with its bounds.
+/// Verifies that code.
 pub fn verified_source<R: Host>(rt: &R) -> Answered {
     match verify_code(rt.alloc(), done(rt, read_file(rt.alloc(), UP_TWO_FILE)), 8) {
-        Ok(verified) => {
-            let are_bounds = verified.size() == 8 && verified.budget() == 7;
-            Ok(are_bounds && verified.depth() == 2 && is_up_two(verified.code()))
-        }
+        Ok(verified) => Ok(has_bounds(&verified, 7, 2)),
         Err(Failure::Memory) => Err("Memory"),
         Err(_) => Ok(false),
     }

@@ -1,31 +1,39 @@
 //! Lines and scripts that are answered, with memory and without. Each line that is written is whole.
 
-use crate::line_tests::{Echo, make_pieces, make_sink};
-use expectations::Answered;
-use line_protocol::answer_lines;
+use crate::line_tests::Echo;
+use crate::memory::Answered;
+use crate::streams::{Pieces, Sink};
+use line_protocol::{StreamFault, answer_lines};
 use router_script::run_script;
 use std::alloc::Global;
 
-/// Whether a text is some of the first lines of another.
-fn is_front(text: &[u8], whole: &[u8]) -> bool {
-    whole.starts_with(text) && (text.is_empty() || text.ends_with(b"\n"))
+/// What was answered, and whether that is as it is with ample memory. Where memory was refused the answers are some of the first lines of those, each
+/// whole.
+fn outcome(ended: Result<u32, StreamFault>, refused: u32, text: &[u8], whole: &[u8]) -> Answered {
+    match ended {
+        Ok(found) => Ok(found == refused && text == whole),
+        Err(fault) => {
+            let is_front = whole.starts_with(text) && text.last().unwrap_or(&b'\n') == &b'\n';
+            if is_front {
+                Err(fault.code())
+            } else {
+                Ok(false)
+            }
+        }
+    }
 }
 
-/// Lines, of which one is skipped and one refused.
-const LINES: &[u8] = b"one\n# two\n!three\nfour and a long one\nfive";
-
-/// What they are answered.
-const ANSWERS: &[u8] = b"1 one\nrefused O9 3\n4 four and a long one\n5 five\n";
-
-/// Answers the lines.
+/// Answers lines, of which one is skipped and one refused.
 pub fn answered(alloc: Global) -> Answered {
-    let mut reader = make_pieces(LINES, 5, false);
-    let mut out = make_sink(100, 1000);
-    match answer_lines(alloc, &mut reader, &mut out, &mut Echo) {
-        Ok(refused) => Ok(refused == 1 && out.text() == ANSWERS),
-        Err(fault) if is_front(out.text(), ANSWERS) => Err(fault.code()),
-        Err(_) => Ok(false),
-    }
+    let mut reader = Pieces::new(b"one\n# two\n!three\nfour and a long one\nfive", 5, None);
+    let mut out = Sink::new(100, 1000, None);
+    let ended = answer_lines(alloc, &mut reader, &mut out, &mut Echo);
+    outcome(
+        ended,
+        1,
+        out.text(),
+        b"1one\n3!three\n4four and a long one\n5five\n",
+    )
 }
 
 /// Commands that load a filter, set it, and change tables.
@@ -38,11 +46,8 @@ const REPLIES: &[u8] =
 
 /// Runs the commands.
 pub fn run(alloc: Global) -> Answered {
-    let mut reader = make_pieces(SCRIPT, 5, false);
-    let mut out = make_sink(100, 1000);
-    match run_script(alloc, &mut reader, &mut out) {
-        Ok(refused) => Ok(refused == 0 && out.text() == REPLIES),
-        Err(fault) if is_front(out.text(), REPLIES) => Err(fault.code()),
-        Err(_) => Ok(false),
-    }
+    let mut reader = Pieces::new(SCRIPT, 5, None);
+    let mut out = Sink::new(100, 1000, None);
+    let ended = run_script(alloc, &mut reader, &mut out);
+    outcome(ended, 0, out.text(), REPLIES)
 }

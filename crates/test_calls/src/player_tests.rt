@@ -1,15 +1,12 @@
 //! Routers that are played until quiet: the routes of each, which no command shows, on rows that were worked out by hand. That they come to the
 //! same routes in whatever order is tried by `scripts/check_domains.py`.
 
-ghost use Rattle.std.specs.Prelude.{◌≢◌, ◌<◌, length};
-
-use crate::asserts::{Host, done, must_number, must_str};
-use crate::tables_tests::prefixes;
+use crate::asserts::{Host, done, must};
+use crate::callers::opening;
 use domain_player::Routers;
 use filter_source::{compile_text, verify_code};
 use filter_verifier::Verified;
 use netchange_core::Via;
-use std::fmt::Write;
 use std::sync::Arc;
 
 /// A filter that makes a distance two more.
@@ -18,81 +15,84 @@ const UP_TWO: &[u8] = b"filter up2 { rip_metric = rip_metric + 2; accept; }";
 /// A filter that lets the routes to nodes 0 and 1 pass, and no other.
 const NEAR: &[u8] = b"filter near { if net ~ [10.0.0.0/15+] then accept; reject; }";
 
+/// How many nodes the domains have.
+const SIZE: u16 = 5;
+
+/// How far a node is, and through whom.
+type Route = (u16, Via);
+
+/// The route of a node to itself, and none.
+const OWN: Route = (0, Via::Local);
+
+const NONE: Route = (5, Via::Nowhere);
+
+/// Routes of some distances, each by a node.
+const ONE_BY_0: Route = (1, Via::Node(0));
+
+const ONE_BY_1: Route = (1, Via::Node(1));
+
+const ONE_BY_2: Route = (1, Via::Node(2));
+
+const ONE_BY_3: Route = (1, Via::Node(3));
+
+const ONE_BY_4: Route = (1, Via::Node(4));
+
+const TWO_BY_1: Route = (2, Via::Node(1));
+
+const TWO_BY_2: Route = (2, Via::Node(2));
+
+const TWO_BY_4: Route = (2, Via::Node(4));
+
+const THREE_BY_1: Route = (3, Via::Node(1));
+
+const THREE_BY_2: Route = (3, Via::Node(2));
+
+const THREE_BY_4: Route = (3, Via::Node(4));
+
+const FOUR_BY_2: Route = (4, Via::Node(2));
+
+const FOUR_BY_4: Route = (4, Via::Node(4));
+
 /// What is done to the routers, and what is asked.
 #[derive(Clone, Copy)]
 enum Step {
+    /// Links two nodes.
     Link(u16, u16),
+    /// Cuts their link.
     Cut(u16, u16),
+    /// A filter of what the first is told by the second.
     Import(u16, u16, &'static [u8]),
+    /// A filter of what the first tells the second.
     Export(u16, u16, &'static [u8]),
     /// Plays the routers: so many rounds and messages are wanted.
     Settle(u64, u64),
-    /// All routes of a node, in text.
-    Table(u16, &'static str),
+    /// The routes of a node, to each in turn.
+    Table(u16, [Route; 5]),
 }
 
-/// The routers of a domain of so many nodes, whose prefixes are 10.V.0.0/16.
-fn routers<R: Host>(rt: &R, size: u16) -> Routers {
-    let prefixes = prefixes(rt, u32::from(size));
-    if prefixes.len() < 2 || prefixes.len() > 250 {
-        rt.panic("the size of a domain");
-    }
-    done(rt, Routers::open(rt.alloc(), &prefixes))
+/// The routers of a domain.
+fn routers<R: Host>(rt: &R) -> Routers {
+    let opening = opening(rt, SIZE);
+    done(rt, Routers::open(rt.alloc(), opening.prefixes()))
 }
 
-/// The filter of a text, verified for a domain of so many nodes.
-fn filter<R: Host>(rt: &R, text: &[u8], size: u16) -> Arc<Verified> {
+/// The filter of a text.
+fn filter<R: Host>(rt: &R, text: &[u8]) -> Arc<Verified> {
     let code = done(rt, compile_text(rt.alloc(), text));
-    done(
-        rt,
-        Arc::new(
-            rt.alloc(),
-            done(rt, verify_code(rt.alloc(), code, u32::from(size))),
-        ),
-    )
+    let verified = done(rt, verify_code(rt.alloc(), code, u32::from(SIZE)));
+    done(rt, Arc::new(rt.alloc(), verified))
 }
 
-/// Adds a route to a text, as `V:D:W`, or `V:D` where there is no next hop.
-fn add_route<R: Host>(rt: &R, text: &mut String, v: u16, dist: u16, via: Via) {
-    let space = if text.is_empty() { "" } else { " " };
-    match via {
-        Via::Node(hop) => done(rt, write!(text, "{space}{v}:{dist}:{hop}")),
-        _ => done(rt, write!(text, "{space}{v}:{dist}")),
-    }
-}
-
-/// All routes of a node, in text.
-fn table<R: Host>(rt: &R, routers: &mut Routers, u: u16) -> String {
-    let mut text = String::new(rt.alloc());
-    for v in 0..routers.size() {
-        if u >= routers.size() || v >= routers.size() {
-            rt.panic("a node");
-        }
-        let (dist, via) = routers.route(u, v);
-        add_route(rt, &mut text, v, dist, via);
-    }
-    text
-}
-
-/// Two nodes of a domain that are not the same.
-fn expect_pair<R: Host>(rt: &R, routers: &Routers, u: u16, w: u16)
-    ensures { (u < length routers.now) × (w < length routers.now) × (u ≢ w) }
-{
+/// Takes a step with two nodes.
+fn set_up<R: Host>(rt: &R, routers: &mut Routers, (u, w): (u16, u16), step: &Step) {
     if u >= routers.size() || w >= routers.size() || u == w {
         rt.panic("two nodes");
     }
-}
-
-/// Links two nodes, or cuts their link.
-fn set_link<R: Host>(rt: &R, routers: &mut Routers, u: u16, w: u16, linked: bool) {
-    expect_pair(rt, routers, u, w);
-    if routers.is_linked(u, w) == linked {
-        rt.panic("linked already, or not");
-    }
-    if linked {
-        done(rt, routers.link(u, w));
-    } else {
-        done(rt, routers.cut(u, w));
+    let is_linked = routers.is_linked(u, w);
+    match step {
+        Step::Link(..) if !is_linked => done(rt, routers.link(u, w)),
+        Step::Cut(..) if is_linked => done(rt, routers.cut(u, w)),
+        _ => rt.panic("linked already, or not"),
     }
 }
 
@@ -101,45 +101,49 @@ fn set_filter<R: Host>(
     rt: &R,
     routers: &mut Routers,
     (u, w): (u16, u16),
-    text: &[u8],
-    import: bool,
+    filter: Arc<Verified>,
+    imports: bool,
 ) {
-    expect_pair(rt, routers, u, w);
-    let filter = filter(rt, text, routers.size());
-    if filter.size() != u32::from(routers.size()) {
-        rt.panic("a filter of another size");
+    let fits = filter.size() == u32::from(routers.size());
+    if u >= routers.size() || w >= routers.size() || u == w || !fits {
+        rt.panic("two nodes, and a filter for them");
     }
-    if import {
-        done(rt, routers.set_import(u, w, filter));
+    if imports {
+        done(rt, routers.set_import(u, w, filter))
     } else {
-        done(rt, routers.set_export(u, w, filter));
+        done(rt, routers.set_export(u, w, filter))
     }
+}
+
+/// Plays the routers: whether that takes so many rounds and messages.
+fn settles<R: Host>(rt: &R, routers: &mut Routers, rounds: u64, messages: u64) -> bool {
+    let settled = done(rt, routers.settle());
+    settled.rounds == rounds && settled.messages == messages
+}
+
+/// Whether the routes of a node are these.
+fn has_routes(routers: &mut Routers, u: u16, wanted: &[Route; 5]) -> bool {
+    let mut v = 0u16;
+    for route in wanted {
+        if u >= routers.size() || v >= routers.size() || routers.route(u, v) != *route {
+            return false;
+        }
+        v = v.saturating_add(1);
+    }
+    true
 }
 
 /// Takes a step, and expects what is wanted.
 fn take_step<R: Host>(rt: &R, routers: &mut Routers, step: &Step) {
     match step {
-        Step::Link(u, w) => set_link(rt, routers, *u, *w, true),
-        Step::Cut(u, w) => set_link(rt, routers, *u, *w, false),
-        Step::Import(u, w, text) => set_filter(rt, routers, (*u, *w), text, true),
-        Step::Export(u, w, text) => set_filter(rt, routers, (*u, *w), text, false),
+        Step::Link(u, w) | Step::Cut(u, w) => set_up(rt, routers, (*u, *w), step),
+        Step::Import(u, w, text) => set_filter(rt, routers, (*u, *w), filter(rt, text), true),
+        Step::Export(u, w, text) => set_filter(rt, routers, (*u, *w), filter(rt, text), false),
         Step::Settle(rounds, messages) => {
-            let settled = done(rt, routers.settle());
-            must_number(rt, settled.rounds, *rounds);
-            must_number(rt, settled.messages, *messages)
+            let is_so = settles(rt, routers, *rounds, *messages);
+            must(rt, is_so, "rounds and messages")
         }
-        Step::Table(u, wanted) => {
-            let text = table(rt, routers, *u);
-            must_str(rt, text.as_str(), wanted)
-        }
-    }
-}
-
-/// Takes all steps in a domain of so many nodes.
-fn take_steps<R: Host>(rt: &R, size: u16, steps: &[Step]) {
-    let mut routers = routers(rt, size);
-    for step in steps {
-        take_step(rt, &mut routers, step);
+        Step::Table(u, wanted) => must(rt, has_routes(routers, *u, wanted), "a table"),
     }
 }
 
@@ -151,16 +155,16 @@ const RING: [Step; 16] = [
     Step::Link(2, 3),
     Step::Link(3, 4),
     Step::Link(4, 0),
-    Step::Table(0, "0:0 1:5 2:5 3:5 4:5"),
+    Step::Table(0, [OWN, NONE, NONE, NONE, NONE]),
     Step::Settle(3, 90),
-    Step::Table(0, "0:0 1:1:1 2:2:1 3:2:4 4:1:4"),
+    Step::Table(0, [OWN, ONE_BY_1, TWO_BY_1, TWO_BY_4, ONE_BY_4]),
     Step::Settle(0, 0),
     Step::Import(0, 4, UP_TWO),
-    Step::Table(0, "0:0 1:1:1 2:2:1 3:3:1 4:3:1"),
+    Step::Table(0, [OWN, ONE_BY_1, TWO_BY_1, THREE_BY_1, THREE_BY_1]),
     Step::Cut(0, 1),
     Step::Settle(3, 12),
-    Step::Table(0, "0:0 1:5 2:5 3:4:4 4:3:4"),
-    Step::Table(1, "0:4:2 1:0 2:1:2 3:2:2 4:3:2"),
+    Step::Table(0, [OWN, NONE, NONE, FOUR_BY_4, THREE_BY_4]),
+    Step::Table(1, [FOUR_BY_2, OWN, ONE_BY_2, TWO_BY_2, THREE_BY_2]),
 ];
 
 /// A triangle with filters settles.
@@ -172,18 +176,18 @@ const TRIANGLE: [Step; 11] = [
     Step::Link(2, 3),
     Step::Import(2, 1, NEAR),
     Step::Settle(3, 66),
-    Step::Table(0, "0:0 1:1:1 2:1:2 3:2:2 4:5"),
-    Step::Table(1, "0:2:2 1:0 2:1:2 3:2:2 4:5"),
-    Step::Table(2, "0:1:0 1:1:1 2:0 3:1:3 4:5"),
-    Step::Table(4, "0:5 1:5 2:5 3:5 4:0"),
+    Step::Table(0, [OWN, ONE_BY_1, ONE_BY_2, TWO_BY_2, NONE]),
+    Step::Table(1, [TWO_BY_2, OWN, ONE_BY_2, TWO_BY_2, NONE]),
+    Step::Table(2, [ONE_BY_0, ONE_BY_1, OWN, ONE_BY_3, NONE]),
+    Step::Table(4, [NONE, NONE, NONE, NONE, OWN]),
 ];
 
 #[test]
-fn a_ring_settles_and_loses_a_link(rt: HostRuntime) {
-    take_steps(&rt, 5, &RING)
-}
-
-#[test]
-fn a_triangle_with_filters_settles(rt: HostRuntime) {
-    take_steps(&rt, 5, &TRIANGLE)
+fn a_ring_and_a_triangle_settle(rt: HostRuntime) {
+    for steps in [RING.as_slice(), &TRIANGLE] {
+        let mut routers = routers(&rt);
+        for step in steps {
+            take_step(&rt, &mut routers, step);
+        }
+    }
 }

@@ -1,12 +1,11 @@
 //! What a script saves of its history where a stream fails.
 
-use crate::asserts::{must, must_bytes};
-use crate::streams::{FailingReader, FailingWriter};
+use crate::asserts::{Host, must, must_bytes};
+use crate::streams::{Pieces, Sink};
 use operator_cmds::Nobody;
 use router_script::ScriptFault;
 use script_runs::run_saved_script;
-use std::alloc::Global;
-use std::io::{ErrorKind, Read};
+use std::io::ErrorKind;
 
 /// A script with a look, a refused line, an event that the router refuses, and one that a full history does.
 const LINES: &[u8] = b"network 4 0 4\nup 1\nroutes\nrecv 1 1 0\nup 9\nup 1\nshow 1\nshow 0\n";
@@ -23,55 +22,58 @@ const SAVED: &[u8] = b"NCH1 4 0 4 10.0.0.0/16 10.1.0.0/16 10.2.0.0/16 10.3.0.0/1
 3 up 1 refused N2
 ";
 
-/// A script whose saver takes no more than so many bytes: how it ends, its answers, and what is saved.
-fn run<R: Read>(
-    alloc: Global,
-    reader: &mut R,
-    room: usize,
-) -> (Result<u32, ScriptFault>, Vec<u8>, FailingWriter) {
-    let mut writer = Vec::new(alloc);
-    let saver = FailingWriter::new(alloc, room);
-    let (result, saved, _) = run_saved_script(
-        alloc,
-        reader,
+/// A script, how many bytes its saver takes before it fails, how the script ends, and how many bytes of the answers and of the history are written. An
+/// input fails at its end where the script ends so.
+type Run = (&'static [u8], usize, Result<u32, ScriptFault>, usize, usize);
+
+/// A script that is saved as a whole. Savers with room for the opening and the first entry, and for a part of the second: no line is answered whose
+/// entry is not saved, nor one before it that is not written yet. And an input that fails: what was answered before is saved.
+const RUNS: [Run; 5] = [
+    (LINES, 1_000, Ok(4), ANSWERS.len(), SAVED.len()),
+    (LINES, 75, Err(ScriptFault::Write), 3, 75),
+    (LINES, 76, Err(ScriptFault::Write), 3, 76),
+    (LINES, 80, Err(ScriptFault::Write), 3, 80),
+    (
+        b"network 4 0 4\nup 1\nrec",
+        1_000,
+        Err(ScriptFault::Read),
+        12,
+        75,
+    ),
+];
+
+/// Expects how a script ends, the first of its answers, and what is saved.
+fn expect_saved<R: Host>(rt: &R, run: &Run) {
+    let (lines, room, want, answered, saved) = run;
+    let fault = if *want == Err(ScriptFault::Read) {
+        Some(ErrorKind::BrokenPipe)
+    } else {
+        None
+    };
+    let mut reader = Pieces::new(lines, 1_000, fault);
+    let mut writer = Sink::new(1_000, 1_000, None);
+    let saver = Sink::new(1_000, *room, Some(ErrorKind::BrokenPipe));
+    let (ended, saver, _) = run_saved_script(
+        rt.alloc(),
+        &mut reader,
         &mut writer,
         saver,
         Nobody,
         &[],
         false,
     );
-    (result, writer, saved)
+    must(rt, ended == *want, "how a script ends");
+    must_bytes(
+        rt,
+        writer.text(),
+        ANSWERS.get(..*answered).unwrap_or(ANSWERS),
+    );
+    must_bytes(rt, saver.text(), SAVED.get(..*saved).unwrap_or(SAVED))
 }
 
 #[test]
-fn saves_the_whole_history(rt: HostRuntime) {
-    let mut reader = LINES;
-    let (result, answers, saved) = run(rt.alloc(), &mut reader, 1_000);
-    must(&rt, result == Ok(4), "four lines are refused");
-    must_bytes(&rt, &answers, ANSWERS);
-    must_bytes(&rt, saved.text(), SAVED)
-}
-
-#[test]
-fn answers_no_line_whose_entry_is_not_saved(rt: HostRuntime) {
-    // Room for the opening and the first entry, and for a part of the second.
-    for room in [75, 76, 80] {
-        let mut reader = LINES;
-        let (result, answers, saved) = run(rt.alloc(), &mut reader, room);
-        let is_begun = ANSWERS.starts_with(&answers) && SAVED.get(..room) == Some(saved.text());
-        must(
-            &rt,
-            result == Err(ScriptFault::Write) && is_begun,
-            "a saver that fails",
-        );
+fn scripts_are_saved(rt: HostRuntime) {
+    for run in &RUNS {
+        expect_saved(&rt, run);
     }
-}
-
-#[test]
-fn saves_what_was_answered_before_a_read_fault(rt: HostRuntime) {
-    let mut reader = FailingReader::new(b"network 4 0 4\nup 1\nrec", ErrorKind::BrokenPipe);
-    let (result, answers, saved) = run(rt.alloc(), &mut reader, 1_000);
-    must(&rt, result == Err(ScriptFault::Read), "an input that fails");
-    must_bytes(&rt, &answers, b"ok\nopened 1\n");
-    must_bytes(&rt, saved.text(), SAVED.get(..75).unwrap_or(SAVED))
 }

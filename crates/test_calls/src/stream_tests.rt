@@ -2,7 +2,7 @@
 
 use crate::asserts::{Host, must, must_bytes};
 use crate::line_tests::Echo;
-use crate::streams::{FailingReader, FailingWriter, Terminal};
+use crate::streams::{Pieces, Sink, Terminal, Typed};
 use filter_commands::{ProgramFault, check_text, eval_lines};
 use line_protocol::{StreamFault, answer_lines};
 use router_script::run_script;
@@ -25,35 +25,17 @@ fn run<R: Read, W: Write>(
     reader: &mut R,
     writer: &mut W,
 ) -> Result<u32, StreamFault> {
-    match engine {
-        Engine::Echo => answer_lines(alloc, reader, writer, &mut Echo),
-        Engine::Eval => eval_lines(alloc, reader, writer).map_err(of_stream),
-        Engine::Check => check_text(alloc, reader, writer, 8, false).map_err(of_stream),
-        Engine::Script => run_script(alloc, reader, writer),
+    let ran = match engine {
+        Engine::Echo => return answer_lines(alloc, reader, writer, &mut Echo),
+        Engine::Script => return run_script(alloc, reader, writer),
+        Engine::Eval => eval_lines(alloc, reader, writer),
+        Engine::Check => check_text(alloc, reader, writer, 8, false),
+    };
+    match ran {
+        Ok(refused) => Ok(refused),
+        Err(ProgramFault::Stream(fault)) => Err(fault),
     }
 }
-
-/// The fault of a stream that ended the program.
-fn of_stream(fault: ProgramFault) -> StreamFault {
-    match fault {
-        ProgramFault::Stream(fault) => fault,
-    }
-}
-
-/// An engine, an input, and its answers.
-type Row = (Engine, &'static [u8], &'static [u8]);
-
-/// Inputs that fail at their end, and the answers to all whole lines.
-const CUT_INPUTS: [Row; 4] = [
-    (Engine::Echo, b"a\nbegun", b"1 a\n"),
-    (
-        Engine::Eval,
-        b"4e4346310000000170\n10.0.0.0/8 3 8\n10.0",
-        b"accept 3\n",
-    ),
-    (Engine::Check, b"filter q { accept; }", b""),
-    (Engine::Script, b"network 4 0\nup 1\nsh", b"ok\nopened 1\n"),
-];
 
 /// Faults that are no interruption. A reader that would have to wait fails as any other does.
 const KINDS: [ErrorKind; 4] = [
@@ -63,81 +45,99 @@ const KINDS: [ErrorKind; 4] = [
     ErrorKind::Other,
 ];
 
-/// Expects that an engine ends where its input fails, in each way. Its reader fails once alone, so one that is asked again answers the whole input.
-fn expect_read_fault<H: Host>(rt: &H, row: &Row) {
-    let (engine, input, answers) = row;
-    for kind in &KINDS {
-        let mut reader = FailingReader::new(input, *kind);
-        let mut writer = Vec::new(rt.alloc());
-        let ended = run(rt.alloc(), *engine, &mut reader, &mut writer);
-        must(rt, ended == Err(StreamFault::Read), "an input that fails");
-        must_bytes(rt, &writer, answers);
-    }
-}
+/// An engine, an input, its answers, and how many bytes of them an output takes; none where the input fails at its end.
+type Row = (Engine, &'static [u8], &'static [u8], Option<usize>);
 
-#[test]
-fn inputs_that_fail_are_told(rt: HostRuntime) {
-    for row in &CUT_INPUTS {
-        expect_read_fault(&rt, row);
-    }
-}
+/// A filter's text, and the report on it.
+const FILTER: &[u8] = b"filter q { accept; }";
 
-/// Inputs, and the bytes that an output takes of their answers. The last of each takes all, and fails when it is flushed.
-const CUT_OUTPUTS: [(Row, &[usize]); 5] = [
-    ((Engine::Echo, b"a\nb\n", b"1 a\n2 b\n"), &[8]),
-    ((Engine::Echo, b"a\nb", b"1 a\n2 b\n"), &[8]),
+const REPORT: &[u8] = b"code 4e43463200000000027071\nverified 1 0\n";
+
+/// Routes, and their verdicts.
+const ROUTES: &[u8] = b"4e4346310000000170\n10.0.0.0/8 3 8\n10.0.0.0/8 4 8\n";
+
+const VERDICTS: &[u8] = b"accept 3\naccept 4\n";
+
+/// A script, and its answers.
+const SCRIPT: &[u8] = b"network 4 0\nup 1\n";
+
+const REPLIES: &[u8] = b"ok\nopened 1\n";
+
+/// Inputs that fail at their end, each of which answers all of its whole lines. Then outputs that fail, the last of each input only once it has all
+/// answers and is flushed.
+const ROWS: [Row; 21] = [
+    (Engine::Echo, b"a\nbegun", b"1a\n", None),
     (
-        (
-            Engine::Eval,
-            b"4e4346310000000170\n10.0.0.0/8 3 8\n10.0.0.0/8 4 8\n",
-            b"accept 3\naccept 4\n",
-        ),
-        &[0, 9, 12, 18],
+        Engine::Eval,
+        b"4e4346310000000170\n10.0.0.0/8 3 8\n10.0",
+        b"accept 3\n",
+        None,
     ),
+    (Engine::Check, FILTER, b"", None),
     (
-        (
-            Engine::Check,
-            b"filter q { accept; }",
-            b"code 4e43463200000000027071\nverified 1 0\n",
-        ),
-        &[0, 5, 30, 39],
+        Engine::Script,
+        b"network 4 0\nup 1\nsh",
+        b"ok\nopened 1\n",
+        None,
     ),
-    (
-        (Engine::Script, b"network 4 0\nup 1\n", b"ok\nopened 1\n"),
-        &[0, 2, 3, 7, 12],
-    ),
+    (Engine::Echo, b"a\nb\n", b"1a\n2b\n", Some(0)),
+    (Engine::Echo, b"a\nb\n", b"1a\n2b\n", Some(3)),
+    (Engine::Echo, b"a\nb\n", b"1a\n2b\n", Some(6)),
+    (Engine::Echo, b"a\nb", b"1a\n2b\n", Some(6)),
+    (Engine::Eval, ROUTES, VERDICTS, Some(0)),
+    (Engine::Eval, ROUTES, VERDICTS, Some(9)),
+    (Engine::Eval, ROUTES, VERDICTS, Some(12)),
+    (Engine::Eval, ROUTES, VERDICTS, Some(18)),
+    (Engine::Check, FILTER, REPORT, Some(0)),
+    (Engine::Check, FILTER, REPORT, Some(5)),
+    (Engine::Check, FILTER, REPORT, Some(30)),
+    (Engine::Check, FILTER, REPORT, Some(39)),
+    (Engine::Script, SCRIPT, REPLIES, Some(0)),
+    (Engine::Script, SCRIPT, REPLIES, Some(2)),
+    (Engine::Script, SCRIPT, REPLIES, Some(3)),
+    (Engine::Script, SCRIPT, REPLIES, Some(7)),
+    (Engine::Script, SCRIPT, REPLIES, Some(12)),
 ];
 
-/// Expects that an engine ends where its output takes no more, after the first bytes of the answers.
-fn expect_write_faults<H: Host>(rt: &H, row: &Row, rooms: &[usize]) {
-    let (engine, input, answers) = row;
-    for room in rooms {
-        let mut reader = *input;
-        let mut writer = FailingWriter::new(rt.alloc(), *room);
-        let ended = run(rt.alloc(), *engine, &mut reader, &mut writer);
-        must(rt, ended == Err(StreamFault::Write), "an output that fails");
-        let are_first = answers.get(..*room) == Some(writer.text());
-        must(rt, are_first, "the first answers");
-    }
+/// Expects that an engine ends at a fault of this kind, after the first bytes of the answers. A reader and a writer fail once alone, so an engine that
+/// asks again answers the whole input.
+fn expect_fault<H: Host>(rt: &H, row: &Row, kind: ErrorKind) {
+    let (engine, input, answers, room) = row;
+    let (given, taken, ends) = match room {
+        None => (Some(kind), None, StreamFault::Read),
+        Some(_) => (None, Some(kind), StreamFault::Write),
+    };
+    let room = room.unwrap_or(answers.len());
+    let mut reader = Pieces::new(input, 2, given);
+    let mut writer = Sink::new(
+        1_000,
+        room.saturating_add(usize::from(taken.is_none())),
+        taken,
+    );
+    let ended = run(rt.alloc(), *engine, &mut reader, &mut writer);
+    must(rt, ended == Err(ends), "a stream that fails");
+    must_bytes(rt, writer.text(), answers.get(..room).unwrap_or(answers))
 }
 
 #[test]
-fn outputs_that_fail_are_told(rt: HostRuntime) {
-    for (row, rooms) in &CUT_OUTPUTS {
-        expect_write_faults(&rt, row, rooms);
+fn streams_that_fail_are_told(rt: HostRuntime) {
+    for kind in &KINDS {
+        for row in &ROWS {
+            expect_fault(&rt, row, *kind);
+        }
     }
 }
 
 /// What is read at once, and what has to be written before the next read. One line of each is refused.
-const ECHOED: &[(&[u8], &[u8])] = &[
-    (b"a\n", b"1 a\n"),
-    (b"b\n!c\nbeg", b"2 b\nrefused O9 3\n"),
-    (b"un\n", b"4 begun\n"),
+const ECHOED: &[Typed] = &[
+    (b"a\n", b"1a\n"),
+    (b"b\n!c\nbeg", b"2b\n3!c\n"),
+    (b"un\n", b"4begun\n"),
     (b"# d\n", b""),
     (b"e", b""),
 ];
 
-const EVALUATED: &[(&[u8], &[u8])] = &[
+const EVALUATED: &[Typed] = &[
     (b"4e4346310000000170\n", b""),
     (b"10.0.0.0/8 3 8\n", b"accept 3\n"),
     (
@@ -147,7 +147,7 @@ const EVALUATED: &[(&[u8], &[u8])] = &[
     (b"# the end\n", b""),
 ];
 
-const COMMANDED: &[(&[u8], &[u8])] = &[
+const COMMANDED: &[Typed] = &[
     (b"network 4 0\n", b"ok\n"),
     (b"up 1\n", b"opened 1\n"),
     (b"# no answer\n", b""),
@@ -158,16 +158,19 @@ const COMMANDED: &[(&[u8], &[u8])] = &[
     (b"load F filter f { reject; }\n", b"verified 1 0\n"),
 ];
 
-/// Expects that an engine answers each line before it reads the next.
-fn expect_answered<H: Host>(rt: &H, engine: Engine, terminal: Terminal) {
-    let ended = run(rt.alloc(), engine, &mut &terminal, &mut &terminal);
-    must(rt, ended == Ok(1), "each answer comes before the next line");
-}
-
 #[test]
 fn answers_come_before_the_next_line(rt: HostRuntime) {
-    let alloc = rt.alloc();
-    expect_answered(&rt, Engine::Echo, Terminal::new(alloc, ECHOED));
-    expect_answered(&rt, Engine::Eval, Terminal::new(alloc, EVALUATED));
-    expect_answered(&rt, Engine::Script, Terminal::new(alloc, COMMANDED));
+    for (engine, lines) in &[
+        (Engine::Echo, ECHOED),
+        (Engine::Eval, EVALUATED),
+        (Engine::Script, COMMANDED),
+    ] {
+        let terminal = Terminal::new(lines);
+        let ended = run(rt.alloc(), *engine, &mut &terminal, &mut &terminal);
+        must(
+            &rt,
+            ended == Ok(1),
+            "each answer comes before the next line",
+        );
+    }
 }

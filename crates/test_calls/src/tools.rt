@@ -1,32 +1,7 @@
-//! What no command shows of `filter_tools`: the places of an editor, a listing of a text without a name, and words about the lines of `eval`.
+//! What no command shows of `filter_tools`: a listing of a text without a name, and words about the lines of `eval`.
 
 use crate::asserts::{done, must, must_bytes};
-use filter_tools::{Routes, eval_named, place_in, write_listing};
-
-/// A text with line feeds, a tab and a character of several bytes.
-const TEXT: &[u8] = b"ab\n\xe2\x82\xac\tc\n";
-
-/// Its bytes, and the line and the column of each.
-const PLACES: [(usize, usize, usize); 8] = [
-    (0, 1, 1),
-    (2, 1, 3),
-    (3, 2, 1),
-    (6, 2, 2),
-    (7, 2, 3),
-    (8, 2, 4),
-    (9, 3, 1),
-    (99, 3, 1),
-];
-
-/// Places at line feeds, at the ends, and behind characters of several bytes.
-#[test]
-fn places_are_those_of_an_editor(rt: HostRuntime) {
-    for (at, line, column) in &PLACES {
-        let place = place_in(TEXT, *at);
-        let is_there = place.line == *line && place.column == *column;
-        must(&rt, is_there, "the place of a byte");
-    }
-}
+use filter_tools::{Routes, eval_named, write_listing};
 
 /// A filter and its listing.
 const ACCEPT: &[u8] = b"filter a { accept; }";

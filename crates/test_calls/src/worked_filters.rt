@@ -3,19 +3,21 @@
 
 use filter_code::Outcome;
 
+/// A route: its prefix, the metric received, the outcome, and how many steps the run takes, the last one included.
+pub type WorkedRoute = (&'static str, u32, Outcome, u32);
+
 /// A code and its routes.
 #[derive(Clone, Copy)]
 pub struct WorkedFilter {
     /// The number of nodes of the routing domain.
     pub size: u32,
-    /// The code's file in hexadecimal.
+    /// The code's file in hexadecimal digits.
     pub file: &'static str,
-    /// Routes: the prefix, the metric received, the outcome, and how many steps the run takes, the last one included.
-    pub routes: &'static [(&'static str, u32, Outcome, u32)],
+    pub routes: &'static [WorkedRoute],
 }
 
 /// All of them.
-pub const FILTERS: [WorkedFilter; 10] = [
+pub const FILTERS: [WorkedFilter; 15] = [
     // Rejects a metric above 10. A metric that is not defined would be 1.
     WorkedFilter {
         size: 16,
@@ -95,5 +97,39 @@ pub const FILTERS: [WorkedFilter; 10] = [
             ("10.0.0.0/8", 5, Outcome::Accept(5), 4),
             ("10.0.0.0/8", 3, Outcome::Reject, 4),
         ],
+    },
+    // ACCEPT alone.
+    WorkedFilter {
+        size: 8,
+        file: "4e434632000000000170",
+        routes: &[("10.0.0.0/8", 3, Outcome::Accept(3), 1)],
+    },
+    // Adds 2 to the metric, and sets the sum.
+    WorkedFilter {
+        size: 8,
+        file: "4e4346320000000005130100000002201570",
+        routes: &[("10.0.0.0/8", 8, Outcome::Accept(8), 5)],
+    },
+    // Doubles the metric.
+    WorkedFilter {
+        size: 8,
+        file: "4e4346320000000005130100000002221570",
+        routes: &[("10.0.0.0/8", 3, Outcome::Accept(6), 5)],
+    },
+    // Sets the metric to the size.
+    WorkedFilter {
+        size: 8,
+        file: "4e434632000000000301000000081570",
+        routes: &[("10.0.0.0/8", 3, Outcome::Accept(8), 3)],
+    },
+    // Adds 32 ones from the right, with 32 values on the stack.
+    WorkedFilter {
+        size: 8,
+        file: "4e4346320000000043010000000101000000010100000001010000000101000000010100000001010000000101\
+            000000010100000001010000000101000000010100000001010000000101000000010100000001010000000101\
+            000000010100000001010000000101000000010100000001010000000101000000010100000001010000000101\
+            000000010100000001010000000101000000010100000001010000000101000000012020202020202020202020\
+            202020202020202020202020202020202020202014241571",
+        routes: &[("10.0.0.0/8", 3, Outcome::Reject, 67)],
     },
 ];

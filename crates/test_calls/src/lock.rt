@@ -1,44 +1,13 @@
 //! The lock: passes on one thread, and callers in threads of their own. `scripts/check_memory.py` refuses each allocation of these tests.
 
-use crate::asserts::{Host, done, must, must_say, some};
+use crate::asserts::{RouterHost, done, must, some};
 use crate::callers::{Caller, Way, close, open};
 use crate::events::{KINDS, Kind, event_of, must_count};
 use crate::histories::{must_answer, must_have, said};
 use netchange_core::Event;
 use route_history::Journal;
-use route_session::RunFault;
-use slot_lock::{Answer, LockFault, TryFault};
+use slot_lock::Answer;
 use std::thread;
-
-/// The answers of two callers that fill a history of three entries by turns.
-fn fill<R: Host>(rt: &R, mut first: Caller<'_>) -> Vec<Answer> {
-    let mut second = first.split(rt, 1);
-    let mut answers = Vec::new(rt.alloc());
-    done(rt, answers.push(first.enter(rt, Way::Try, Event::Up(1))));
-    let event = Event::Receive(1, 1, 0);
-    done(rt, answers.push(second.enter(rt, Way::Try, event)));
-    done(rt, answers.push(first.enter(rt, Way::Try, Event::Show(1))));
-    let is_full = matches!(second.try_call(Event::Show(0)), Err(TryFault::Full));
-    must(rt, is_full, "the history is full");
-    answers
-}
-
-/// What the history has then. No two replies are the same, so that each answer has one position.
-const THREE: [&str; 3] = [
-    "up 1: opened 1",
-    "recv 1 1 0: done 1",
-    "show 1: route 1 via 1",
-];
-
-#[test]
-fn two_passes_fill_a_history_of_three(rt: HostRuntime) {
-    let (router, mut pass) = open(&rt, 4, 3);
-    let answers = fill(&rt, Caller::of(&router, &mut pass));
-    let journal = close(&rt, router, pass);
-    must_have(&rt, &journal, &THREE);
-    must(&rt, answers.len() == 3, "each caller has its answers");
-    must_answer(&rt, &journal, &answers);
-}
 
 /// Passes are split, tell each other what they have seen, and are one again.
 #[test]
@@ -73,7 +42,7 @@ struct Worker<'a> {
 
 impl<'a> Worker<'a> {
     /// A caller, by some shares of another, that has no answers yet.
-    fn new<R: Host>(rt: &R, caller: &mut Caller<'a>, work: Work) -> Worker<'a> {
+    fn new<R: RouterHost>(rt: &R, caller: &mut Caller<'a>, work: Work) -> Worker<'a> {
         Worker {
             caller: caller.split(rt, 100),
             work,
@@ -82,7 +51,7 @@ impl<'a> Worker<'a> {
     }
 
     /// Enters the event of a number.
-    fn enter<R: Host>(&mut self, rt: &R, number: u16) {
+    fn enter<R: RouterHost>(&mut self, rt: &R, number: u16) {
         for way in self.work.ways {
             let event = event_of(rt, self.work.kind, number);
             let answer = self.caller.enter(rt, *way, event);
@@ -91,7 +60,7 @@ impl<'a> Worker<'a> {
     }
 
     /// Enters so many events.
-    fn serve<R: Host>(mut self, rt: &R, calls: u16) -> Worker<'a> {
+    fn serve<R: RouterHost>(mut self, rt: &R, calls: u16) -> Worker<'a> {
         for number in 0..calls {
             self.enter(rt, number);
         }
@@ -207,7 +176,7 @@ const CROWDS: [Crowd; 6] = [
 ];
 
 /// The callers of a crowd, by passes that are split off from one.
-fn workers<'a, R: Host>(rt: &R, caller: &mut Caller<'a>, works: &[Work]) -> Vec<Worker<'a>> {
+fn workers<'a, R: RouterHost>(rt: &R, caller: &mut Caller<'a>, works: &[Work]) -> Vec<Worker<'a>> {
     let mut workers = Vec::new(rt.alloc());
     for work in works {
         let worker = Worker::new(rt, caller, *work);
@@ -217,7 +186,7 @@ fn workers<'a, R: Host>(rt: &R, caller: &mut Caller<'a>, works: &[Work]) -> Vec<
 }
 
 /// Has workers call by turns: each has been called on for a number before the first is for the next.
-fn take_turns<R: Host>(rt: &R, workers: &mut [Worker<'_>], calls: u16) {
+fn take_turns<R: RouterHost>(rt: &R, workers: &mut [Worker<'_>], calls: u16) {
     for number in 0..calls {
         for worker in workers.iter_mut() {
             worker.enter(rt, number);
@@ -226,7 +195,7 @@ fn take_turns<R: Host>(rt: &R, workers: &mut [Worker<'_>], calls: u16) {
 }
 
 /// The answers of a crowd.
-fn answers_of<R: Host>(rt: &R, mut caller: Caller<'_>, crowd: &Crowd) -> Vec<Answer> {
+fn answers_of<R: RouterHost>(rt: &R, mut caller: Caller<'_>, crowd: &Crowd) -> Vec<Answer> {
     let opened = Worker::new(rt, &mut caller, UPS).serve(rt, crowd.ups);
     let (mut answers, calls) = (opened.answers, crowd.calls);
     let mut workers = workers(rt, &mut caller, crowd.works);
@@ -243,7 +212,7 @@ fn answers_of<R: Host>(rt: &R, mut caller: Caller<'_>, crowd: &Crowd) -> Vec<Ans
 }
 
 /// What each caller of a crowd told was entered in order.
-fn must_tell<R: Host>(rt: &R, journal: &Journal, work: &Work, calls: u16) {
+fn must_tell<R: RouterHost>(rt: &R, journal: &Journal, work: &Work, calls: u16) {
     let Kind::Tell(session) = work.kind else {
         return;
     };
@@ -260,7 +229,7 @@ fn must_tell<R: Host>(rt: &R, journal: &Journal, work: &Work, calls: u16) {
 }
 
 /// Has a crowd call a router, and looks at the router's history.
-fn must_serve<R: Host>(rt: &R, crowd: &Crowd) {
+fn must_serve<R: RouterHost>(rt: &R, crowd: &Crowd) {
     let (router, mut pass) = open(rt, 4, 1_000);
     let answers = answers_of(rt, Caller::of(&router, &mut pass), crowd);
     let journal = close(rt, router, pass);
@@ -281,59 +250,4 @@ fn crowds_are_answered(rt: HostRuntime) {
     for crowd in &CROWDS {
         must_serve(&rt, crowd);
     }
-}
-
-/// The faults of the lock and of runs have codes, and no place.
-#[test]
-fn faults_have_codes_and_words(rt: HostRuntime) {
-    let (busy, full, memory) = (
-        TryFault::Busy(Event::Show(0)),
-        TryFault::Full,
-        TryFault::Memory,
-    );
-    must_say(
-        &rt,
-        busy.code(),
-        busy.at(),
-        &busy,
-        "L1 0 another caller has the lock",
-    );
-    must_say(
-        &rt,
-        full.code(),
-        full.at(),
-        &full,
-        "J1 0 the history is full",
-    );
-    must_say(
-        &rt,
-        memory.code(),
-        memory.at(),
-        &memory,
-        "J2 0 out of memory",
-    );
-    let (held, memory) = (LockFault::Held, LockFault::Memory);
-    must_say(&rt, held.code(), held.at(), &held, "L2 0 the lock is held");
-    must_say(
-        &rt,
-        memory.code(),
-        memory.at(),
-        &memory,
-        "L3 0 out of memory",
-    );
-    let (memory, not_started) = (RunFault::Memory, RunFault::NotStarted);
-    must_say(
-        &rt,
-        memory.code(),
-        memory.at(),
-        &memory,
-        "X1 0 out of memory",
-    );
-    must_say(
-        &rt,
-        not_started.code(),
-        not_started.at(),
-        &not_started,
-        "X2 0 a thread was not started",
-    );
 }

@@ -1,8 +1,8 @@
 //! An operator, in a thread of its own.
 
-use crate::asserts::{Host, done, some};
+use crate::asserts::{RouterHost, done, some};
 use crate::callers::Caller;
-use expectations::Numbers;
+use crate::numbers::Numbers;
 use filter_verifier::Verified;
 use netchange_core::{Event, Reply};
 use route_history::CallFault;
@@ -30,7 +30,7 @@ pub struct Operator<'a> {
 
 impl<'a> Operator<'a> {
     /// The next event, and the linked neighbour that it brings up if it brings one up.
-    fn next_event<R: Host>(&mut self, rt: &R, filters: &[Arc<Verified>]) -> (Event, usize) {
+    fn next_event<R: RouterHost>(&mut self, rt: &R, filters: &[Arc<Verified>]) -> (Event, usize) {
         let (side, what) = (self.numbers.place(2), self.numbers.below(100));
         let node = u16::try_from(self.numbers.below(9)).unwrap_or(0);
         if what < 55 {
@@ -55,7 +55,7 @@ impl<'a> Operator<'a> {
     }
 
     /// Enters an event, which may bring a linked neighbour up. False where the history is full.
-    pub fn enter<R: Host>(&mut self, rt: &R, event: Event, side: usize) -> bool {
+    pub fn enter<R: RouterHost>(&mut self, rt: &R, event: Event, side: usize) -> bool {
         match self.caller.call(rt, event) {
             Ok(answer) => {
                 if let Reply::Opened(session) = &answer.reply {
@@ -70,7 +70,7 @@ impl<'a> Operator<'a> {
     }
 
     /// Does all calls of a shift, until the history is full.
-    pub fn operate<R: Host>(mut self, rt: &R, filters: &[Arc<Verified>]) -> Operator<'a> {
+    pub fn operate<R: RouterHost>(mut self, rt: &R, filters: &[Arc<Verified>]) -> Operator<'a> {
         for _ in 0..CALLS {
             let (event, side) = self.next_event(rt, filters);
             if !self.enter(rt, event, side) {

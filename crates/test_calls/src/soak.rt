@@ -7,12 +7,12 @@
 //! done is told on standard error, as it differs from run to run. `scripts/soak.sh` says for how long, and from which seed.
 
 use crate::accounts::{Account, COUNTED};
-use crate::asserts::{Host, done, some};
+use crate::asserts::{RouterHost, done, some};
 use crate::callers::{Caller, close, open};
 use crate::events::filter;
+use crate::numbers::Numbers;
 use crate::operators::Operator;
 use crate::shifts::run_shift;
-use expectations::Numbers;
 use filter_code::Instr;
 use filter_verifier::Verified;
 use prefix_patterns::{Ip, Pattern, PatternSet, Prefix, read_number};
@@ -57,7 +57,7 @@ const FARTHER: [Instr; 12] = [
 ];
 
 /// Adds a filter of these instructions and the set [10.0.0.0/14{16,16}].
-fn add<R: Host>(rt: &R, filters: &mut Vec<Arc<Verified>>, instrs: &[Instr], size: u16) {
+fn add<R: RouterHost>(rt: &R, filters: &mut Vec<Arc<Verified>>, instrs: &[Instr], size: u16) {
     let prefix = some(rt, Prefix::new(Ip(0x0a00_0000), 14), "a prefix");
     let pattern = some(rt, Pattern::new(prefix, 16, 16), "a pattern");
     let set = done(rt, PatternSet::build(rt.alloc(), &[pattern]));
@@ -66,7 +66,7 @@ fn add<R: Host>(rt: &R, filters: &mut Vec<Arc<Verified>>, instrs: &[Instr], size
 }
 
 /// The filters that operators replace by one another: all, none, some and farther, and one that is for another domain, which a router refuses.
-fn filters<R: Host>(rt: &R) -> Vec<Arc<Verified>> {
+fn filters<R: RouterHost>(rt: &R) -> Vec<Arc<Verified>> {
     let mut filters = Vec::new(rt.alloc());
     add(rt, &mut filters, &[Instr::Accept], SIZE);
     add(rt, &mut filters, &[Instr::Reject], SIZE);
@@ -77,7 +77,7 @@ fn filters<R: Host>(rt: &R) -> Vec<Arc<Verified>> {
 }
 
 /// Runs all shifts of a router: what was done, and the answers of its operators.
-fn run_shifts<R: Host>(
+fn run_shifts<R: RouterHost>(
     rt: &R,
     caller: Caller<'_>,
     numbers: Numbers,
@@ -98,7 +98,7 @@ fn run_shifts<R: Host>(
 }
 
 /// Runs a router from a seed, and counts what was done.
-fn soak_router<R: Host>(rt: &R, seed: u64, filters: &[Arc<Verified>]) -> [u64; 8] {
+fn soak_router<R: RouterHost>(rt: &R, seed: u64, filters: &[Arc<Verified>]) -> [u64; 8] {
     let mut numbers = Numbers::new(seed);
     // About half of the histories fill up.
     let limit = numbers.below(12_000).saturating_add(1_000);
@@ -109,7 +109,7 @@ fn soak_router<R: Host>(rt: &R, seed: u64, filters: &[Arc<Verified>]) -> [u64; 8
 }
 
 /// Runs routers for so long, the first from this seed, the others from those after it.
-fn soak<R: Host>(rt: &R, seconds: u32, seed: u32) -> [u64; 8] {
+fn soak<R: RouterHost>(rt: &R, seconds: u32, seed: u32) -> [u64; 8] {
     let (filters, start) = (filters(rt), done(rt, Instant::now(rt)));
     let mut counts = [0u64; 8];
     for round in 0..u32::MAX {

@@ -1,11 +1,11 @@
 //! Links over channels, links that are closed, and a link of one's own.
 
-use crate::asserts::{Host, done, must, some};
+use crate::asserts::{RouterHost, done, must, some};
 use crate::callers::{Caller, Way, close, open};
 use crate::ends::{FIRST, SECOND};
 use crate::gates::{OpenGate, comes_to};
 use netchange_core::{Event, Message, Reply, Via};
-use route_session::{Cause, ChannelLink, Got, Link, LinkFault, MemoryLink};
+use route_session::{Cause, ChannelLink, Got, Link, LinkFault};
 use std::io::{ErrorKind, Read, Write};
 use std::sync::Wait;
 use std::sync::atomic::{AtomicU64, Ordering};
@@ -24,7 +24,7 @@ pub enum Step {
 }
 
 /// Does with some links what steps say.
-pub fn must_follow<R: Host, L: Link>(rt: &R, links: &mut [L], steps: &[Step]) {
+pub fn must_follow<R: RouterHost, L: Link>(rt: &R, links: &mut [L], steps: &[Step]) {
     for step in steps {
         let (Step::Asked(at, _) | Step::Given(at, _, _) | Step::Closed(at)) = step;
         let link = some(rt, links.get_mut(*at), "a link");
@@ -70,25 +70,6 @@ fn channels_are_closed(rt: HostRuntime) {
     }
 }
 
-/// A link that is closed has ended and takes nothing.
-const CLOSED: [Step; 3] = [
-    Step::Closed(0),
-    Step::Asked(0, Ok(Got::Ended)),
-    Step::Given(0, FIRST, false),
-];
-
-#[test]
-fn a_link_in_memory_is_closed(rt: HostRuntime) {
-    let waiting = done(&rt, [FIRST, SECOND].to_vec(rt.alloc()));
-    let mut links = [MemoryLink::new(rt.alloc(), waiting, None)];
-    must_follow(&rt, &mut links, &CLOSED);
-    must(
-        &rt,
-        links[0].is_closed() && links[0].given().is_empty(),
-        "closed",
-    );
-}
-
 /// How many messages are sent through a channel.
 const COUNT: u16 = 2_000;
 
@@ -98,7 +79,7 @@ fn message(dest: u16) -> Message {
 }
 
 /// Sends all messages, and counts those that were taken.
-fn send_all<R: Host>(rt: &R, writer: &mut ChannelLink, sent: &AtomicU64) {
+fn send_all<R: RouterHost>(rt: &R, writer: &mut ChannelLink, sent: &AtomicU64) {
     for node in 0..COUNT {
         must(
             rt,
@@ -110,7 +91,7 @@ fn send_all<R: Host>(rt: &R, writer: &mut ChannelLink, sent: &AtomicU64) {
 }
 
 /// Waits until the channel is full and a while longer. It took 64 messages by then. Then receives all, in order.
-fn receive_late<R: Host>(rt: &R, reader: &mut ChannelLink, sent: &AtomicU64) {
+fn receive_late<R: RouterHost>(rt: &R, reader: &mut ChannelLink, sent: &AtomicU64) {
     let is_full = comes_to(rt, sent, 64);
     thread::sleep(rt, Duration::from_millis(20));
     must(
@@ -186,7 +167,7 @@ const SENT: &[u8] = &[
 ];
 
 /// A neighbour's bytes are entered, and what the router queued goes out as bytes. In the end the router has a route of distance 2.
-fn must_hand_on<R: Host>(rt: &R, mut caller: Caller<'_>) {
+fn must_hand_on<R: RouterHost>(rt: &R, mut caller: Caller<'_>) {
     caller.bring_up(rt, 1);
     let mut link = StreamLink {
         input: [0, 1, 0, 0, 0, 2, 0, 1].as_slice(),

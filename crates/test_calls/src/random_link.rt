@@ -1,6 +1,6 @@
 //! A link that waits at random, and that fails and ends so, too.
 
-use expectations::Numbers;
+use crate::numbers::Numbers;
 use netchange_core::Message;
 use route_session::{Got, Link, LinkFault};
 use std::alloc::Global;

@@ -1,7 +1,7 @@
 //! How readers and writers end, as tables: for want of turns, at links that have ended or fail at each of their calls, in sessions that are
 //! over, and in histories that are full.
 
-use crate::asserts::{Host, done, must};
+use crate::asserts::{RouterHost, done, must};
 use crate::callers::{Caller, close, open};
 use crate::gates::NotingGate;
 use crate::histories::must_enter;
@@ -76,7 +76,7 @@ pub fn end(cause: Cause, entered: u32, lost: Option<Message>) -> ReadEnd {
 }
 
 /// A gate was asked before each turn, in order, up to the last one where a session used up its turns.
-fn must_be_asked<R: Host>(rt: &R, gate: NotingGate, cause: Cause, turns: u32) {
+fn must_be_asked<R: RouterHost>(rt: &R, gate: NotingGate, cause: Cause, turns: u32) {
     let mut next = 0u32;
     for (_, turn) in &gate.asked() {
         must(rt, *turn == next, "the gate is asked before each turn");
@@ -90,7 +90,7 @@ fn must_be_asked<R: Host>(rt: &R, gate: NotingGate, cause: Cause, turns: u32) {
 }
 
 /// How a reader of a link ends in a session at a router of four nodes, with neighbour 1 up in session 1, and the journal.
-fn read<R: Host, L: Link>(
+fn read<R: RouterHost, L: Link>(
     rt: &R,
     limit: u32,
     session: u32,
@@ -108,7 +108,7 @@ fn read<R: Host, L: Link>(
 }
 
 /// A reader ends as its row says, and what it entered is what was handed out before, in order. A full history loses the message that came next.
-fn must_read<R: Host>(rt: &R, row: &Reader) {
+fn must_read<R: RouterHost>(rt: &R, row: &Reader) {
     let (told, fails_at, limit, session, turns, (most, of), cause, entered) = row;
     let mut link = MemoryLink::new(rt.alloc(), done(rt, told.to_vec(rt.alloc())), *fails_at);
     let gate = NotingGate::new(rt.alloc(), *most, *of);
@@ -173,7 +173,7 @@ const WRITERS: [Writer; 16] = [
 ];
 
 /// How a writer to a link ends in a session, with neighbour 1 up in session 1, and the number of entries.
-fn write<R: Host>(rt: &R, link: &mut MemoryLink, row: &Writer) -> (WriteEnd, usize) {
+fn write<R: RouterHost>(rt: &R, link: &mut MemoryLink, row: &Writer) -> (WriteEnd, usize) {
     let (size, limit, session, _, turns, (most, of), _, _, _) = row;
     let gate = NotingGate::new(rt.alloc(), *most, *of);
     let (router, mut pass) = open(rt, *size, *limit);
@@ -186,7 +186,7 @@ fn write<R: Host>(rt: &R, link: &mut MemoryLink, row: &Writer) -> (WriteEnd, usi
 }
 
 /// A writer ends as its row says. A turn that its gate lets go is an entry.
-fn must_write<R: Host>(rt: &R, row: &Writer) {
+fn must_write<R: RouterHost>(rt: &R, row: &Writer) {
     let (size, _, _, fails_at, turns, (most, of), cause, sent, unsent) = row;
     let mut link = MemoryLink::new(rt.alloc(), Vec::new(rt.alloc()), *fails_at);
     let (end, count) = write(rt, &mut link, row);
@@ -201,7 +201,7 @@ fn must_write<R: Host>(rt: &R, row: &Writer) {
 }
 
 /// Messages tell of the nodes from one on, in order: of node 0 that it is here, and of the others that they are out of reach.
-fn must_tell<R: Host>(rt: &R, told: &[Message], from: u64, size: u16) {
+fn must_tell<R: RouterHost>(rt: &R, told: &[Message], from: u64, size: u16) {
     let mut node = from;
     for one in told {
         let dist = if node == 0 { 0 } else { size };

@@ -1,6 +1,6 @@
 //! Three routers in a ring: what their network prints, and their journals.
 
-use crate::asserts::{Host, done, must};
+use crate::asserts::{RouterHost, done, must};
 use crate::histories::said;
 use line_protocol::StreamFault;
 use netchange_core::{Event, Message, Reply, ReplyRef, Via};
@@ -28,7 +28,11 @@ fn ups(journal: &Journal) -> u32 {
 
 /// A node has a neighbour at distance 1, and all that it received from the neighbour is what the neighbour took from its queue for the node, the
 /// neighbour itself at distance 0 among it.
-fn must_hear<R: Host>(rt: &R, (me, here): (u16, &Journal), (neighbour, there): (u16, &Journal)) {
+fn must_hear<R: RouterHost>(
+    rt: &R,
+    (me, here): (u16, &Journal),
+    (neighbour, there): (u16, &Journal),
+) {
     let mut tables = done(rt, replay(rt.alloc(), here.opening(), here.entries()));
     let route = Reply::Route {
         dist: 1,

@@ -1,7 +1,7 @@
 //! Many sessions: they run at the same time and ask the gate before each turn, their results come in the order of the jobs, and all their calls
 //! stand in one history.
 
-use crate::asserts::{Host, done, must, some};
+use crate::asserts::{RouterHost, done, must, some};
 use crate::callers::{Caller, close, open};
 use crate::crews::{Auditor, Crew};
 use crate::ends::{FIRST, FOUR, SECOND, THIRD};
@@ -61,7 +61,7 @@ impl Auditor<MemoryLink> for Outcomes {
 }
 
 /// Runs so many sessions, with neighbours 1 to `ups` up. In the end their passes have all shares that there were at first.
-fn run_crew<R: Host, G: Gate + Sync>(
+fn run_crew<R: RouterHost, G: Gate + Sync>(
     rt: &R,
     mut caller: Caller<'_>,
     (ups, jobs, count): (u16, &'static [Job], u16),
@@ -86,7 +86,7 @@ fn run_crew<R: Host, G: Gate + Sync>(
 }
 
 /// Runs so many sessions at a router of four nodes: the journal, which replays.
-fn run<R: Host, G: Gate + Sync>(
+fn run<R: RouterHost, G: Gate + Sync>(
     rt: &R,
     sessions: (u16, &'static [Job], u16),
     gate: &G,
@@ -143,7 +143,7 @@ const RUNS: [(u16, &[Job], u16, u32, usize, usize); 9] = [
 ];
 
 /// Each job asks for its turns in order, under its own number.
-fn must_ask<R: Host>(rt: &R, asked: &[(u32, u32)]) {
+fn must_ask<R: RouterHost>(rt: &R, asked: &[(u32, u32)]) {
     let mut next = [0u32; 65];
     for (job, turn) in asked {
         let wanted = some(rt, next.get_mut(*job as usize), "a job");

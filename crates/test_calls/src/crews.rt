@@ -1,6 +1,6 @@
 //! Sessions that are run, each in a thread of its own.
 
-use crate::asserts::{Host, some};
+use crate::asserts::{RouterHost, some};
 use crate::callers::Caller;
 use route_session::{Finished, Gate, Job, Link, Role, RunFault, join_passes, run_sessions};
 use slot_lock::{Pass, Router};
@@ -38,7 +38,7 @@ pub trait Auditor<L> {
 
 impl<'a, L: Link + Send + Drop> Crew<'a, L> {
     /// No sessions yet, at the router of a caller.
-    pub fn of<R: Host>(rt: &R, caller: Caller<'a>) -> Crew<'a, L> {
+    pub fn of<R: RouterHost>(rt: &R, caller: Caller<'a>) -> Crew<'a, L> {
         let (router, pass) = caller.parts();
         Crew {
             router,
@@ -48,7 +48,7 @@ impl<'a, L: Link + Send + Drop> Crew<'a, L> {
     }
 
     /// Adds a session over a link.
-    pub fn add<R: Host>(&mut self, rt: &R, role: Role, session: u32, link: L) {
+    pub fn add<R: RouterHost>(&mut self, rt: &R, role: Role, session: u32, link: L) {
         if self.pass.shares() < 2 || self.jobs.len() >= MOST {
             rt.panic("room for a session");
         }
@@ -64,7 +64,7 @@ impl<'a, L: Link + Send + Drop> Crew<'a, L> {
 
     /// Runs the sessions, shows what each came to, and joins their passes with the one that they were split off from: how many shares that has
     /// in the end.
-    pub fn run<R: Host, G: Gate + Sync, A: Auditor<L>>(
+    pub fn run<R: RouterHost, G: Gate + Sync, A: Auditor<L>>(
         self,
         rt: &R,
         gate: &G,
@@ -84,7 +84,7 @@ impl<'a, L: Link + Send + Drop> Crew<'a, L> {
 }
 
 /// Shows what each session came to.
-fn look_at_all<R: Host, L, A: Auditor<L>>(rt: &R, finished: &[Finished<L>], auditor: &mut A) {
+fn look_at_all<R: RouterHost, L, A: Auditor<L>>(rt: &R, finished: &[Finished<L>], auditor: &mut A) {
     for (number, one) in finished.iter().enumerate() {
         auditor.look(rt, number, one);
     }

@@ -1,12 +1,12 @@
 //! A shift: two operators and two sessions call a router, each in a thread of its own.
 
 use crate::accounts::Account;
-use crate::asserts::{Host, done, some};
+use crate::asserts::{RouterHost, done, some};
 use crate::crews::Crew;
 use crate::gates::OpenGate;
+use crate::numbers::Numbers;
 use crate::operators::{LINKED, Operator};
 use crate::random_link::RandomLink;
-use expectations::Numbers;
 use filter_verifier::Verified;
 use netchange_core::Event;
 use route_session::Role;
@@ -17,7 +17,7 @@ use std::thread;
 const TURNS: u32 = 300;
 
 /// A session for each neighbour, over a link of its own: a reader, or one time in three a writer.
-fn crew<'a, R: Host>(rt: &R, first: &mut Operator<'a>) -> Crew<'a, RandomLink> {
+fn crew<'a, R: RouterHost>(rt: &R, first: &mut Operator<'a>) -> Crew<'a, RandomLink> {
     let mut crew = Crew::of(rt, first.caller.split(rt, 10));
     for session in first.sessions {
         let role = if first.numbers.below(3) == 0 {
@@ -32,7 +32,7 @@ fn crew<'a, R: Host>(rt: &R, first: &mut Operator<'a>) -> Crew<'a, RandomLink> {
 }
 
 /// Two operators, the first of which takes neighbours down and up.
-fn operators<'a, R: Host>(rt: &R, first: &mut Operator<'a>) -> Vec<Operator<'a>> {
+fn operators<'a, R: RouterHost>(rt: &R, first: &mut Operator<'a>) -> Vec<Operator<'a>> {
     let mut operators = Vec::new(rt.alloc());
     for restarts in [true, false] {
         let operator = Operator {
@@ -48,7 +48,7 @@ fn operators<'a, R: Host>(rt: &R, first: &mut Operator<'a>) -> Vec<Operator<'a>>
 }
 
 /// Operators, each in a thread of its own.
-fn operate_all<'a, R: Host>(
+fn operate_all<'a, R: RouterHost>(
     rt: &R,
     operators: Vec<Operator<'a>>,
     filters: &[Arc<Verified>],
@@ -61,7 +61,7 @@ fn operate_all<'a, R: Host>(
 
 /// Runs a shift: the first operator, who lasts over all shifts of a router, brings up the neighbours that are down, if the history has room, and has
 /// the others and the sessions called. What was done is added to the account and to the first operator.
-pub fn run_shift<R: Host>(
+pub fn run_shift<R: RouterHost>(
     rt: &R,
     first: &mut Operator<'_>,
     account: &mut Account,

@@ -1,6 +1,6 @@
 //! What operators do meanwhile, in a thread of their own: they take a reader's session down and up, and they replace filters.
 
-use crate::asserts::{Host, done, must};
+use crate::asserts::{RouterHost, done, must};
 use crate::callers::{Caller, Way, close, open};
 use crate::ends::{FOUR, end};
 use crate::events::small_filter;
@@ -22,7 +22,7 @@ enum Order {
 }
 
 /// Does what an operator is to do.
-fn operate<R: Host>(rt: &R, mut caller: Caller<'_>, order: Order, gate: &MeetingGate) {
+fn operate<R: RouterHost>(rt: &R, mut caller: Caller<'_>, order: Order, gate: &MeetingGate) {
     match order {
         Order::Restart => {
             must(
@@ -49,7 +49,7 @@ fn operate<R: Host>(rt: &R, mut caller: Caller<'_>, order: Order, gate: &Meeting
 }
 
 /// How a reader of messages ends in session 1, with more turns than there are messages, while an operator has an order.
-fn read_beside<R: Host>(
+fn read_beside<R: RouterHost>(
     rt: &R,
     mut caller: Caller<'_>,
     told: &[Message],

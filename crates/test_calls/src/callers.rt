@@ -3,7 +3,7 @@
 ghost use Rattle.std.specs.Prelude.{◌<◌};
 ghost use Rattle.slot_lock.specs.Held.{IsFirst, IsPassOf};
 
-use crate::asserts::{Host, done, some};
+use crate::asserts::{Host, RouterHost, done, some};
 use netchange_core::{Event, Opening};
 use prefix_patterns::{Ip, Prefix};
 use route_history::{CallFault, Journal};
@@ -108,7 +108,7 @@ impl<'a> Caller<'a> {
     }
 
     /// Enters an event once the lock is free.
-    pub fn call<R: Host>(&mut self, rt: &R, event: Event) -> Result<Answer, CallFault> {
+    pub fn call<R: RouterHost>(&mut self, rt: &R, event: Event) -> Result<Answer, CallFault> {
         self.router.call(rt, &mut self.pass, event)
     }
 
@@ -118,7 +118,7 @@ impl<'a> Caller<'a> {
     }
 
     /// Enters an event by tries. One that comes back, since the lock was taken, is tried again.
-    fn try_again<R: Host>(&mut self, rt: &R, event: Event) -> Option<Answer> {
+    fn try_again<R: RouterHost>(&mut self, rt: &R, event: Event) -> Option<Answer> {
         let mut event = event;
         for _ in rt.forever() {
             match self.try_call(event) {
@@ -132,7 +132,7 @@ impl<'a> Caller<'a> {
     }
 
     /// Enters an event in a way, which has to be answered.
-    pub fn enter<R: Host>(&mut self, rt: &R, way: Way, event: Event) -> Answer {
+    pub fn enter<R: RouterHost>(&mut self, rt: &R, way: Way, event: Event) -> Answer {
         let answer = match way {
             Way::Try => self.try_call(event).ok(),
             Way::TryAgain => self.try_again(rt, event),
@@ -142,7 +142,7 @@ impl<'a> Caller<'a> {
     }
 
     /// Brings neighbours 1 to `last` up, in sessions 1 to `last`.
-    pub fn bring_up<R: Host>(&mut self, rt: &R, last: u16) {
+    pub fn bring_up<R: RouterHost>(&mut self, rt: &R, last: u16) {
         for node in 0..last {
             let event = Event::Up(node.saturating_add(1));
             let _answer = self.enter(rt, Way::Call, event);
@@ -150,7 +150,7 @@ impl<'a> Caller<'a> {
     }
 
     /// Reads a link in a session.
-    pub fn read<R: Host, L: Link, G: Gate>(
+    pub fn read<R: RouterHost, L: Link, G: Gate>(
         &mut self,
         rt: &R,
         session: u32,
@@ -171,7 +171,7 @@ impl<'a> Caller<'a> {
     }
 
     /// Writes to a link in a session.
-    pub fn write<R: Host, L: Link, G: Gate>(
+    pub fn write<R: RouterHost, L: Link, G: Gate>(
         &mut self,
         rt: &R,
         session: u32,

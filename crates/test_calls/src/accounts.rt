@@ -1,6 +1,6 @@
 //! What was done at a router, beside what its journal says of it.
 
-use crate::asserts::{Host, done, must, some};
+use crate::asserts::{RouterHost, done, must, some};
 use crate::crews::Auditor;
 use crate::histories::must_answer;
 use crate::random_link::RandomLink;
@@ -33,7 +33,7 @@ fn add<R: Abort>(rt: &R, told: &mut Told, session: u32, messages: &[Message]) {
 }
 
 /// Messages by session, those of each in the order in which they came.
-fn by_session<R: Host>(rt: &R, mut told: Told) -> Told {
+fn by_session<R: RouterHost>(rt: &R, mut told: Told) -> Told {
     done(rt, told.sort_by_key(|one: &(u32, Message)| one.0));
     told
 }
@@ -90,7 +90,7 @@ impl Auditor<RandomLink> for Account {
 
 impl Account {
     /// That of a router that was just opened.
-    pub fn new<R: Host>(rt: &R) -> Account {
+    pub fn new<R: RouterHost>(rt: &R) -> Account {
         Account {
             sessions: [0; 2],
             told: Vec::new(rt.alloc()),
@@ -104,7 +104,7 @@ impl Account {
 
     /// What is counted of the router, in the order of `COUNTED`. Its journal has to replay and to say the same, and to have these answers of operators
     /// and no other entry.
-    pub fn counts<R: Host>(self, rt: &R, journal: &Journal, answers: &[Answer]) -> [u64; 8] {
+    pub fn counts<R: RouterHost>(self, rt: &R, journal: &Journal, answers: &[Answer]) -> [u64; 8] {
         let entries = journal.entries();
         let entered = entered(rt, entries);
         must(rt, entered.others == answers.len(), "entries of operators");
@@ -133,7 +133,7 @@ impl Account {
     }
 
     /// Adds what an entry says.
-    fn enter<R: Host>(&mut self, rt: &R, entry: EntryRef<'_>) {
+    fn enter<R: RouterHost>(&mut self, rt: &R, entry: EntryRef<'_>) {
         match (entry.event, entry.reply) {
             (Event::Receive(session, dest, dist), _) => {
                 let (dest, dist) = (*dest, *dist);
@@ -152,7 +152,7 @@ impl Account {
 }
 
 /// What entries say.
-fn entered<R: Host>(rt: &R, entries: &Entries) -> Account {
+fn entered<R: RouterHost>(rt: &R, entries: &Entries) -> Account {
     let mut account = Account::new(rt);
     for at in 0..entries.len() {
         account.enter(rt, entries.entry(at));
