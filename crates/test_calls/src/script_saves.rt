@@ -30,9 +30,9 @@ type Run = (&'static [u8], usize, Result<u32, ScriptFault>, usize, usize);
 /// entry is not saved, nor one before it that is not written yet. And an input that fails: what was answered before is saved.
 const RUNS: [Run; 5] = [
     (LINES, 1_000, Ok(4), ANSWERS.len(), SAVED.len()),
-    (LINES, 75, Err(ScriptFault::Write), 3, 75),
-    (LINES, 76, Err(ScriptFault::Write), 3, 76),
-    (LINES, 80, Err(ScriptFault::Write), 3, 80),
+    (LINES, 75, Err(ScriptFault::Write), 35, 75),
+    (LINES, 76, Err(ScriptFault::Write), 35, 76),
+    (LINES, 80, Err(ScriptFault::Write), 35, 80),
     (
         b"network 4 0 4\nup 1\nrec",
         1_000,
