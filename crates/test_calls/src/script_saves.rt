@@ -22,8 +22,8 @@ const SAVED: &[u8] = b"NCH1 4 0 4 10.0.0.0/16 10.1.0.0/16 10.2.0.0/16 10.3.0.0/1
 3 up 1 refused N2
 ";
 
-/// A script, how many bytes its saver takes before it fails, how the script ends, and how many bytes of the answers and of the history are written. An
-/// input fails at its end where the script ends so.
+/// A script, how many bytes its saver takes before it fails, how the script ends, and how many bytes of the answers and of the history are written, of
+/// the answers at most so many where the saver fails. An input fails at its end where the script ends so.
 type Run = (&'static [u8], usize, Result<u32, ScriptFault>, usize, usize);
 
 /// A script that is saved as a whole. Savers with room for the opening and the first entry, and for a part of the second: no line is answered whose
@@ -63,11 +63,12 @@ fn expect_saved<R: Host>(rt: &R, run: &Run) {
         false,
     );
     must(rt, ended == *want, "how a script ends");
-    must_bytes(
-        rt,
-        writer.text(),
-        ANSWERS.get(..*answered).unwrap_or(ANSWERS),
-    );
+    let most = ANSWERS.get(..*answered).unwrap_or(ANSWERS);
+    if *want == Err(ScriptFault::Write) {
+        must(rt, most.starts_with(writer.text()), "what is answered");
+    } else {
+        must_bytes(rt, writer.text(), most);
+    }
     must_bytes(rt, saver.text(), SAVED.get(..*saved).unwrap_or(SAVED))
 }
 
