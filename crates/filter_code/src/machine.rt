@@ -215,10 +215,21 @@ fn metric_set(operand: u32, route: &Route) -> Result<u32, FaultKind>
     Ok(operand.min(route.size()))
 }
 
+/// That a whole run carries out an instruction.
+#[derive(Drop)]
+pub(crate) struct WholeRun;
+
+/// That a single step of a run carries out an instruction.
+#[derive(Drop)]
+pub(crate) struct SingleStep;
+
 /// Carries out one instruction. A jump adds to the place what it skips; the next instruction is then one further.
 /// After a stop the operands, the local variables and the metric are unspecified.
+///
+/// Its caller is a parameter, so that each of the two has an instance of its own: a function as large as this is inlined
+/// only where it has one caller in a program, and a call of it takes longer than most instructions.
 #[inline(always)]
-pub(crate) fn carry_out(
+pub(crate) fn carry_out<Caller>(
     instr: &Instr,
     code: &Code,
     route: &Route,
@@ -331,7 +342,7 @@ fn run_steps(code: &Code, route: &Route) -> Counted
     let mut steps = 0;
     while let Some(instr) = instrs.get(pc) {
         steps += 1;
-        match carry_out(
+        match carry_out::<WholeRun>(
             instr,
             code,
             route,

@@ -6,7 +6,7 @@ ghost use Rattle.filter_code.specs.Machine.{Ended, Going, start, step};
 use crate::code::Code;
 use crate::limits::STACK_LIMIT;
 use crate::locals::Locals;
-use crate::machine::carry_out;
+use crate::machine::{SingleStep, carry_out};
 use crate::operands::{take_one, take_two};
 use crate::outcome::{FaultKind, Outcome};
 use crate::route::Route;
@@ -62,7 +62,7 @@ impl Running {
         let Some(instr) = code.instrs().get(self.pc) else {
             return Some(Outcome::Fault(FaultKind::OutsideCode, self.pc));
         };
-        match carry_out(
+        match carry_out::<SingleStep>(
             instr,
             code,
             route,

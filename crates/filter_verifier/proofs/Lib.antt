@@ -16,7 +16,6 @@ pub mod Passes
 pub mod Propagation
 mod Rows
 pub mod Sizes
-pub mod Slots
 pub mod Sound
 pub mod Steps
 pub mod Surveys

@@ -5,9 +5,6 @@ use Rattle.filter_code.specs.declared.instruction.Instr.TheVariants as instr
 use Rattle.filter_code.specs.CodeView.{CodeView}
 use Rattle.filter_verifier.specs.declared.fault.VerifyFault.{VerifyFault}
 use Rattle.filter_verifier.specs.declared.fault.VerifyFault.TheVariants as refusal
-use Rattle.filter_verifier.specs.DecodedSteps.{slots_of}
-use Rattle.filter_verifier.specs.declared.step.RareStep.TheVariants as rare
-use Rattle.filter_verifier.specs.declared.step.Step.TheVariants as step
 use Rattle.filter_verifier.specs.FirstFault.{first_fault, the_fault}
 use Rattle.filter_verifier.specs.InStates.{incoming}
 use Rattle.filter_verifier.specs.Bounds.{cost, peak}
@@ -201,8 +198,3 @@ no_such_set = refl
 pub set_of_a_prefix : fault_with_sets (instr.Net ∷ (instr.InSet 1 ∷ (instr.Accept ∷ []))) ≡ Some (refusal.WrongKind 1)
 unfolding incoming first_fault
 set_of_a_prefix = refl
-
--- a test of membership has the step of both in its place, and the jump after it its own
-pub pair_in_place : slots_of (instr.Metric ∷ (instr.InSet 0 ∷ (instr.JumpIfNot 1 ∷ (instr.Accept ∷ (instr.Reject ∷ [])))))
-    ≡ step.Load 18 ∷ (step.InSetJump 0 1 ∷ (step.JumpIfNot 1 ∷ (step.Accept ∷ (step.Rare rare.Reject ∷ []))))
-pair_in_place = refl

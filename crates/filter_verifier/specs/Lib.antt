@@ -1,7 +1,6 @@
 -- What the contracts of public calls cite, and so what a caller reads.
 pub mod AbstractFrameView
 pub mod Bounds
-pub mod DecodedSteps
 pub mod Facts
 pub mod Faults
 pub mod FirstFault
@@ -10,13 +9,12 @@ pub mod InStateView
 pub mod Join
 pub mod Numbers
 pub mod OutStateView
+pub mod Pass
 pub mod Ranges
 pub mod Safe
 pub mod Surveys
 pub mod Transfer
-pub mod ValueWords
 pub mod Verdicts
 pub mod VerifiedView
 -- What only bodies are proved against.
 pub mod PairwiseJoin
-pub mod Pass

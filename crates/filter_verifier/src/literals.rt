@@ -3,8 +3,8 @@
 ghost use Rattle.std.specs.Prelude.{All};
 ghost use Rattle.filter_verifier.specs.Safe.{HasLiteral};
 
-use crate::word::word_of_ip;
 use filter_code::Instr;
+use filter_steps::word_of_ip;
 
 /// Reads the literal of an instruction, so that the proof learns that it is within the limits of its kind.
 fn read_literal(instr: &Instr)
