@@ -17,7 +17,7 @@ use Rattle.filter_code.specs.CodeView.{CodeView}
 use Rattle.filter_compiler.proofs.Reaching.{carried_over}
 use Rattle.filter_parser.specs.declared.tree.decl.Kind.{Kind}
 use Rattle.filter_parser.specs.declared.tree.decl.Kind.TheVariants as kind
-use Rattle.filter_parser.specs.Syntax.{ExprView, range_of}
+use Rattle.expression_parser.specs.Syntax.{ExprView, range_of}
 use Rattle.filter_parser.specs.SyntaxCommands.{CommandView, empty, block, if_then, if_else, case, assign, accept, reject, CommandsView, no_commands, command_then}
 use Rattle.filter_parser.specs.SyntaxCommands.{TargetView, to_name, to_metric, to_net, DeclView, PartsView, no_parts, part_then, ranges_label, else_label}
 use Rattle.filter_types.specs.Kinds.{kind_in, kind_named, number_of, target_kind, HasSameKind, KindsFit, KindsFitAll, KindsFitParts}

@@ -7,7 +7,7 @@ use Rattle.filter_parser.specs.SyntaxCommands.{commands_of, parts_of, part_then,
 use Rattle.filter_parser.specs.declared.tree.command.Command.{Command}
 use Rattle.filter_parser.specs.declared.tree.command.Label.{Label}
 use Rattle.filter_parser.specs.declared.tree.command.Label.TheVariants as label
-use Rattle.filter_parser.specs.declared.tree.set.SetRange.{SetRange}
+use Rattle.expression_parser.specs.declared.tree.set.SetRange.{SetRange}
 use Rattle.filter_compiler.specs.Translation.{has_labelled}
 
 abbrev Part : Type 0

@@ -7,7 +7,7 @@ use Rattle.filter_parser.specs.declared.tree.command.Command.TheFolds.{fold-Comm
 use Rattle.filter_parser.specs.declared.tree.command.Command.TheOpen.{Command-F}
 use Rattle.filter_parser.specs.declared.tree.command.Command.TheVariants as command
 use Rattle.filter_parser.specs.declared.tree.command.Label.{Label}
-use Rattle.filter_parser.specs.declared.tree.expr.Expr.{Expr}
+use Rattle.expression_parser.specs.declared.tree.expr.Expr.{Expr}
 
 abbrev part_step : Label × Vec ℕ Global → ℕ
 part_step part = 3 + sum part.1.items

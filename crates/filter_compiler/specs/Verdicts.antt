@@ -11,7 +11,7 @@ use Rattle.filter_parser.specs.declared.tree.decl.Kind.{Kind}
 use Rattle.filter_parser.specs.declared.tree.decl.Kind.TheVariants as kind
 use Rattle.filter_parser.specs.SyntaxCommands.{CommandView, empty, block, if_then, if_else, case, assign, accept, reject, CommandsView, no_commands, command_then}
 use Rattle.filter_parser.specs.SyntaxCommands.{TargetView, to_name, to_metric, DeclView, ranges_label, else_label, PartsView, no_parts, part_then}
-use Rattle.filter_parser.specs.Syntax.{range_of}
+use Rattle.expression_parser.specs.Syntax.{range_of}
 use Rattle.filter_parser.specs.SyntaxText as syntax
 use Rattle.filter_compiler.specs.Meaning.{Bound, Scene, value_of}
 

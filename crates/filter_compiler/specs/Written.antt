@@ -5,9 +5,9 @@ use Rattle.prefix_patterns.specs.Matching.{pattern_limit}
 use Rattle.filter_code.specs.Limits.{instruction_limit, set_limit, int_set_limit}
 use Rattle.filter_code.specs.declared.instruction.Instr.{Instr}
 use Rattle.filter_code.specs.declared.instruction.Instr.TheVariants as instr
-use Rattle.filter_parser.specs.declared.tree.op.Membership.{Membership}
-use Rattle.filter_parser.specs.declared.tree.op.Op.{Op}
-use Rattle.filter_parser.specs.Syntax.{ExprView, RangeView, SetView}
+use Rattle.expression_parser.specs.declared.tree.op.Membership.{Membership}
+use Rattle.expression_parser.specs.declared.tree.op.Op.{Op}
+use Rattle.expression_parser.specs.Syntax.{ExprView, RangeView, SetView}
 use Rattle.filter_parser.specs.SyntaxCommands.{CommandView, CommandsView, DeclView, PartsView}
 use Rattle.filter_compiler.specs.Limits.{AreTooMany}
 use Rattle.filter_compiler.specs.SetOrder.{Sets, SetCounts, no_sets, none_before, past, with_sets}

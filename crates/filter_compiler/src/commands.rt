@@ -2,7 +2,7 @@
 
 ghost use Rattle.std.specs.Prelude.{◌≡◌, ◌≤◌, List, ◌∷◌, [], ◌++◌, flat_map, length, map};
 ghost use Rattle.filter_code.specs.CodeView.{HasMask};
-ghost use Rattle.filter_parser.specs.Syntax.{RangeView, view};
+ghost use Rattle.expression_parser.specs.Syntax.{RangeView, view};
 ghost use Rattle.filter_parser.specs.SyntaxCommands.{case, commands_of, parts_of, view_command, view_decl, view_part, view_target};
 ghost use Rattle.filter_parser.specs.SyntaxText.{view_filter};
 ghost use Rattle.filter_types.specs.Kinds.{variable_limit};

@@ -2,8 +2,8 @@
 
 ghost use Rattle.std.specs.Prelude.{◌≡◌, ℕ, [], ◌∷◌, ◌++◌, flat_map, length, map, min, replicate};
 ghost use Rattle.filter_code.specs.CodeView.{HasMask};
-ghost use Rattle.filter_parser.specs.Places.{expr_place};
-ghost use Rattle.filter_parser.specs.Syntax.{ExprView, chain_of, suffixes_of, view, view_members, view_more};
+ghost use Rattle.expression_parser.specs.Places.{expr_place};
+ghost use Rattle.expression_parser.specs.Syntax.{ExprView, chain_of, suffixes_of, view, view_members, view_more};
 ghost use Rattle.filter_parser.specs.SyntaxText.{view_filter};
 ghost use Rattle.filter_compiler.specs.InstructionPlaces.{all_at, expression_places, right_places, suffixes_places};
 ghost use Rattle.filter_compiler.specs.SetOrder.{SetCounts};

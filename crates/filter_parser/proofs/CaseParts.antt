@@ -3,7 +3,7 @@ use Rattle.std.proofs.Common.{◌≡◌, ℕ, zero, suc, ◌&&◌, ◌-◌, ◌<
 use Rattle.std.proofs.Common.{sym, ap, ◌∙◌, arith}
 use Rattle.filter_tokens.specs.Lexemes.{Lexeme}
 use Rattle.filter_parser.specs.ReadingCommands.{part_begins, part_of, parts_from, parts_with}
-use Rattle.filter_parser.specs.Readers.{Reader}
+use Rattle.expression_parser.specs.Readers.{Reader}
 use Rattle.prefix_patterns.specs.Reading.{◌>>=◌}
 use Rattle.filter_parser.specs.SyntaxCommands.{CommandsView, LabelView, PartsView, has_ranges, parts_of}
 

@@ -6,17 +6,17 @@ use Rattle.filter_tokens.specs.Lexemes.{Lexeme}
 use Rattle.filter_tokens.specs.declared.symbol.Symbol.{Symbol}
 use Rattle.filter_tokens.specs.declared.symbol.Symbol.TheVariants as symbols
 use Rattle.filter_parser.specs.ReadingCommands.{accepts, command_at, command_by, command_with, commands_from, commands_with, assign_with, block_with}
-use Rattle.filter_parser.specs.Readers.{refused, Reader, a_number, symbol, quote}
+use Rattle.expression_parser.specs.Readers.{refused, Reader, a_number, symbol, quote}
 use Rattle.filter_parser.specs.ReadingCommands.{an_else, case_with, command_begins, else_label_of, if_with, end_of, label_of, part_begins, part_of, parts_from, parts_with}
 use Rattle.filter_parser.specs.ReadingCommands.{ranges_label_from, rejects}
-use Rattle.filter_parser.specs.Reading.{expr_at, ranges_from}
-use Rattle.filter_parser.specs.Syntax.{ExprView, Fits, spelling, spelling_ranges}
+use Rattle.expression_parser.specs.Reading.{expr_at, ranges_from}
+use Rattle.expression_parser.specs.Syntax.{ExprView, Fits, spelling, spelling_ranges}
 use Rattle.filter_parser.specs.SyntaxCommands.{TargetView, CommandView, CommandsView, FitsCommand, FitsCommands, is_open, spelling_command, spelling_commands}
 use Rattle.filter_parser.specs.SyntaxCommands.{FitsLabel, FitsParts, LabelView, PartsView, has_ranges, spelling_label, spelling_parts, spelling_target, spelling_end}
 use Rattle.filter_parser.proofs.Joined.{both_joined, case_joined, part_joined, assign_joined, block_joined, if_joined, else_joined, front_joined}
-use Rattle.filter_parser.proofs.Ranges.{ranges_sound}
-use Rattle.filter_parser.proofs.SoundWords.{number_found}
-use Rattle.filter_parser.proofs.Steps.{bind_some, symbol_found, some_is, with_some_cases}
+use Rattle.expression_parser.proofs.Ranges.{ranges_sound}
+use Rattle.expression_parser.proofs.SoundWords.{number_found}
+use Rattle.expression_parser.proofs.Steps.{bind_some, symbol_found, some_is, with_some_cases}
 
 -- what is read of expressions is spelled so, and fits
 pub record AreSound (depth : ℕ) (expr : Reader ExprView) : Type 0 where

@@ -4,8 +4,8 @@ use Rattle.filter_tokens.specs.Lexemes.{Lexeme}
 use Rattle.filter_parser.specs.declared.tree.decl.Kind.{Kind}
 use Rattle.filter_parser.specs.ReadingCommands.{a_kind, decl_with, decl_turn, decls_after}
 use Rattle.filter_parser.specs.SyntaxCommands.{DeclView}
-use Rattle.filter_parser.proofs.Turns.{Goes}
-use Rattle.filter_parser.proofs.Turns as turns
+use Rattle.expression_parser.proofs.Turns.{Goes}
+use Rattle.expression_parser.proofs.Turns as turns
 
 pub begins : (front : List DeclView) (ws : List Lexeme) → Goes decl_turn front ws (decls_after front ws)
 unfolding decls_after

@@ -8,19 +8,19 @@ use Rattle.filter_tokens.specs.declared.symbol.Symbol.TheVariants as symbols
 use Rattle.filter_parser.specs.declared.tree.decl.Kind.{Kind}
 use Rattle.filter_parser.specs.declared.tree.decl.Kind.TheVariants as kind
 use Rattle.filter_parser.specs.ReadingCommands.{SaidView, command_at, commands_with, decl_turn, decl_with, decls_after, filter_of, a_kind}
-use Rattle.filter_parser.specs.Readers.{a_name, turns, symbol}
+use Rattle.expression_parser.specs.Readers.{a_name, turns, symbol}
 use Rattle.filter_parser.specs.ReadingCommands.{kind_of, nothing_after}
-use Rattle.filter_parser.specs.Reading.{expr_at}
-use Rattle.filter_parser.specs.Syntax.{nesting_limit}
+use Rattle.expression_parser.specs.Reading.{expr_at}
+use Rattle.expression_parser.specs.Syntax.{nesting_limit}
 use Rattle.filter_parser.specs.SyntaxCommands.{TargetView, CommandView, CommandsView, DeclView, FitsCommands, kind_symbol, spelling_command, spelling_commands}
 use Rattle.filter_parser.specs.SyntaxCommands.{spelling_decl, spelling_decls}
 use Rattle.filter_parser.specs.SyntaxText.{spelling_filter}
 use Rattle.filter_parser.proofs.CommandsComplete.{AreComplete, brace_ends, command_complete, commands_with_complete}
 use Rattle.filter_parser.proofs.CommandsSound.{AreSound, command_sound, commands_with_sound}
-use Rattle.filter_parser.proofs.Complete.{expr_complete}
-use Rattle.filter_parser.proofs.CompleteOperands.{rank_most}
-use Rattle.filter_parser.proofs.Sound.{expr_sound}
-use Rattle.filter_parser.proofs.Steps.{bind_some, symbol_found, some_is, with_some_cases}
+use Rattle.expression_parser.proofs.Complete.{expr_complete}
+use Rattle.expression_parser.proofs.CompleteOperands.{rank_most}
+use Rattle.expression_parser.proofs.Sound.{expr_sound}
+use Rattle.expression_parser.proofs.Steps.{bind_some, symbol_found, some_is, with_some_cases}
 
 exprs_sound : (depth : ℕ) → AreSound depth (expr_at depth)
 exprs_sound depth = record { sound = λ ws x e. let found = (expr_sound depth).sound ws x e in (found.spelled, found.fits) }

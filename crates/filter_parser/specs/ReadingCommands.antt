@@ -6,17 +6,17 @@ use Rattle.filter_tokens.specs.Lexemes.{Lexeme, covered}
 use Rattle.filter_tokens.specs.declared.symbol.Symbol.{Symbol}
 use Rattle.filter_tokens.specs.declared.symbol.Symbol.TheVariants as symbols
 use Rattle.filter_tokens.specs.declared.token.Token.{Token}
-use Rattle.filter_parser.specs.declared.input.Input.{Input}
+use Rattle.expression_parser.specs.declared.input.Input.{Input}
 use Rattle.filter_parser.specs.declared.parts.Parts.{Parts}
 use Rattle.filter_parser.specs.declared.tree.command.Command.{Command}
 use Rattle.filter_parser.specs.declared.tree.command.Label.{Label}
 use Rattle.filter_parser.specs.declared.tree.decl.Kind.{Kind}
 use Rattle.filter_parser.specs.declared.tree.decl.Kind.TheVariants as kind
-use Rattle.filter_parser.specs.Readers.{Reading, Reader, Skip, Turn, ◌>>=◌, ◌>>◌, after◌then◌else◌, with◌then◌else◌, when◌then◌else◌, done, given, is_there, refused}
-use Rattle.filter_parser.specs.Readers.{again, stop, turns, symbol, quote, a_name, a_number}
-use Rattle.filter_parser.specs.Reading.{expr_at, ranges_from}
-use Rattle.filter_parser.specs.Steps.{remaining}
-use Rattle.filter_parser.specs.Syntax.{ExprView, nesting_limit}
+use Rattle.expression_parser.specs.Readers.{Reading, Reader, Skip, Turn, ◌>>=◌, ◌>>◌, after◌then◌else◌, with◌then◌else◌, when◌then◌else◌, done, given, is_there, refused}
+use Rattle.expression_parser.specs.Readers.{again, stop, turns, symbol, quote, a_name, a_number}
+use Rattle.expression_parser.specs.Reading.{expr_at, ranges_from}
+use Rattle.expression_parser.specs.Steps.{remaining}
+use Rattle.expression_parser.specs.Syntax.{ExprView, nesting_limit}
 use Rattle.filter_parser.specs.SyntaxCommands.{TargetView, CommandView, CommandsView, LabelView, PartsView, DeclView, commands_of, has_ranges, parts_of}
 use Rattle.filter_parser.specs.SyntaxCommands.{view_command, view_decl, view_label, view_part}
 

@@ -15,7 +15,7 @@ use Rattle.filter_parser.specs.declared.tree.command.Target.TheVariants as targe
 use Rattle.filter_parser.specs.declared.tree.decl.Decl.{Decl}
 use Rattle.filter_parser.specs.declared.tree.decl.Kind.{Kind}
 use Rattle.filter_parser.specs.declared.tree.decl.Kind.TheVariants as kind
-use Rattle.filter_parser.specs.Syntax.{ExprView, RangeView, view, view_range, spelling, spelling_ranges, Fits, FitsRanges, one_less}
+use Rattle.expression_parser.specs.Syntax.{ExprView, RangeView, view, view_range, spelling, spelling_ranges, Fits, FitsRanges, one_less}
 
 -- what an assignment sets: a variable, `rip_metric`, `net`
 pub data TargetView : Type 0 where

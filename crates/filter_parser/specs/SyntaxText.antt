@@ -6,7 +6,8 @@ use Rattle.filter_tokens.specs.Lexemes.{Lexeme, lexemes}
 use Rattle.filter_tokens.specs.declared.symbol.Symbol.TheVariants as symbols
 use Rattle.filter_tokens.specs.declared.token.Token.{Token}
 use Rattle.filter_parser.specs.declared.tree.filter.Filter.{Filter}
-use Rattle.filter_parser.specs.Syntax.{nesting_limit}
+use Rattle.expression_parser.specs.Codes.{text_limit}
+use Rattle.expression_parser.specs.Syntax.{nesting_limit}
 use Rattle.filter_parser.specs.SyntaxCommands.{CommandsView, DeclView, FitsCommands, commands_of, spelling_commands, spelling_decls, view_command, view_decl}
 
 -- a filter without its places: name, declarations in their order, commands of the body, and the tokens of its text
@@ -25,10 +26,6 @@ view_filter f =
       body = commands_of (map view_command f.body.items);
       tokens = f.tokens.items;
     }
-
--- the greatest number of bytes in a filter's text
-abbrev pub text_limit : ℕ
-text_limit = 65536
 
 -- `filter name`, declarations, `{`, more declarations, commands, `}`
 abbrev pub spelling_filter : List ℕ → List DeclView → List DeclView → CommandsView → List Lexeme

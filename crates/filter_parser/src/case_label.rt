@@ -3,14 +3,11 @@
 ghost use Rattle.std.specs.Prelude.{◌≡◌, ◌&&◌, ◌∷◌, ◌++◌, ◌≤◌, [], Some, None, IfOk, length};
 ghost use Rattle.filter_parser.specs.Placed.{label_kept};
 ghost use Rattle.filter_parser.specs.ReadingCommands as spec;
-ghost use Rattle.filter_parser.specs.Steps.{Reads, Continues, ReadsAs, StaysWithinAfter, remaining};
+ghost use Rattle.expression_parser.specs.Steps.{Reads, Continues, ReadsAs, StaysWithinAfter, remaining};
 ghost use Rattle.filter_parser.specs.SyntaxCommands.{has_ranges, view_label};
 
-use crate::expected::Expected;
-use crate::fault::ParseFault;
-use crate::input::Input;
-use crate::range_reader::parse_ranges_from;
 use crate::tree::Label;
+use expression_parser::{Expected, Input, ParseFault, parse_ranges_from};
 use filter_tokens::Symbol;
 use std::alloc::Global;
 

@@ -2,15 +2,13 @@
 
 ghost use Rattle.std.specs.Prelude.{◌≡◌, ◌∷◌, ◌<◌, [], length, map, Some, None, IfOk, IfSome};
 ghost use Rattle.filter_parser.specs.Placed.{decl_kept};
-ghost use Rattle.filter_parser.specs.Readers.{a_name};
+ghost use Rattle.expression_parser.specs.Readers.{a_name};
 ghost use Rattle.filter_parser.specs.ReadingCommands as spec;
-ghost use Rattle.filter_parser.specs.Steps.{ReadsOn, Finds, Follows, Grown, LeavesWithin, ReadsAs, Spans, StaysWithin, first_place, remaining};
+ghost use Rattle.expression_parser.specs.Steps.{ReadsOn, Finds, Follows, Grown, LeavesWithin, ReadsAs, Spans, StaysWithin, first_place, remaining};
 ghost use Rattle.filter_parser.specs.SyntaxCommands.{view_decl};
 
-use crate::expected::Expected;
-use crate::fault::ParseFault;
-use crate::input::Input;
 use crate::tree::{Decl, Kind};
+use expression_parser::{Expected, Input, ParseFault};
 use filter_tokens::{Symbol, TokenKind};
 use std::alloc::Global;
 

@@ -1,20 +1,19 @@
 //! A whole filter.
 
 ghost use Rattle.std.specs.Prelude.{◌≡◌, ◌∷◌, ℕ, [], None, IfErr, IfOk, length, map};
-ghost use Rattle.filter_parser.specs.Codes.{LiesWithin};
-ghost use Rattle.filter_parser.specs.Placed.{ArePlaced, decl_kept, joined};
+ghost use Rattle.expression_parser.specs.Codes.{LiesWithin};
+ghost use Rattle.expression_parser.specs.Placed.{joined};
+ghost use Rattle.filter_parser.specs.Placed.{ArePlaced, decl_kept};
 ghost use Rattle.filter_parser.specs.ReadingCommands as spec;
-ghost use Rattle.filter_parser.specs.Steps.{IsWithin, ReadsAs, Spans, remaining};
+ghost use Rattle.expression_parser.specs.Steps.{IsWithin, ReadsAs, Spans, remaining};
 ghost use Rattle.filter_parser.specs.SyntaxCommands.{view_decl};
-ghost use Rattle.filter_parser.specs.declared.input.Input.{Input as TheInput};
+ghost use Rattle.expression_parser.specs.declared.input.Input.{Input as TheInput};
 
 use crate::command::parse_commands;
 use crate::decl::{parse_declarations, parse_name};
-use crate::expected::Expected;
-use crate::fault::ParseFault;
-use crate::input::Input;
 use crate::parts::Parts;
 use crate::tree::Decl;
+use expression_parser::{Expected, Input, ParseFault};
 use filter_tokens::Symbol;
 use std::alloc::Global;
 

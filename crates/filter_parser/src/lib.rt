@@ -4,24 +4,14 @@
 mod case_label;
 mod command;
 mod decl;
-mod expected;
-mod expr;
-mod expr_atom;
-mod expr_level;
-mod expr_make;
-mod fault;
 mod filter;
-mod input;
 mod parts;
-mod range_reader;
-mod set_reader;
 mod text;
 mod tree;
 
-pub use expected::Expected;
-pub use fault::{ParseFault, TEXT_LIMIT};
-pub use text::parse;
-pub use tree::{
-    Attribute, Command, Decl, Expr, Filter, Kind, Label, MaskLength, Members, Membership, Name, Op,
-    Set, SetPattern, SetRange, Suffix, Target,
+pub use expression_parser::{
+    Attribute, Expected, Expr, MaskLength, Members, Membership, Name, Op, ParseFault, Set,
+    SetPattern, SetRange, Suffix, TEXT_LIMIT,
 };
+pub use text::parse;
+pub use tree::{Command, Decl, Filter, Kind, Label, Target};

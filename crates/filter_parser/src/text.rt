@@ -4,15 +4,15 @@ ghost use Rattle.std.specs.Prelude.{◌≡◌, ◌≢◌, ◌<◌, ◌≤◌, Li
 ghost use Rattle.filter_tokens.specs.Codes.{fault_place};
 ghost use Rattle.filter_tokens.specs.Tokenization.{AreInOrder, IsTokenization};
 ghost use Rattle.filter_tokens.specs.declared.token.Token.{Token as TheToken};
-ghost use Rattle.filter_parser.specs.Codes.{LiesWithin};
+ghost use Rattle.expression_parser.specs.Codes.{LiesWithin};
 ghost use Rattle.filter_parser.specs.Placed.{IsPlaced};
-ghost use Rattle.filter_parser.specs.SyntaxText.{IsText, FilterView, text_limit, view_filter};
-ghost use Rattle.filter_parser.specs.declared.fault.ParseFault.TheVariants.{Memory, TooLong};
+ghost use Rattle.expression_parser.specs.Codes.{text_limit};
+ghost use Rattle.filter_parser.specs.SyntaxText.{IsText, FilterView, view_filter};
+ghost use Rattle.expression_parser.specs.declared.fault.ParseFault.TheVariants.{Memory, TooLong};
 
-use crate::fault::{ParseFault, TEXT_LIMIT};
 use crate::filter::parse_filter;
-use crate::input::{Input, Source};
 use crate::tree::Filter;
+use expression_parser::{Input, ParseFault, Source, TEXT_LIMIT};
 use filter_tokens::{Lexed, Token, TokenFault, lex};
 use std::alloc::Global;
 

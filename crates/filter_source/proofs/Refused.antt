@@ -10,11 +10,12 @@ use Rattle.filter_compiler.specs.Limits.{HasTooMany, IsTooLong}
 use Rattle.filter_compiler.specs.Translation.{code_of}
 use Rattle.filter_compiler.specs.declared.fault.CompileFault.{CompileFault}
 use Rattle.filter_compiler.specs.declared.fault.CompileFault.TheVariants as compile
-use Rattle.filter_parser.specs.Codes.{LiesWithin}
+use Rattle.expression_parser.specs.Codes.{LiesWithin}
 use Rattle.filter_parser.specs.Placed.{IsPlaced}
-use Rattle.filter_parser.specs.SyntaxText.{FilterView, IsText, text_limit, view_filter}
-use Rattle.filter_parser.specs.declared.fault.ParseFault.{ParseFault}
-use Rattle.filter_parser.specs.declared.fault.ParseFault.TheVariants as parse
+use Rattle.expression_parser.specs.Codes.{text_limit}
+use Rattle.filter_parser.specs.SyntaxText.{FilterView, IsText, view_filter}
+use Rattle.expression_parser.specs.declared.fault.ParseFault.{ParseFault}
+use Rattle.expression_parser.specs.declared.fault.ParseFault.TheVariants as parse
 use Rattle.filter_parser.specs.declared.tree.filter.Filter.{Filter}
 use Rattle.filter_tokens.specs.Tokenization.{AreInOrder}
 use Rattle.filter_types.specs.Codes.{fault_place}

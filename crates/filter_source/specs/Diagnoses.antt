@@ -2,7 +2,7 @@
 -- own choice.)
 use Rattle.std.specs.Prelude.{◌≡◌, ℕ, List, Option, Some, None, slice_get}
 use Rattle.filter_code.specs.CodeView.{CodeView}
-use Rattle.filter_parser.specs.Codes as parse
+use Rattle.expression_parser.specs.Codes as parse
 use Rattle.filter_types.specs.Codes as types
 use Rattle.filter_verifier.specs.Faults.{fault_place}
 use Rattle.filter_verifier.specs.Ranges.{RangeView}

@@ -4,8 +4,8 @@ use Rattle.code_file.specs.declared.fault.FileFault.{FileFault}
 use Rattle.code_file.specs.declared.fault.FileFault.TheVariants as file
 use Rattle.filter_compiler.specs.declared.fault.CompileFault.{CompileFault}
 use Rattle.filter_compiler.specs.declared.fault.CompileFault.TheVariants as compile
-use Rattle.filter_parser.specs.declared.fault.ParseFault.{ParseFault}
-use Rattle.filter_parser.specs.declared.fault.ParseFault.TheVariants as parse
+use Rattle.expression_parser.specs.declared.fault.ParseFault.{ParseFault}
+use Rattle.expression_parser.specs.declared.fault.ParseFault.TheVariants as parse
 use Rattle.filter_types.specs.declared.fault.TypeFault.{TypeFault}
 use Rattle.filter_types.specs.declared.fault.TypeFault.TheVariants as types
 use Rattle.filter_verifier.specs.Ranges.{RangeView}

@@ -2,7 +2,7 @@
 use Rattle.std.specs.Prelude.{ℕ, List, codes}
 use Rattle.code_file.specs.Codes as file
 use Rattle.filter_compiler.specs.Codes as compile
-use Rattle.filter_parser.specs.Codes as parse
+use Rattle.expression_parser.specs.Codes as parse
 use Rattle.filter_types.specs.Codes as types
 use Rattle.filter_verifier.specs.Faults as verify
 use Rattle.filter_source.specs.declared.refusal.Refusal.{Refusal}

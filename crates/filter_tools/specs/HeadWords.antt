@@ -1,10 +1,10 @@
 -- The word at the head of a command that is none: `acept` of `acept;` could be a variable, so the text is refused after it, where the
 -- `=` of an assignment is missing. (This project's own choice.)
 use Rattle.std.specs.Prelude.{◌≡◌, ◌⊎◌, ℕ, nat_le, if◌then◌else◌, List, [], ◌∷◌, Option, Some, None, length}
-use Rattle.filter_parser.specs.declared.expected.Expected.{Expected}
-use Rattle.filter_parser.specs.declared.expected.Expected.TheVariants as expected
-use Rattle.filter_parser.specs.declared.fault.ParseFault.{ParseFault}
-use Rattle.filter_parser.specs.declared.fault.ParseFault.TheVariants as fault
+use Rattle.expression_parser.specs.declared.expected.Expected.{Expected}
+use Rattle.expression_parser.specs.declared.expected.Expected.TheVariants as expected
+use Rattle.expression_parser.specs.declared.fault.ParseFault.{ParseFault}
+use Rattle.expression_parser.specs.declared.fault.ParseFault.TheVariants as fault
 use Rattle.filter_source.specs.declared.diagnosis.Diagnosis.{Diagnosis}
 use Rattle.filter_source.specs.declared.refusal.Refusal.{Refusal}
 use Rattle.filter_source.specs.declared.refusal.Refusal.TheVariants.{Parse}

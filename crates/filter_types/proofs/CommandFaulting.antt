@@ -4,8 +4,8 @@ use Rattle.std.proofs.lemmas.Option.{slice_get_read}
 use Rattle.std.proofs.Common.{◌+◌, ◌<◌, length, take, get_or, arith}
 use Rattle.std.proofs.Common.{◌≡◌, ◌≢◌, ◌⊎◌, inl, inr, ℕ, Option, Some, None, Result, Ok, Err, List, [], ◌∷◌, Box, Vec, Global, map, refl, sym, ap, subst, ◌∙◌}
 use Rattle.std.specs.Prelude.{Contains, IfErr, flat_map}
-use Rattle.filter_parser.specs.Places.{expr_place}
-use Rattle.filter_parser.specs.Syntax.{view}
+use Rattle.expression_parser.specs.Places.{expr_place}
+use Rattle.expression_parser.specs.Syntax.{view}
 use Rattle.filter_parser.specs.SyntaxCommands.{DeclView}
 use Rattle.filter_parser.specs.declared.tree.command.Command.{Command}
 use Rattle.filter_parser.specs.declared.tree.command.Command.TheOpen.{Command-F}
@@ -13,7 +13,7 @@ use Rattle.filter_parser.specs.declared.tree.command.Command.TheVariants as comm
 use Rattle.filter_parser.specs.declared.tree.command.Label.{Label}
 use Rattle.filter_parser.specs.declared.tree.command.Target.{Target}
 use Rattle.filter_parser.specs.declared.tree.decl.Kind.{Kind}
-use Rattle.filter_parser.specs.declared.tree.expr.Expr.{Expr}
+use Rattle.expression_parser.specs.declared.tree.expr.Expr.{Expr}
 use Rattle.filter_types.specs.Codes.{expected_of}
 use Rattle.filter_types.specs.Faults.{CommandHasFault, HasFault, IsOtherKind, IsOtherThanTarget, IsTargetFault, SharesLabel}
 use Rattle.filter_types.specs.Kinds.{kind_in}

@@ -1,18 +1,18 @@
 -- The fault of an expression, from what its judgement found of its parts.
 use Rattle.std.proofs.Common.{◌≡◌, ◌⊎◌, inl, inr, ℕ, Some, None, List, [], ◌∷◌, Box, Vec, Global, map, refl, sym, ap, subst, ◌∙◌}
 use Rattle.std.specs.Prelude.{Contains}
-use Rattle.filter_parser.specs.Places.{expr_place}
-use Rattle.filter_parser.specs.Syntax.{view, view_members, view_more}
+use Rattle.expression_parser.specs.Places.{expr_place}
+use Rattle.expression_parser.specs.Syntax.{view, view_members, view_more}
 use Rattle.filter_parser.specs.SyntaxCommands.{DeclView}
 use Rattle.filter_parser.specs.declared.tree.decl.Kind.{Kind}
-use Rattle.filter_parser.specs.declared.tree.expr.Expr.{Expr}
-use Rattle.filter_parser.specs.declared.tree.expr.Expr.TheOpen.{Expr-F}
-use Rattle.filter_parser.specs.declared.tree.expr.Expr.TheVariants as e
-use Rattle.filter_parser.specs.declared.tree.expr.Expr.TheViews.{roll-Expr}
-use Rattle.filter_parser.specs.declared.tree.op.Membership.{Membership}
-use Rattle.filter_parser.specs.declared.tree.op.Op.{Op}
-use Rattle.filter_parser.specs.declared.tree.op.Suffix.{Suffix}
-use Rattle.filter_parser.specs.declared.tree.set.Set.{Set}
+use Rattle.expression_parser.specs.declared.tree.expr.Expr.{Expr}
+use Rattle.expression_parser.specs.declared.tree.expr.Expr.TheOpen.{Expr-F}
+use Rattle.expression_parser.specs.declared.tree.expr.Expr.TheVariants as e
+use Rattle.expression_parser.specs.declared.tree.expr.Expr.TheViews.{roll-Expr}
+use Rattle.expression_parser.specs.declared.tree.op.Membership.{Membership}
+use Rattle.expression_parser.specs.declared.tree.op.Op.{Op}
+use Rattle.expression_parser.specs.declared.tree.op.Suffix.{Suffix}
+use Rattle.expression_parser.specs.declared.tree.set.Set.{Set}
 use Rattle.filter_types.specs.Faults.{HasFault, IsRefusedOperator, operands}
 use Rattle.filter_types.specs.Kinds.{kind_in, kind_named}
 use Rattle.filter_types.specs.Refusals.{OperandView, member_refusal, operator_refusal, wrong_kind}

@@ -6,9 +6,11 @@ use Rattle.std.proofs.lemmas.List.Quantifiers.{all_pairs_push}
 use Rattle.std.proofs.lemmas.Option.{get_or_from_slice_get, slice_get_within}
 use Rattle.int_sets.specs.Holding.{NumberRange, HoldsAny}
 use Rattle.std.proofs.lemmas.List.Elements.{Contains-append_cases, Contains-append_left, Contains-append_right}
-use Rattle.filter_parser.specs.Placed.{Kept, command_kept, command_kept_step, decl_kept, expr_kept, expr_kept_step, joined, label_kept, operand_kept, part_kept, range_kept, ranges_kept}
-use Rattle.filter_parser.specs.Places.{body_of, decls_of, expr_place, expr_place_step, range_place}
-use Rattle.filter_parser.specs.Syntax.{range_of, view_range}
+use Rattle.expression_parser.specs.Placed.{Kept, expr_kept, expr_kept_step, joined, operand_kept, range_kept, ranges_kept}
+use Rattle.filter_parser.specs.Placed.{command_kept, command_kept_step, decl_kept, label_kept, part_kept}
+use Rattle.expression_parser.specs.Places.{expr_place, expr_place_step, range_place}
+use Rattle.filter_parser.specs.Places.{body_of, decls_of}
+use Rattle.expression_parser.specs.Syntax.{range_of, view_range}
 use Rattle.filter_parser.specs.SyntaxCommands.{DeclView, view_decl, view_label}
 use Rattle.filter_parser.specs.declared.tree.command.Command.{Command}
 use Rattle.filter_parser.specs.declared.tree.command.Command.TheFolds.{fold-roll-Command, map-Command}
@@ -20,14 +22,14 @@ use Rattle.filter_parser.specs.declared.tree.command.Label.TheVariants as label
 use Rattle.filter_parser.specs.declared.tree.command.Target.{Target}
 use Rattle.filter_parser.specs.declared.tree.command.Target.TheVariants as target
 use Rattle.filter_parser.specs.declared.tree.decl.Decl.{Decl}
-use Rattle.filter_parser.specs.declared.tree.expr.Expr.{Expr}
-use Rattle.filter_parser.specs.declared.tree.expr.Expr.TheFolds.{fold-roll-Expr, ind-Expr, map-Expr}
-use Rattle.filter_parser.specs.declared.tree.expr.Expr.TheOpen.{Expr-F}
-use Rattle.filter_parser.specs.declared.tree.expr.Expr.TheViews.{roll-Expr}
+use Rattle.expression_parser.specs.declared.tree.expr.Expr.{Expr}
+use Rattle.expression_parser.specs.declared.tree.expr.Expr.TheFolds.{fold-roll-Expr, ind-Expr, map-Expr}
+use Rattle.expression_parser.specs.declared.tree.expr.Expr.TheOpen.{Expr-F}
+use Rattle.expression_parser.specs.declared.tree.expr.Expr.TheViews.{roll-Expr}
 use Rattle.filter_parser.specs.declared.tree.filter.Filter.{Filter}
-use Rattle.filter_parser.specs.declared.tree.op.Op.{Op}
-use Rattle.filter_parser.specs.declared.tree.set.SetRange.{SetRange}
-use Rattle.filter_parser.specs.declared.tree.set.SetRange.TheVariants as range
+use Rattle.expression_parser.specs.declared.tree.op.Op.{Op}
+use Rattle.expression_parser.specs.declared.tree.set.SetRange.{SetRange}
+use Rattle.expression_parser.specs.declared.tree.set.SetRange.TheVariants as range
 use Rattle.filter_parser.proofs.Placing.{kept_case}
 use Rattle.filter_types.specs.Codes.{fault_place}
 use Rattle.filter_types.specs.Faults.{CommandHasFault, CommandHasOwnFault, HasFault, HasOwnFault, IsFaultOf, IsOtherKind, IsOtherThanTarget}

@@ -1,7 +1,7 @@
 //! The names and kinds of commands.
 
 ghost use Rattle.std.specs.Prelude.{◌≡◌, ◌≢◌, ◌⊎◌, Contains, IfErr, Some, flat_map, map};
-ghost use Rattle.filter_parser.specs.Syntax.{view};
+ghost use Rattle.expression_parser.specs.Syntax.{view};
 ghost use Rattle.filter_parser.specs.SyntaxCommands.{commands_of, parts_of, view_command, view_decl, view_part, view_target};
 ghost use Rattle.filter_parser.specs.declared.tree.command.Command.{Command as TheCommand};
 ghost use Rattle.filter_types.specs.Answers.{AnswersKind, DoPartsFit, Judges};

@@ -1,7 +1,7 @@
 //! The kinds of expressions.
 
 ghost use Rattle.std.specs.Prelude.{IfErr, map};
-ghost use Rattle.filter_parser.specs.Syntax.{view, view_more};
+ghost use Rattle.expression_parser.specs.Syntax.{view, view_more};
 ghost use Rattle.filter_parser.specs.SyntaxCommands.{view_decl};
 ghost use Rattle.filter_types.specs.Answers.{AnswersKind};
 ghost use Rattle.filter_types.specs.Faults.{HasFault};

@@ -1,9 +1,7 @@
 ghost use Rattle.std.specs.Prelude.{◌≡◌};
 ghost use Rattle.filter_parser.specs.Places.{command_place};
 
-use crate::tree::expr::Expr;
-use crate::tree::name::Name;
-use crate::tree::set::SetRange;
+use expression_parser::{Expr, Name, SetRange};
 
 /// What an assignment sets.
 #[derive(Drop)]

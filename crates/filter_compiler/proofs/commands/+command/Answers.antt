@@ -3,7 +3,7 @@ use Rattle.std.proofs.lemmas.Grind.{common_steps}
 use Rattle.std.proofs.lemmas.List.{nil_from_length}
 use Rattle.std.specs.Prelude.{flat_map}
 use Rattle.filter_code.specs.declared.instruction.Instr.TheVariants as instr
-use Rattle.filter_parser.specs.Syntax.{view, view_range}
+use Rattle.expression_parser.specs.Syntax.{view, view_range}
 use Rattle.filter_parser.specs.SyntaxCommands.{CommandView, PartsView, assign, case, commands_of, if_else, if_then, no_commands, parts_of, view_command, view_part, view_target}
 use Rattle.filter_parser.specs.SyntaxText.{view_filter}
 use Rattle.filter_parser.specs.declared.tree.command.Command.{Command}

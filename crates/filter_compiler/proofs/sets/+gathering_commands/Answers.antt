@@ -1,5 +1,5 @@
 use Rattle.std.proofs.Common.{◌≡◌, map, ap, sym, subst, ◌∙◌}
-use Rattle.filter_parser.specs.Syntax.{view}
+use Rattle.expression_parser.specs.Syntax.{view}
 use Rattle.filter_parser.specs.SyntaxCommands.{case, commands_of, if_else, if_then, parts_of, view_command, view_part}
 use Rattle.filter_parser.specs.declared.tree.command.Command.{Command}
 use Rattle.filter_parser.specs.declared.tree.command.Command.TheVariants as command

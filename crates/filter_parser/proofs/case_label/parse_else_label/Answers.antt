@@ -1,5 +1,5 @@
 use Rattle.std.proofs.Common.{rules}
-use Rattle.filter_parser.proofs.Placing.{spans_at, spans_both, unkept}
+use Rattle.expression_parser.proofs.Placing.{spans_at, spans_both, unkept}
 use Rattle.filter_parser.proofs.case_label.parse_else_label.Goals as goal
 
 pub returns : goal.returns

@@ -1,7 +1,7 @@
 use Rattle.std.proofs.Common.{◌<◌, length, arith, rules}
-use Rattle.filter_parser.specs.Steps.{remaining}
-use Rattle.filter_parser.proofs.Placing.{ok_map, spans_at}
-use Rattle.filter_parser.proofs.Within.{first_within}
+use Rattle.expression_parser.specs.Steps.{remaining}
+use Rattle.expression_parser.proofs.Placing.{ok_map, spans_at}
+use Rattle.expression_parser.proofs.Within.{first_within}
 use Rattle.filter_parser.proofs.case_label.parse_label.Goals as goal
 
 pub returns-in-Some : goal.returns-in-Some

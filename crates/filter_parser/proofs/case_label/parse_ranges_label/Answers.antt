@@ -1,5 +1,5 @@
-use Rattle.filter_parser.proofs.Placing.{spans_both, unkept}
-use Rattle.filter_parser.proofs.Within.{failed}
+use Rattle.expression_parser.proofs.Placing.{spans_both, unkept}
+use Rattle.expression_parser.proofs.Within.{failed}
 use Rattle.filter_parser.proofs.case_label.parse_ranges_label.Goals as goal
 
 pub returns-in_ok-rest-in-Ok-clause-placed : goal.returns-in_ok-rest-in-Ok-clause-placed

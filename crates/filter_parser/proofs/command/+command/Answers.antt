@@ -3,15 +3,17 @@ use Rattle.std.specs.Prelude.{Vec}
 use Rattle.std.specs.declared.alloc.Global.{Global}
 use Rattle.filter_parser.specs.declared.tree.command.Command.{Command}
 use Rattle.filter_parser.specs.declared.tree.command.Label.{Label}
-use Rattle.filter_parser.specs.Placed.{Kept, command_kept, expr_kept, joined, label_kept, part_kept}
+use Rattle.expression_parser.specs.Placed.{Kept, expr_kept, joined}
+use Rattle.filter_parser.specs.Placed.{command_kept, label_kept, part_kept}
 use Rattle.filter_parser.specs.ReadingCommands.{command_at, commands_with}
-use Rattle.filter_parser.specs.Steps.{remaining}
+use Rattle.expression_parser.specs.Steps.{remaining}
 use Rattle.filter_parser.specs.SyntaxCommands.{view_command, view_part}
 use Rattle.filter_parser.proofs.Bodies.{begins, case_is, goes_on, map_one, stops, ends}
 use Rattle.filter_parser.proofs.CaseParts as parts
-use Rattle.filter_parser.proofs.Placing.{grown_more, grown_none, kept_block, kept_case, ok_map, spans_as, spans_both, unkept}
+use Rattle.expression_parser.proofs.Placing.{grown_more, grown_none, ok_map, spans_as, spans_both, unkept}
+use Rattle.filter_parser.proofs.Placing.{kept_block, kept_case}
 use Rattle.filter_parser.proofs.Views.{view_case}
-use Rattle.filter_parser.proofs.Within.{failed}
+use Rattle.expression_parser.proofs.Within.{failed}
 use Rattle.filter_parser.proofs.command.+command.Goals as goal
 
 pub parse_commands-loop-alloc-init : goal.parse_commands-loop-alloc-init

@@ -3,8 +3,9 @@ use Rattle.filter_parser.specs.declared.tree.command.Command.TheVariants.{rolls-
 use Rattle.filter_parser.specs.declared.tree.command.Command.TheFolds.{fold-roll-Command}
 use Rattle.filter_parser.specs.declared.tree.command.Command.TheOpen.{Command-F}
 use Rattle.filter_parser.specs.declared.tree.command.Command.{Command}
-use Rattle.filter_parser.specs.Placed.{Kept, command_kept, command_kept_step, expr_kept}
-use Rattle.filter_parser.specs.Syntax.{view}
+use Rattle.expression_parser.specs.Placed.{Kept, expr_kept}
+use Rattle.filter_parser.specs.Placed.{command_kept, command_kept_step}
+use Rattle.expression_parser.specs.Syntax.{view}
 use Rattle.filter_parser.specs.SyntaxCommands.{CommandView, view_command, view_step}
 use Rattle.filter_parser.proofs.command.if_else_command.Goals as goal
 

@@ -1,7 +1,8 @@
 use Rattle.std.proofs.Common.{refl, rules}
-use Rattle.filter_parser.proofs.Placing.{kept_assign, spans_as, spans_both, unkept}
+use Rattle.expression_parser.proofs.Placing.{spans_as, spans_both, unkept}
+use Rattle.filter_parser.proofs.Placing.{kept_assign}
 use Rattle.filter_parser.proofs.Views.{view_assigned}
-use Rattle.filter_parser.proofs.Within.{failed}
+use Rattle.expression_parser.proofs.Within.{failed}
 use Rattle.filter_parser.proofs.command.parse_assignment.Goals as goal
 
 pub returns-in_err-rest : goal.returns-in_err-rest

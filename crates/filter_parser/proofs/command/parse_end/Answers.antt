@@ -1,5 +1,5 @@
 use Rattle.std.proofs.Common.{rules}
-use Rattle.filter_parser.proofs.Placing.{spans_both, unkept}
+use Rattle.expression_parser.proofs.Placing.{spans_both, unkept}
 use Rattle.filter_parser.proofs.command.parse_end.Goals as goal
 
 pub returns-in_ok-expect-in-Some : goal.returns-in_ok-expect-in-Some

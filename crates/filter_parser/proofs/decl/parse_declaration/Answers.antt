@@ -1,5 +1,5 @@
 use Rattle.std.proofs.Common.{rules}
-use Rattle.filter_parser.proofs.Placing.{spans_both, unkept}
+use Rattle.expression_parser.proofs.Placing.{spans_both, unkept}
 use Rattle.filter_parser.proofs.decl.parse_declaration.Goals as goal
 
 pub returns : goal.returns

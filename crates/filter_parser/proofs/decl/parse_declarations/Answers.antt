@@ -1,9 +1,9 @@
 use Rattle.std.proofs.Common.{map, arith}
-use Rattle.filter_parser.specs.Steps.{remaining}
+use Rattle.expression_parser.specs.Steps.{remaining}
 use Rattle.filter_parser.specs.SyntaxCommands.{view_decl}
 use Rattle.filter_parser.proofs.Decls.{begins, goes_on, stops, ends}
 use Rattle.filter_parser.proofs.Bodies.{map_one}
-use Rattle.filter_parser.proofs.Placing.{grown_more, grown_none, unkept}
+use Rattle.expression_parser.proofs.Placing.{grown_more, grown_none, unkept}
 use Rattle.filter_parser.proofs.decl.parse_declarations.Goals as goal
 
 pub loop-kind-init : goal.loop-kind-init

@@ -1,5 +1,6 @@
-use Rattle.filter_parser.proofs.Placing.{all_placed, ok_map2, spans_both, unkept}
-use Rattle.filter_parser.proofs.Within.{failed}
+use Rattle.expression_parser.proofs.Placing.{ok_map2, spans_both, unkept}
+use Rattle.filter_parser.proofs.Placing.{all_placed}
+use Rattle.expression_parser.proofs.Within.{failed}
 use Rattle.filter_parser.proofs.filter.parse_body.Goals as goal
 
 pub returns-clause-placed : goal.returns-clause-placed

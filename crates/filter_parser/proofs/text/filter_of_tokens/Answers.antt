@@ -2,7 +2,7 @@ use Rattle.std.proofs.Common.{◌≡◌, None, Some, refl}
 use Rattle.filter_tokens.specs.Lexemes.{lexemes}
 use Rattle.filter_parser.specs.ReadingCommands.{filter_of, view_parts}
 use Rattle.filter_parser.proofs.Texts.{text_found, text_once, text_only}
-use Rattle.filter_parser.proofs.Within.{begin_all, ends_all}
+use Rattle.expression_parser.proofs.Within.{begin_all, ends_all}
 use Rattle.filter_parser.proofs.text.filter_of_tokens.Goals as goal
 
 pub returns-in-None-clause-found : goal.returns-in-None-clause-found

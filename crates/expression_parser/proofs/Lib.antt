@@ -1,0 +1,17 @@
+pub mod Chains
+pub mod Complete
+pub mod CompleteChains
+pub mod CompleteComparisons
+pub mod CompleteOperands
+pub mod CompleteWords
+pub mod Operators
+pub mod Placing
+pub mod Ranges
+pub mod Sound
+pub mod SoundSets
+pub mod SoundWords
+pub mod Steps
+pub mod Stops
+pub mod Turns
+pub mod Views
+pub mod Within

@@ -1,0 +1,52 @@
+-- The codes and places of the faults of a filter's text. (This project's own choice.)
+use Rattle.std.specs.Prelude.{◌≡◌, ℕ, ◌<◌, List, codes, ⊤}
+use Rattle.filter_tokens.specs.Codes.{fault_code as token_fault_code, fault_place as token_fault_place}
+use Rattle.expression_parser.specs.declared.fault.ParseFault.{ParseFault}
+use Rattle.expression_parser.specs.declared.fault.ParseFault.TheVariants as fault
+
+-- the greatest number of bytes in a filter's text
+abbrev pub text_limit : ℕ
+text_limit = 65536
+
+-- the code, as ASCII text
+abbrev pub fault_code : ParseFault → List ℕ
+fault_code (fault.Token found) = token_fault_code found
+fault_code (fault.Unexpected at wanted) = codes "P2"
+fault_code (fault.MaskOverLimit at) = codes "P4"
+fault_code (fault.PatternLengths at) = codes "P4"
+fault_code (fault.RangeOrder at) = codes "P4"
+fault_code (fault.TooDeep at) = codes "P5"
+fault_code (fault.MixedOperators at) = codes "P6"
+fault_code fault.TooLong = codes "P7"
+fault_code (fault.EndsEarly at) = codes "P9"
+fault_code (fault.TextElsewhere at) = codes "P10"
+fault_code fault.Memory = codes "P11"
+
+-- the place; refused memory has none, which is 0
+abbrev pub fault_place : ParseFault → ℕ
+fault_place (fault.Token found) = token_fault_place found
+fault_place (fault.Unexpected at wanted) = at
+fault_place (fault.MaskOverLimit at) = at
+fault_place (fault.PatternLengths at) = at
+fault_place (fault.RangeOrder at) = at
+fault_place (fault.TooDeep at) = at
+fault_place (fault.MixedOperators at) = at
+fault_place fault.TooLong = text_limit
+fault_place (fault.EndsEarly at) = at
+fault_place (fault.TextElsewhere at) = at
+fault_place fault.Memory = 0
+
+-- where the fault of a text of so many bytes is: an early end at the end of the text, and any other at one of its bytes; refused
+-- memory has no place
+abbrev pub LiesWithin : ℕ → ParseFault → Type 0
+LiesWithin len (fault.Token found) = token_fault_place found < len
+LiesWithin len (fault.Unexpected at wanted) = at < len
+LiesWithin len (fault.MaskOverLimit at) = at < len
+LiesWithin len (fault.PatternLengths at) = at < len
+LiesWithin len (fault.RangeOrder at) = at < len
+LiesWithin len (fault.TooDeep at) = at < len
+LiesWithin len (fault.MixedOperators at) = at < len
+LiesWithin len fault.TooLong = text_limit < len
+LiesWithin len (fault.EndsEarly at) = at ≡ len
+LiesWithin len (fault.TextElsewhere at) = at < len
+LiesWithin len fault.Memory = ⊤
