@@ -1,3 +1,6 @@
+mod Below
+mod Halted
+mod Judged
 mod Pairs
 mod Placed
 mod Reached

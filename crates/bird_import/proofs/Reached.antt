@@ -1,9 +1,11 @@
 -- How steps follow one another, and drafts.
 use Rattle.std.proofs.Common.{Option, subst, sym, ◌≡◌, ℕ, suc, ◌+◌, ◌-◌, ◌++◌, List, [], Some, refl, add-one}
 use Rattle.std.specs.Prelude.{IfOk, IfSome, Result, Ok, Err, slice_get}
-use Rattle.bird_import.specs.Drafts.{BeginsAs, ComesOf, HasDraft, HaveDrafts, IsCallee, IsNext, words_of}
+use Rattle.bird_import.specs.Drafts.{IsCallee, IsNext, words_of}
 use Rattle.bird_import.specs.Functions.{IsCallOf}
+use Rattle.bird_import.specs.Judged.{AreRefused, AreTaken, Begins, ComesOf, HasDraft, HasReason, HaveDrafts, IsFilter, IsJudged}
 use Rattle.bird_import.specs.Steps.{Becomes, BecomesWithin, BySteps, IsCallWritten, IsPart, Reaches, Replaces, Writes}
+use Rattle.bird_import.specs.declared.config.Config.{Config}
 use Rattle.bird_import.specs.declared.drafts.Draft.{Draft}
 use Rattle.bird_import.specs.declared.drafts.Next.{Next}
 use Rattle.bird_import.specs.declared.drafts.Next.TheVariants.{Done, Stuck, Words}
@@ -11,15 +13,9 @@ use Rattle.bird_import.specs.declared.items.Item.{Item}
 use Rattle.bird_import.specs.declared.word.Word.{Word}
 
 -- no step
-pub no_step : (config : List Word) (Becoming : List Word → List Word → Type 0) (words : List Word) → BySteps config Becoming words words
+pub no_step : (config : List Word) (Becoming : List Word → List Word → Type 0) (words : List Word) → Reaches config Becoming 0 words words
 unfolding Reaches
-no_step config Becoming words = (0, refl)
-
--- one more
-pub one_step : (config : List Word) (Becoming : List Word → List Word → Type 0) (before mid after : List Word)
-    → BySteps config Becoming before mid → Writes config Becoming mid after → BySteps config Becoming before after
-unfolding Reaches
-one_step config Becoming before mid after steps step = (suc steps.0, (mid, steps.1, step))
+no_step config Becoming words = refl
 
 -- what a function's words become that is called where functions may call functions once more
 pub less_deep : (config : List Word) (depth less : ℕ) (before after : List Word) → depth ≡ less + 1 → Becomes config less before after
@@ -28,15 +24,15 @@ unfolding BecomesWithin
 less_deep config depth less before after is becomes = rw (is, add-one) becomes
 
 -- no item
-pub no_draft : (words : List Word) (items : List Item) (drafts : List Draft) → drafts ≡ [] → HaveDrafts words items 0 drafts
+pub no_draft : (config : Config) (items : List Item) (drafts : List Draft) → drafts ≡ [] → HaveDrafts config items 0 drafts
 unfolding HaveDrafts
-no_draft words items drafts none = none
+no_draft config items drafts none = none
 
 -- one more
-pub one_draft : (words : List Word) (items : List Item) (n : ℕ) (one : Item) (before after : List Draft) → slice_get items n ≡ Some one
-    → HaveDrafts words items n before → HasDraft words one.kind one before after → HaveDrafts words items (n + 1) after
+pub one_draft : (config : Config) (items : List Item) (n : ℕ) (one : Item) (before after : List Draft) → slice_get items n ≡ Some one
+    → HaveDrafts config items n before → HasDraft config one.kind one before after → HaveDrafts config items (n + 1) after
 unfolding HaveDrafts
-one_draft words items n one before after is drafts more = rw add-one (one, before, is, drafts, more)
+one_draft config items n one before after is drafts more = rw add-one (one, before, is, drafts, more)
 
 -- a part of some words is written as another
 pub replaced : (Way : List Word → List Word → List Word → List Word → Type 0) (words front old new back after : List Word)
@@ -103,13 +99,13 @@ call_is_next config words depth less source copy function slice next of same sli
     (Replaces (IsCallWritten config (BecomesWithin config depth)) words) next
     (λ after step. called config (BecomesWithin config depth) source slice words after of.part within step) is
 
--- one more step, of the words that are there
-pub steps_on : (config : List Word) (Becoming : List Word → List Word → Type 0) (before mid slice after : List Word) → slice ≡ mid
-    → BySteps config Becoming before mid → Writes config Becoming slice after → BySteps config Becoming before after
-steps_on config Becoming before mid slice after same steps step =
-    one_step config Becoming before mid after steps (subst (λ list. Writes config Becoming list after) same step)
+one_step : (config : List Word) (Becoming : List Word → List Word → Type 0) (n : ℕ) (before mid after : List Word)
+    → Reaches config Becoming n before mid → Writes config Becoming mid after → Reaches config Becoming (suc n) before after
+unfolding Reaches
+one_step config Becoming n before mid after steps step = (mid, steps, step)
 
--- the words of an item become these
-pub comes : (words : List Word) (one : Item) (first after : List Word) → BeginsAs one.kind one.name.items (words_of words one) first
-    → Becomes words 16 first after → ComesOf words one after
-comes words one first after begins becomes = record { first = first; begins = begins; becomes = becomes }
+-- one more step, of the words that are there
+pub steps_on : (config : List Word) (Becoming : List Word → List Word → Type 0) (n : ℕ) (before mid slice after : List Word) → slice ≡ mid
+    → Reaches config Becoming n before mid → Writes config Becoming slice after → Reaches config Becoming (n + 1) before after
+steps_on config Becoming n before mid slice after same steps step =
+    rw add-one (one_step config Becoming n before mid after steps (subst (λ list. Writes config Becoming list after) same step))

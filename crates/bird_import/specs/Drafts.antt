@@ -67,24 +67,3 @@ BeginsAs item.Condition name (direction ∷ where_word ∷ rest) first = IsCondi
 BeginsAs item.Anonymous name other first = first ≡ []
 BeginsAs item.Condition name other first = first ≡ []
 BeginsAs kind name all first = first ≡ all
-
--- The words of an item become these, from its first ones on. Functions call functions at most 16 deep.
-pub record ComesOf (words : List Word) (one : Item) (after : List Word) : Type 0 where
-  pub first : List Word
-  pub begins : BeginsAs one.kind one.name.items (words_of words one) first
-  pub becomes : Becomes words 16 first after
-
--- a draft is that of an item: it has its name, and the words that are drafted come of the item's
-abbrev pub IsDraft : List Word → Item → Draft → Type 0
-IsDraft words one draft = (draft.name.now ≡ one.name.items) × IfDrafted (ComesOf words one) draft.outcome
-
--- an item has no draft where it is a function, and otherwise one
-abbrev pub HasDraft : List Word → ItemKind → Item → List Draft → List Draft → Type 0
-HasDraft words item.Function one before after = after ≡ before
-HasDraft words other one before after = (draft : Draft) × IsDraft words one draft × (after ≡ before ++ draft ∷ [])
-
--- so many of the items have these drafts, in order
-unfoldable pub HaveDrafts : List Word → List Item → ℕ → List Draft → Type 0
-HaveDrafts words items zero drafts = drafts ≡ []
-HaveDrafts words items (suc n) drafts = (one : Item) × (before : List Draft) × (slice_get items n ≡ Some one)
-    × HaveDrafts words items n before × HasDraft words one.kind one before drafts

@@ -8,3 +8,7 @@ pub mod Cases
 pub mod Steps
 pub mod Drafts
 pub mod Texts
+pub mod Indices
+pub mod Reasons
+pub mod Stuck
+pub mod Judged

@@ -1,7 +1,7 @@
 -- What the parser says of a text that was written for some words.
 use Rattle.std.specs.Prelude.{◌≢◌, List, ℕ, ⊤}
 use Rattle.filter_parser.specs.SyntaxText.{FilterView, IsText}
-use Rattle.filter_parser.specs.declared.fault.ParseFault.TheVariants.{Memory}
+use Rattle.expression_parser.specs.declared.fault.ParseFault.TheVariants.{Memory}
 use Rattle.bird_import.specs.Spelling.{IsWritten}
 use Rattle.bird_import.specs.declared.text.Fate.{Fate}
 use Rattle.bird_import.specs.declared.text.Fate.TheVariants as fate

@@ -1,5 +1,12 @@
 //! Calls of functions: the function's commands or its value stand where it is called.
 
+ghost use Rattle.std.specs.Prelude.{◌≡◌, ◌↔◌, ◌-◌, ◌<◌, ◌≤◌, ℕ, IfErr, IfOk, IfSome, IsTrue, List, None, codes, length, true};
+ghost use Rattle.bird_import.specs.Indices.{IsForeignAt};
+ghost use Rattle.bird_import.specs.Reasons.{why_of_call, why_of_plan};
+ghost use Rattle.bird_import.specs.Stuck.{Hinder, Hinders, IsCallBy, IsCalled, IsFunctionNamed, IsFunctionOf, IsUsed, StandsBefore};
+ghost use Rattle.bird_import.specs.declared.items.Item.{Item as TheItem};
+ghost use Rattle.bird_import.specs.declared.word.Word.{Word as TheWord};
+
 use crate::config::Config;
 use crate::functions::{Decision, decision_of, function_of, is_between, value_of};
 use crate::items::{Item, ItemKind};
@@ -13,52 +20,110 @@ use crate::word::{
 use filter_tokens::Symbol;
 use std::alloc::{AllocError, Global};
 
-/// Whether a function is called at an index.
-fn calls(words: &[Word<'_>], at: usize) -> bool {
-    is_name_at(words, at)
+/// The word at an index, if it calls a function.
+fn call_word<'a>(words: &[Word<'a>], at: usize) -> Option<Word<'a>>
+    requires { at < length words.now }
+    ensures { IfSome result (IsCallBy words.now at) }
+{
+    if is_name_at(words, at)
         && is_at(words, at.saturating_add(1), Symbol::LeftParen)
         && !is_before(words, at, Symbol::Dot)
+    {
+        word_at(words, at)
+    } else {
+        None
+    }
 }
 
-/// The index of the first call. The header of a function looks like one.
-pub fn first_call(words: &[Word<'_>]) -> Option<usize> {
+/// The index and the word of the first call. The header of a function looks like one.
+pub fn first_call<'a>(words: &[Word<'a>]) -> Option<(usize, Word<'a>)>
+    ensures { IfSome result (λ call. IsCallBy words.now call.0 call.1) }
+{
     let from = if is_foreign_at(words, 0, b"function") {
         2
     } else {
         0
     };
     for at in from..words.len() {
-        if calls(words, at) {
-            return Some(at);
+        if let Some(word) = call_word(words, at) {
+            return Some((at, word));
         }
     }
     None
 }
 
-/// The function of this name, if there is just one, and it ends before a place.
-pub fn item_of<'a>(config: &Config<'a>, word: Word<'a>) -> Result<&'a Item, Reason<'a>> {
-    let mut found = None;
-    for item in config.items {
-        if item.kind == ItemKind::Function && item.name.as_slice() == word.bytes {
-            if found.is_some() {
-                return Err(Reason {
-                    at: word.at,
-                    why: Why::DefinedTwice(word.bytes),
-                });
-            }
-            found = Some(item);
+/// Whether an item is the function of a name.
+fn is_function_named(item: &Item, name: &[u8]) -> bool
+    ensures { IsTrue result ↔ IsFunctionNamed name.now item.now }
+{
+    item.kind == ItemKind::Function && item.name.as_slice() == name
+}
+
+/// The item at an index, if it is the function of a name.
+fn function_at<'a>(config: &Config<'a>, at: usize, name: &[u8]) -> Option<&'a Item>
+    ensures some { IfSome result (λ one. IsFunctionOf config.now name.now at one.now) }
+    ensures none { result ≡ None → (one : TheItem) → IsFunctionOf config.now name.now at one → ⊥ }
+{
+    let item = config.items.get(at)?;
+    if is_function_named(item, name) {
+        Some(item)
+    } else {
+        None
+    }
+}
+
+/// The first function of a name from an index on, and its index.
+fn first_function<'a>(config: &Config<'a>, name: &[u8], from: usize) -> Option<(usize, &'a Item)>
+    ensures some { IfSome result (λ found. (from ≤ found.0) × IsFunctionOf config.now name.now found.0 found.1.now) }
+    ensures none { result ≡ None → (k : ℕ) → from ≤ k → k < length config.now.items.now → (one : TheItem) → IsFunctionOf config.now name.now k one → ⊥ }
+{
+    for at in from..config.items.len() {
+        if let Some(item) = function_at(config, at, name) {
+            return Some((at, item));
         }
     }
-    let why = match found {
-        Some(item) if ends_before(config, item, word.at) => return Ok(item),
-        Some(_) => Why::DefinedLater(word.bytes),
-        None => Why::UnknownCall(word.bytes),
+    None
+}
+
+/// The second function of a name, whose first one has an index.
+fn second_function<'a>(config: &Config<'a>, name: &[u8], first: usize) -> Option<(usize, &'a Item)>
+    ensures { IfSome result (λ found. (first < found.0) × IsFunctionOf config.now name.now found.0 found.1.now) }
+{
+    let from = first.checked_add(1)?;
+    let (at, item) = first_function(config, name, from)?;
+    Some((at, item))
+}
+
+/// The function of this name, if there is just one, and it ends before a place.
+pub fn item_of<'a>(config: &Config<'a>, word: Word<'a>) -> Result<&'a Item, Reason<'a>>
+    ensures ok { IfOk result (λ one. IsCalled config.now word.entry.bytes.now one.now) }
+    ensures err { IfErr result (λ reason. (words : List TheWord) → IsUsed word.entry.bytes.now word.entry words → Hinders config.now words reason.why) }
+{
+    let Some((at, item)) = first_function(config, word.bytes, 0) else {
+        return Err(Reason {
+            at: word.at,
+            why: Why::UnknownCall(word.bytes),
+        });
     };
-    Err(Reason { at: word.at, why })
+    if let Some(_second) = second_function(config, word.bytes, at) {
+        return Err(Reason {
+            at: word.at,
+            why: Why::DefinedTwice(word.bytes),
+        });
+    }
+    if ends_before(config, item, word.at) {
+        return Ok(item);
+    }
+    Err(Reason {
+        at: word.at,
+        why: Why::DefinedLater(word.bytes),
+    })
 }
 
 /// Whether an item ends before a place.
-fn ends_before(config: &Config<'_>, item: &Item, at: usize) -> bool {
+fn ends_before(config: &Config<'_>, item: &Item, at: usize) -> bool
+    ensures { (item.now.is_closed ≡ true) × StandsBefore config.now (item.now.to - 1) at → IsTrue result }
+{
     match config.words.get(item.to.saturating_sub(1)) {
         Some(last) => item.is_closed && last.at < at,
         None => false,
@@ -117,7 +182,9 @@ fn decided_end(words: &[Word<'_>], at: usize) -> Option<usize> {
 }
 
 /// The first word from an index on that is `return`, if there is one.
-fn first_return<'a>(words: &[Word<'a>], from: usize) -> Option<Word<'a>> {
+fn first_return<'a>(words: &[Word<'a>], from: usize) -> Option<Word<'a>>
+    ensures { IfSome result (λ _. (k : ℕ) × IsForeignAt (codes "return") words.now k) }
+{
     for at in from..words.len() {
         if is_foreign_at(words, at, b"return") {
             return word_at(words, at);
@@ -145,7 +212,9 @@ fn decide<'a>(
     made: Decision<'_, 'a>,
     at: usize,
     to: usize,
-) -> Result<Plan<'a>, AllocError> {
+) -> Result<Plan<'a>, AllocError>
+    ensures { IfOk result (λ plan. IfSome (why_of_plan plan) (Hinder words.now)) }
+{
     let (Some(head), Some(command)) = (word_at(words, at), first_return(words, at)) else {
         return Ok(Plan::Done);
     };
@@ -154,7 +223,9 @@ fn decide<'a>(
 }
 
 /// Writes the first two commands of a function as one that return one value or another by a condition.
-pub fn plan_return<'a>(alloc: Global, words: &[Word<'a>]) -> Result<Plan<'a>, AllocError> {
+pub fn plan_return<'a>(alloc: Global, words: &[Word<'a>]) -> Result<Plan<'a>, AllocError>
+    ensures { IfOk result (λ plan. IfSome (why_of_plan plan) (Hinder words.now)) }
+{
     if !is_foreign_at(words, 0, b"function") {
         return Ok(Plan::Done);
     }
@@ -208,13 +279,21 @@ fn placed_at<'w, 'a>(
 }
 
 /// Why nothing stands for the call at an index.
-fn stuck_at<'a>(words: &[Word<'a>], at: usize, call: Word<'a>) -> Reason<'a> {
-    let why = if is_at(words, at.saturating_add(2), Symbol::RightParen) {
-        Why::FunctionShape(call.bytes)
+fn stuck_at<'a>(words: &[Word<'a>], at: usize, call: Word<'a>) -> Reason<'a>
+    requires { IsCallBy words.now at call }
+    ensures { Hinder words.now result.why }
+{
+    if is_at(words, at.saturating_add(2), Symbol::RightParen) {
+        Reason {
+            at: call.at,
+            why: Why::FunctionShape(call.bytes),
+        }
     } else {
-        Why::FunctionArguments(call.bytes)
-    };
-    Reason { at: call.at, why }
+        Reason {
+            at: call.at,
+            why: Why::FunctionArguments(call.bytes),
+        }
+    }
 }
 
 /// What stands for the call at an index of a function whose words have become others, or why there is nothing.
@@ -222,11 +301,12 @@ pub fn call_at<'a>(
     alloc: Global,
     words: &[Word<'a>],
     at: usize,
+    call: Word<'a>,
     function: &[Word<'a>],
-) -> Result<Result<Call<'a>, Reason<'a>>, AllocError> {
-    let Some(call) = word_at(words, at) else {
-        return Ok(Err(unwritten(0)));
-    };
+) -> Result<Result<Call<'a>, Reason<'a>>, AllocError>
+    requires { IsCallBy words.now at call }
+    ensures { IfOk result (λ made. Hinder words.now (why_of_call made)) }
+{
     let stuck = stuck_at(words, at, call);
     match placed_at(words, at, call.bytes, function) {
         Some(made) if matches!(stuck.why, Why::FunctionShape(_)) => Ok(Ok(Call {

@@ -1,5 +1,10 @@
 //! `case` of addresses, which is written as `if` and `else`, one label after another.
 
+ghost use Rattle.std.specs.Prelude.{◌≡◌, IfOk, IfSome};
+ghost use Rattle.bird_import.specs.Reasons.{why_of_plan};
+ghost use Rattle.bird_import.specs.Stuck.{Hinder};
+ghost use Rattle.bird_import.specs.declared.reason.Why.TheVariants as why;
+
 use crate::case_rules::{Parted, only_else, parts_of, take_apart};
 use crate::reason::{Reason, Why};
 use crate::step::{Plan, Rule, enclosed, planned, push_parts};
@@ -180,7 +185,9 @@ fn take<'a>(
     at: usize,
     case: Case<'_, 'a>,
     head: Word<'a>,
-) -> Result<Plan<'a>, AllocError> {
+) -> Result<Plan<'a>, AllocError>
+    ensures { IfOk result (λ plan. IfSome (why_of_plan plan) (λ reason. reason ≡ why.CaseLabels)) }
+{
     let is_braced = is_before(words, at, Symbol::Then) || is_at(words, case.to, Symbol::Else);
     let (rule, written) = if is_braced {
         let (open, close) = (Symbol::LeftBrace, Symbol::RightBrace);
@@ -195,7 +202,9 @@ fn take<'a>(
 }
 
 /// Why a `case` is not taken.
-fn wrong_labels<'a>(head: Word<'a>) -> Reason<'a> {
+fn wrong_labels<'a>(head: Word<'a>) -> Reason<'a>
+    ensures { result.why ≡ why.CaseLabels }
+{
     Reason {
         at: head.at,
         why: Why::CaseLabels,
@@ -203,12 +212,14 @@ fn wrong_labels<'a>(head: Word<'a>) -> Reason<'a> {
 }
 
 /// Writes the first `case` of addresses by its first label.
-pub fn plan_case<'a>(alloc: Global, words: &[Word<'a>]) -> Result<Plan<'a>, AllocError> {
+pub fn plan_case<'a>(alloc: Global, words: &[Word<'a>]) -> Result<Plan<'a>, AllocError>
+    ensures { IfOk result (λ plan. IfSome (why_of_plan plan) (Hinder words.now)) }
+{
     for at in 0..words.len() {
-        let head = words[at];
-        if !head.is(Symbol::Case) {
+        if !is_at(words, at, Symbol::Case) {
             continue;
         }
+        let head = words[at];
         if let Some(case) = case_at(words, at) {
             return take(alloc, words, at, case, head);
         }

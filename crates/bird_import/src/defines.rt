@@ -1,19 +1,36 @@
 //! Defined names: the definition stands where the name is used.
+ghost use Rattle.std.specs.Prelude.{◌≡◌, ◌↔◌, ◌<◌, ℕ, IfErr, IfOk, IfSome, IsTrue, length};
+ghost use Rattle.bird_import.specs.Indices.{IsNameAt};
+ghost use Rattle.bird_import.specs.Reasons.{IsVariable, IsVariableAt, why_of_plan};
+ghost use Rattle.bird_import.specs.Stuck.{Hinders, IsDefinition, IsFound, IsUsed, StandsBefore};
 
 use crate::config::Config;
 use crate::items::Definition;
 use crate::reason::{Reason, Why};
 use crate::rules::is_kind;
 use crate::step::{Plan, Rule, Step, enclosed, joined};
-use crate::word::{Word, WordKind, bytes_at, closing, is_at, is_before, is_name_at};
+use crate::word::{
+    Word, WordKind, closing, is_at, is_before, is_foreign_at, is_name_at, is_named_at, kind_at,
+    word_at,
+};
 use filter_tokens::Symbol;
 use std::alloc::{AllocError, Global};
 
+/// Whether a name is declared at an index.
+fn declares(words: &[Word<'_>], at: usize, name: &[u8]) -> bool
+    ensures { IsTrue result ↔ IsVariableAt name.now words.now at }
+{
+    at > 0
+        && is_named_at(words, at, name)
+        && (is_kind(kind_at(words, at - 1)) || is_foreign_at(words, at - 1, b"set"))
+}
+
 /// Whether a name is declared among some words.
-pub fn is_declared(words: &[Word<'_>], name: &[u8]) -> bool {
-    for at in 1..words.len() {
-        let before = words[at - 1];
-        if words[at].is_named(name) && (is_kind(before.kind) || before.is_foreign(b"set")) {
+pub fn is_declared(words: &[Word<'_>], name: &[u8]) -> bool
+    ensures { IsTrue result ↔ IsVariable name.now words.now }
+{
+    for at in 0..words.len() {
+        if declares(words, at, name) {
             return true;
         }
     }
@@ -22,7 +39,9 @@ pub fn is_declared(words: &[Word<'_>], name: &[u8]) -> bool {
 
 /// Whether the word at an index is a name that may be a defined one: neither that of the filter, nor one behind a dot or before
 /// parentheses.
-fn may_be_defined(words: &[Word<'_>], at: usize) -> bool {
+fn may_be_defined(words: &[Word<'_>], at: usize) -> bool
+    ensures { IsTrue result → IsNameAt words.now at }
+{
     is_name_at(words, at)
         && !is_before(words, at, Symbol::Dot)
         && !is_before(words, at, Symbol::Filter)
@@ -41,7 +60,9 @@ enum Found {
 }
 
 /// The definition of a name.
-fn look_up(config: &Config<'_>, name: &[u8]) -> Found {
+fn look_up(config: &Config<'_>, name: &[u8]) -> Found
+    ensures { IsFound config.now name.now (length config.now.definitions.now) result }
+{
     let mut found = Found::Never;
     for definition in config.definitions {
         if is_named_at(config.words, definition.name, name) {
@@ -54,13 +75,10 @@ fn look_up(config: &Config<'_>, name: &[u8]) -> Found {
     found
 }
 
-/// Whether the word at an index is this name.
-fn is_named_at(words: &[Word<'_>], at: usize, name: &[u8]) -> bool {
-    is_name_at(words, at) && bytes_at(words, at) == name
-}
-
 /// Whether a value needs no parentheses round it: it is one word or a set.
-fn is_closed_value(value: &[Word<'_>]) -> bool {
+fn is_closed_value(value: &[Word<'_>]) -> bool
+    ensures { length value.now ≡ 1 → IsTrue result }
+{
     value.len() == 1
         || (is_at(value, 0, Symbol::LeftBracket) && closing(value, 1) == value.len().checked_sub(1))
 }
@@ -125,10 +143,34 @@ fn wants_one_word(words: &[Word<'_>], at: usize) -> bool {
 }
 
 /// Whether a definition ends before a place.
-fn ends_before(config: &Config<'_>, definition: Definition, at: usize) -> bool {
+fn ends_before(config: &Config<'_>, definition: Definition, at: usize) -> bool
+    ensures { StandsBefore config.now definition.to at → IsTrue result }
+{
     match config.words.get(definition.to) {
         Some(end) => end.at < at,
         None => false,
+    }
+}
+
+/// The words of a definition that stand in the place of the name at an index, or why they cannot.
+fn value_for<'a>(
+    config: &Config<'a>,
+    words: &[Word<'a>],
+    definition: Definition,
+    word: Word<'a>,
+    at: usize,
+) -> Result<&'a [Word<'a>], Why<'a>>
+    requires used { IsUsed word.bytes.now word words.now }
+    requires defined { (i : ℕ) × (i < length config.now.definitions.now) × IsDefinition config.now word.bytes.now i definition }
+    ensures { IfErr result (Hinders config.now words.now) }
+{
+    if !ends_before(config, definition, word.at) {
+        return Err(Why::DefinedLater(word.bytes));
+    }
+    match config.words.get(definition.from..definition.to) {
+        None | Some([]) => Err(Why::Unknown(word.bytes)),
+        Some(value) if is_closed_value(value) || !wants_one_word(words, at) => Ok(value),
+        Some(_) => Err(Why::OneWord(word.bytes)),
     }
 }
 
@@ -140,26 +182,25 @@ fn place<'a>(
     definition: Definition,
     word: Word<'a>,
     at: usize,
-) -> Result<Plan<'a>, AllocError> {
-    let why = match config.words.get(definition.from..definition.to) {
-        _ if !ends_before(config, definition, word.at) => Why::DefinedLater(word.bytes),
-        None | Some([]) => Why::Unknown(word.bytes),
-        Some(value) if is_closed_value(value) || !wants_one_word(words, at) => {
-            return Ok(Plan::Step(Step {
-                rule: Rule::Defined,
-                origin: definition.name.saturating_sub(1),
-                from: at,
-                to: at.saturating_add(1),
-                words: placed(alloc, value, word)?,
-                stuck: Reason {
-                    at: word.at,
-                    why: Why::Unknown(word.bytes),
-                },
-            }));
-        }
-        Some(_) => Why::OneWord(word.bytes),
-    };
-    Ok(Plan::Stuck(Reason { at: word.at, why }))
+) -> Result<Plan<'a>, AllocError>
+    requires used { IsUsed word.bytes.now word words.now }
+    requires defined { (i : ℕ) × (i < length config.now.definitions.now) × IsDefinition config.now word.bytes.now i definition }
+    ensures { IfOk result (λ plan. IfSome (why_of_plan plan) (Hinders config.now words.now)) }
+{
+    match value_for(config, words, definition, word, at) {
+        Ok(value) => Ok(Plan::Step(Step {
+            rule: Rule::Defined,
+            origin: definition.name.saturating_sub(1),
+            from: at,
+            to: at.saturating_add(1),
+            words: placed(alloc, value, word)?,
+            stuck: Reason {
+                at: word.at,
+                why: Why::Unknown(word.bytes),
+            },
+        })),
+        Err(why) => Ok(Plan::Stuck(Reason { at: word.at, why })),
+    }
 }
 
 /// Puts the definition of the first defined name in its place.
@@ -167,12 +208,16 @@ pub fn plan_definition<'a>(
     alloc: Global,
     config: &Config<'a>,
     words: &[Word<'a>],
-) -> Result<Plan<'a>, AllocError> {
+) -> Result<Plan<'a>, AllocError>
+    ensures { IfOk result (λ plan. IfSome (why_of_plan plan) (Hinders config.now words.now)) }
+{
     for at in 0..words.len() {
         if !may_be_defined(words, at) {
             continue;
         }
-        let word = words[at];
+        let Some(word) = word_at(words, at) else {
+            continue;
+        };
         match look_up(config, word.bytes) {
             Found::Never => {}
             _ if is_declared(words, word.bytes) => {}

@@ -1,11 +1,14 @@
 //! The filters of a configuration, word by word.
-ghost use Rattle.std.specs.Prelude.{◌≡◌, [], ◌∷◌, List, IfOk, IfSome, OnOk, length};
-ghost use Rattle.bird_import.specs.Drafts.{BeginsAs, ComesOf, HasDraft, HaveDrafts, IfDrafted, IsCallee, IsDraft, IsNext, kinds_of, words_of};
+ghost use Rattle.std.specs.Prelude.{◌≡◌, ◌↔◌, ◌⊎◌, ◌+◌, ◌<◌, [], ◌∷◌, List, IfErr, IfOk, IfSome, IsTrue, None, OnOk, Some, length, max};
+ghost use Rattle.bird_import.specs.Drafts.{BeginsAs, IfDrafted, IsCallee, IsNext, kinds_of, words_of};
 ghost use Rattle.bird_import.specs.Functions.{IsCallOf};
+ghost use Rattle.bird_import.specs.Judged.{AreJudged, HasDraft, HaveDrafts, IsDraft, IsFilter, IsJudged, IsNoFilter};
+ghost use Rattle.bird_import.specs.Reasons.{AreKnown, HasNameBefore, HaveUnknown, IsNamedBefore, why_of, why_of_next, why_of_plan};
+ghost use Rattle.bird_import.specs.Stuck.{Calls, Halts, Hinder, Hinders, IsCallBy, IsOutside, IsStuck, IsTooDeep};
 ghost use Rattle.bird_import.specs.Steps.{Becomes, BecomesWithin, Fits, IsCallWritten, Replaces, Writes};
 ghost use Rattle.bird_import.specs.declared.step.Rule.{Rule as TheRule};
 ghost use Rattle.bird_import.specs.declared.items.ItemKind.TheVariants as item_kind;
-ghost use Rattle.bird_import.specs.declared.word.Word.{Word as TheWord};
+ghost use Rattle.bird_import.specs.declared.reason.Why.TheVariants as why;
 ghost use Rattle.bird_import.specs.declared.word.WordKind.TheVariants as word_kind;
 ghost use Rattle.filter_tokens.specs.declared.symbol.Symbol.TheVariants as symbol;
 
@@ -17,11 +20,11 @@ use crate::defines::plan_definition;
 use crate::items::{Item, ItemKind};
 use crate::operators::{plan_grouping, plan_semicolon, plan_type_test};
 use crate::printing::plan_printing;
-use crate::reason::{Reason, Why, unwritten};
+use crate::reason::{Reason, Why};
 use crate::set_variables::plan_sets;
 use crate::step::{Plan, Rule, apply, apply_call, joined};
 use crate::unknown::first_unknown;
-use crate::word::{Word, word_at};
+use crate::word::Word;
 use filter_tokens::Symbol;
 use std::alloc::{AllocError, Global};
 
@@ -75,7 +78,9 @@ fn plan_by<'a>(
     config: &Config<'a>,
     words: &[Word<'a>],
     rule: Rule,
-) -> Result<Plan<'a>, AllocError> {
+) -> Result<Plan<'a>, AllocError>
+    ensures { IfOk result (λ plan. IfSome (why_of_plan plan) (Hinders config.now words.now)) }
+{
     match rule {
         Rule::Defined => plan_definition(alloc, config, words),
         Rule::Separated => plan_semicolon(alloc, words),
@@ -90,11 +95,9 @@ fn plan_by<'a>(
 }
 
 /// The first of the plans that has something to do.
-fn plan<'a>(
-    alloc: Global,
-    config: &Config<'a>,
-    words: &[Word<'a>],
-) -> Result<Plan<'a>, AllocError> {
+fn plan<'a>(alloc: Global, config: &Config<'a>, words: &[Word<'a>]) -> Result<Plan<'a>, AllocError>
+    ensures { IfOk result (λ plan. IfSome (why_of_plan plan) (Hinders config.now words.now)) }
+{
     for rule in &ORDER {
         match plan_by(alloc, config, words, *rule)? {
             Plan::Done => {}
@@ -121,7 +124,8 @@ fn next_step<'a>(
     config: &Config<'a>,
     words: &[Word<'a>],
 ) -> Result<Next<'a>, AllocError>
-    ensures { IfOk result (IsNext (λ after. (by : TheRule) × Replaces (Fits config.now.words.now by) words.now after)) }
+    ensures step { IfOk result (IsNext (λ after. (by : TheRule) × Replaces (Fits config.now.words.now by) words.now after)) }
+    ensures stuck { IfOk result (λ next. IfSome (why_of_next next) (Hinders config.now words.now)) }
 {
     match plan(alloc, config, words)? {
         Plan::Step(step) => match apply(alloc, config.words, words, &step)? {
@@ -138,12 +142,15 @@ fn place_call<'a>(
     alloc: Global,
     words: &[Word<'a>],
     at: usize,
+    word: Word<'a>,
     source: &[Word<'a>],
     function: &[Word<'a>],
 ) -> Result<Next<'a>, AllocError>
-    ensures { IfOk result (IsNext (Replaces (λ front old new back. IsCallOf source.now function.now front old new) words.now)) }
+    requires { IsCallBy words.now at word }
+    ensures stuck { IfOk result (λ next. IfSome (why_of_next next) (Hinder words.now)) }
+    ensures step { IfOk result (IsNext (Replaces (λ front old new back. IsCallOf source.now function.now front old new) words.now)) }
 {
-    let call = match call_at(alloc, words, at, function)? {
+    let call = match call_at(alloc, words, at, word, function)? {
         Ok(call) => call,
         Err(reason) => return Ok(Next::Stuck(reason)),
     };
@@ -156,6 +163,8 @@ fn place_call<'a>(
 /// A function that is called.
 #[derive(Clone, Copy)]
 struct Callee<'a> {
+    /// It.
+    item: &'a Item,
     /// Its words in the configuration.
     source: &'a [Word<'a>],
     /// How deep functions call functions in it at most.
@@ -168,45 +177,77 @@ fn callee_of<'a>(
     config: &Config<'a>,
     words: &[Word<'a>],
     at: usize,
+    word: Word<'a>,
     depth: u8,
 ) -> Result<Callee<'a>, Reason<'a>>
-    ensures { IfOk result (λ found. IsCallee config.now.words.now depth found.source.now found.less) }
+    requires { IsCallBy words.now at word }
+    ensures callee { IfOk result (λ found. IsCallee config.now.words.now depth found.source.now found.less) }
+    ensures called { IfOk result (λ found. Calls config.now words.now found.item.now × (found.source.now ≡ words_of config.now.words.now found.item.now)) }
+    ensures refused { IfErr result (λ reason. Hinders config.now words.now reason.why ⊎ IsTooDeep config.now depth words.now reason.why) }
 {
-    let Some(word) = word_at(words, at) else {
-        return Err(unwritten(0));
-    };
     let item = match item_of(config, word) {
         Ok(item) => item,
         Err(reason) => return Err(reason),
     };
-    let (Some(source), Some(less)) = (words_of_item_at(config.words, item), depth.checked_sub(1))
-    else {
-        return Err(Reason {
-            at: word.at,
-            why: Why::TooLong,
-        });
+    let source = match source_of(config, item, word.at) {
+        Ok(source) => source,
+        Err(reason) => return Err(reason),
     };
-    Ok(Callee { source, less })
+    match less_deep(depth, word.at) {
+        Ok(less) => Ok(Callee { item, source, less }),
+        Err(reason) => Err(reason),
+    }
 }
 
-/// Makes the step for the call at an index.
+/// The words of a function that is called at a place.
+fn source_of<'a>(config: &Config<'a>, item: &Item, at: usize) -> Result<&'a [Word<'a>], Reason<'a>>
+    ensures ok { IfOk result (λ source. source.now ≡ words_of config.now.words.now item.now) }
+    ensures err { IfErr result (λ reason. (reason.why ≡ why.TooLong) × IsOutside config.now item.now) }
+{
+    match words_of_item_at(config.words, item) {
+        Some(source) => Ok(source),
+        None => Err(Reason {
+            at,
+            why: Why::TooLong,
+        }),
+    }
+}
+
+/// How deep functions call functions in one that is called at a place, where they do so deep at most round it.
+fn less_deep<'a>(depth: u8, at: usize) -> Result<u8, Reason<'a>>
+    ensures ok { IfOk result (λ less. depth ≡ less + 1) }
+    ensures err { IfErr result (λ reason. (reason.why ≡ why.TooLong) × (depth ≡ 0)) }
+{
+    match depth.checked_sub(1) {
+        Some(less) => Ok(less),
+        None => Err(Reason {
+            at,
+            why: Why::TooLong,
+        }),
+    }
+}
+
+/// Makes the step for the call at an index, by this word.
 #[cycle(rewriting)]
 fn next_call<'a>(
     alloc: Global,
     config: &Config<'a>,
     words: &[Word<'a>],
     at: usize,
+    word: Word<'a>,
     depth: u8,
 ) -> Result<Next<'a>, AllocError>
-    ensures { IfOk result (IsNext (Replaces (IsCallWritten config.now.words.now (BecomesWithin config.now.words.now depth)) words.now)) }
+    requires { IsCallBy words.now at word }
+    ensures step { IfOk result (IsNext (Replaces (IsCallWritten config.now.words.now (BecomesWithin config.now.words.now depth)) words.now)) }
+    ensures stuck { IfOk result (λ next. IfSome (why_of_next next) (Halts config.now depth words.now)) }
 {
-    let callee = match callee_of(config, words, at, depth) {
+    let callee = match callee_of(config, words, at, word, depth) {
         Ok(callee) => callee,
         Err(reason) => return Ok(Next::Stuck(reason)),
     };
     match rewrite(alloc, config, copy_of(alloc, callee.source)?, callee.less)? {
         Outcome::Drafted(function) => {
-            place_call(alloc, words, at, callee.source, function.as_slice())
+            place_call(alloc, words, at, word, callee.source, function.as_slice())
         }
         Outcome::LeftOut(reason) => Ok(Next::Stuck(reason)),
     }
@@ -220,10 +261,11 @@ fn next_words<'a>(
     words: &[Word<'a>],
     depth: u8,
 ) -> Result<Next<'a>, AllocError>
-    ensures { IfOk result (IsNext (Writes config.now.words.now (BecomesWithin config.now.words.now depth) words.now)) }
+    ensures step { IfOk result (IsNext (Writes config.now.words.now (BecomesWithin config.now.words.now depth) words.now)) }
+    ensures stuck { IfOk result (λ next. IfSome (why_of_next next) (Halts config.now depth words.now)) }
 {
     match first_call(words) {
-        Some(at) => next_call(alloc, config, words, at, depth),
+        Some((at, word)) => next_call(alloc, config, words, at, word, depth),
         None => next_step(alloc, config, words),
     }
 }
@@ -236,26 +278,35 @@ fn rewrite<'a>(
     words: Vec<Word<'a>>,
     depth: u8,
 ) -> Result<Outcome<'a>, AllocError>
-    ensures { IfOk result (IfDrafted (Becomes config.now.words.now depth words.entry.items)) }
+    ensures drafted { IfOk result (IfDrafted (Becomes config.now.words.now depth words.entry.items)) }
+    ensures stuck { IfOk result (λ outcome. IfSome (why_of outcome) (IsStuck config.now depth words.entry.items)) }
 {
     let mut words = words;
-    for _ in 0..STEP_LIMIT {
-        if words.len() > WORD_LIMIT {
-            break;
+    for made in 0..STEP_LIMIT {
+        let all = words.as_slice();
+        if all.len() > WORD_LIMIT {
+            return Ok(too_long(all));
         }
-        match next_words(alloc, config, words.as_slice(), depth)? {
+        match next_words(alloc, config, all, depth)? {
             Next::Words(after) => words = after,
             Next::Stuck(reason) => return Ok(Outcome::LeftOut(reason)),
             Next::Done => return Ok(Outcome::Drafted(words)),
         }
     }
-    Ok(Outcome::LeftOut(Reason {
+    Ok(too_long(words.as_slice()))
+}
+
+/// What becomes of words that are too many, or to which too many steps have come.
+fn too_long<'a>(words: &[Word<'a>]) -> Outcome<'a>
+    ensures { why_of result ≡ Some why.TooLong }
+{
+    Outcome::LeftOut(Reason {
         at: match words.first() {
             Some(word) => word.at,
             None => 0,
         },
         why: Why::TooLong,
-    }))
+    })
 }
 
 /// The words of a filter that has a name from its protocol.
@@ -326,7 +377,8 @@ fn condition_words<'a>(
 
 /// The words of an item.
 fn words_of_item_at<'a>(words: &'a [Word<'a>], item: &Item) -> Option<&'a [Word<'a>]>
-    ensures { IfSome result (λ all. all.now ≡ words_of words.now item.now) }
+    ensures some { IfSome result (λ all. all.now ≡ words_of words.now item.now) }
+    ensures none { result ≡ None → length words.now < max item.now.from item.now.to }
 {
     let (_, rest) = words.split_at_checked(item.from)?;
     let (all, _) = rest.split_at_checked(item.to.saturating_sub(item.from))?;
@@ -356,35 +408,46 @@ fn copy_of<'a>(alloc: Global, all: &[Word<'a>]) -> Result<Vec<Word<'a>>, AllocEr
 }
 
 /// Why an item cannot be a filter at all, if it cannot.
-fn reason_of<'a>(config: &Config<'a>, item: &Item, at: usize) -> Option<Reason<'a>> {
-    let why = if !item.is_closed {
-        Why::Unclosed
+fn why_no_filter<'a>(config: &Config<'a>, item: &Item) -> Option<Why<'a>>
+    ensures some { IfSome result (IsNoFilter config.now item.now) }
+    ensures none { result ≡ None → IsFilter config.now item.now }
+{
+    if !item.is_closed {
+        Some(Why::Unclosed)
     } else if item.is_ipv6 {
-        Why::Ipv6
+        Some(Why::Ipv6)
     } else if is_named_before(config, item) {
-        Why::SameName
+        Some(Why::SameName)
     } else {
-        return None;
-    };
-    Some(Reason { at, why })
+        None
+    }
 }
 
 /// Whether a filter before an item has its name.
-fn is_named_before(config: &Config<'_>, item: &Item) -> bool {
+fn is_named_before(config: &Config<'_>, item: &Item) -> bool
+    ensures { IsTrue result ↔ IsNamedBefore config.now.items.now item.now }
+{
     for other in config.items {
-        if other.from < item.from
-            && other.kind != ItemKind::Function
-            && other.name.as_slice() == item.name.as_slice()
-        {
+        if has_name_before(other, item) {
             return true;
         }
     }
     false
 }
 
+/// Whether an item is a filter before another one, and has its name.
+fn has_name_before(other: &Item, item: &Item) -> bool
+    ensures { IsTrue result ↔ HasNameBefore other.now item.now }
+{
+    other.from < item.from
+        && other.kind != ItemKind::Function
+        && other.name.as_slice() == item.name.as_slice()
+}
+
 /// The words of a filter, unless one of them cannot be kept.
 fn kept<'a>(words: Vec<Word<'a>>) -> Outcome<'a>
-    ensures { IfDrafted (λ after. after ≡ words.entry.items) result }
+    ensures drafted { IfDrafted (λ after. (after ≡ words.entry.items) × AreKnown words.entry.items) result }
+    ensures unknown { IfSome (why_of result) (HaveUnknown words.entry.items) }
 {
     match first_unknown(words.as_slice()) {
         Some(reason) => Outcome::LeftOut(reason),
@@ -393,17 +456,17 @@ fn kept<'a>(words: Vec<Word<'a>>) -> Outcome<'a>
 }
 
 /// What becomes of the filter of an item.
-#[tactic(auto, using(crate::proofs::Reached::comes))]
+#[tactic(auto, using(crate::proofs::Judged::of_words))]
 fn outcome_of<'a>(
     alloc: Global,
     config: &Config<'a>,
     item: &'a Item,
     at: usize,
 ) -> Result<Outcome<'a>, AllocError>
-    ensures { IfOk result (IfDrafted (ComesOf config.now.words.now item.now)) }
+    ensures { IfOk result (IsJudged config.now item.now) }
 {
-    if let Some(reason) = reason_of(config, item, at) {
-        return Ok(Outcome::LeftOut(reason));
+    if let Some(why) = why_no_filter(config, item) {
+        return Ok(Outcome::LeftOut(Reason { at, why }));
     }
     let Some(all) = words_of_item_at(config.words, item) else {
         return Ok(Outcome::LeftOut(Reason {
@@ -411,7 +474,17 @@ fn outcome_of<'a>(
             why: Why::Unclosed,
         }));
     };
-    let words = first_words(alloc, all, item)?;
+    rewritten(alloc, config, first_words(alloc, all, item)?)
+}
+
+/// What becomes of a filter that begins with some words.
+fn rewritten<'a>(
+    alloc: Global,
+    config: &Config<'a>,
+    words: Vec<Word<'a>>,
+) -> Result<Outcome<'a>, AllocError>
+    ensures { IfOk result (AreJudged config.now words.entry.items) }
+{
     if let Some(reason) = first_without_value(words.as_slice()) {
         return Ok(Outcome::LeftOut(reason));
     }
@@ -431,7 +504,7 @@ fn place_of(config: &Config<'_>, index: usize) -> usize {
 
 /// The draft of an item.
 fn draft_of<'a>(alloc: Global, config: &Config<'a>, item: &'a Item) -> Result<Draft<'a>, AllocError>
-    ensures { IfOk result (IsDraft config.now.words.now item.now) }
+    ensures { IfOk result (IsDraft config.now item.now) }
 {
     let at = place_of(config, item.from);
     Ok(Draft {
@@ -449,7 +522,7 @@ fn push_draft<'a>(
     item: &'a Item,
     drafts: &mut Vec<Draft<'a>>,
 ) -> Result<(), AllocError>
-    ensures { OnOk result (HasDraft config.now.words.now item.now.kind item.now drafts.old.items drafts.new.items) }
+    ensures { OnOk result (HasDraft config.now item.now.kind item.now drafts.old.items drafts.new.items) }
 {
     match item.kind {
         ItemKind::Function => Ok(()),
@@ -464,7 +537,7 @@ fn push_draft<'a>(
 #[tactic(auto, using(crate::proofs::Reached::no_draft))]
 pub fn make_drafts<'a>(alloc: Global, config: &Config<'a>) -> Result<Vec<Draft<'a>>, AllocError>
     // Each item that is no function has one draft, in order. The words that are drafted come of the item's, by steps that fit their rules.
-    ensures { IfOk result (λ drafts. HaveDrafts config.now.words.now config.now.items.now (length config.now.items.now) drafts.items) }
+    ensures { IfOk result (λ drafts. HaveDrafts config.now config.now.items.now (length config.now.items.now) drafts.items) }
 {
     let mut found = Vec::new(alloc);
     for item in config.items {

@@ -1,4 +1,6 @@
 //! What a configuration consists of: its filters, functions and definitions.
+ghost use Rattle.std.specs.Prelude.{◌≡◌, ◌↔◌, ◌<◌, ◌≤◌, ℕ, IfSome, IsTrue, None, length};
+ghost use Rattle.bird_import.specs.Reasons.{OpensBlock};
 
 use crate::word::{
     Word, WordKind, bytes_at, closing, find_outside, is_at, is_foreign_at, is_name_at, kind_at,
@@ -48,12 +50,17 @@ pub struct Definition {
 }
 
 /// Whether a block opens at an index. The braces of a pattern stand behind a prefix.
-pub fn opens_block(words: &[Word<'_>], at: usize) -> bool {
+pub fn opens_block(words: &[Word<'_>], at: usize) -> bool
+    ensures { IsTrue result ↔ OpensBlock words.now at }
+{
     is_at(words, at, Symbol::LeftBrace) && !(at > 0 && kind_at(words, at - 1) == WordKind::Prefix)
 }
 
 /// The index of the first block from an index on.
-pub fn first_block(words: &[Word<'_>], from: usize) -> Option<usize> {
+pub fn first_block(words: &[Word<'_>], from: usize) -> Option<usize>
+    ensures some { IfSome result (λ at. OpensBlock words.now at × ((k : ℕ) → from ≤ k → k < at → OpensBlock words.now k → ⊥)) }
+    ensures none { result ≡ None → (k : ℕ) → from ≤ k → k < length words.now → OpensBlock words.now k → ⊥ }
+{
     for at in from..words.len() {
         if opens_block(words, at) {
             return Some(at);

@@ -1,9 +1,17 @@
 //! Parentheses and semicolons that this language wants, and tests of the kind of a prefix.
 
+ghost use Rattle.std.specs.Prelude.{◌≡◌, ◌≢◌, ◌⊎◌, ◌+◌, ◌<◌, IfOk, IfSome, IsTrue, None, codes, length};
+ghost use Rattle.filter_tokens.specs.declared.symbol.Symbol.TheVariants as symbol;
+ghost use Rattle.bird_import.specs.Indices.{IsAt, IsNamedAt};
+ghost use Rattle.bird_import.specs.Reasons.{why_of_plan};
+ghost use Rattle.bird_import.specs.Stuck.{Hinder, WantsSemicolon};
+
 use crate::reason::unwritten;
 use crate::rules::ends_command;
 use crate::step::{Plan, Rule, joined, planned};
-use crate::word::{Word, WordKind, begins_command, is_at, is_before, kind_at, word_at};
+use crate::word::{
+    Word, WordKind, begins_command, is_at, is_before, is_named_at, kind_at, word_at,
+};
 use filter_tokens::Symbol;
 use std::alloc::{AllocError, Global};
 
@@ -29,11 +37,13 @@ impl Chain {
     }
 }
 
-/// The operator that a word is, if it is `&&` or `||`.
-fn operator_of(word: Word<'_>) -> Option<Symbol> {
-    if word.is(Symbol::And) {
+/// The operator that the word at an index is, if it is `&&` or `||`.
+fn operator_at(words: &[Word<'_>], at: usize) -> Option<Symbol>
+    ensures { result ≢ None → IsAt symbol.And words.now at ⊎ IsAt symbol.Or words.now at }
+{
+    if is_at(words, at, Symbol::And) {
         Some(Symbol::And)
-    } else if word.is(Symbol::Or) {
+    } else if is_at(words, at, Symbol::Or) {
         Some(Symbol::Or)
     } else {
         None
@@ -41,7 +51,7 @@ fn operator_of(word: Word<'_>) -> Option<Symbol> {
 }
 
 /// The chain that is being read behind the word at an index, which opens or closes no parentheses.
-fn chain_behind(chain: Chain, word: Word<'_>, at: usize) -> Chain {
+fn chain_behind(chain: Chain, word: Word<'_>, operator: Option<Symbol>, at: usize) -> Chain {
     let next = at.saturating_add(1);
     if word.is(Symbol::If) || word.is(Symbol::Case) || word.is_foreign(b"return") {
         Chain::at(next, true)
@@ -52,7 +62,7 @@ fn chain_behind(chain: Chain, word: Word<'_>, at: usize) -> Chain {
     } else if chain.operator.is_none() {
         Chain {
             start: chain.start,
-            operator: operator_of(word),
+            operator,
             is_condition: chain.is_condition,
         }
     } else {
@@ -61,7 +71,9 @@ fn chain_behind(chain: Chain, word: Word<'_>, at: usize) -> Chain {
 }
 
 /// The first operator of a chain that has another one before it: the chain's start, and the operator's index.
-fn first_mixed(alloc: Global, words: &[Word<'_>]) -> Result<Option<(usize, usize)>, AllocError> {
+fn first_mixed(alloc: Global, words: &[Word<'_>]) -> Result<Option<(usize, usize)>, AllocError>
+    ensures { IfOk result (λ found. IfSome found (λ mixed. IsAt symbol.And words.now mixed.1 ⊎ IsAt symbol.Or words.now mixed.1)) }
+{
     let mut outer: Vec<Chain> = Vec::new(alloc);
     let mut chain = Chain::at(0, false);
     for at in 0..words.len() {
@@ -74,11 +86,11 @@ fn first_mixed(alloc: Global, words: &[Word<'_>]) -> Result<Option<(usize, usize
                 .pop()
                 .unwrap_or(Chain::at(at.saturating_add(1), false));
         } else {
-            let found = operator_of(word);
+            let found = operator_at(words, at);
             if found.is_some() && chain.operator.is_some() && found != chain.operator {
                 return Ok(Some((chain.start, at)));
             }
-            chain = chain_behind(chain, word, at);
+            chain = chain_behind(chain, word, found, at);
         }
     }
     Ok(None)
@@ -86,7 +98,9 @@ fn first_mixed(alloc: Global, words: &[Word<'_>]) -> Result<Option<(usize, usize
 
 /// Puts parentheses round the operands before the first operator of another kind: BIRD's operators of these two kinds have one
 /// level, and group to the left.
-pub fn plan_grouping<'a>(alloc: Global, words: &[Word<'a>]) -> Result<Plan<'a>, AllocError> {
+pub fn plan_grouping<'a>(alloc: Global, words: &[Word<'a>]) -> Result<Plan<'a>, AllocError>
+    ensures { IfOk result (λ plan. IfSome (why_of_plan plan) (Hinder words.now)) }
+{
     let Some((start, at)) = first_mixed(alloc, words)? else {
         return Ok(Plan::Done);
     };
@@ -109,14 +123,18 @@ fn closes_pattern(words: &[Word<'_>], at: usize) -> bool {
 }
 
 /// Whether a `;` is missing before the word at an index.
-fn wants_semicolon(words: &[Word<'_>], at: usize) -> bool {
+fn wants_semicolon(words: &[Word<'_>], at: usize) -> bool
+    ensures { IsTrue result → WantsSemicolon words.now at }
+{
     let ends = is_at(words, at, Symbol::Else)
         || (is_at(words, at, Symbol::RightBrace) && !closes_pattern(words, at));
     ends && at > 0 && !begins_command(words, at)
 }
 
 /// Puts the first `;` that is missing before `else` or a closing brace.
-pub fn plan_semicolon<'a>(alloc: Global, words: &[Word<'a>]) -> Result<Plan<'a>, AllocError> {
+pub fn plan_semicolon<'a>(alloc: Global, words: &[Word<'a>]) -> Result<Plan<'a>, AllocError>
+    ensures { IfOk result (λ plan. IfSome (why_of_plan plan) (Hinder words.now)) }
+{
     for at in 0..words.len() {
         if wants_semicolon(words, at) {
             let stop = Word::made(Symbol::Semicolon, words[at].at).after(b"");
@@ -128,14 +146,17 @@ pub fn plan_semicolon<'a>(alloc: Global, words: &[Word<'a>]) -> Result<Plan<'a>,
 }
 
 /// What a test of the kind of a prefix at an index comes to: `net.type = NET_IP4` is true, and the same with NET_IP6 false.
-fn type_test(words: &[Word<'_>], at: usize) -> Option<Symbol> {
-    let [net, dot, property, compare, family] = words.get(at..at.checked_add(5)?)? else {
+fn type_test(words: &[Word<'_>], at: usize) -> Option<Symbol>
+    requires { at < length words.now }
+    ensures { result ≢ None → IsNamedAt (codes "type") words.now (at + 2) }
+{
+    let [net, dot, _, compare, family] = words.get(at..at.checked_add(5)?)? else {
         return None;
     };
     let (is_equal, is_ipv4) = (compare.is(Symbol::Equal), family.is_named(b"NET_IP4"));
     if net.is(Symbol::Net)
         && dot.is(Symbol::Dot)
-        && property.is_named(b"type")
+        && is_named_at(words, at.saturating_add(2), b"type")
         && (is_equal || compare.is(Symbol::NotEqual))
         && (is_ipv4 || family.is_named(b"NET_IP6"))
         && !is_before(words, at, Symbol::Not)
@@ -151,7 +172,9 @@ fn type_test(words: &[Word<'_>], at: usize) -> Option<Symbol> {
 }
 
 /// Puts what the first test of the kind of a prefix comes to in its place.
-pub fn plan_type_test<'a>(alloc: Global, words: &[Word<'a>]) -> Result<Plan<'a>, AllocError> {
+pub fn plan_type_test<'a>(alloc: Global, words: &[Word<'a>]) -> Result<Plan<'a>, AllocError>
+    ensures { IfOk result (λ plan. IfSome (why_of_plan plan) (Hinder words.now)) }
+{
     for at in 0..words.len() {
         if let Some(symbol) = type_test(words, at) {
             let answer = Word::made(symbol, words[at].at).after(words[at].gap);

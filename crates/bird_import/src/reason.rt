@@ -1,4 +1,6 @@
 //! Why a filter is left out.
+ghost use Rattle.std.specs.Prelude.{◌≡◌};
+ghost use Rattle.bird_import.specs.declared.reason.Why.TheVariants as why;
 
 use std::fmt;
 
@@ -57,7 +59,9 @@ pub enum Why<'a> {
 }
 
 /// What is said where nothing else can be.
-pub fn unwritten<'a>(at: usize) -> Reason<'a> {
+pub fn unwritten<'a>(at: usize) -> Reason<'a>
+    ensures { result.why ≡ why.Unwritten }
+{
     Reason {
         at,
         why: Why::Unwritten,

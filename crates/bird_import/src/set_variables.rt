@@ -1,5 +1,10 @@
 //! Variables that are sets: the set stands where the variable is used.
 
+ghost use Rattle.std.specs.Prelude.{◌≡◌, IfOk, IfSome};
+ghost use Rattle.bird_import.specs.Reasons.{why_of_plan};
+ghost use Rattle.bird_import.specs.Stuck.{HasSetVariable, Hinder};
+ghost use Rattle.bird_import.specs.declared.reason.Why.TheVariants as why;
+
 use crate::reason::{Reason, Why};
 use crate::rules::split;
 use crate::sets::{SetVariable, assigned, declared};
@@ -44,7 +49,10 @@ fn place<'a>(
     at: usize,
     made: SetVariable<'_, 'a>,
     name: &Word<'a>,
-) -> Result<Plan<'a>, AllocError> {
+) -> Result<Plan<'a>, AllocError>
+    requires { HasSetVariable name.now.bytes.now words.now }
+    ensures { IfOk result (λ plan. IfSome (why_of_plan plan) (Hinder words.now)) }
+{
     let len = closing(made.later, 0).unwrap_or(made.later.len());
     let Some((later, left)) = split(made.later, len) else {
         return Ok(Plan::Done);
@@ -55,7 +63,9 @@ fn place<'a>(
 }
 
 /// Why a variable that is a set is not taken.
-fn not_once<'a>(name: &Word<'a>) -> Reason<'a> {
+fn not_once<'a>(name: &Word<'a>) -> Reason<'a>
+    ensures { result.why ≡ why.SetVariable name.now.bytes }
+{
     Reason {
         at: name.at,
         why: Why::SetVariable(name.bytes),
@@ -63,9 +73,13 @@ fn not_once<'a>(name: &Word<'a>) -> Reason<'a> {
 }
 
 /// Puts the first variable that is a set in its places.
-pub fn plan_sets<'a>(alloc: Global, words: &[Word<'a>]) -> Result<Plan<'a>, AllocError> {
+pub fn plan_sets<'a>(alloc: Global, words: &[Word<'a>]) -> Result<Plan<'a>, AllocError>
+    ensures { IfOk result (λ plan. IfSome (why_of_plan plan) (Hinder words.now)) }
+{
     for at in 0..words.len() {
-        let (front, all) = words.split_at(at);
+        let Some((front, all)) = split(words, at) else {
+            continue;
+        };
         if let Some((name, rest)) = declared(all) {
             return match assigned(name.bytes, front, rest) {
                 Some(made) => place(alloc, words, at, made, name),

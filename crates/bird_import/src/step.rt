@@ -1,6 +1,7 @@
 //! Single steps from a filter of BIRD's to one of this language.
-ghost use Rattle.std.specs.Prelude.{◌≡◌, ◌++◌, IfOk, IfSome};
+ghost use Rattle.std.specs.Prelude.{◌≡◌, ◌++◌, IfOk, IfSome, Some};
 ghost use Rattle.bird_import.specs.Functions.{IsCallOf};
+ghost use Rattle.bird_import.specs.Reasons.{why_of_plan};
 ghost use Rattle.bird_import.specs.Steps.{Fits, Replaces};
 
 use crate::fits::fits;
@@ -73,7 +74,9 @@ pub fn planned<'a>(
     to: usize,
     words: Result<Vec<Word<'a>>, AllocError>,
     stuck: Reason<'a>,
-) -> Result<Plan<'a>, AllocError> {
+) -> Result<Plan<'a>, AllocError>
+    ensures { IfOk result (λ plan. why_of_plan plan ≡ Some stuck.entry.why) }
+{
     Ok(Plan::Step(Step {
         rule,
         origin: 0,

@@ -1,5 +1,7 @@
 //! The words of a configuration.
-ghost use Rattle.std.specs.Prelude.{◌≡◌, ◌↔◌, IsTrue};
+ghost use Rattle.std.specs.Prelude.{◌≡◌, ◌↔◌, IsTrue, slice_get};
+ghost use Rattle.bird_import.specs.Indices as spec;
+ghost use Rattle.bird_import.specs.Stuck.{BeginsCommandAt};
 ghost use Rattle.bird_import.specs.declared.word.WordKind.TheVariants as kind;
 
 use crate::rules::{closes, ends_command, opens};
@@ -105,7 +107,9 @@ impl<'a> Word<'a> {
     }
 
     /// Whether it is a byte that begins no word.
-    pub fn is_strange(self) -> bool {
+    pub fn is_strange(self) -> bool
+        ensures { IsTrue result ↔ (self.entry.kind ≡ kind.Strange) }
+    {
         self.kind == WordKind::Strange
     }
 
@@ -132,12 +136,16 @@ impl<'a> Word<'a> {
 }
 
 /// The word at an index, if there is one.
-pub fn word_at<'a>(words: &[Word<'a>], at: usize) -> Option<Word<'a>> {
+pub fn word_at<'a>(words: &[Word<'a>], at: usize) -> Option<Word<'a>>
+    ensures { result ≡ slice_get words.now at }
+{
     words.get(at).copied()
 }
 
 /// What the word at an index is, and a byte that begins no word where there is none.
-pub fn kind_at(words: &[Word<'_>], at: usize) -> WordKind {
+pub fn kind_at(words: &[Word<'_>], at: usize) -> WordKind
+    ensures { result ≡ spec.kind_at words.now at }
+{
     match words.get(at) {
         Some(word) => word.kind,
         None => WordKind::Strange,
@@ -145,7 +153,9 @@ pub fn kind_at(words: &[Word<'_>], at: usize) -> WordKind {
 }
 
 /// The bytes of the word at an index, if there is one.
-pub fn bytes_at<'a>(words: &[Word<'a>], at: usize) -> &'a [u8] {
+pub fn bytes_at<'a>(words: &[Word<'a>], at: usize) -> &'a [u8]
+    ensures { result.now ≡ spec.bytes_at words.now at }
+{
     match words.get(at) {
         Some(word) => word.bytes,
         None => b"",
@@ -153,27 +163,44 @@ pub fn bytes_at<'a>(words: &[Word<'a>], at: usize) -> &'a [u8] {
 }
 
 /// Whether the word at an index is this keyword or punctuator.
-pub fn is_at(words: &[Word<'_>], at: usize, symbol: Symbol) -> bool {
+pub fn is_at(words: &[Word<'_>], at: usize, symbol: Symbol) -> bool
+    ensures { IsTrue result ↔ spec.IsAt symbol words.now at }
+{
     kind_at(words, at) == WordKind::Symbol(symbol)
 }
 
 /// Whether the word at an index is a name.
-pub fn is_name_at(words: &[Word<'_>], at: usize) -> bool {
+pub fn is_name_at(words: &[Word<'_>], at: usize) -> bool
+    ensures { IsTrue result ↔ spec.IsNameAt words.now at }
+{
     kind_at(words, at) == WordKind::Name
 }
 
+/// Whether the word at an index is this name.
+pub fn is_named_at(words: &[Word<'_>], at: usize, name: &[u8]) -> bool
+    ensures { IsTrue result ↔ spec.IsNamedAt name.now words.now at }
+{
+    is_name_at(words, at) && bytes_at(words, at) == name
+}
+
 /// Whether the word at an index is this word of BIRD's.
-pub fn is_foreign_at(words: &[Word<'_>], at: usize, name: &[u8]) -> bool {
+pub fn is_foreign_at(words: &[Word<'_>], at: usize, name: &[u8]) -> bool
+    ensures { IsTrue result ↔ spec.IsForeignAt name.now words.now at }
+{
     kind_at(words, at) == WordKind::Foreign && bytes_at(words, at) == name
 }
 
 /// Whether the word before an index is this keyword or punctuator.
-pub fn is_before(words: &[Word<'_>], at: usize, symbol: Symbol) -> bool {
+pub fn is_before(words: &[Word<'_>], at: usize, symbol: Symbol) -> bool
+    ensures { IsTrue result ↔ spec.IsBehind symbol words.now at }
+{
     at > 0 && is_at(words, at - 1, symbol)
 }
 
 /// Whether a command may begin at an index: behind a brace, a `;`, a label, `then` or `else`.
-pub fn begins_command(words: &[Word<'_>], at: usize) -> bool {
+pub fn begins_command(words: &[Word<'_>], at: usize) -> bool
+    ensures { IsTrue result ↔ BeginsCommandAt words.now at }
+{
     at > 0 && ends_command(kind_at(words, at - 1))
 }
 

@@ -1,5 +1,5 @@
-use Rattle.std.specs.Prelude.{◌+◌, ◌*◌}
-use Rattle.bird_import.specs.Steps.{Becomes}
+use Rattle.std.proofs.Common.{◌+◌, ◌*◌}
+use Rattle.bird_import.specs.Steps.{BecomesWithin, Reaches}
 use Rattle.bird_import.proofs.drafts.+rewriting.Given as goal
 
 abbrev pub decreases-next_words : goal.decreases-next_words
@@ -11,5 +11,6 @@ decreases-next_call l = 3 * l.depth
 abbrev pub decreases-rewrite : goal.decreases-rewrite
 decreases-rewrite l = 3 * l.depth + 2
 
-abbrev pub invariant-rewrite-loop : goal.invariant-rewrite-loop
-invariant-rewrite-loop l = Becomes l.config.words.now l.depth l.fn.words.items l.words.items
+abbrev pub invariant-rewrite-loop-made : goal.invariant-rewrite-loop-made
+invariant-rewrite-loop-made l =
+    Reaches l.config.words.now (BecomesWithin l.config.words.now l.depth) l.made l.fn.words.items l.words.items

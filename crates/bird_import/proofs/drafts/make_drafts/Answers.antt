@@ -7,4 +7,4 @@ pub loop-item-preserved : goal.loop-item-preserved
 loop-item-preserved c =
     let items = c.args.config.now.items.now in
     let is = slice_get_read items (length items) c.loop-item.item-index c.item-item.result refl c.loop-item-test.true c.item-item.is in
-    one_draft c.args.config.now.words.now items c.loop-item.item-index c.item-item.result _ _ is c.loop-item.invariant c.in_ok-push_draft.ensures
+    one_draft c.args.config.now items c.loop-item.item-index c.item-item.result _ _ is c.loop-item.invariant c.in_ok-push_draft.ensures

@@ -1,0 +1,82 @@
+-- Which filters are left out, and what the others become.
+use Rattle.std.specs.Prelude.{◌≡◌, ◌⊎◌, ℕ, zero, suc, true, false, List, [], ◌∷◌, ◌++◌, Some, slice_get}
+use Rattle.bird_import.specs.Drafts.{BeginsAs, words_of}
+use Rattle.bird_import.specs.Reasons.{AreKnown, HaveNoValue, HaveUnknown, HaveValues, IsNamedBefore}
+use Rattle.bird_import.specs.Steps.{Becomes}
+use Rattle.bird_import.specs.Stuck.{IsOutside, IsStuck}
+use Rattle.bird_import.specs.declared.config.Config.{Config}
+use Rattle.bird_import.specs.declared.drafts.Draft.{Draft}
+use Rattle.bird_import.specs.declared.drafts.Outcome.{Outcome}
+use Rattle.bird_import.specs.declared.drafts.Outcome.TheVariants as outcome
+use Rattle.bird_import.specs.declared.items.Item.{Item}
+use Rattle.bird_import.specs.declared.items.ItemKind.{ItemKind}
+use Rattle.bird_import.specs.declared.items.ItemKind.TheVariants as item
+use Rattle.bird_import.specs.declared.reason.Why.{Why}
+use Rattle.bird_import.specs.declared.reason.Why.TheVariants as why
+use Rattle.bird_import.specs.declared.word.Word.{Word}
+
+-- The words with which a filter begins become these: each variable has a value, and each word in the end can be kept. Functions call
+-- functions at most 16 deep.
+pub record AreTaken (config : Config) (first after : List Word) : Type 0 where
+  pub values : HaveValues first
+  pub becomes : Becomes config.words.now 16 first after
+  pub known : AreKnown after
+
+-- Why the words with which a filter begins cannot become others: a variable has no value, the steps from them come to no end, or they come to
+-- words of which one cannot be kept.
+abbrev pub AreRefused : Config → List Word → Why → Type 0
+AreRefused config first why = HaveNoValue first why
+    ⊎ (IsStuck config 16 first why ⊎ ((after : List Word) × Becomes config.words.now 16 first after × HaveUnknown after why))
+
+-- so it is with these words
+abbrev pub AreJudged : Config → List Word → Outcome → Type 0
+AreJudged config first (outcome.Drafted words) = AreTaken config first words.items
+AreJudged config first (outcome.LeftOut reason) = AreRefused config first reason.why
+
+-- an item is that of a filter: its braces are closed, it is not for routes of IPv6, and no filter before it has its name
+pub record IsFilter (config : Config) (one : Item) : Type 0 where
+  pub closed : one.is_closed ≡ true
+  pub ipv4 : one.is_ipv6 ≡ false
+  pub first_of_name : IsNamedBefore config.items.now one → ⊥
+
+-- some words are those with which an item begins
+abbrev pub Begins : Config → Item → List Word → Type 0
+Begins config one first = BeginsAs one.kind one.name.items (words_of config.words.now one) first
+
+-- why an item is not that of a filter
+abbrev pub IsNoFilter : Config → Item → Why → Type 0
+IsNoFilter config one why.Unclosed = (one.is_closed ≡ false) ⊎ IsOutside config one
+IsNoFilter config one why.Ipv6 = one.is_ipv6 ≡ true
+IsNoFilter config one why.SameName = IsNamedBefore config.items.now one
+IsNoFilter config one other = ⊥
+
+-- Why an item is left out.
+abbrev pub HasReason : Config → Item → Why → Type 0
+HasReason config one why = IsNoFilter config one why ⊎ ((first : List Word) × Begins config one first × AreRefused config first why)
+
+-- an item's words become these
+pub record ComesOf (config : Config) (one : Item) (after : List Word) : Type 0 where
+  pub is_filter : IsFilter config one
+  pub first : List Word
+  pub begins : Begins config one first
+  pub taken : AreTaken config first after
+
+-- what becomes of an item: its words become others, or it is left out for a reason
+abbrev pub IsJudged : Config → Item → Outcome → Type 0
+IsJudged config one (outcome.Drafted words) = ComesOf config one words.items
+IsJudged config one (outcome.LeftOut reason) = HasReason config one reason.why
+
+-- a draft is that of an item: it has its name, and says what becomes of it
+abbrev pub IsDraft : Config → Item → Draft → Type 0
+IsDraft config one draft = (draft.name.now ≡ one.name.items) × IsJudged config one draft.outcome
+
+-- an item has no draft where it is a function, and otherwise one
+abbrev pub HasDraft : Config → ItemKind → Item → List Draft → List Draft → Type 0
+HasDraft config item.Function one before after = after ≡ before
+HasDraft config other one before after = (draft : Draft) × IsDraft config one draft × (after ≡ before ++ draft ∷ [])
+
+-- so many of the items have these drafts, in order
+unfoldable pub HaveDrafts : Config → List Item → ℕ → List Draft → Type 0
+HaveDrafts config items zero drafts = drafts ≡ []
+HaveDrafts config items (suc n) drafts = (one : Item) × (before : List Draft) × (slice_get items n ≡ Some one)
+    × HaveDrafts config items n before × HasDraft config one.kind one before drafts

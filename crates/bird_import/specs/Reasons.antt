@@ -1,0 +1,131 @@
+-- Why a filter is left out.
+use Rattle.std.specs.Prelude.{◌≡◌, ◌≢◌, ◌⊎◌, ℕ, zero, suc, ◌+◌, ◌-◌, ◌<◌, ◌≤◌, Bool, true, false, List, Option, Some, None, IfSome, Result, Ok, Err, codes, length, slice_get, ⊤}
+use Rattle.filter_tokens.specs.declared.symbol.Symbol.{Symbol}
+use Rattle.filter_tokens.specs.declared.symbol.Symbol.TheVariants as symbol
+use Rattle.bird_import.specs.Drafts.{words_of}
+use Rattle.bird_import.specs.Indices.{IsAt, IsBehind, IsForeignAt, IsNameAt, IsNamedAt, kind_at, bytes_at}
+use Rattle.bird_import.specs.Rules.{IsNamed, ends_command, is_kind}
+use Rattle.bird_import.specs.Steps.{Becomes, BecomesWithin, Reaches}
+use Rattle.bird_import.specs.declared.config.Config.{Config}
+use Rattle.bird_import.specs.declared.drafts.Next.{Next}
+use Rattle.bird_import.specs.declared.drafts.Next.TheVariants as next
+use Rattle.bird_import.specs.declared.drafts.Outcome.{Outcome}
+use Rattle.bird_import.specs.declared.drafts.Outcome.TheVariants as outcome
+use Rattle.bird_import.specs.declared.items.Definition.{Definition}
+use Rattle.bird_import.specs.declared.items.Item.{Item}
+use Rattle.bird_import.specs.declared.items.ItemKind.TheVariants as item
+use Rattle.bird_import.specs.declared.reason.Reason.{Reason}
+use Rattle.bird_import.specs.declared.reason.Why.{Why}
+use Rattle.bird_import.specs.declared.reason.Why.TheVariants as why
+use Rattle.bird_import.specs.declared.step.Call.{Call}
+use Rattle.bird_import.specs.declared.step.Plan.{Plan}
+use Rattle.bird_import.specs.declared.step.Plan.TheVariants as plan
+use Rattle.bird_import.specs.declared.word.Word.{Word}
+use Rattle.bird_import.specs.declared.word.WordKind.{WordKind}
+use Rattle.bird_import.specs.declared.word.WordKind.TheVariants as kind
+
+-- why a filter is left out, if what is planned does not fit, or by what is planned itself
+abbrev pub why_of_plan : Plan → Option Why
+why_of_plan (plan.Step step) = Some step.stuck.why
+why_of_plan (plan.Stuck reason) = Some reason.why
+why_of_plan plan.Done = None
+
+-- why it is left out, if what is written for a call does not stand for it, or in its place
+abbrev pub why_of_call : Result Call Reason → Why
+why_of_call (Ok call) = call.stuck.why
+why_of_call (Err reason) = reason.why
+
+-- why it is left out in place of a step
+abbrev pub why_of_next : Next → Option Why
+why_of_next (next.Words words) = None
+why_of_next (next.Stuck reason) = Some reason.why
+why_of_next next.Done = None
+
+-- why it is left out in the end
+abbrev pub why_of : Outcome → Option Why
+why_of (outcome.Drafted words) = None
+why_of (outcome.LeftOut reason) = Some reason.why
+
+-- an item is a filter before another one, and has its name
+pub record HasNameBefore (other one : Item) : Type 0 where
+  pub earlier : other.from < one.from
+  pub is_filter : other.kind ≢ item.Function
+  pub same : other.name.items ≡ one.name.items
+
+-- a filter before an item has its name
+abbrev pub IsNamedBefore : List Item → Item → Type 0
+IsNamedBefore items one = (k : ℕ) × (other : Item) × (slice_get items k ≡ Some other) × HasNameBefore other one
+
+-- a variable of a name is declared at an index: behind a kind, or behind `set`
+abbrev pub IsVariableAt : List ℕ → List Word → ℕ → Type 0
+IsVariableAt name words k =
+    (0 < k) × IsNamedAt name words k × ((is_kind (kind_at words (k - 1)) ≡ true) ⊎ IsForeignAt (codes "set") words (k - 1))
+
+-- so it is among some words
+abbrev pub IsVariable : List ℕ → List Word → Type 0
+IsVariable name words =
+    (k : ℕ) × (k < length words) × IsVariableAt name words k
+
+-- a part of a prefix or of an address that this language has
+abbrev pub IsProperty : List ℕ → Type 0
+IsProperty name = (name ≡ codes "len") ⊎ (name ≡ codes "mask")
+
+-- a word of a kind at an index can be kept: a name is the filter's own, a part of a value or a variable
+abbrev pub IsKnown : WordKind → List Word → ℕ → Type 0
+IsKnown kind.Strange words k = ⊥
+IsKnown kind.Foreign words k = ⊥
+IsKnown kind.Name words k = IsBehind symbol.Filter words k
+    ⊎ ((IsBehind symbol.Dot words k × IsProperty (bytes_at words k)) ⊎ IsVariable (bytes_at words k) words)
+IsKnown other words k = ⊤
+
+-- each of some words can be kept
+abbrev pub AreKnown : List Word → Type 0
+AreKnown words = (k : ℕ) → k < length words → IsKnown (kind_at words k) words k
+
+-- a name of this language at an index is no variable, nor the filter's own, nor behind a dot
+pub record IsNoVariable (name : List ℕ) (words : List Word) (k : ℕ) : Type 0 where
+  pub is : IsNamedAt name words k
+  pub not_own : IsBehind symbol.Filter words k → ⊥
+  pub not_part : IsBehind symbol.Dot words k → ⊥
+  pub undeclared : IsVariable name words → ⊥
+
+-- the word at an index cannot be kept
+abbrev pub IsUnknown : List Word → ℕ → Why → Type 0
+IsUnknown words k why.Strange = kind_at words k ≡ kind.Strange
+IsUnknown words k (why.Foreign name) = IsForeignAt name.now words k
+IsUnknown words k (why.Property name) = IsNamedAt name.now words k × IsBehind symbol.Dot words k × (IsProperty name.now → ⊥)
+IsUnknown words k (why.Unknown name) = IsNoVariable name.now words k
+IsUnknown words k other = ⊥
+
+-- so is one of some words
+abbrev pub HaveUnknown : List Word → Why → Type 0
+HaveUnknown words why = (k : ℕ) × (k < length words) × IsUnknown words k why
+
+-- a block opens at an index: its brace is not that of a pattern
+abbrev pub OpensBlock : List Word → ℕ → Type 0
+OpensBlock words k = IsAt symbol.LeftBrace words k × ((0 < k) × (kind_at words (k - 1) ≡ kind.Prefix) → ⊥)
+
+-- the name of a variable whose kind stands at an index: before it may be `set`
+abbrev pub IsNameBehind : List Word → ℕ → ℕ → Type 0
+IsNameBehind words k n =
+    (IsForeignAt (codes "set") words (k + 1) × (n ≡ k + 2)) ⊎ ((IsForeignAt (codes "set") words (k + 1) → ⊥) × (n ≡ k + 1))
+
+-- an index is in a body
+abbrev pub IsInBody : List Word → ℕ → Type 0
+IsInBody words k = (block : ℕ) × OpensBlock words block × (block ≤ k)
+
+-- `KIND NAME;`, where the name is at another index
+pub record LacksValue (words : List Word) (k n : ℕ) : Type 0 where
+  pub is_kind_word : is_kind (kind_at words k) ≡ true
+  pub at : IsNameBehind words k n
+  pub is_name : IsNameAt words n
+  pub stops : IsAt symbol.Semicolon words (n + 1)
+
+-- a body declares a variable without a value
+abbrev pub HaveNoValue : List Word → Why → Type 0
+HaveNoValue words (why.NoValue name) = (k : ℕ) × (n : ℕ) × IsInBody words k × LacksValue words k n × (bytes_at words n ≡ name.now)
+HaveNoValue words other = ⊥
+
+-- no body does
+abbrev pub HaveValues : List Word → Type 0
+HaveValues words = (k : ℕ) (n : ℕ) → k < length words → IsInBody words k → LacksValue words k n → ⊥
