@@ -1,5 +1,5 @@
 -- What the parser of words met: a command, and the words behind it.
-use Rattle.std.proofs.Common.{◌≡◌, List, ℕ, Option, Some, None, Bor, option_map, refl, sym, subst, ap₂}
+use Rattle.std.proofs.Common.{◌≡◌, List, ℕ, Option, Some, None, Bor, option_map, sym, subst, ap₂}
 use Rattle.std.specs.Prelude.{MatchOption}
 use Rattle.std.specs.Box.{box_value}
 use Rattle.clap.specs.Words.{Row, found_of, rows_of, subcommand_name_of, subcommand_rows, subcommand_rows_of}

@@ -2,6 +2,8 @@ pub mod CommandNames
 pub mod Filters
 pub mod Given
 pub mod Meaning
+pub mod Pages
+pub mod Parameters
 pub mod Readings
 pub mod Reads
 pub mod Sources

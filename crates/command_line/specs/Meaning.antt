@@ -1,23 +1,29 @@
 -- What the words behind each command ask for: which of them sets what. (This project's own choice.)
-use Rattle.std.specs.Prelude.{◌≡◌, ◌⊎◌, ◌&&◌, ◌||◌, ℕ, Bool, true, false, List, [], ◌∷◌, MatchOption, Option, Some, None, codes, if◌then◌else◌, is_some, length, map, nat_lt, not, option_map, string_bytes, unwrap_or, ⊤}
+use Rattle.std.specs.Prelude.{◌≡◌, ◌⊎◌, ◌&&◌, ◌||◌, ℕ, Bool, true, false, List, [], MatchOption, Option, Some, None, codes, if◌then◌else◌, is_some, length, map, nat_lt, not, option_map, string_bytes, unwrap_or, ⊤}
 use Rattle.std.specs.List.{list_any}
 use Rattle.std.specs.Option.{option_map_or}
 use Rattle.std.specs.Str.{bytes_eq}
-use Rattle.clap.specs.Words.{Row, subcommand_rows_of}
-use Rattle.clap.specs.declared.parser.matches.ArgMatches.{ArgMatches}
+use Rattle.clap.specs.Words.{IsAmong, Row, fault_of, subcommand_of}
+use Rattle.clap.specs.declared.error.kind.ErrorKind.{ErrorKind}
+use Rattle.clap.specs.declared.error.kind.ErrorKind.TheVariants as kind
 use Rattle.command_line.specs.CommandNames.{command_of}
 use Rattle.command_line.specs.Filters.{HasWrong, NameFirst}
 use Rattle.command_line.specs.Given.{is_set, number_of, word_of, words_of}
+use Rattle.command_line.specs.Pages.{IsPage, explained, page_head}
+use Rattle.command_line.specs.Parameters.{AreTellings, program}
 use Rattle.command_line.specs.Readings.{is_file, readings}
 use Rattle.command_line.specs.Reads.{dash, file, filter_sources, names_read, sources_of}
 use Rattle.command_line.specs.Sources.{AreNamed}
 use Rattle.command_line.specs.Telling.{is_explained}
 use Rattle.command_line.specs.declared.command_names.CommandName.{CommandName}
 use Rattle.command_line.specs.declared.command_names.CommandName.TheVariants as command
+use Rattle.line_protocol.specs.declared.faults.StreamFault.{StreamFault}
+use Rattle.line_protocol.specs.declared.faults.StreamFault.TheVariants.{Memory, Write}
 use Rattle.command_line.specs.declared.diff_words.Comparing.{Comparing}
 use Rattle.command_line.specs.declared.filter_words.NamedFile.{NamedFile}
 use Rattle.command_line.specs.declared.filter_words.WrongFilter.{WrongFilter}
 use Rattle.command_line.specs.declared.lint_words.Linting.{Linting}
+use Rattle.command_line.specs.declared.options.Choices.{Choices}
 use Rattle.command_line.specs.declared.requests.Checking.{Checking}
 use Rattle.command_line.specs.declared.requests.Engine.TheVariants as engine
 use Rattle.command_line.specs.declared.requests.Importing.{Importing}
@@ -157,7 +163,7 @@ Sets command.Check given terminals (request.Check how sources) =
 Sets command.Diff given terminals (request.Diff how old new) = how ≡ comparing_of given terminals
 Sets command.Domain given terminals (request.Script engine.Domain source is_told) = is_told ≡ tells given terminals (is_file source)
 Sets command.Eval given terminals (request.Eval is_told) = is_told ≡ tells given terminals false
-Sets command.Explain given terminals (request.Explain page) = ⊤
+Sets command.Explain given terminals (request.Explain page) = IsPage (explained given) (string_bytes page)
 Sets command.Filter given terminals (request.Filter how source) =
     IsTrying given terminals how × (names_file given ≡ true) × (asks_twice given ≡ false)
 Sets command.Import given terminals (request.Import how source) = IsImporting given how
@@ -188,7 +194,7 @@ pub record AskForRouter (given : List Row) (words : RouterWords) : Type 0 where
 -- the words behind a command are refused, though the parser of words accepts them
 abbrev pub AreRefused : CommandName → List Row → Type 0
 AreRefused command.Check given = number_of 32 (codes "size") given ≡ None
-AreRefused command.Explain given = ⊤
+AreRefused command.Explain given = page_head (explained given) ≡ None
 AreRefused command.Filter given =
     (asks_twice given ≡ true) ⊎ ((number_of 32 (codes "size") given ≡ None) ⊎ (names_file given ≡ false))
 AreRefused command.Router given = HasWrongFilter given
@@ -212,11 +218,31 @@ MetComesTo (Some met) terminals words =
 abbrev pub once : Words → Words
 once words = if nat_lt 1 (readings words) then Shown 2 else words
 
--- what the parser of words shows in place of matches: help, or what is wrong with the words
-abbrev pub IsShown : Words → Type 0
-IsShown words = (words ≡ Shown 0) ⊎ (words ≡ Shown 2)
+-- the status of what the parser of words shows in place of matches: help and the version are no mistake
+abbrev pub status_of : ErrorKind → ℕ
+status_of kind.DisplayHelp = 0
+status_of kind.DisplayVersion = 0
+status_of _ = 2
 
--- what the words of a command line come to, as the parser of words found it
-abbrev pub IsMeant : Terminals → Words → Type 0
-IsMeant terminals words = IsShown words
-    ⊎ ((matches : ArgMatches) × (meant : Words) × MetComesTo (subcommand_rows_of matches) terminals meant × (words ≡ once meant))
+-- The parser of words accepts the words of a command line, of which the first is the program's name, and met this.
+pub record Meets (line : List (List ℕ)) (met : Option (List ℕ × List Row)) : Type 0 where
+  pub choices : Choices
+  pub tellings : AreTellings choices
+  pub accepted : fault_of (program choices) line ≡ []
+  pub is_met : met ≡ subcommand_of (program choices) line
+
+-- It does not, and this is one of the kinds of error that the first mistake has.
+pub record Shows (line : List (List ℕ)) (shown : ErrorKind) : Type 0 where
+  pub choices : Choices
+  pub tellings : AreTellings choices
+  pub among : IsAmong shown (fault_of (program choices) line)
+
+-- what the words of a command line come to
+abbrev pub IsMeant : List (List ℕ) → Terminals → Words → Type 0
+IsMeant line terminals words = ((shown : ErrorKind) × Shows line shown × (words ≡ Shown (status_of shown)))
+    ⊎ ((met : Option (List ℕ × List Row)) × (meant : Words) × Meets line met × MetComesTo met terminals meant
+    × (words ≡ once meant))
+
+-- The words of a command line do not come to anything: memory was refused, or help was to be shown and was not taken.
+abbrev pub FailsBy : List (List ℕ) → StreamFault → Type 0
+FailsBy line fault = (fault ≡ Memory) ⊎ ((fault ≡ Write) × ((shown : ErrorKind) × Shows line shown × (status_of shown ≡ 0)))

@@ -1,4 +1,8 @@
 //! The classes of the codes by which something is refused or warned of, and the pages that `explain` shows.
+ghost use Rattle.std.specs.Prelude.{◌≡◌, ◌++◌, ℕ, List, None, IfOk, MatchOption, OnOk, false, map, string_bytes, true};
+ghost use Rattle.command_line.specs.Pages.{IsPage, letter_head, letter_line, letters, page_head};
+ghost use Rattle.refusal_texts.specs.Codes.{begins_with, is_among};
+
 use refusal_texts::explanation_of;
 use std::alloc::{AllocError, Global};
 
@@ -76,7 +80,9 @@ static CLASSES: [Class; 15] = [
 ];
 
 /// The table of classes. What handles it is not to know its texts: the checker would carry them along with each step.
-fn class_table() -> &'static [Class] {
+fn class_table() -> &'static [Class]
+    ensures { map (λ class. class.letter.now) result.now ≡ letters }
+{
     &CLASSES
 }
 
@@ -84,29 +90,41 @@ fn class_table() -> &'static [Class] {
 const MOST_CODES: u32 = 20;
 
 /// What `explain` shows of a code, of a letter, or of no word. Small letters do for large ones. None if there is no such code.
-pub fn page_of(alloc: Global, word: &str) -> Result<Option<String>, AllocError> {
+pub fn page_of(alloc: Global, word: &str) -> Result<Option<String>, AllocError>
+    ensures { IfOk result (λ page. MatchOption page (page_head word.now ≡ None) (λ page. IsPage word.now (string_bytes page))) }
+{
     if word.is_empty() {
         return Ok(Some(all_classes(alloc)?));
     }
-    let word = in_capitals(alloc, word)?;
+    let word = word.to_ascii_uppercase(alloc)?;
     if let Some(page) = explanation_of(word.as_str()) {
         return Ok(Some(String::from_str(alloc, page)?));
     }
-    for class in class_table() {
-        if word.as_str() == class.letter {
-            return Ok(Some(codes_of(alloc, *class)?));
-        }
-    }
-    Ok(None)
+    letter_page(alloc, word.as_str())
 }
 
-/// A word with large letters for small ones.
-fn in_capitals(alloc: Global, word: &str) -> Result<String, AllocError> {
-    let mut capitals = String::new(alloc);
-    for letter in word.chars() {
-        capitals.push(letter.to_ascii_uppercase())?;
+/// What is shown of a letter, in capitals. None if there is no such letter.
+fn letter_page(alloc: Global, word: &str) -> Result<Option<String>, AllocError>
+    ensures { IfOk result (λ page. MatchOption page (is_among letters word.now ≡ false) (λ page.
+        (is_among letters word.now ≡ true) × (begins_with (letter_head word.now) (string_bytes page) ≡ true))) }
+{
+    match class_of(word) {
+        Some(class) => Ok(Some(codes_of(alloc, class)?)),
+        None => Ok(None),
     }
-    Ok(capitals)
+}
+
+/// The class of a letter.
+fn class_of(letter: &str) -> Option<Class>
+    ensures { MatchOption result (is_among letters letter.now ≡ false) (λ class.
+        (is_among letters letter.now ≡ true) × (class.letter.now ≡ letter.now)) }
+{
+    for class in class_table() {
+        if class.letter == letter {
+            return Some(*class);
+        }
+    }
+    None
 }
 
 /// The letters, a line each.
@@ -122,7 +140,9 @@ fn all_classes(alloc: Global) -> Result<String, AllocError> {
 }
 
 /// Adds the line of a class.
-fn push_class(page: &mut String, class: Class) -> Result<(), AllocError> {
+fn push_class(page: &mut String, class: Class) -> Result<(), AllocError>
+    ensures { OnOk result (string_bytes page.new ≡ string_bytes page.old ++ letter_line class.letter.now class.meaning.now) }
+{
     page.push_str("  ")?;
     page.push_str(class.letter)?;
     page.push_str("  ")?;
@@ -131,24 +151,37 @@ fn push_class(page: &mut String, class: Class) -> Result<(), AllocError> {
 }
 
 /// The codes of a class, each by the first line of its page.
-fn codes_of(alloc: Global, class: Class) -> Result<String, AllocError> {
+fn codes_of(alloc: Global, class: Class) -> Result<String, AllocError>
+    ensures { IfOk result (λ page. begins_with (letter_head class.letter.now) (string_bytes page) ≡ true) }
+{
     let mut page = String::new(alloc);
     push_class(&mut page, class)?;
     for n in 1..MOST_CODES {
-        let letter = class.letter;
-        let code = format!(in alloc; "{letter}{n}")?;
-        if let Some(text) = explanation_of(code.as_str()) {
-            push_first_line(&mut page, text)?;
-        }
+        push_code(alloc, &mut page, class.letter, n)?;
     }
     Ok(page)
 }
 
-/// Adds the first line of a page.
-fn push_first_line(page: &mut String, text: &str) -> Result<(), AllocError> {
-    if let Some((line, _)) = text.split_once("\n") {
-        page.push_str(line)?;
-        page.push_str("\n")?;
+/// Adds the first line of the page of a code, if there is such a code.
+fn push_code(alloc: Global, page: &mut String, letter: &str, number: u32) -> Result<(), AllocError>
+    ensures { OnOk result ((more : List ℕ) × (string_bytes page.new ≡ string_bytes page.old ++ more)) }
+{
+    let code = format!(in alloc; "{letter}{number}")?;
+    match explanation_of(code.as_str()) {
+        Some(text) => push_first_line(page, text),
+        None => Ok(()),
     }
-    Ok(())
+}
+
+/// Adds the first line of a page.
+fn push_first_line(page: &mut String, text: &str) -> Result<(), AllocError>
+    ensures { OnOk result ((more : List ℕ) × (string_bytes page.new ≡ string_bytes page.old ++ more)) }
+{
+    match text.split_once('\n') {
+        Some((line, _)) => {
+            page.push_str(line)?;
+            page.push_str("\n")
+        }
+        None => Ok(()),
+    }
 }

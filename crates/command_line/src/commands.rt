@@ -1,23 +1,28 @@
 //! The commands of the program, each with its options and arguments, and their help.
+ghost use Rattle.std.specs.Prelude.{◌≡◌, false, IfOk, map};
+ghost use Rattle.std.specs.List.{All};
+ghost use Rattle.clap.specs.Words.{app_of, new_app, rule_of, shape_of};
+ghost use Rattle.command_line.specs.Parameters as spec;
+
 use crate::help::help_of;
-use crate::options::{Kind, Parameter, arg_of};
+use crate::options::{Choices, Kind, Parameter, arg_of};
 use clap::{Arg, Command};
 use std::alloc::{AllocError, Global};
 
 /// The version of the project, and the logic that it is proved in, as `rt version` names it: several kits have it.
 const VERSION: &str = "0.1.0 (Rattle logic dac8208d650f15bf)";
 
-/// The program, with all commands.
-pub fn program<'a>(alloc: Global) -> Result<Command<'a>, AllocError> {
-    let mut commands = Vec::new(alloc);
-    for (name, about) in all_commands() {
-        commands.push(command_of(alloc, *name, *about)?)?;
-    }
-    bare_program(alloc).subcommands(commands)
+/// The program, with all commands. `--explain` takes one of these words.
+pub fn program<'a>(alloc: Global, choices: Choices<'a>) -> Result<Command<'a>, AllocError>
+    ensures { IfOk result (λ program. app_of program ≡ spec.program choices.entry) }
+{
+    bare_program(alloc).subcommands(commands_of(alloc, choices)?)
 }
 
 /// The program without its commands.
-fn bare_program<'a>(alloc: Global) -> Command<'a> {
+fn bare_program<'a>(alloc: Global) -> Command<'a>
+    ensures { app_of result ≡ spec.bare_program }
+{
     Command::new(alloc, "ncroute")
         .about("Check route filters, take routes through their code, and run a router with them")
         .version(VERSION)
@@ -25,36 +30,70 @@ fn bare_program<'a>(alloc: Global) -> Command<'a> {
         .arg_required_else_help(true)
 }
 
+/// The commands, in order.
+fn commands_of<'a>(alloc: Global, choices: Choices<'a>) -> Result<Vec<Command<'a>>, AllocError>
+    ensures shapes { IfOk result (λ commands. map shape_of commands.items ≡ map (λ name. (spec.command_app choices.entry name).top) spec.listed) }
+    ensures local { IfOk result (λ commands. All (λ c. spec.has_globals c ≡ false) commands.items) }
+{
+    let mut commands = Vec::new(alloc);
+    for (name, about) in all_commands() {
+        commands.push(command_of(alloc, *name, *about, choices)?)?;
+    }
+    Ok(commands)
+}
+
 /// A command as the parser of words knows it.
 fn command_of<'a>(
     alloc: Global,
     name: &'static str,
     about: &'static str,
-) -> Result<Command<'a>, AllocError> {
+    choices: Choices<'a>,
+) -> Result<Command<'a>, AllocError>
+    ensures app { IfOk result (λ command. app_of command ≡ spec.command_app choices.entry name.now) }
+    ensures local { IfOk result (λ command. spec.has_globals command ≡ false) }
+{
+    described(alloc, name, about).args(args_of(alloc, name, choices)?)
+}
+
+/// A command without its options and arguments.
+fn described<'a>(alloc: Global, name: &'static str, about: &'static str) -> Command<'a>
+    ensures app { app_of result ≡ new_app name.now }
+    ensures local { spec.has_globals result ≡ false }
+{
     let command = Command::new(alloc, name).about(about);
-    let command = match help_of(name) {
+    match help_of(name) {
         Some(help) => command.after_help(help),
         None => command,
-    };
-    command.args(args_of(alloc, name)?)
+    }
 }
 
 /// The table of commands. What handles it is not to know its texts: the checker would carry them along with each step.
-fn all_commands() -> &'static [(&'static str, &'static str)] {
+fn all_commands() -> &'static [(&'static str, &'static str)]
+    ensures { map (λ entry. entry.0.now) result.now ≡ spec.listed }
+{
     &COMMANDS
 }
 
 /// The table of options and arguments, likewise.
-fn all_parameters() -> &'static [(&'static str, Parameter)] {
+fn all_parameters() -> &'static [(&'static str, Parameter)]
+    ensures { map spec.taken_by result.now ≡ spec.all_taken }
+{
     &PARAMETERS
 }
 
 /// The options and arguments of a command, in order.
-fn args_of<'a>(alloc: Global, command: &str) -> Result<Vec<Arg<'a>>, AllocError> {
+fn args_of<'a>(
+    alloc: Global,
+    command: &str,
+    choices: Choices<'a>,
+) -> Result<Vec<Arg<'a>>, AllocError>
+    ensures rules { IfOk result (λ args. map rule_of args.items ≡ spec.rules_of choices.entry command.now spec.all_taken) }
+    ensures local { IfOk result (λ args. All (λ a. a.global ≡ false) args.items) }
+{
     let mut args = Vec::new(alloc);
     for (name, parameter) in all_parameters() {
         if *name == command {
-            args.push(arg_of(alloc, parameter))?;
+            args.push(arg_of(alloc, parameter, choices))?;
         }
     }
     Ok(args)
@@ -180,7 +219,7 @@ const SIZE: Parameter = Parameter {
     name: "size",
     value: "N",
     help: "The number of nodes of the routing domain (2 to 250)",
-    kind: Kind::Size,
+    kind: Kind::Number,
     is_required: true,
 };
 
@@ -243,7 +282,7 @@ const OPTIONAL_SIZE: Parameter = Parameter {
     name: "size",
     value: "N",
     help: "Verify the filters for a routing domain of N nodes (2 to 250; 16)",
-    kind: Kind::Size,
+    kind: Kind::Number,
     is_required: false,
 };
 
@@ -342,7 +381,7 @@ const VERIFIED_SIZE: Parameter = Parameter {
     name: "size",
     value: "N",
     help: "Verify the code for a routing domain of N nodes (2 to 250), and say what is known before each instruction",
-    kind: Kind::Size,
+    kind: Kind::Number,
     is_required: false,
 };
 

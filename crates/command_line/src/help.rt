@@ -1,7 +1,13 @@
 //! What the help of a command says behind its options.
+ghost use Rattle.std.specs.Prelude.{◌≡◌, ◌&&◌, codes, is_some, not};
+ghost use Rattle.std.specs.Str.{bytes_eq};
+ghost use Rattle.command_line.specs.CommandNames.{command_of};
 
 /// What the help of this command says, if it says more than the options do.
-pub fn help_of(command: &str) -> Option<&'static str> {
+#[tactic(auto, unfolding(crate::specs::CommandNames::command_of))]
+pub fn help_of(command: &str) -> Option<&'static str>
+    ensures { is_some result ≡ (is_some (command_of command.now) && not (bytes_eq command.now (codes "explain"))) }
+{
     match command {
         "check" => Some(CHECK_HELP),
         "diff" => Some(DIFF_HELP),

@@ -10,6 +10,7 @@ mod filter_words;
 mod given;
 mod help;
 mod lint_words;
+mod numbers;
 mod options;
 mod requests;
 mod router_words;

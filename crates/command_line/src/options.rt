@@ -1,4 +1,8 @@
 //! The options and arguments of the commands, with their help.
+ghost use Rattle.std.specs.Prelude.{◌≡◌, false, Some};
+ghost use Rattle.clap.specs.Words.{rule_of};
+ghost use Rattle.command_line.specs.Parameters.{written};
+
 use clap::builder::ValueParser;
 use clap::{Arg, ArgAction};
 use std::alloc::Global;
@@ -14,13 +18,11 @@ pub enum Kind {
     Text,
     /// One that may be given many times.
     Texts,
-    /// An option that is `auto`, `always` or `never`.
+    /// An option that is one of some words.
     When,
     /// An option with a number of at most 32 bits.
     Number,
-    /// One that is read, and then refused, if it is negative.
-    Size,
-    /// The same with at most 64 bits.
+    /// One with a number of at most 64 bits.
     Count,
     /// An argument.
     Argument,
@@ -43,39 +45,57 @@ pub struct Parameter {
     pub is_required: bool,
 }
 
-/// A parameter as the parser of words knows it.
-pub fn arg_of<'a>(alloc: Global, parameter: &Parameter) -> Arg<'a> {
-    let arg = Arg::new(alloc, parameter.name)
+/// The words that an option of the kind `When` may say.
+#[derive(Clone, Copy)]
+pub struct Choices<'a> {
+    /// They.
+    pub words: &'a [&'a str],
+}
+
+/// A parameter as the parser of words knows it, where `When` takes one of these words.
+pub fn arg_of<'a>(alloc: Global, parameter: &Parameter, choices: Choices<'a>) -> Arg<'a>
+    ensures rule { rule_of result ≡ record (written choices.entry parameter.now.name.now parameter.now.kind) { required = parameter.now.is_required } }
+    ensures local { result.global ≡ false }
+{
+    written(alloc, parameter, choices)
         .help(parameter.help)
-        .required(parameter.is_required);
+        .required(parameter.is_required)
+}
+
+/// A parameter as it is written.
+fn written<'a>(alloc: Global, parameter: &Parameter, choices: Choices<'a>) -> Arg<'a>
+    ensures rule { rule_of result ≡ written choices.entry parameter.now.name.now parameter.now.kind }
+    ensures local { result.global ≡ false }
+{
+    let arg = Arg::new(alloc, parameter.name);
     match parameter.kind {
-        Kind::Flag => arg.long(parameter.name).action(ArgAction::SetTrue),
-        Kind::Letter(letter) => arg
-            .long(parameter.name)
-            .short(letter)
-            .action(ArgAction::SetTrue),
+        Kind::Flag => flag(arg, parameter.name),
+        Kind::Letter(letter) => flag(arg, parameter.name).short(letter),
         Kind::Argument => arg.value_name(parameter.value),
         Kind::Arguments => arg
             .value_name(parameter.value)
             .action(ArgAction::Append)
             .num_args(0..),
-        kind => valued(arg.long(parameter.name).value_name(parameter.value), kind),
+        Kind::Text => option(arg, parameter),
+        Kind::Texts => option(arg, parameter).action(ArgAction::Append),
+        Kind::When => option(arg, parameter).value_parser(ValueParser::Names(choices.words)),
+        Kind::Number => option(arg, parameter).value_parser(clap::value_parser!(u32)),
+        Kind::Count => option(arg, parameter).value_parser(clap::value_parser!(u64)),
     }
 }
 
-/// An option that has a value, by what it takes.
-fn valued<'a>(arg: Arg<'a>, kind: Kind) -> Arg<'a> {
-    match kind {
-        Kind::Texts => arg.action(ArgAction::Append),
-        Kind::When => with_parser(arg, ValueParser::Names(&["auto", "always", "never"])),
-        Kind::Number => with_parser(arg, clap::value_parser!(u32)),
-        Kind::Size => with_parser(arg, clap::value_parser!(u32)).allow_negative_numbers(true),
-        Kind::Count => with_parser(arg, clap::value_parser!(u64)).allow_negative_numbers(true),
-        _ => arg,
-    }
+/// An option that has no value.
+fn flag<'a>(arg: Arg<'a>, name: &'static str) -> Arg<'a>
+    ensures rule { rule_of result ≡ record (rule_of arg.entry) { long = Some name.now; action = Some ArgAction.SetTrue } }
+    ensures local { result.global ≡ arg.entry.global }
+{
+    arg.long(name).action(ArgAction::SetTrue)
 }
 
-/// An option whose value has a parser.
-fn with_parser<'a>(arg: Arg<'a>, parser: ValueParser<'a>) -> Arg<'a> {
-    arg.value_parser(parser)
+/// An option that has one.
+fn option<'a>(arg: Arg<'a>, parameter: &Parameter) -> Arg<'a>
+    ensures rule { rule_of result ≡ record (rule_of arg.entry) { long = Some parameter.now.name.now; value_names = 1 } }
+    ensures local { result.global ≡ arg.entry.global }
+{
+    arg.long(parameter.name).value_name(parameter.value)
 }

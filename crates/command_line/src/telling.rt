@@ -2,9 +2,11 @@
 ghost use Rattle.std.specs.Prelude.{◌≡◌};
 ghost use Rattle.command_line.specs.Given.{given_in};
 ghost use Rattle.command_line.specs.Meaning.{telling_of};
+ghost use Rattle.command_line.specs.Parameters.{AreTellings};
 ghost use Rattle.command_line.specs.Telling.{is_explained};
 
 use crate::given::word_given;
+use crate::options::Choices;
 use clap::ArgMatches;
 
 /// What the option `--explain` says.
@@ -29,6 +31,16 @@ impl Telling {
             _ => Telling::Auto,
         }
     }
+}
+
+/// The words of `--explain`.
+static TELLINGS: [&str; 3] = ["auto", "always", "never"];
+
+/// The words of `--explain`, of which a caller is not to know more than what they are.
+pub fn tellings() -> Choices<'static>
+    ensures { AreTellings result }
+{
+    Choices { words: &TELLINGS }
 }
 
 /// Whether a refusal is told in words, where standard error is a terminal or not, and sources are files that were named or not.

@@ -1,6 +1,7 @@
 //! Which of the standard streams are terminals.
-ghost use Rattle.std.specs.Prelude.{◌≡◌, ◌-◌, ◌^◌, ◌&&◌, min, nat_lt};
+ghost use Rattle.std.specs.Prelude.{◌≡◌, ◌-◌, ◌^◌, ◌&&◌, [], ◌∷◌, min, nat_lt};
 ghost use Rattle.command_line.specs.Readings as spec;
+ghost use Rattle.command_line.specs.Reads.{filter_sources};
 
 use crate::filter_words::NamedFile;
 use crate::requests::{Request, Source};
@@ -24,7 +25,7 @@ fn inputs_among(sources: &[Source]) -> usize
 
 /// How many of these filters are on standard input.
 fn filters_among(filters: &[NamedFile]) -> usize
-    ensures { result ≡ spec.filters_among filters.now }
+    ensures { result ≡ spec.inputs_among (filter_sources filters.now) }
 {
     filters
         .iter()
@@ -38,29 +39,41 @@ fn count_readings(words: &Words) -> usize
 {
     match words {
         Words::Router(words) => filters_among(words.filters.as_slice()).max(1),
-        Words::Asked(
-            Request::Check { sources, .. }
-            | Request::Lint { sources, .. }
-            | Request::Test { sources, .. },
-        ) => inputs_among(sources.as_slice()),
-        Words::Asked(Request::Diff { old, new, .. }) => {
-            usize::from(old.is_input()).saturating_add(usize::from(new.is_input()))
+        Words::Asked(request) => count_of(request),
+        Words::Network | Words::Shown(_) => 0,
+    }
+}
+
+/// How often a request reads standard input.
+fn count_of(request: &Request) -> usize
+    ensures { result ≡ min (spec.readings_of request.now) (2 ^ 64 - 1) }
+{
+    match request {
+        Request::Check { sources, .. }
+        | Request::Lint { sources, .. }
+        | Request::Test { sources, .. } => inputs_among(sources.as_slice()),
+        Request::Diff { old, new, .. } => input_in(old).saturating_add(input_in(new)),
+        Request::Run { how, source } => {
+            filters_among(how.filters.as_slice()).saturating_add(input_in(source))
         }
-        Words::Asked(Request::Run { how, source }) => {
-            filters_among(how.filters.as_slice()).saturating_add(usize::from(source.is_input()))
-        }
-        Words::Asked(Request::RunJoined { how, sources }) => {
+        Request::RunJoined { how, sources } => {
             filters_among(how.filters.as_slice()).saturating_add(inputs_among(sources.as_slice()))
         }
-        Words::Asked(
-            Request::Import { source, .. }
-            | Request::List { source, .. }
-            | Request::Replay { source }
-            | Request::Script { source, .. },
-        ) => usize::from(source.is_input()),
-        Words::Asked(Request::Eval { .. } | Request::Filter { .. } | Request::Rewrite { .. }) => 1,
-        Words::Asked(Request::Explain { .. }) | Words::Network | Words::Shown(_) => 0,
+        Request::Import { source, .. }
+        | Request::List { source, .. }
+        | Request::Replay { source }
+        | Request::Script { source, .. } => input_in(source),
+        Request::Filter { source, .. } => input_in(source).saturating_add(1),
+        Request::Eval { .. } | Request::Rewrite { .. } => 1,
+        Request::Explain { .. } => 0,
     }
+}
+
+/// How often one source is standard input.
+fn input_in(source: &Source) -> usize
+    ensures { result ≡ spec.inputs_among (source.now ∷ []) }
+{
+    usize::from(source.is_input())
 }
 
 /// Whether what is asked for reads standard input more than once, and would find nothing there the second time.

@@ -1,8 +1,8 @@
 //! The words of the command line.
-ghost use Rattle.std.specs.Prelude.{◌≡◌, ◌≤◌, IfOk};
-ghost use Rattle.clap.specs.Words.{subcommand_rows_of};
+ghost use Rattle.std.specs.Prelude.{◌≡◌, ◌≢◌, ◌≤◌, ◌⊎◌, ℕ, List, IfErr, IfOk, map};
+ghost use Rattle.clap.specs.Words.{kind_of, subcommand_rows_of};
 ghost use Rattle.command_line.specs.Given.{given_in};
-ghost use Rattle.command_line.specs.Meaning.{ComesTo, IsMeant, IsShown, MetComesTo, once};
+ghost use Rattle.command_line.specs.Meaning.{ComesTo, FailsBy, IsMeant, Meets, MetComesTo, Shows, once, status_of};
 ghost use Rattle.command_line.specs.Readings.{readings};
 ghost use Rattle.command_line.specs.declared.command_names.CommandName.TheVariants as command;
 
@@ -14,11 +14,13 @@ use crate::diff_words::diff_in;
 use crate::filter_words::WrongFilter;
 use crate::given::{number_given, word_given};
 use crate::lint_words::lint_in;
+use crate::numbers::negative_number;
 use crate::requests::{
     Request, check_in, domain_in, eval_in, import_in, list_in, replay_in, rewrite_in,
 };
 use crate::router_words::{RouterWords, router_in};
 use crate::run_words::run_in;
+use crate::telling::tellings;
 use crate::terminals::{Terminals, reads_input_again};
 use crate::test_words::test_in;
 use crate::trying_words::{asks_twice, filter_in};
@@ -53,7 +55,8 @@ pub fn read<R: Env + AllocGlobal + Print + Eprint>(
     terminals: Terminals,
 ) -> Result<Words, StreamFault>
     ensures once { IfOk result (λ asked. readings asked ≤ 1) }
-    ensures meant { IfOk result (IsMeant terminals) }
+    ensures meant { IfOk result (λ asked. (line : List (List ℕ)) × IsMeant line terminals asked) }
+    ensures fails { IfErr result (λ fault. (line : List (List ℕ)) × FailsBy line fault) }
 {
     let alloc = rt.alloc();
     // All words are text here, so that want of memory alone keeps them from being read.
@@ -70,16 +73,24 @@ pub fn request_of<R: Print + Eprint, S: AsStr>(
     terminals: Terminals,
 ) -> Result<Words, StreamFault>
     ensures once { IfOk result (λ asked. readings asked ≤ 1) }
-    ensures meant { IfOk result (IsMeant terminals) }
+    ensures meant { IfOk result (IsMeant (map S.text words.now) terminals) }
+    ensures fails { IfErr result (FailsBy (map S.text words.now)) }
 {
-    let program = program(alloc).map_err(|_| StreamFault::Memory)?;
-    match program.try_get_matches_from(words) {
+    match matches_of(alloc, words) {
         Ok(matches) => match words_in(rt, alloc, &matches, terminals) {
             Ok(words) => Ok(reading_once(rt, words)),
             Err(_) => Err(StreamFault::Memory),
         },
-        Err(error) => show(rt, &error),
+        Err(error) => show_wrong(rt, words, &error),
     }
+}
+
+/// What the parser of words makes of these.
+fn matches_of<'a, S: AsStr>(alloc: Global, words: &'a [S]) -> Result<ArgMatches<'a>, Error>
+    ensures ok { IfOk result (λ matches. Meets (map S.text words.entry.now) (subcommand_rows_of matches)) }
+    ensures err { IfErr result (λ error. (kind_of error ≡ ErrorKind.OutOfMemory) ⊎ Shows (map S.text words.entry.now) (kind_of error)) }
+{
+    program(alloc, tellings())?.try_get_matches_from(words)
 }
 
 /// These words, unless they ask for standard input more than once.
@@ -236,11 +247,34 @@ fn show_wrong_filter<R: Eprint>(rt: &R, wrong: WrongFilter<'_>) -> Words
     Words::Shown(WRONG_WORDS)
 }
 
+/// Shows what is wrong with these words, or help. A negative number behind an option is for the parser of words an option that it
+/// does not know; people are told what is wrong with the number.
+fn show_wrong<R: Print + Eprint, S: AsStr>(
+    rt: &R,
+    words: &[S],
+    error: &Error,
+) -> Result<Words, StreamFault>
+    ensures shown { IfOk result (λ shown. (kind_of error.now ≢ ErrorKind.OutOfMemory) × (shown ≡ Words.Shown (status_of (kind_of error.now)))) }
+    ensures fails { IfErr result (λ fault. (fault ≡ StreamFault.Memory)
+        ⊎ ((fault ≡ StreamFault.Write) × (kind_of error.now ≢ ErrorKind.OutOfMemory) × (status_of (kind_of error.now) ≡ 0))) }
+{
+    if error.kind() == ErrorKind::UnknownArgument {
+        if let Some((option, number)) = negative_number(words) {
+            let _ = eprintln!(rt;
+                "error: invalid value '{number}' for '{option}': a number is at least 0"
+            );
+            return Ok(Words::Shown(WRONG_WORDS));
+        }
+    }
+    show(rt, error)
+}
+
 /// Shows what the parser of words answered in place of matches: help on standard output, or what is wrong with the words on
 /// standard error. Wrong words have their status also where standard error takes no text.
 fn show<R: Print + Eprint>(rt: &R, error: &Error) -> Result<Words, StreamFault>
-    ensures once { IfOk result (λ shown. readings shown ≡ 0) }
-    ensures shown { IfOk result IsShown }
+    ensures shown { IfOk result (λ shown. (kind_of error.now ≢ ErrorKind.OutOfMemory) × (shown ≡ Words.Shown (status_of (kind_of error.now)))) }
+    ensures fails { IfErr result (λ fault. (fault ≡ StreamFault.Memory)
+        ⊎ ((fault ≡ StreamFault.Write) × (kind_of error.now ≢ ErrorKind.OutOfMemory) × (status_of (kind_of error.now) ≡ 0))) }
 {
     if error.kind() == ErrorKind::OutOfMemory {
         return Err(StreamFault::Memory);

@@ -7,12 +7,12 @@ use Rattle.std.specs.Io.KnownBytes.{Appends}
 use Rattle.std.specs.declared.alloc.Global.{Global}
 use Rattle.std.specs.declared.io.Error.{Error}
 use Rattle.std.specs.declared.string.String.{String}
-use Rattle.bird_import.specs.Drafts.{HaveDrafts}
+use Rattle.bird_import.specs.Judged.{HaveDrafts}
 use Rattle.bird_import.specs.Spelling.{IsWritten}
+use Rattle.bird_import.specs.declared.config.Config.{Config}
 use Rattle.bird_import.specs.declared.drafts.Draft.{Draft}
 use Rattle.bird_import.specs.declared.drafts.Outcome.{Outcome}
 use Rattle.bird_import.specs.declared.drafts.Outcome.TheVariants.{Drafted, LeftOut}
-use Rattle.bird_import.specs.declared.items.Item.{Item}
 use Rattle.bird_import.specs.declared.word.Word.{Word}
 use Rattle.bird_import.specs.declared.word.WordKind.{WordKind}
 use Rattle.bird_import.specs.declared.word.WordKind.TheVariants.{Strange}
@@ -158,9 +158,10 @@ module _ (creates : List ℕ → Result (Option (List ℕ)) Error → Type 0) wh
 
   -- The filters among the words of a configuration were imported, in order, and it is said whether one of them is left out.
   pub record ImportsWords (how : Importing) (config : ConfigView) (words : List Word) (before after : Streams) (is_left : Bool) : Type 0 where
-    pub items : List Item
+    pub found : Config
     pub drafts : List Draft
-    pub drafted : HaveDrafts words items (length items) drafts
+    pub drafted : HaveDrafts found found.items.now (length found.items.now) drafts
+    pub of_words : found.words.now ≡ words
     pub imported : DoesFirst (ImportsDraft how config) drafts (length drafts) before after is_left
 
   -- And then it was told of the bytes that begin no word, and where the words end before the end of the configuration. It is said whether

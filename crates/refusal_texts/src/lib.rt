@@ -2,6 +2,8 @@
 //! `ncroute explain` and of the documents' tables.
 #![tactic(auto)]
 
+ghost use Rattle.refusal_texts.specs.Codes.{IsSaidOf, all_codes, code_codes, lint_codes, run_codes, text_codes};
+
 mod code_pages;
 mod lint_pages;
 mod page;
@@ -15,9 +17,45 @@ use run_pages::RUN_PAGES;
 use text_pages::TEXT_PAGES;
 
 /// What is said of a code, as `P2`. None if there is no such code.
-pub fn explanation_of(code: &str) -> Option<&'static str> {
+pub fn explanation_of(code: &str) -> Option<&'static str>
+    ensures { IsSaidOf all_codes code.now result }
+{
+    if let Some(text) = of_texts(code) {
+        return Some(text);
+    }
+    if let Some(text) = of_code(code) {
+        return Some(text);
+    }
+    if let Some(text) = of_runs(code) {
+        return Some(text);
+    }
+    of_warnings(code)
+}
+
+/// What is said of a code by which a text is refused.
+fn of_texts(code: &str) -> Option<&'static str>
+    ensures { IsSaidOf text_codes code.now result }
+{
     text_of(&TEXT_PAGES, code)
-        .or_else(|| text_of(&CODE_PAGES, code))
-        .or_else(|| text_of(&RUN_PAGES, code))
-        .or_else(|| text_of(&LINT_PAGES, code))
+}
+
+/// What is said of a code by which code or a code file is refused, or goes wrong.
+fn of_code(code: &str) -> Option<&'static str>
+    ensures { IsSaidOf code_codes code.now result }
+{
+    text_of(&CODE_PAGES, code)
+}
+
+/// What is said of a code of a run.
+fn of_runs(code: &str) -> Option<&'static str>
+    ensures { IsSaidOf run_codes code.now result }
+{
+    text_of(&RUN_PAGES, code)
+}
+
+/// What is said of a code of a warning.
+fn of_warnings(code: &str) -> Option<&'static str>
+    ensures { IsSaidOf lint_codes code.now result }
+{
+    text_of(&LINT_PAGES, code)
 }

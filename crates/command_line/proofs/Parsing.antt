@@ -1,0 +1,75 @@
+-- What the parser of words makes of a command line.
+use Rattle.std.proofs.Common.{◌≡◌, ◌∙◌, ◌⊎◌, true, List, ℕ, Result, Ok, Err, ap, inl, inr, refl, subst, sym}
+use Rattle.std.specs.Prelude.{IfErr, IfOk}
+use Rattle.std.proofs.lemmas.Result.{IfErr-weaker, IfOk-weaker}
+use Rattle.clap.specs.Words.{App, HasMatchesOf, IsAmong, fault_of, is_simple, is_simple_and_free, kind_of, subcommand_of, subcommand_rows_of}
+use Rattle.clap.specs.Kinds.{FailsBy as ParseFailsBy}
+use Rattle.clap.specs.declared.error.Error.{Error}
+use Rattle.clap.specs.declared.error.kind.ErrorKind.TheVariants as kind
+use Rattle.clap.specs.declared.parser.matches.ArgMatches.{ArgMatches}
+use Rattle.command_line.specs.Meaning.{FailsBy, IsMeant, Meets, Shows, status_of}
+use Rattle.command_line.specs.Parameters.{AreTellings, all_taken, command_app, program}
+use Rattle.command_line.specs.declared.options.Choices.{Choices}
+use Rattle.command_line.specs.declared.terminals.Terminals.{Terminals}
+use Rattle.command_line.specs.declared.words.Words.{Words}
+use Rattle.command_line.specs.declared.words.Words.TheVariants.{Shown}
+use Rattle.line_protocol.specs.declared.faults.StreamFault.{StreamFault}
+use Rattle.line_protocol.specs.declared.faults.StreamFault.TheVariants.{Memory, Write}
+
+-- the program is one of which the parser's contract gives the matches, and the kinds of its errors
+program_is_simple : (choices : Choices) → is_simple (program choices) ≡ true
+unfolding all_taken command_app
+program_is_simple choices = refl
+
+program_is_free : (choices : Choices) → is_simple_and_free (program choices) ≡ true
+unfolding all_taken command_app
+program_is_free choices = refl
+
+module _ (choices : Choices) (tellings : AreTellings choices) (made : App) (is : made ≡ program choices) (line : List (List ℕ)) where
+  simple : is_simple made ≡ true
+  simple = ap is_simple is ∙ program_is_simple choices
+
+  free : is_simple_and_free made ≡ true
+  free = ap is_simple_and_free is ∙ program_is_free choices
+
+  same : fault_of made line ≡ fault_of (program choices) line
+  same = ap (λ (a : App). fault_of a line) is
+
+  pub meets : (parsed : Result ArgMatches Error) → IfOk parsed (HasMatchesOf made line) → (is_simple_and_free made ≡ true → ParseFailsBy (fault_of made line) parsed)
+      → IfOk parsed (λ matches. Meets line (subcommand_rows_of matches))
+  meets (Ok matches) has fails = record {
+    choices = choices;
+    tellings = tellings;
+    accepted = sym same ∙ fails free;
+    is_met = (has simple).1 ∙ ap (λ (a : App). subcommand_of a line) is;
+  }
+  meets (Err error) has fails = tt
+
+  pub shows : (parsed : Result ArgMatches Error) → (is_simple_and_free made ≡ true → ParseFailsBy (fault_of made line) parsed)
+      → IfErr parsed (λ error. (kind_of error ≡ kind.OutOfMemory) ⊎ Shows line (kind_of error))
+  shows (Ok matches) fails = tt
+  shows (Err error) fails = elim (fails free) [
+    | inl none ↦ inl none
+    | inr among ↦ inr (record { choices = choices; tellings = tellings; among = subst (IsAmong (kind_of error)) same among })
+  ]
+
+-- what is shown in place of matches
+module _ (line : List (List ℕ)) (terminals : Terminals) (error : Error) (shows : (kind_of error ≡ kind.OutOfMemory) ⊎ Shows line (kind_of error)) where
+  known : (kind_of error ≡ kind.OutOfMemory → ⊥) → Shows line (kind_of error)
+  known other = elim shows [
+    | inl none ↦ absurd (other none)
+    | inr shown ↦ shown
+  ]
+
+  pub shown_is_meant : {E : Type 0} (result : Result Words E)
+      → IfOk result (λ words. (kind_of error ≡ kind.OutOfMemory → ⊥) × (words ≡ Shown (status_of (kind_of error)))) → IfOk result (IsMeant line terminals)
+  shown_is_meant result shown = IfOk-weaker result _ _ (λ words is. inl (kind_of error, known is.0, is.1)) shown
+
+  pub show_fails : (result : Result Words StreamFault) → IfErr result (λ fault. (fault ≡ Memory)
+      ⊎ ((fault ≡ Write) × (kind_of error ≡ kind.OutOfMemory → ⊥) × (status_of (kind_of error) ≡ 0))) → IfErr result (FailsBy line)
+  show_fails result fails = IfErr-weaker result _ _ weaken fails
+    where
+      weaken : (fault : StreamFault) → (fault ≡ Memory) ⊎ ((fault ≡ Write) × (kind_of error ≡ kind.OutOfMemory → ⊥) × (status_of (kind_of error) ≡ 0))
+          → FailsBy line fault
+      weaken fault (inl memory) = inl memory
+      weaken fault (inr (write, other, help)) = inr (write, (kind_of error, known other, help))
