@@ -3,8 +3,9 @@ use Rattle.std.specs.Prelude.{◌≡◌, ℕ, List, [], ◌∷◌, Option, Some,
 use Rattle.std.specs.declared.sync.Arc.{Arc}
 use Rattle.std.proofs.Common.{Global}
 use Rattle.filter_verifier.specs.VerifiedView.{VerifiedView}
-use Rattle.netchange_core.specs.declared.event.Event.{Event}
-use Rattle.netchange_core.specs.declared.event.Event.TheVariants as event
+use Rattle.operator_cmds.specs.Script.{setting}
+use Rattle.operator_cmds.specs.declared.event.Direction.{Direction}
+use Rattle.operator_cmds.specs.declared.event.Direction.TheVariants as direction
 use Rattle.router_operator.specs.OperatorView.{Names, filter_of}
 use Rattle.router_options.specs.PlanView.{PlanView}
 use Rattle.router_options.specs.declared.parts.FilterUse.{FilterUse}
@@ -12,26 +13,22 @@ use Rattle.slot_lock.specs.Calls.{Answered}
 use Rattle.slot_lock.specs.Held.{IsFirst, PassView, RouterView}
 use Rattle.slot_lock.specs.declared.answer.Answer.{Answer}
 
--- the event that sets a filter at a neighbour
-abbrev pub Setter : Type 0
-Setter = ℕ → Arc VerifiedView Global → Event
+-- The filter of a name is set at a neighbour, in a direction, by one call. Where nothing has the name, nothing is called.
+abbrev pub SetsOne : RouterView → Direction → Option VerifiedView → ℕ → PassView → PassView → Type 0
+SetsOne r way None node old new = new ≡ old
+SetsOne r way (Some f) node old new =
+    (filter : Arc VerifiedView Global) × (filter.value ≡ f) × (a : Answer) × Answered r old (setting way node filter) a new
 
--- The filter of a name is set at a neighbour by one call. Where nothing has the name, nothing is called.
-abbrev pub SetsOne : RouterView → Setter → Option VerifiedView → ℕ → PassView → PassView → Type 0
-SetsOne r sets None node old new = new ≡ old
-SetsOne r sets (Some f) node old new =
-    (filter : Arc VerifiedView Global) × (filter.value ≡ f) × (a : Answer) × Answered r old (sets node filter) a new
-
--- the filters of these uses are set, in order
-abbrev pub SetsEach : RouterView → Setter → Names → List FilterUse → PassView → PassView → Type 0
-SetsEach r sets names [] old new = new ≡ old
-SetsEach r sets names (used ∷ uses) old new = (mid : PassView)
-    × SetsOne r sets (filter_of names (string_bytes used.name)) used.node old mid × SetsEach r sets names uses mid new
+-- the filters of these uses are set in a direction, in order
+abbrev pub SetsEach : RouterView → Direction → Names → List FilterUse → PassView → PassView → Type 0
+SetsEach r way names [] old new = new ≡ old
+SetsEach r way names (used ∷ uses) old new = (mid : PassView)
+    × SetsOne r way (filter_of names (string_bytes used.name)) used.node old mid × SetsEach r way names uses mid new
 
 -- first the import filters of a plan are set, and then its export filters
 abbrev pub SetsFilters : RouterView → PlanView → Names → PassView → PassView → Type 0
 SetsFilters r plan names old new = (mid : PassView)
-    × SetsEach r event.SetImport names plan.imports old mid × SetsEach r event.SetExport names plan.exports mid new
+    × SetsEach r direction.Import names plan.imports old mid × SetsEach r direction.Export names plan.exports mid new
 
 -- nothing was called before
 abbrev pub BeginsWithFilters : RouterView → PlanView → Names → PassView → Type 0

@@ -1,6 +1,5 @@
 //! The sets of filters that a router begins with.
 ghost use Rattle.std.specs.Prelude.{◌≡◌, IfErr, OnOk, string_bytes};
-ghost use Rattle.netchange_core.specs.declared.event.Event.TheVariants as event;
 ghost use Rattle.router_operator.specs.OperatorView.{filter_of};
 ghost use Rattle.slot_lock.specs.Calls.{Answered};
 ghost use Rattle.slot_lock.specs.declared.answer.Answer.{Answer};
@@ -11,6 +10,7 @@ ghost use Rattle.router_daemon.specs.Uses as spec;
 use crate::fault::DaemonFault;
 use crate::setting::Filters;
 use netchange_core::Event;
+use operator_cmds::Direction;
 use router_options::{FilterUse, RouterPlan};
 use slot_lock::{Pass, Router};
 use std::sync::{Arc, Wait};
@@ -29,90 +29,48 @@ fn enter<R: Wait>(rt: &R, router: &Router, pass: &mut Pass, event: Event) -> Res
     }
 }
 
-/// Sets the import filter of a neighbour, if the filter is there.
-fn set_import<R: Wait>(
+/// Sets the filter that a neighbour has in a direction, if the filter is there.
+fn set_one<R: Wait>(
     rt: &R,
     router: &Router,
     pass: &mut Pass,
+    direction: Direction,
     used: &FilterUse,
     filters: &Filters,
 ) -> Result<(), DaemonFault>
     requires { IsLegalPass router.now pass.old }
     ensures legal { IsLegalPass router.now pass.new }
     ensures shares { pass.new.part.shares ≡ pass.old.part.shares }
-    ensures set { OnOk result (spec.SetsOne router.now event.SetImport (filter_of filters.now.entries (string_bytes used.now.name)) used.now.node
+    ensures set { OnOk result (spec.SetsOne router.now direction (filter_of filters.now.entries (string_bytes used.now.name)) used.now.node
         pass.old pass.new) }
     ensures early { IfErr result IsEarly }
 {
     match filters.get(used.name.as_bytes()) {
         Some(filter) => {
-            let event = Event::SetImport(used.node, Arc::try_clone(filter)?);
+            let event = direction.event(used.node, Arc::try_clone(filter)?);
             enter(rt, router, pass, event)
         }
         None => Ok(()),
     }
 }
 
-/// Sets the export filter of a neighbour, if the filter is there.
-fn set_export<R: Wait>(
+/// Sets the filters of a router in a direction, in order.
+fn set_each<R: Wait>(
     rt: &R,
     router: &Router,
     pass: &mut Pass,
-    used: &FilterUse,
-    filters: &Filters,
-) -> Result<(), DaemonFault>
-    requires { IsLegalPass router.now pass.old }
-    ensures legal { IsLegalPass router.now pass.new }
-    ensures shares { pass.new.part.shares ≡ pass.old.part.shares }
-    ensures set { OnOk result (spec.SetsOne router.now event.SetExport (filter_of filters.now.entries (string_bytes used.now.name)) used.now.node
-        pass.old pass.new) }
-    ensures early { IfErr result IsEarly }
-{
-    match filters.get(used.name.as_bytes()) {
-        Some(filter) => {
-            let event = Event::SetExport(used.node, Arc::try_clone(filter)?);
-            enter(rt, router, pass, event)
-        }
-        None => Ok(()),
-    }
-}
-
-/// Sets the import filters of a router, in order.
-fn set_imports<R: Wait>(
-    rt: &R,
-    router: &Router,
-    pass: &mut Pass,
+    direction: Direction,
     uses: &[FilterUse],
     filters: &Filters,
 ) -> Result<(), DaemonFault>
     requires { IsLegalPass router.now pass.old }
     ensures legal { IsLegalPass router.now pass.new }
     ensures shares { pass.new.part.shares ≡ pass.old.part.shares }
-    ensures set { OnOk result (spec.SetsEach router.now event.SetImport filters.now.entries uses.now pass.old pass.new) }
+    ensures set { OnOk result (spec.SetsEach router.now direction filters.now.entries uses.now pass.old pass.new) }
     ensures early { IfErr result IsEarly }
 {
     for used in uses {
-        set_import(rt, router, pass, used, filters)?;
-    }
-    Ok(())
-}
-
-/// Sets the export filters of a router, in order.
-fn set_exports<R: Wait>(
-    rt: &R,
-    router: &Router,
-    pass: &mut Pass,
-    uses: &[FilterUse],
-    filters: &Filters,
-) -> Result<(), DaemonFault>
-    requires { IsLegalPass router.now pass.old }
-    ensures legal { IsLegalPass router.now pass.new }
-    ensures shares { pass.new.part.shares ≡ pass.old.part.shares }
-    ensures set { OnOk result (spec.SetsEach router.now event.SetExport filters.now.entries uses.now pass.old pass.new) }
-    ensures early { IfErr result IsEarly }
-{
-    for used in uses {
-        set_export(rt, router, pass, used, filters)?;
+        set_one(rt, router, pass, direction, used, filters)?;
     }
     Ok(())
 }
@@ -131,6 +89,20 @@ pub(crate) fn set_filters<R: Wait>(
     ensures set { OnOk result (spec.SetsFilters router.now plan.now filters.now.entries pass.old pass.new) }
     ensures early { IfErr result IsEarly }
 {
-    set_imports(rt, router, pass, plan.imports.as_slice(), filters)?;
-    set_exports(rt, router, pass, plan.exports.as_slice(), filters)
+    set_each(
+        rt,
+        router,
+        pass,
+        Direction::Import,
+        plan.imports.as_slice(),
+        filters,
+    )?;
+    set_each(
+        rt,
+        router,
+        pass,
+        Direction::Export,
+        plan.exports.as_slice(),
+        filters,
+    )
 }

@@ -1,13 +1,12 @@
 use Rattle.std.proofs.Common.{◌≡◌, take}
-use Rattle.netchange_core.specs.declared.event.Event.TheVariants as event
 use Rattle.router_daemon.specs.Passes.{IsLegalPass}
 use Rattle.router_daemon.specs.Uses.{SetsEach}
-use Rattle.router_daemon.proofs.filtering.set_imports.Given as goal
+use Rattle.router_daemon.proofs.filtering.set_each.Given as goal
 
 -- the filters of the uses so far are set
 abbrev pub invariant-loop-used : goal.invariant-loop-used
 invariant-loop-used g l = record {
   legal : IsLegalPass l.router l.pass;
   shares : l.pass.part.shares ≡ l.fn.pass.part.shares;
-  set : SetsEach l.router event.SetImport l.filters.entries (take l.used-index l.uses) l.fn.pass l.pass;
+  set : SetsEach l.router l.direction l.filters.entries (take l.used-index l.uses) l.fn.pass l.pass;
 }
