@@ -2,7 +2,7 @@
 # Builds the proved programs and the plain one, checks that they answer the same, and prints their times and ratios:
 # of `ncroute eval`, `run`, `domain` and `check` as a whole, of the machines alone, or of the router alone.
 #
-# usage: bench/run.sh [table|eval|check|machines|instructions|bird|router|callers|script|save|domain|lookup|diff]     (without a word: eval and machines)
+# usage: bench/run.sh [table|eval|check|machines|instructions|bird|router|callers|script|save|domain|lookup|diff|names]     (without a word: eval and machines)
 #   table prints the first table of README.md: the instructions of eval, check and run on all inputs; with ROUNDS=N their times too.
 #     A second word, eval, check or run, has it print the rows of that command alone
 #   instructions counts instructions of the machines with valgrind, in place of their time
@@ -11,6 +11,7 @@
 #   save compares `ncroute run --save` with `ncroute run`
 #   lookup times the lookup of an int in sets of 3 to 1,024 ranges, and the match of a prefix in sets of 12 to 1,024 patterns
 #   diff times `ncroute diff` and `ncroute lint` on lists of 290 and 1,024 patterns
+#   names counts instructions of scripts with names that collide in a hash table, beside other names
 #   NCROUTE=PATH       a proved `ncroute` that is built already: then none is built here
 #   BENCH_PARTS=PATH   the same for `bench_parts`
 #   ROUNDS=N           how often each program is run on each input (7)
@@ -136,6 +137,9 @@ elif [ "$wanted" = lookup ]; then
 elif [ "$wanted" = diff ]; then
     need_ncroute
     "$bench/diff.py" "$NCROUTE" "${ROUNDS:-7}"
+elif [ "$wanted" = names ]; then
+    need_ncroute
+    "$bench/names.py" "$NCROUTE"
 elif [ "$wanted" = bird ]; then
     need_ncroute
     need_bench_parts

@@ -5,8 +5,7 @@
 usage: NCROUTE=PATH scripts/check_limits.py [WORD..]     (PATH: the program as it is built; WORDs: only the rows whose name has one)
 
 No contract says when memory is refused, so these runs show that it is not, at the sizes that the documents name. What a router answers is
-worked out here once more, in the plainest way, by `Router`. The last two rows are about processor time: that of a long input, and that of names
-that collide in a hash table, beside that of other names.
+worked out here once more, in the plainest way, by `Router`.
 """
 import itertools
 import os
@@ -525,14 +524,6 @@ def run(ncroute, words, given):
     return ran.stdout, ran.stderr, ran.returncode
 
 
-def timed_run(ncroute, words, given):
-    """What the program writes, with its exit status, and the processor time that it takes."""
-    before = resource.getrusage(resource.RUSAGE_CHILDREN)
-    said = run(ncroute, words, given)
-    after = resource.getrusage(resource.RUSAGE_CHILDREN)
-    return said, after.ru_utime - before.ru_utime + after.ru_stime - before.ru_stime
-
-
 def differs(said, wanted):
     """How what was said differs from what was wanted, or nothing."""
     (output, shown, status), (wanted_output, wanted_status, *wanted_shown) = said, wanted
@@ -622,13 +613,6 @@ def domains_of_each_size(ncroute):
     return None
 
 
-def time_of_long_input(ncroute):
-    """A long input takes less than a second: it is read in blocks, and not byte by byte."""
-    given, *wanted = longest_script()
-    said, time = timed_run(ncroute, "run", given)
-    return differs(said, wanted) or (f"{time:.3f} s" if time > 1 else None)
-
-
 # ---- routes without end
 
 ROUTES = 1_300_000
@@ -653,59 +637,6 @@ def million_routes(ncroute):
     return differs((wrote, ran.stderr, ran.returncode), (b"".join(b"accept %d\n" % (at % 16) for at in range(ROUTES)), 0))
 
 
-# ---- names that collide
-
-MULTIPLIER, SEED = 0x9E3779B97F4A7C15, 0x243F6A8885A308D3
-LETTERS = b"ABCDEFGHIJKLMNOPQRSTUVWXYZ_abcdefghijklmnopqrstuvwxyz0123456789"
-NAMES, BITS = 9000, 10
-
-
-def folded(number, by):
-    product = number * by
-    return product & 2**64 - 1 ^ product >> 64
-
-
-def colliding_names():
-    """Names of 8 letters that std's `HashMap` would look for at one place: its hash, which has no secret, agrees in ten bits."""
-    step, found = MULTIPLIER ^ 2, []
-    letters = [letter * 0x010101 for letter in LETTERS]
-    for front in itertools.product(letters[:53], *[letters] * 6):
-        state = folded(SEED ^ 8, MULTIPLIER ^ 16)
-        for letter in front:
-            state = folded(state ^ letter, step)
-        for letter in letters:
-            product = (state ^ letter) * step
-            hashed = product & 2**64 - 1 ^ product >> 64
-            if not (hashed ^ hashed >> 32) & 2**BITS - 1:
-                found.append(bytes(it & 255 for it in front + (letter,)))
-        if len(found) >= NAMES:
-            return found[:NAMES]
-
-
-def naming_time(ncroute, names):
-    """The least processor time of three runs of a script that names filters so, the later names over and over; nothing if an answer is wrong."""
-    lines = [b"code " + name + b" " + CODE for name in names + names[-2000:] * 20]
-    times = []
-    for _ in range(3):
-        said, time = timed_run(ncroute, "run", b"network 4 0\n" + b"\n".join(lines))
-        if said != (b"ok\n" + VERIFIED * len(lines), b"", 0):
-            return None
-        times.append(time)
-    return min(times)
-
-
-def names_that_collide(ncroute):
-    """Names that collide, and names that begin alike, take at most three times as long as others."""
-    usual = naming_time(ncroute, [b"N%07d" % (number * 7919 % 10_000_000) for number in range(NAMES)])
-    for names in (colliding_names(), [b"n" * 56 + b"%08d" % number for number in range(NAMES)]):
-        time = naming_time(ncroute, names)
-        if time is None or usual is None:
-            return "a name was not taken"
-        if time > 3 * usual:
-            return f"{time:.3f} s, and {usual:.3f} s with other names"
-    return None
-
-
 def main(wanted):
     ncroute = os.environ.get("NCROUTE")
     if not ncroute:
@@ -721,8 +652,6 @@ def main(wanted):
             ("diff and lint, masks that are compared", undecided_filters),
             ("filter, a million routes", million_routes),
             ("run, domains of each size", domains_of_each_size),
-            ("run, the time of a long input", time_of_long_input),
-            ("run, names that collide", names_that_collide),
         ]
     ]
     passed = failed = 0
