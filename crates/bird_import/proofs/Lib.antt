@@ -1,4 +1,5 @@
 mod Below
+mod Cutting
 mod Halted
 mod Judged
 mod Pairs
@@ -7,3 +8,4 @@ mod Reached
 mod Spelled
 mod Splits
 mod Tests
+mod Words

@@ -8,6 +8,7 @@ pub mod Cases
 pub mod Steps
 pub mod Drafts
 pub mod Texts
+pub mod Cutting
 pub mod Indices
 pub mod Reasons
 pub mod Stuck

@@ -1,4 +1,8 @@
 //! How a configuration is cut into words.
+ghost use Rattle.std.specs.Prelude.{◌≡◌, ◌≤◌, ◌<◌, ◌-◌, IfOk, IfSome, IfNone, false, length, take, drop};
+ghost use Rattle.filter_tokens.specs.Codes.{fault_place};
+ghost use Rattle.filter_tokens.specs.Tokenization.{AreInOrder};
+ghost use Rattle.bird_import.specs.Cutting.{IsOther, IsOpenedBy, IsCutInto, AddsTokens, opens_text, opens_comment};
 
 use crate::word::{Word, WordKind};
 use filter_tokens::{Token, TokenFault, lex};
@@ -18,9 +22,13 @@ fn is_word_byte(byte: u8) -> bool {
     byte.is_ascii_alphanumeric() || byte == b'_'
 }
 
-/// The number of bytes at the front that may stand in a word, and where that is a number or an address that is none, in one of these.
-fn front_len(rest: &[u8], is_number: bool) -> usize {
-    for at in 0..rest.len() {
+/// The number of bytes of a word of which the first is at the front: those behind it may stand in a word, and where that is a number or an
+/// address that is none, in one of these.
+fn front_len(rest: &[u8], is_number: bool) -> usize
+    requires { 0 < length rest.now }
+    ensures { (0 < result) × (result ≤ length rest.now) }
+{
+    for at in 1..rest.len() {
         let byte = rest[at];
         if !(is_word_byte(byte) || (is_number && (byte == b'.' || byte == b'/'))) {
             return at;
@@ -30,7 +38,10 @@ fn front_len(rest: &[u8], is_number: bool) -> usize {
 }
 
 /// The number of bytes of a name in single quotes; of a quote alone where it does not end on its line.
-fn quoted_len(rest: &[u8]) -> usize {
+fn quoted_len(rest: &[u8]) -> usize
+    requires { 0 < length rest.now }
+    ensures { (0 < result) × (result ≤ length rest.now) }
+{
     for (at, byte) in rest.iter().enumerate() {
         if *byte == b'\n' {
             return 1;
@@ -42,21 +53,26 @@ fn quoted_len(rest: &[u8]) -> usize {
     1
 }
 
-/// The number of bytes of what is at the front of a text and no token of filters, and none where it does not end.
-fn foreign_len(fault: TokenFault, rest: &[u8]) -> usize {
+/// The number of bytes of what is at the front of a text and no token of filters.
+fn foreign_len(fault: TokenFault, rest: &[u8]) -> usize
+    requires { 0 < length rest.now }
+    ensures { (0 < result) × (result ≤ length rest.now) }
+{
     match fault {
-        TokenFault::UnendedComment(_) | TokenFault::UnendedText(_) => 0,
         TokenFault::QuotedName(_) => quoted_len(rest),
         TokenFault::WordLeftOut(_) | TokenFault::NameTooLong(_) => front_len(rest, false),
         TokenFault::NumberTooLarge(_) | TokenFault::OutOfRange(_) | TokenFault::NoDigit(_) => {
             front_len(rest, true)
         }
-        TokenFault::BadCharacter(_) => 1,
+        TokenFault::BadCharacter(_) | TokenFault::UnendedComment(_) | TokenFault::UnendedText(_) =>
+            1,
     }
 }
 
 /// What a character that begins no token of filters is to BIRD.
-fn kind_of(fault: TokenFault, rest: &[u8]) -> WordKind {
+fn kind_of(fault: TokenFault, rest: &[u8]) -> WordKind
+    ensures { IsOther result }
+{
     match (fault, rest.first()) {
         (TokenFault::BadCharacter(_), Some(b'%' | b'?' | b'|' | b'&')) => WordKind::Foreign,
         (TokenFault::BadCharacter(_), _) => WordKind::Strange,
@@ -64,76 +80,83 @@ fn kind_of(fault: TokenFault, rest: &[u8]) -> WordKind {
     }
 }
 
-/// Adds the word `from..to` of a text, which is behind a place.
-fn push_word<'a>(
-    words: &mut Vec<Word<'a>>,
+/// The fault of a comment or a text that begins at the front, at a place, and is known not to end.
+fn unended(rest: &[u8], at: usize) -> Option<TokenFault>
+    ensures some { IfSome result (λ fault. (fault_place fault ≡ at) × IsOpenedBy rest.now fault) }
+    ensures none { IfNone result ((opens_text rest.now ≡ false) × (opens_comment rest.now ≡ false)) }
+{
+    match rest {
+        [b'"', ..] => Some(TokenFault::UnendedText(at)),
+        [b'/', b'*', ..] => Some(TokenFault::UnendedComment(at)),
+        _ => None,
+    }
+}
+
+/// The word `from..to` of a text, which is behind a place.
+fn word_between<'a>(
     text: &'a [u8],
     kind: WordKind,
     behind: usize,
     from: usize,
     to: usize,
-) -> Result<(), AllocError> {
-    let (Some(gap), Some(bytes)) = (text.get(behind..from), text.get(from..to)) else {
-        return Ok(());
-    };
-    words.push(Word {
+) -> Word<'a>
+    requires order { (behind ≤ from) × (from ≤ to) × (to ≤ length text.now) }
+    ensures kind { result.kind ≡ kind }
+    ensures at { result.at ≡ from }
+    ensures gap { result.gap.now ≡ take (from - behind) (drop behind text.now) }
+    ensures bytes { result.bytes.now ≡ take (to - from) (drop from text.now) }
+{
+    Word {
         kind,
-        bytes,
+        bytes: &text[from..to],
         at: from,
-        gap,
-    })?;
-    Ok(())
+        gap: &text[behind..from],
+    }
 }
 
-/// Adds the tokens of the part of a text that begins at a place. Returns the place after the last of them, or `behind`.
+/// Adds the tokens of the part of a text that begins at a place. Returns the place after the last of them, or that place.
 fn push_tokens<'a>(
     words: &mut Vec<Word<'a>>,
     text: &'a [u8],
     tokens: &[Token],
     at: usize,
-    behind: usize,
-) -> Result<usize, AllocError> {
-    let mut behind = behind;
+) -> Result<usize, AllocError>
+    requires within { at ≤ length text.now }
+    requires order { AreInOrder 0 tokens.now (length text.now - at) }
+    ensures { IfOk result (λ behind. AddsTokens text.now tokens.now at words.old.items words.new.items behind) }
+{
+    let mut behind = at;
     for token in tokens {
-        let (from, to) = (at.saturating_add(token.from), at.saturating_add(token.to));
-        push_word(words, text, WordKind::of(token.kind), behind, from, to)?;
+        let to = at + token.to;
+        words.push(word_between(text, WordKind::of(token.kind), behind, at + token.from, to))?;
         behind = to;
     }
     Ok(behind)
 }
 
 /// Cuts a configuration into words.
-pub fn cut_words<'a>(alloc: Global, text: &'a [u8]) -> Result<Cut<'a>, AllocError> {
+pub fn cut_words<'a>(alloc: Global, text: &'a [u8]) -> Result<Cut<'a>, AllocError>
+    ensures { IfOk result (λ cut. IsCutInto text.now cut) }
+{
     let mut words = Vec::new(alloc);
-    let (mut at, mut behind) = (0, 0);
-    for _ in 0..text.len() {
-        let Some(rest) = text.get(at..) else {
-            break;
-        };
-        let lexed = lex(alloc, rest)?;
-        behind = push_tokens(&mut words, text, lexed.tokens.as_slice(), at, behind)?;
+    let mut at = 0;
+    while at < text.len() {
+        let lexed = lex(alloc, &text[at..])?;
+        let behind = push_tokens(&mut words, text, lexed.tokens.as_slice(), at)?;
         let Some(fault) = lexed.fault else {
-            break;
+            return Ok(Cut { words, end: None });
         };
-        let from = at.saturating_add(fault.at());
-        let Some(rest) = text.get(from..) else {
-            break;
-        };
-        let to = from.saturating_add(foreign_len(fault, rest));
-        if from == to {
-            let end = placed_at(fault, from);
-            return Ok(Cut { words, end });
+        let from = at + fault.at();
+        let rest = &text[from..];
+        if let Some(end) = unended(rest, from) {
+            return Ok(Cut {
+                words,
+                end: Some(end),
+            });
         }
-        push_word(&mut words, text, kind_of(fault, rest), behind, from, to)?;
-        (at, behind) = (to, to);
+        let to = from + foreign_len(fault, rest);
+        words.push(word_between(text, kind_of(fault, rest), behind, from, to))?;
+        at = to;
     }
     Ok(Cut { words, end: None })
-}
-
-/// The fault of a comment or a text that does not end, at a place.
-fn placed_at(fault: TokenFault, at: usize) -> Option<TokenFault> {
-    match fault {
-        TokenFault::UnendedComment(_) => Some(TokenFault::UnendedComment(at)),
-        _ => Some(TokenFault::UnendedText(at)),
-    }
 }
