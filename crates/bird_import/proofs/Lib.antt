@@ -1,11 +1,13 @@
 mod Below
 mod Cutting
 mod Halted
+mod Including
 mod Judged
 mod Pairs
 mod Placed
 mod Reached
 mod Spelled
 mod Splits
+mod Stops
 mod Tests
 mod Words

@@ -9,6 +9,7 @@ pub mod Steps
 pub mod Drafts
 pub mod Texts
 pub mod Cutting
+pub mod Including
 pub mod Indices
 pub mod Reasons
 pub mod Stuck

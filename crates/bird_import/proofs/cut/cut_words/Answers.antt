@@ -3,7 +3,8 @@ use Rattle.std.proofs.lemmas.List.{take_rest}
 use Rattle.filter_tokens.specs.Tokenization.{IsTokenization}
 use Rattle.bird_import.specs.Cutting.{HasWords}
 use Rattle.bird_import.proofs.Cutting.{no_words}
-use Rattle.bird_import.proofs.Words.{IsMade, add_other, lexed_whole, stopped, ends_unended, other_fits}
+use Rattle.bird_import.proofs.Words.{IsMade}
+use Rattle.bird_import.proofs.Stops.{lexed_whole, stopped, ends_unended, other_fits, add_other}
 use Rattle.bird_import.proofs.cut.cut_words.Goals as goal
 
 pub loop-at-init : goal.loop-at-init
