@@ -1,16 +1,16 @@
 -- What the lexer says of the text behind a place: where its tokens end, and what is added where it stops.
-use Rattle.std.proofs.Common.{◌≡◌, ℕ, ◌+◌, ◌-◌, ◌<◌, ◌≤◌, List, [], ◌∷◌, ◌++◌, length, take, drop, sym, ap, subst, arith, inr, length-drop, false, Some}
+use Rattle.std.proofs.Common.{◌≡◌, ℕ, ◌+◌, ◌-◌, ◌<◌, ◌≤◌, List, [], ◌∷◌, ◌++◌, length, take, drop, sym, ap, ◌∙◌, subst, arith, inr, length-drop, false, Some}
 use Rattle.std.proofs.lemmas.List.{drop-drop, drop_all, take_rest}
 use Rattle.filter_tokens.specs.declared.part.Part.{Part}
 use Rattle.filter_tokens.specs.declared.token.Token.{Token}
 use Rattle.filter_tokens.specs.Tokenization.{IsPart, AreParts, AreFrontParts, part_len, IsTokenization, StopsAt}
-use Rattle.bird_import.specs.Cutting.{IsGapBetween, NoPartAt, IsOther, IsWordIn, HasWords, AreTokensIn, AddsTokens, EndsAt, IsOpenedBy}
-use Rattle.bird_import.specs.Cutting.{opens_text, opens_comment}
 use Rattle.filter_tokens.specs.Codes.{fault_place}
 use Rattle.filter_tokens.specs.declared.fault.TokenFault.{TokenFault}
+use Rattle.bird_import.specs.Cutting.{IsGapBetween, NoPartAt, IsOtherIn, HasWords, AreTokensIn, AddsTokens, EndsAt, IsOpenedBy}
+use Rattle.bird_import.specs.Cutting.{opens_text, opens_comment, other_kind, other_len}
 use Rattle.bird_import.specs.declared.word.Word.{Word}
 use Rattle.bird_import.specs.declared.word.WordKind.{WordKind}
-use Rattle.bird_import.proofs.Words.{IsMade, add_made}
+use Rattle.bird_import.proofs.Words.{IsMade, made_length, add_made}
 
 all_parts : (parts : List Part) (text : List ℕ) → AreParts parts text → AreFrontParts parts text []
 all_parts [] text cut = cut
@@ -86,17 +86,18 @@ other_fits text from len below fits = omega (arith, fits, ap length (take_rest t
 
 -- it is added
 pub add_other : (text : List ℕ) (kind : WordKind) (behind from to : ℕ) (words : List Word) (word : Word)
-    → IsMade text kind behind from to word → IsOther kind → AreStopped text words behind from
+    → IsMade text kind behind from to word → AreStopped text words behind from
+    → kind ≡ other_kind (take (length text - from) (drop from text)) → to - from ≡ other_len (take (length text - from) (drop from text))
     → opens_text (take (length text - from) (drop from text)) ≡ false → opens_comment (take (length text - from) (drop from text)) ≡ false
     → HasWords text 0 (words ++ word ∷ []) to
-add_other text kind behind from to words word made other are no_text no_comment =
+add_other text kind behind from to words word made are of_kind whole no_text no_comment =
     let place = sym made.at in
-    let text_there = subst (λ rest. opens_text rest ≡ false) (take_rest text from) no_text in
-    let comment_there = subst (λ rest. opens_comment rest ≡ false) (take_rest text from) no_comment in
-    let stands : IsWordIn text word = inr (
-      subst IsOther (sym made.of_kind) other,
-      subst (NoPartAt text) place are.none,
-      subst (λ n. opens_text (drop n text) ≡ false) place text_there,
-      subst (λ n. opens_comment (drop n text) ≡ false) place comment_there,
-    ) in
-    add_made text kind behind from to words word made are.has are.gap stands
+    let same : take (length text - from) (drop from text) ≡ drop word.at text = take_rest text from ∙ ap (λ n. drop n text) place in
+    let other : IsOtherIn text word = record {
+      none = subst (NoPartAt text) place are.none;
+      no_text = subst (λ rest. opens_text rest ≡ false) same no_text;
+      no_comment = subst (λ rest. opens_comment rest ≡ false) same no_comment;
+      of_kind = made.of_kind ∙ of_kind ∙ ap other_kind same;
+      whole = made_length text kind behind from to word made ∙ whole ∙ ap other_len same;
+    } in
+    add_made text kind behind from to words word made are.has are.gap (inr other)

@@ -17,7 +17,7 @@ pub record IsMade (text : List ℕ) (kind : WordKind) (behind from to : ℕ) (wo
   pub some : from < to
   pub within : to ≤ length text
 
-made_length : (text : List ℕ) (kind : WordKind) (behind from to : ℕ) (word : Word) → IsMade text kind behind from to word
+pub made_length : (text : List ℕ) (kind : WordKind) (behind from to : ℕ) (word : Word) → IsMade text kind behind from to word
     → length word.bytes.now ≡ to - from
 made_length text kind behind from to word made =
     let some = made.some in

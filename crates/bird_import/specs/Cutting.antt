@@ -1,9 +1,11 @@
 -- How a configuration is cut into words: nothing is lost of its text but space and comments. (This project's own choice.)
 use Rattle.std.specs.Prelude.{◌≡◌, ◌⊎◌, ℕ, ◌+◌, ◌-◌, ◌<◌, ◌≤◌, Bool, true, false, ◌&&◌, List, [], ◌∷◌, length, take, drop}
-use Rattle.std.specs.Prelude.{Option, Some, None}
-use Rattle.prefix_patterns.specs.Token.{slash}
+use Rattle.std.specs.Prelude.{Option, Some, None, not, ◌||◌, slice_index, if◌then◌else◌, ◌==◌}
+use Rattle.std.specs.Char.{is_ascii_digit}
+use Rattle.std.specs.List.{prefix_len}
+use Rattle.prefix_patterns.specs.Token.{dot, slash}
 use Rattle.filter_tokens.specs.Codes.{fault_place}
-use Rattle.filter_tokens.specs.Shapes.{quote}
+use Rattle.filter_tokens.specs.Shapes.{quote, line_feed, continues_word}
 use Rattle.filter_tokens.specs.Tokenization.{star, begins_with, IsToken, IsPart, AreFrontParts, tokens_among}
 use Rattle.filter_tokens.specs.declared.fault.TokenFault.{TokenFault}
 use Rattle.filter_tokens.specs.declared.fault.TokenFault.TheVariants as fault
@@ -35,18 +37,53 @@ opens_text text = begins_with quote text
 abbrev pub opens_comment : List ℕ → Bool
 opens_comment text = begins_with slash text && begins_with star (drop 1 text)
 
--- what only BIRD's configurations have, or a byte that begins no word
-abbrev pub IsOther : WordKind → Type 0
-IsOther kind.Foreign = Unit {0}
-IsOther kind.Strange = Unit {0}
-IsOther others = ⊥
+-- `'`, at both ends of a name in single quotes
+abbrev pub single_quote : ℕ
+single_quote = 39
 
--- a word stands in a text at its place: a token of filters, of its kind, or a word or a byte of its own where nothing of theirs begins, and
--- neither a comment nor a text that does not end
+-- a byte of such a name, which ends on its line
+abbrev pub is_of_name : ℕ → Bool
+is_of_name byte = not (byte == single_quote || byte == line_feed)
+
+-- the bytes of a name in single quotes behind whose first quote a text goes on: up to the next quote, or that first one where no name ends
+abbrev pub quoted_len : List ℕ → ℕ
+quoted_len others =
+    if slice_index others (prefix_len is_of_name others) == single_quote then prefix_len is_of_name others + 2 else 1
+
+-- a word that is no token goes on with letters, digits and `_`, and a number or an address that is none with `.` and `/` as well
+abbrev pub goes_on : Bool → ℕ → Bool
+goes_on is_number byte = continues_word byte || (is_number && (byte == dot || byte == slash))
+
+-- `%`, `?`, `|` and `&`, which stand in BIRD's expressions
+abbrev pub is_operator : ℕ → Bool
+is_operator byte = byte == 37 || byte == 63 || byte == 124 || byte == 38
+
+-- what begins no token is a word that only BIRD's configurations have, or a byte that begins no word
+abbrev pub other_kind : List ℕ → WordKind
+other_kind [] = kind.Strange
+other_kind (first ∷ others) =
+    if first == single_quote || continues_word first || is_operator first then kind.Foreign else kind.Strange
+
+-- how many bytes it has: those of a name in single quotes, of a word or of a number, and of others one
+abbrev pub other_len : List ℕ → ℕ
+other_len [] = 0
+other_len (first ∷ others) =
+    if first == single_quote then quoted_len others
+    else if continues_word first then 1 + prefix_len (goes_on (is_ascii_digit first)) others
+    else 1
+
+-- a word stands where nothing of the filter language begins, and neither a comment nor a text that does not end
+pub record IsOtherIn (text : List ℕ) (word : Word) : Type 0 where
+  pub none : NoPartAt text word.at
+  pub no_text : opens_text (drop word.at text) ≡ false
+  pub no_comment : opens_comment (drop word.at text) ≡ false
+  pub of_kind : word.kind ≡ other_kind (drop word.at text)
+  pub whole : length word.bytes.now ≡ other_len (drop word.at text)
+
+-- a word stands in a text at its place: a token of filters, of its kind, or what is none
 abbrev pub IsWordIn : List ℕ → Word → Type 0
 IsWordIn text word =
-    ((token : TokenKind) × (word.kind ≡ kind_of token) × IsToken (drop word.at text) token (length word.bytes.now))
-    ⊎ (IsOther word.kind × NoPartAt text word.at × (opens_text (drop word.at text) ≡ false) × (opens_comment (drop word.at text) ≡ false))
+    ((token : TokenKind) × (word.kind ≡ kind_of token) × IsToken (drop word.at text) token (length word.bytes.now)) ⊎ IsOtherIn text word
 
 -- a word is the next of a text behind a place: between them is its gap, and it has its bytes of the text, one at least
 pub record IsNextWord (text : List ℕ) (behind : ℕ) (word : Word) : Type 0 where

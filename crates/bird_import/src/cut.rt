@@ -1,8 +1,11 @@
 //! How a configuration is cut into words.
-ghost use Rattle.std.specs.Prelude.{◌≡◌, ◌≤◌, ◌<◌, ◌-◌, IfOk, IfSome, IfNone, false, length, take, drop};
+ghost use Rattle.std.specs.Prelude.{◌≡◌, ◌≤◌, ◌<◌, ◌-◌, ◌+◌, ◌^◌, IfOk, IfSome, IfNone, false, length, take, drop};
+ghost use Rattle.std.specs.List.{prefix_len};
+ghost use Rattle.filter_tokens.specs.Shapes.{continues_word};
 ghost use Rattle.filter_tokens.specs.Codes.{fault_place};
 ghost use Rattle.filter_tokens.specs.Tokenization.{AreInOrder};
-ghost use Rattle.bird_import.specs.Cutting.{IsOther, IsOpenedBy, IsCutInto, AddsTokens, opens_text, opens_comment};
+ghost use Rattle.bird_import.specs.Cutting as spec;
+ghost use Rattle.bird_import.specs.Cutting.{IsOpenedBy, IsCutInto, AddsTokens, opens_text, opens_comment};
 
 use crate::word::{Word, WordKind};
 use filter_tokens::{Token, TokenFault, lex};
@@ -18,65 +21,89 @@ pub struct Cut<'a> {
 }
 
 /// Whether a byte may stand in a word.
-fn is_word_byte(byte: u8) -> bool {
-    byte.is_ascii_alphanumeric() || byte == b'_'
+fn is_word_byte(byte: u8) -> bool
+    ensures { result ≡ continues_word byte }
+{
+    byte.is_ascii_alphabetic() || byte == b'_' || byte.is_ascii_digit()
 }
 
-/// The number of bytes of a word of which the first is at the front: those behind it may stand in a word, and where that is a number or an
-/// address that is none, in one of these.
-fn front_len(rest: &[u8], is_number: bool) -> usize
-    requires { 0 < length rest.now }
-    ensures { (0 < result) × (result ≤ length rest.now) }
+/// Whether a word that is no token goes on with a byte, or a number or an address that is none.
+fn goes_on(is_number: bool, byte: u8) -> bool
+    ensures { result ≡ spec.goes_on is_number byte }
 {
-    for at in 1..rest.len() {
-        let byte = rest[at];
-        if !(is_word_byte(byte) || (is_number && (byte == b'.' || byte == b'/'))) {
-            return at;
+    is_word_byte(byte) || (is_number && (byte == b'.' || byte == b'/'))
+}
+
+/// The number of bytes at the front with which such a word goes on.
+fn front_len(text: &[u8], is_number: bool) -> usize
+    ensures len { result ≡ prefix_len (spec.goes_on is_number) text.now }
+    ensures within { result ≤ length text.now }
+{
+    for (i, byte) in text.iter().enumerate() {
+        if !goes_on(is_number, *byte) {
+            return i;
         }
     }
-    rest.len()
+    text.len()
 }
 
-/// The number of bytes of a name in single quotes; of a quote alone where it does not end on its line.
-fn quoted_len(rest: &[u8]) -> usize
-    requires { 0 < length rest.now }
-    ensures { (0 < result) × (result ≤ length rest.now) }
+/// Whether a name in single quotes may have this byte.
+fn is_of_name(byte: u8) -> bool
+    ensures { result ≡ spec.is_of_name byte }
 {
-    for (at, byte) in rest.iter().enumerate() {
-        if *byte == b'\n' {
-            return 1;
+    !(byte == b'\'' || byte == b'\n')
+}
+
+/// The number of bytes at the front that a name in single quotes may have.
+fn name_len(text: &[u8]) -> usize
+    ensures len { result ≡ prefix_len spec.is_of_name text.now }
+    ensures within { result ≤ length text.now }
+{
+    for (i, byte) in text.iter().enumerate() {
+        if !is_of_name(*byte) {
+            return i;
         }
-        if at > 0 && *byte == b'\'' {
-            return at + 1;
-        }
+    }
+    text.len()
+}
+
+/// The number of bytes of a name in single quotes, of which these follow the first quote; of that quote alone where it does not end on its
+/// line.
+fn quoted_len(others: &[u8]) -> usize
+    requires { length others.now + 1 < 2 ^ 64 }
+    ensures len { result ≡ spec.quoted_len others.now }
+    ensures within { (0 < result) × (result ≤ length others.now + 1) }
+{
+    let len = name_len(others);
+    if len < others.len() && others[len] == b'\'' {
+        return len + 2;
     }
     1
 }
 
 /// The number of bytes of what is at the front of a text and no token of filters.
-fn foreign_len(fault: TokenFault, rest: &[u8]) -> usize
+fn other_len(rest: &[u8]) -> usize
     requires { 0 < length rest.now }
-    ensures { (0 < result) × (result ≤ length rest.now) }
+    ensures len { result ≡ spec.other_len rest.now }
+    ensures within { (0 < result) × (result ≤ length rest.now) }
 {
-    match fault {
-        TokenFault::QuotedName(_) => quoted_len(rest),
-        TokenFault::WordLeftOut(_) | TokenFault::NameTooLong(_) => front_len(rest, false),
-        TokenFault::NumberTooLarge(_) | TokenFault::OutOfRange(_) | TokenFault::NoDigit(_) => {
-            front_len(rest, true)
+    match rest {
+        [b'\'', others @ ..] => quoted_len(others),
+        [first, others @ ..] if is_word_byte(*first) => {
+            1 + front_len(others, first.is_ascii_digit())
         }
-        TokenFault::BadCharacter(_) | TokenFault::UnendedComment(_) | TokenFault::UnendedText(_) =>
-            1,
+        _ => 1,
     }
 }
 
-/// What a character that begins no token of filters is to BIRD.
-fn kind_of(fault: TokenFault, rest: &[u8]) -> WordKind
-    ensures { IsOther result }
+/// What it is to BIRD.
+fn other_kind(rest: &[u8]) -> WordKind
+    ensures { result ≡ spec.other_kind rest.now }
 {
-    match (fault, rest.first()) {
-        (TokenFault::BadCharacter(_), Some(b'%' | b'?' | b'|' | b'&')) => WordKind::Foreign,
-        (TokenFault::BadCharacter(_), _) => WordKind::Strange,
-        _ => WordKind::Foreign,
+    match rest.first() {
+        Some(b'\'' | b'%' | b'?' | b'|' | b'&') => WordKind::Foreign,
+        Some(byte) if is_word_byte(*byte) => WordKind::Foreign,
+        _ => WordKind::Strange,
     }
 }
 
@@ -154,8 +181,8 @@ pub fn cut_words<'a>(alloc: Global, text: &'a [u8]) -> Result<Cut<'a>, AllocErro
                 end: Some(end),
             });
         }
-        let to = from + foreign_len(fault, rest);
-        words.push(word_between(text, kind_of(fault, rest), behind, from, to))?;
+        let to = from + other_len(rest);
+        words.push(word_between(text, other_kind(rest), behind, from, to))?;
         at = to;
     }
     Ok(Cut { words, end: None })

@@ -1,4 +1,4 @@
-use Rattle.std.proofs.Common.{◌+◌, length, drop, sym, subst, arith}
+use Rattle.std.proofs.Common.{◌≡◌, ◌∙◌, ◌+◌, ◌-◌, length, drop, sym, subst, arith}
 use Rattle.std.proofs.lemmas.List.{take_rest}
 use Rattle.filter_tokens.specs.Tokenization.{IsTokenization}
 use Rattle.bird_import.specs.Cutting.{HasWords}
@@ -45,7 +45,7 @@ word_between-requires c =
     let stops = rw c.in-Some.is at c.in_ok-lexed.ensures.stopped in
     let are = stopped text at _ c.at.result _ _ _ _ _ stops c.as_slice.ensures.value c.at.ensures c.loop-at.invariant.words c.in_ok-behind.ensures in
     record {
-      order = (are.gap.in_order, omega arith, other_fits text (at + c.at.result) c.foreign_len.result are.below c.foreign_len.ensures.1);
+      order = (are.gap.in_order, omega arith, other_fits text (at + c.at.result) c.other_len.result are.below c.other_len.ensures.within.1);
     }
 
 pub loop-at-preserved : goal.loop-at-preserved
@@ -53,23 +53,24 @@ loop-at-preserved c =
     let text = c.args.text.now in
     let at = c.loop-at.at in
     let from = at + c.at.result in
-    let to = from + c.foreign_len.result in
-    let kind = c.kind_of.result in
+    let to = from + c.other_len.result in
+    let kind = c.other_kind.result in
     let behind = c.in_ok-behind.behind in
     let word = c.word_between.result in
     let stops = rw c.in-Some.is at c.in_ok-lexed.ensures.stopped in
     let are = stopped text at _ c.at.result _ _ _ _ _ stops c.as_slice.ensures.value c.at.ensures c.loop-at.invariant.words c.in_ok-behind.ensures in
-    let fits = other_fits text from c.foreign_len.result are.below c.foreign_len.ensures.1 in
+    let fits = other_fits text from c.other_len.result are.below c.other_len.ensures.within.1 in
     let made : IsMade text kind behind from to word = record {
       of_kind = c.word_between.ensures.kind;
       at = c.word_between.ensures.at;
       gap = c.word_between.ensures.gap;
       bytes = c.word_between.ensures.bytes;
-      some = omega (arith, c.foreign_len.ensures.0);
+      some = omega (arith, c.other_len.ensures.within.0);
       within = fits;
     } in
     let none = c.in_default-unended.ensures.none in
-    let added = add_other text kind behind from to _ word made c.kind_of.ensures are none.0 none.1 in
+    let whole : to - from ≡ _ = omega arith ∙ c.other_len.ensures.len in
+    let added = add_other text kind behind from to _ word made are c.other_kind.ensures whole none.0 none.1 in
     record {
       within = fits;
       words = subst (λ ws. HasWords text 0 ws to) (sym c.in_ok-push.ensures.items) added;
