@@ -6,6 +6,7 @@ mod Judged
 mod Pairs
 mod Placed
 mod Reached
+mod Rows
 mod Spelled
 mod Splits
 mod Stops
