@@ -1,8 +1,10 @@
 mod Below
 mod Cutting
+mod Ends
 mod Halted
 mod Including
 mod Judged
+mod Once
 mod Pairs
 mod Placed
 mod Reached

@@ -1,5 +1,5 @@
 -- How a configuration is cut into words: nothing is lost of its text but space and comments. (This project's own choice.)
-use Rattle.std.specs.Prelude.{◌≡◌, ◌⊎◌, ℕ, ◌+◌, ◌-◌, ◌<◌, ◌≤◌, Bool, true, false, ◌&&◌, List, [], ◌∷◌, length, take, drop}
+use Rattle.std.specs.Prelude.{◌≡◌, ◌⊎◌, ℕ, ◌+◌, ◌-◌, ◌<◌, ◌≤◌, Bool, true, false, ◌&&◌, List, [], ◌∷◌, length, map, take, drop}
 use Rattle.std.specs.Prelude.{Option, Some, None, not, ◌||◌, slice_index, if◌then◌else◌, ◌==◌}
 use Rattle.std.specs.Char.{is_ascii_digit}
 use Rattle.std.specs.List.{prefix_len}
@@ -116,6 +116,20 @@ pub record IsCutInto (text : List ℕ) (cut : Cut) : Type 0 where
   pub behind : ℕ
   pub words : HasWords text 0 cut.words.items behind
   pub ends : EndsAt text behind cut.end
+
+-- a word without where it lies in memory
+pub record WordView : Type 0 where
+  pub kind : WordKind
+  pub at : ℕ
+  pub gap : List ℕ
+  pub bytes : List ℕ
+
+abbrev pub view_of_word : Word → WordView
+view_of_word word = record { kind = word.kind; at = word.at; gap = word.gap.now; bytes = word.bytes.now }
+
+-- two cuts have the same words, and end alike
+abbrev pub AreOneCut : Cut → Cut → Type 0
+AreOneCut one other = (map view_of_word one.words.items ≡ map view_of_word other.words.items) × (one.end ≡ other.end)
 
 -- tokens whose places count from `at` stand in a text, from a place on up to `to`, with nothing but space and comments between them
 pub record AreTokensIn (text : List ℕ) (at : ℕ) (tokens : List Token) (from to : ℕ) : Type 0 where

@@ -1,11 +1,13 @@
 //! How a configuration is cut into words.
-ghost use Rattle.std.specs.Prelude.{◌≡◌, ◌≤◌, ◌<◌, ◌-◌, ◌+◌, ◌^◌, IfOk, IfSome, IfNone, false, length, take, drop};
+ghost use Rattle.std.specs.Prelude.{◌≡◌, ℕ, List, ◌≤◌, ◌<◌, ◌-◌, ◌+◌, ◌^◌, IfOk, IfSome, IfNone, false, length, take, drop};
 ghost use Rattle.std.specs.List.{prefix_len};
 ghost use Rattle.filter_tokens.specs.Shapes.{continues_word};
 ghost use Rattle.filter_tokens.specs.Codes.{fault_place};
 ghost use Rattle.filter_tokens.specs.Tokenization.{AreInOrder};
 ghost use Rattle.bird_import.specs.Cutting as spec;
 ghost use Rattle.bird_import.specs.Cutting.{IsOpenedBy, IsCutInto, AddsTokens, opens_text, opens_comment};
+ghost use Rattle.bird_import.specs.Cutting.{AreOneCut};
+ghost use Rattle.bird_import.specs.declared.cut.Cut.{Cut as TheCut};
 
 use crate::word::{Word, WordKind};
 use filter_tokens::{Token, TokenFault, lex};
@@ -187,3 +189,8 @@ pub fn cut_words<'a>(alloc: Global, text: &'a [u8]) -> Result<Cut<'a>, AllocErro
     }
     Ok(Cut { words, end: None })
 }
+
+/// No text is cut into words in two ways.
+pub fn one_cut()
+    ensures { (text : List ℕ) (one other : TheCut) → IsCutInto text one → IsCutInto text other → AreOneCut one other }
+{}

@@ -28,7 +28,7 @@ mod unset;
 mod word;
 
 pub use config::Config;
-pub use cut::{Cut, cut_words};
+pub use cut::{Cut, cut_words, one_cut};
 pub use drafts::{Draft, Outcome, make_drafts};
 pub use includes::{Include, find_includes};
 pub use items::{Definition, Item, ItemKind, find_definitions, find_items};

@@ -2,6 +2,7 @@ use Rattle.std.proofs.Common.{◌≡◌, ℕ, ◌+◌, ◌-◌, ◌<◌, ◌≤�
 use Rattle.std.proofs.lemmas.List.{drop_more, drop_all}
 use Rattle.filter_tokens.specs.declared.token.Token.{Token}
 use Rattle.filter_tokens.specs.Tokenization.{AreInOrder}
+use Rattle.bird_import.specs.declared.word.Word.{Word}
 use Rattle.bird_import.specs.Spelling.{kind_of}
 use Rattle.bird_import.specs.Cutting.{IsGapBetween, HasWords, AreTokensIn}
 use Rattle.bird_import.proofs.Cutting.{last_gap}
@@ -88,7 +89,7 @@ loop-token-preserved c =
           let left : AreTokensIn text at (token ∷ drop (i + 1) all) (behind - at) to =
           subst (λ ts. AreTokensIn text at ts (behind - at) to) here.left_is before.1 in
           let added = add_token text at (behind - at) behind to c.loop-token.words.items word token (drop (i + 1) all) begin made left before.0 in (
-            subst (λ ws. HasWords text 0 ws (at + token.to)) (sym c.in_ok-push.ensures.items) added.0,
+            subst (λ ws. HasWords text 0 ws (at + token.to)) (sym {A = List Word} c.in_ok-push.ensures.items) added.0,
             subst (λ n. AreTokensIn text at (drop (i + 1) all) n to) (sym place) added.1,
           );
     }
