@@ -1,13 +1,18 @@
 -- How a configuration is gathered from files, one include after another.
-use Rattle.std.proofs.Common.{◌≡◌, ℕ, ◌+◌, ◌<◌, ◌++◌, suc, Bool, List, [], ◌∷◌, length, get_or, Option, Some, if◌then◌else◌, Result, Ok, Err}
+use Rattle.std.proofs.Common.{◌≡◌, ℕ, ◌+◌, ◌<◌, ◌++◌, suc, Bool, List, [], ◌∷◌, length, map, get_or, Option, Some, if◌then◌else◌, Result, Ok, Err, IfOk}
 use Rattle.std.proofs.Common.{inl, inr, refl, subst, sym, add-one}
 use Rattle.std.proofs.lemmas.List.{reverse-append}
 use Rattle.std.proofs.lemmas.Option.{slice_get-get_or}
 use Rattle.std.specs.Prelude.{OnOk, codes}
 use Rattle.std.specs.declared.io.Error.{Error}
 use Rattle.bird_import.specs.declared.includes.Include.{Include}
+use Rattle.bird_import.specs.declared.word.Word.{Word}
 use Rattle.command_line.specs.declared.requests.Source.{Source}
+use Rattle.bird_import.specs.Cutting.{IsCutInto}
+use Rattle.bird_import.specs.Including.{Includes, includes_in, view_of as view_of_include}
+use Rattle.bird_import.specs.declared.cut.Cut.{Cut}
 use Rattle.ncroute.specs.Including.{LeavesOut, PutsFile, PutsFirst, PutsIncluded, ReadsText, SkipsText, closed, opened, with_part}
+use Rattle.ncroute.specs.Inclusions.{IsLeft, IsLookedFor}
 use Rattle.ncroute.specs.Places.{ConfigView, FileView, last_such, view_of}
 use Rattle.ncroute.specs.Streaming.{Streams}
 
@@ -40,11 +45,12 @@ module _ (Puts : Include → ConfigView → ConfigView → Streams → Streams �
 
 -- all of them were put there, and the rest of the file behind them
 pub all_put : (Puts : Include → ConfigView → ConfigView → Streams → Streams → Type 0) (file : FileView) (index n : ℕ) (included : List Include)
-    (config last after : ConfigView) (before now : Streams) (from : ℕ) → index ≡ length config.files → n ≡ length included
-    → PutsFirst Puts index file.text included n (opened config file) last before now from
+    (config last after : ConfigView) (before now : Streams) (from : ℕ) → Includes file.text (map view_of_include included)
+    → index ≡ length config.files → n ≡ length included → PutsFirst Puts index file.text included n (opened config file) last before now from
     → after ≡ closed last index file.text from → PutsFile Puts file config after before now
-all_put Puts file index n included config last after before now from is all first ends = record {
+all_put Puts file index n included config last after before now from found is all first ends = record {
   included = included;
+  all = found;
   last = last;
   from = from;
   first =
@@ -66,29 +72,41 @@ module _ (opens : List ℕ → Result (Option (List ℕ)) Error → Type 0) (one
       → PutsIncluded opens depth one config after before now
   deeper depth less is put = subst (λ (d : ℕ). PutsIncluded opens d one config after before now) (sym is) (rw add-one put)
 
-  pub left_out : {A E : Type 0} (r : Result A E) (depth less : ℕ) (why : List ℕ) → depth ≡ less + 1 → OnOk r (LeavesOut one why config after before now)
-      → OnOk r (PutsIncluded opens depth one config after before now)
+  pub left_out : {A E : Type 0} (r : Result A E) (depth less : ℕ) (why : List ℕ) → depth ≡ less + 1 → IsLeft config one.name.now why
+      → OnOk r (LeavesOut one why config after before now) → OnOk r (PutsIncluded opens depth one config after before now)
   unfolding PutsIncluded
-  left_out (Ok a) depth less why is left = deeper depth less is (inl (why, left))
-  left_out (Err e) depth less why is left = tt
+  left_out (Ok a) depth less why is reason left = deeper depth less is (inl (why, reason, left))
+  left_out (Err e) depth less why is reason left = tt
 
   pub put_there : {A E : Type 0} (r : Result A E) (depth less : ℕ) (source : Source) (text part : List ℕ) (mid : Streams) → depth ≡ less + 1
-      → part ≡ text → ReadsText opens source text before mid
+      → part ≡ text → IsLookedFor config one.name.now source → ReadsText opens source text before mid
       → OnOk r (PutsFile (PutsIncluded opens less) (view_of source part) config after mid now)
       → OnOk r (PutsIncluded opens depth one config after before now)
   unfolding PutsIncluded
-  put_there (Ok a) depth less source text part mid is same reads puts = deeper depth less is (inr (inl (
+  put_there (Ok a) depth less source text part mid is same looks reads puts = deeper depth less is (inr (inl (
     source,
     text,
     mid,
+    looks,
     reads,
     subst (λ (t : List ℕ). PutsFile (PutsIncluded opens less) (view_of source t) config after mid now) same puts,
   )))
-  put_there (Err e) depth less source text part mid is same reads puts = tt
+  put_there (Err e) depth less source text part mid is same looks reads puts = tt
 
   pub not_read : {A E : Type 0} (r : Result A E) (depth less : ℕ) (source : Source) (mid : Streams) → depth ≡ less + 1
-      → SkipsText opens source before mid → OnOk r (LeavesOut one (codes "it cannot be read") config after mid now)
+      → IsLookedFor config one.name.now source → SkipsText opens source before mid → OnOk r (LeavesOut one (codes "it cannot be read") config after mid now)
       → OnOk r (PutsIncluded opens depth one config after before now)
   unfolding PutsIncluded
-  not_read (Ok a) depth less source mid is skips left = deeper depth less is (inr (inr (source, mid, skips, left)))
-  not_read (Err e) depth less source mid is skips left = tt
+  not_read (Ok a) depth less source mid is looks skips left = deeper depth less is (inr (inr (source, mid, looks, skips, left)))
+  not_read (Err e) depth less source mid is looks skips left = tt
+
+-- the files that the words of a text include are those that the text includes
+pub are_included : {V E : Type 0} (items : V → List Include) (text : List ℕ) (cut : Cut) (words : List Word) (r : Result V E) → words ≡ cut.words.items
+    → IsCutInto text cut → IfOk r (λ found. map view_of_include (items found) ≡ includes_in words)
+    → IfOk r (λ found. Includes text (map view_of_include (items found)))
+are_included items text cut words (Ok found) same is are = record {
+  cut = cut;
+  is = is;
+  are = subst (λ (ws : List Word). map view_of_include (items found) ≡ includes_in ws) same are;
+}
+are_included items text cut words (Err fault) same is are = tt

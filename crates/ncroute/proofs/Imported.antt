@@ -1,9 +1,11 @@
 -- What comes of a filter that was made of a draft.
-use Rattle.std.proofs.Common.{ℕ, Bool, List, Option, Result, Ok, Err, IfOk}
+use Rattle.std.proofs.Common.{◌≡◌, subst, ℕ, Bool, List, Option, Result, Ok, Err, IfOk}
 use Rattle.std.specs.declared.io.Error.{Error}
+use Rattle.bird_import.specs.Cutting.{IsCutInto}
+use Rattle.bird_import.specs.declared.cut.Cut.{Cut}
 use Rattle.bird_import.specs.declared.drafts.Draft.{Draft}
 use Rattle.command_line.specs.declared.requests.Importing.{Importing}
-use Rattle.ncroute.specs.Importing.{ImportsDraft, ImportsMade, IsMade, text_in}
+use Rattle.ncroute.specs.Importing.{ImportsConfig, ImportsCut, ImportsDraft, ImportsMade, IsMade, text_in}
 use Rattle.ncroute.specs.Places.{ConfigView}
 use Rattle.ncroute.specs.Streaming.{Streams}
 use Rattle.ncroute.specs.declared.importing.Made.{Made}
@@ -14,3 +16,11 @@ pub of_made : {E : Type 0} (creates : List ℕ → Result (Option (List ℕ)) Er
     → IfOk r (ImportsDraft creates how config draft before after)
 of_made creates how config draft made before after (Ok left) is imported = record { made = made; is_made = is; imported = imported }
 of_made creates how config draft made before after (Err fault) is imported = tt
+
+-- the text of a configuration was cut, and what it was cut into was imported
+pub of_cut : {E : Type 0} (creates : List ℕ → Result (Option (List ℕ)) Error → Type 0) (how : Importing) (config : ConfigView) (text : List ℕ)
+    (cut : Cut) (before after : Streams) (r : Result Bool E) → text ≡ config.text → IsCutInto text cut
+    → IfOk r (ImportsCut creates how config cut.words.items cut.end before after) → IfOk r (ImportsConfig creates how config before after)
+of_cut creates how config text cut before after (Ok left) same is imported =
+    record { cut = cut; is = subst (λ (text : List ℕ). IsCutInto text cut) same is; imported = imported }
+of_cut creates how config text cut before after (Err fault) same is imported = tt

@@ -1,6 +1,7 @@
 pub mod Sources
 pub mod Tested
 pub mod Untold
+mod Beside
 mod FileNames
 mod FiltersRead
 mod Gathered

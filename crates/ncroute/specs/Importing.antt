@@ -7,9 +7,11 @@ use Rattle.std.specs.Io.KnownBytes.{Appends}
 use Rattle.std.specs.declared.alloc.Global.{Global}
 use Rattle.std.specs.declared.io.Error.{Error}
 use Rattle.std.specs.declared.string.String.{String}
+use Rattle.bird_import.specs.Cutting.{IsCutInto}
 use Rattle.bird_import.specs.Judged.{HaveDrafts}
 use Rattle.bird_import.specs.Spelling.{IsWritten}
 use Rattle.bird_import.specs.declared.config.Config.{Config}
+use Rattle.bird_import.specs.declared.cut.Cut.{Cut}
 use Rattle.bird_import.specs.declared.drafts.Draft.{Draft}
 use Rattle.bird_import.specs.declared.drafts.Outcome.{Outcome}
 use Rattle.bird_import.specs.declared.drafts.Outcome.TheVariants.{Drafted, LeftOut}
@@ -178,11 +180,11 @@ module _ (creates : List ℕ → Result (Option (List ℕ)) Error → Type 0) wh
     pub ends : TellsEnd config end told after is_cut
     pub judged : is_left ≡ (is_filter_left || is_strange || is_cut)
 
-  -- A configuration was cut into words, and imported.
+  -- The text of a configuration was cut into words, and imported.
   pub record ImportsConfig (how : Importing) (config : ConfigView) (before after : Streams) (is_left : Bool) : Type 0 where
-    pub words : List Word
-    pub end : Option TokenFault
-    pub imported : ImportsCut how config words end before after is_left
+    pub cut : Cut
+    pub is : IsCutInto config.text cut
+    pub imported : ImportsCut how config cut.words.items cut.end before after is_left
 
   -- The exit status says whether something of it was left out, or was when it was read.
   pub record ImportsRead (how : Importing) (config : ConfigView) (before after : Streams) (status : ℕ) : Type 0 where

@@ -1,12 +1,14 @@
 -- How a configuration is read, with the files that it includes in their places. (This project's own choice; includes are those of the BIRD
 -- 2.0 User's Guide.)
 use Rattle.std.specs.Prelude.{◌≡◌, ◌⊎◌, ◌<◌, ◌≤◌, ◌-◌, ◌&&◌, ◌++◌, ℕ, zero, suc, nat_le, true, false, if◌then◌else◌, List, [], ◌∷◌, Option, Some, None, Result}
-use Rattle.std.specs.Prelude.{codes, drop, length, slice_get, take}
+use Rattle.std.specs.Prelude.{codes, drop, length, map, slice_get, take}
 use Rattle.std.specs.declared.io.Error.{Error}
 use Rattle.filter_tools.specs.Shown.{shown}
 use Rattle.line_protocol.specs.Limits.{input_limit}
+use Rattle.bird_import.specs.Including.{Includes, view_of as view_of_include}
 use Rattle.bird_import.specs.declared.includes.Include.{Include}
 use Rattle.command_line.specs.declared.requests.Source.{Source}
+use Rattle.ncroute.specs.Inclusions.{IsLeft, IsLookedFor, last_file}
 use Rattle.ncroute.specs.Places.{ConfigView, FileView, place_in, view_of}
 use Rattle.ncroute.specs.Reading.{Reads, SkipsUnread, name_of, told_line}
 use Rattle.ncroute.specs.Streaming.{Streams, Tells, Writes}
@@ -51,14 +53,6 @@ closed config file text from =
 -- something is left out
 abbrev pub partial : ConfigView → ConfigView
 partial config = record config { is_partial = true }
-
--- the file of an index, if there is one, and the last of those that are being read
-abbrev pub file_at : List FileView → Option ℕ → Option FileView
-file_at files None = None
-file_at files (Some index) = slice_get files index
-
-abbrev pub last_file : ConfigView → Option FileView
-last_file config = file_at config.files (slice_get config.reading (length config.reading - 1))
 
 -- what ends the line of a file that is left out
 unfoldable pub left_behind : List ℕ
@@ -127,25 +121,26 @@ module _ (Puts : Include → ConfigView → ConfigView → Streams → Streams �
       × (slice_get included n ≡ Some one) × PutsFirst file text included n config earlier before mid done
       × Puts one (with_part earlier file text done one.from) after mid now × (from ≡ one.to)
 
-  -- All of the text of a file was put behind a configuration: the files that it includes in the places of their includes, and behind the last
-  -- of these the rest.
+  -- All of the text of a file was put behind a configuration: the files that it includes, each of them, in the places of their includes, and
+  -- behind the last of these the rest.
   pub record PutsFile (file : FileView) (config after : ConfigView) (before now : Streams) : Type 0 where
     pub included : List Include
+    pub all : Includes file.text (map view_of_include included)
     pub last : ConfigView
     pub from : ℕ
     pub first : PutsFirst (length config.files) file.text included (length included) (opened config file) last before now from
     pub ends : after ≡ closed last (length config.files) file.text from
 
 module _ (opens : List ℕ → Result (Option (List ℕ)) Error → Type 0) where
-  -- A file that is included, with those that it includes, was put behind a configuration; or it was left out. `deep` is how deep files may be
-  -- included in it.
+  -- A file that is included was looked for by its path, and put behind a configuration with those that it includes; or it was left out. `deep`
+  -- is how deep files may be included in it.
   unfoldable pub PutsIncluded : ℕ → Include → ConfigView → ConfigView → Streams → Streams → Type 0
   PutsIncluded zero one config after before now = LeavesOut one (codes "files are included at most 8 deep") config after before now
   PutsIncluded (suc deep) one config after before now =
-      ((why : List ℕ) × LeavesOut one why config after before now)
-      ⊎ (((source : Source) × (text : List ℕ) × (mid : Streams) × ReadsText opens source text before mid
+      ((why : List ℕ) × IsLeft config one.name.now why × LeavesOut one why config after before now)
+      ⊎ (((source : Source) × (text : List ℕ) × (mid : Streams) × IsLookedFor config one.name.now source × ReadsText opens source text before mid
       × PutsFile (PutsIncluded deep) (view_of source text) config after mid now)
-      ⊎ ((source : Source) × (mid : Streams) × SkipsText opens source before mid
+      ⊎ ((source : Source) × (mid : Streams) × IsLookedFor config one.name.now source × SkipsText opens source before mid
       × LeavesOut one (codes "it cannot be read") config after mid now))
 
   -- A configuration is the text of a source, with the files that it includes in their places.

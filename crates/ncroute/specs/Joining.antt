@@ -1,17 +1,19 @@
 -- The script of a router that several sources are, one after another. (This project's own choice.)
-use Rattle.std.specs.Prelude.{◌≡◌, ◌⊎◌, ◌==◌, ◌-◌, ℕ, zero, suc, Bool, true, if◌then◌else◌, List, [], ◌∷◌, ◌++◌, Option, Some, None, Result, length, slice_get}
+use Rattle.std.specs.Prelude.{◌≡◌, ◌⊎◌, ◌==◌, ◌-◌, ℕ, zero, suc, Bool, true, if◌then◌else◌, List, [], ◌∷◌, ◌++◌, Option, Some, None, Result, count_by, length, min, slice_get}
 use Rattle.std.specs.declared.io.Error.{Error}
 use Rattle.line_protocol.specs.Limits.{input_limit}
+use Rattle.line_protocol.specs.Lines.{is_line_feed}
 use Rattle.line_protocol.specs.declared.faults.StreamFault.{StreamFault}
 use Rattle.script_runs.specs.declared.naming.NamedFilter.{NamedFilter}
 use Rattle.command_line.specs.declared.requests.Running.{Running}
 use Rattle.command_line.specs.declared.requests.Source.{Source}
 use Rattle.ncroute.specs.Filters.{ReadsThem, SkipsFilter, StopsAtFault}
 use Rattle.ncroute.specs.Guiding.{GuidesScript, StopsGuided}
-use Rattle.ncroute.specs.Reading.{IsRead, IsUnread, StopsTelling, TellsUnread}
+use Rattle.ncroute.specs.Reading.{IsRead, IsUnread, StopsTelling, TellsUnread, name_of}
 use Rattle.ncroute.specs.Streaming.{Streams}
 use Rattle.ncroute.specs.declared.texts.Unread.{Unread}
 use Rattle.ncroute.specs.declared.texts.Unread.TheVariants as unread
+use Rattle.ncroute.specs.declared.watcher.Part.{Part}
 
 -- a text has no line that no line feed ends: its last byte is one, or it has none
 abbrev pub is_end : Option ℕ → Bool
@@ -24,6 +26,14 @@ ends_line text = is_end (slice_get text (length text - 1))
 -- a text, and a line feed where its last line has none
 abbrev pub ended : List ℕ → List ℕ
 ended text = if ends_line text then text else text ++ 10 ∷ []
+
+-- how many lines a script has of which each ends; there is no higher number of a line than the greatest of 32 bits
+abbrev pub lines_of : List ℕ → ℕ
+lines_of script = min (count_by is_line_feed script) 4294967295
+
+-- a source is the next part of a script: it has the source's name, and begins behind the lines that are there
+abbrev pub AddsPart : Source → List ℕ → List Part → List Part → Type 0
+AddsPart source script before after = (part : Part) × (part.name.now ≡ name_of source) × (part.before ≡ lines_of script) × (after ≡ before ++ part ∷ [])
 
 -- `opens name` says what may come of opening a file of this name.
 module _ (opens : List ℕ → Result (Option (List ℕ)) Error → Type 0) where

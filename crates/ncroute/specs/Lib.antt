@@ -6,6 +6,7 @@ pub mod Following
 pub mod Guiding
 pub mod Importing
 pub mod Including
+pub mod Inclusions
 pub mod Joining
 pub mod Linting
 pub mod Loading

@@ -1,10 +1,12 @@
 //! A configuration of BIRD, with the files that it includes in their places.
-ghost use Rattle.std.specs.List.{flat_map};
+ghost use Rattle.std.specs.List.{flat_map, list_any};
 ghost use Rattle.std.specs.Option.{option_map};
-ghost use Rattle.std.specs.Prelude.{◌≡◌, ◌++◌, [], ◌∷◌, IfOk, OnOk, decimal, length};
-ghost use Rattle.ncroute.specs.Including.{IsConfig, IsText, LeavesOut, PutsFile, PutsIncluded, TakesWithin, bytes_between, closed, include_depth, last_file, left_behind, left_line, left_words, long_config};
+ghost use Rattle.std.specs.Prelude.{◌≡◌, ◌++◌, [], ◌∷◌, IfOk, OnOk, decimal, length, map, slice_get, string_bytes};
+ghost use Rattle.bird_import.specs.Including.{Includes, view_of as view_of_include};
+ghost use Rattle.ncroute.specs.Including.{IsConfig, IsText, LeavesOut, PutsFile, PutsIncluded, TakesWithin, bytes_between, closed, include_depth, left_behind, left_line, left_words, long_config};
 ghost use Rattle.ncroute.specs.Including.{long_config_line, nothing, opened, why_words, with_part};
-ghost use Rattle.ncroute.specs.Places.{IsAlike, config_of, file_of, place_in, place_of, stretch_of, view_of};
+ghost use Rattle.ncroute.specs.Inclusions.{IsBeside, IsIncludedPath, IsInclusion, has_path, is_absolute, is_open, is_path, is_pattern_sign, last_file};
+ghost use Rattle.ncroute.specs.Places.{IsAlike, config_of, file_of, path_of, place_in, place_of, stretch_of, view_of};
 ghost use Rattle.ncroute.specs.Streaming.{Tells};
 
 use crate::console::{Console, Loaded};
@@ -154,43 +156,91 @@ fn push_stretch(
     whole.text.extend_from_slice(bytes)
 }
 
-/// The name of a file that another one includes: one that is not absolute is in the folder of the other.
-fn included_name(alloc: Global, by: &Source, name: &str) -> Result<String, AllocError> {
-    let mut path = String::new(alloc);
-    if let Source::File(by) = by {
-        if !name.starts_with('/') {
-            if let Some((folder, _)) = by.as_str().rsplit_once('/') {
-                path.push_str(folder)?;
-                path.push_str("/")?;
-            }
-        }
-    }
-    path.push_str(name)?;
-    Ok(path)
+/// Whether a byte is a sign of a pattern of names.
+fn is_pattern_sign(byte: u8) -> bool
+    ensures { result ≡ is_pattern_sign byte }
+{
+    byte == b'*' || byte == b'?' || byte == b'['
 }
 
-/// Whether a file that is being read has this name.
-fn is_open(whole: &Whole, name: &str) -> bool {
-    for index in whole.open.as_slice() {
-        if let Some(file) = whole.files.get(*index) {
-            if is_named(&file.source, name) {
-                return true;
-            }
-        }
-    }
-    false
+/// Whether a name has a sign of a pattern of names.
+fn has_pattern_sign(name: &[u8]) -> bool
+    ensures { result ≡ list_any is_pattern_sign name.now }
+{
+    name.iter().any(|byte| is_pattern_sign(*byte))
 }
 
-/// Whether a source is the file of this name.
-fn is_named(source: &Source, name: &str) -> bool {
+/// Whether a name says where the file is from the root on.
+fn is_absolute(name: &[u8]) -> bool
+    ensures { result ≡ is_absolute name.now }
+{
+    match name.first() {
+        Some(byte) => *byte == b'/',
+        None => false,
+    }
+}
+
+/// The path of a file of this name in the folder of another one.
+fn path_beside(alloc: Global, by: &str, name: &str) -> Result<String, AllocError>
+    ensures { IfOk result (λ path. IsBeside by.now name.now (string_bytes path)) }
+{
+    match by.rsplit_once('/') {
+        Some((folder, _)) => {
+            let mut path = String::from_str(alloc, folder)?;
+            path.push_str("/")?;
+            path.push_str(name)?;
+            Ok(path)
+        }
+        None => String::from_str(alloc, name),
+    }
+}
+
+/// The path of a file that another one includes by this name.
+fn included_path(alloc: Global, by: &Source, name: &str) -> Result<String, AllocError>
+    ensures { IfOk result (λ path. IsIncludedPath (path_of by.now) name.now (string_bytes path)) }
+{
+    match by {
+        Source::File(by) if !is_absolute(name.as_bytes()) => path_beside(alloc, by.as_str(), name),
+        _ => String::from_str(alloc, name),
+    }
+}
+
+/// Whether the file of an index was opened by this path.
+fn has_path(files: &[File], index: usize, path: &str) -> bool
+    ensures { result ≡ has_path path.now (slice_get (map file_of files.now) index) }
+{
+    match files.get(index) {
+        Some(file) => is_path(&file.source, path),
+        None => false,
+    }
+}
+
+/// Whether a source is opened by this path.
+fn is_path(source: &Source, path: &str) -> bool
+    ensures { result ≡ is_path path.now (path_of source.now) }
+{
     match source {
-        Source::File(file) => file.as_str() == name,
+        Source::File(file) => file.as_str().as_bytes() == path.as_bytes(),
         Source::Input => false,
     }
 }
 
+/// Whether a file that is being read was opened by this path.
+fn is_open(whole: &Whole, path: &str) -> bool
+    ensures { result ≡ is_open (config_of whole.now) path.now }
+{
+    let files = whole.files.as_slice();
+    whole
+        .open
+        .as_slice()
+        .iter()
+        .any(|index| has_path(files, *index, path))
+}
+
 /// The files that a text includes.
-fn included_in<'a>(alloc: Global, text: &'a [u8]) -> Result<Vec<Include<'a>>, AllocError> {
+fn included_in<'a>(alloc: Global, text: &'a [u8]) -> Result<Vec<Include<'a>>, AllocError>
+    ensures { IfOk result (λ found. Includes text.now (map view_of_include found.items)) }
+{
     let cut = cut_words(alloc, text)?;
     find_includes(alloc, cut.words.as_slice())
 }
@@ -204,17 +254,19 @@ enum Inclusion {
 }
 
 /// What becomes of a file that is included by the last of those that are being read.
-fn inclusion_of(alloc: Global, whole: &Whole, name: &[u8]) -> Result<Inclusion, AllocError> {
+fn inclusion_of(alloc: Global, whole: &Whole, name: &[u8]) -> Result<Inclusion, AllocError>
+    ensures { IfOk result (IsInclusion (config_of whole.now) name.now) }
+{
     let Ok(name) = str::from_utf8(name) else {
         return Ok(Inclusion::Left("its name is no text"));
     };
-    if name.contains('*') || name.contains('?') || name.contains('[') {
+    if has_pattern_sign(name.as_bytes()) {
         return Ok(Inclusion::Left("include each file by its own name"));
     }
     let Some(by) = last_file(whole) else {
         return Ok(Inclusion::Left("it was not read"));
     };
-    let path = included_name(alloc, &by.source, name)?;
+    let path = included_path(alloc, &by.source, name)?;
     if is_open(whole, path.as_str()) {
         return Ok(Inclusion::Left("the file includes itself"));
     }

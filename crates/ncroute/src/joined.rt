@@ -1,8 +1,8 @@
 //! The script of a router that several sources are, one after another.
 ghost use Rattle.std.specs.Option.{option_map};
-ghost use Rattle.std.specs.Prelude.{◌≡◌, ◌++◌, IfErr, IfOk, OnErr, OnOk};
+ghost use Rattle.std.specs.Prelude.{◌≡◌, ◌++◌, [], ◌∷◌, IfErr, IfOk, OnErr, OnOk};
 ghost use Rattle.filter_commands.specs.Faults.{stream_fault};
-ghost use Rattle.ncroute.specs.Joining.{JoinsAll, JoinsNext, LeavesNext, RunsJoined, RunsTexts, StopsAtSource, StopsJoined, StopsTexts, ended, ends_line};
+ghost use Rattle.ncroute.specs.Joining.{AddsPart, JoinsAll, JoinsNext, LeavesNext, RunsJoined, RunsTexts, StopsAtSource, StopsJoined, StopsTexts, ended, ends_line, lines_of};
 
 use crate::console::Console;
 use crate::ending::FAILED;
@@ -12,6 +12,7 @@ use crate::texts::{Folder, Unread, name_of, read_source, tell_unread};
 use crate::watcher::Part;
 use command_line::{Running, Source};
 use filter_commands::ProgramFault;
+use filter_tools::place_in;
 use line_protocol::INPUT_LIMIT;
 use script_runs::NamedFilter;
 use std::alloc::{AllocError, Global};
@@ -56,9 +57,11 @@ fn add_text(script: &mut Vec<u8>, text: &[u8]) -> Result<(), AllocError>
     script.extend_from_slice(b"\n")
 }
 
-/// The number of lines of a script of which each ends.
-fn count_lines(script: &[u8]) -> u32 {
-    let lines = script.iter().filter(|byte| **byte == b'\n').count();
+/// The number of lines of a script of which each ends: of those before the line that would come next.
+fn count_lines(script: &[u8]) -> u32
+    ensures { result ≡ lines_of script.now }
+{
+    let lines = place_in(script, script.len()).line - 1;
     lines.min(u32::MAX as usize) as u32
 }
 
@@ -72,6 +75,7 @@ fn read_next<'a, F: Folder, R: Read>(
 ) -> Result<(), Unread>
     ensures read { OnOk result (JoinsNext (F.opens files.now) source.now joined.old.text.items joined.new.text.items
         (R.remaining reader.old) (R.remaining reader.new)) }
+    ensures part { OnOk result (AddsPart source.now joined.old.text.items joined.old.parts.items joined.new.parts.items) }
     ensures unread { IfErr result (λ why. LeavesNext (F.opens files.now) source.now why (R.remaining reader.old) (R.remaining reader.new)) }
 {
     let part = Part {
@@ -88,7 +92,8 @@ fn read_next<'a, F: Folder, R: Read>(
 impl<'a> Joined<'a> {
     /// Adds the text of a part.
     fn add(&mut self, part: Part<'a>, text: &[u8]) -> Result<(), AllocError>
-        ensures { OnOk result (self.new.text.items ≡ self.old.text.items ++ ended text.now) }
+        ensures text { OnOk result (self.new.text.items ≡ self.old.text.items ++ ended text.now) }
+        ensures part { OnOk result (self.new.parts.items ≡ self.old.parts.items ++ part.entry ∷ []) }
     {
         self.parts.push(part)?;
         add_text(&mut self.text, text)

@@ -1,4 +1,4 @@
-use Rattle.std.proofs.Common.{arith}
+use Rattle.std.proofs.Common.{arith, sym}
 use Rattle.ncroute.specs.Including.{PutsIncluded}
 use Rattle.ncroute.specs.Places.{view_of}
 use Rattle.ncroute.proofs.Gathered.{all_put, left_out, none_put, not_read, one_more_put, put_there, too_deep}
@@ -11,19 +11,21 @@ push_included-returns-in_default g t c =
 pub push_included-returns-in-Left : goal.push_included-returns-in-Left
 push_included-returns-in-Left g t c =
     left_out (g.F.Folder.opens c.args.files.now) c.args.included.now _ _ _ _ c.leave_out-in-Left.result c.args.depth c.in-Some.depth c.in-Left.why.now
-    (omega arith) c.leave_out-in-Left.ensures
+    (omega arith) (rw c.in-Left.is at c.in_ok-why.ensures) c.leave_out-in-Left.ensures
 
 pub push_included-returns-in-Some-2 : goal.push_included-returns-in-Some-2
 push_included-returns-in-Some-2 g t c =
+    let looks = rw c.in-Read.is at c.in_ok-why.ensures in
     let reads = rw c.in-Some-2.is at c.in_ok-text-in-Read.ensures in
     put_there (g.F.Folder.opens c.args.files.now) c.args.included.now _ _ _ _ c.push_source.result c.args.depth c.in-Some.depth c.in-Read.source
-    c.in-Some-2.text.items c.as_slice-text.result.now _ (omega arith) c.as_slice-text.ensures.value reads c.push_source.ensures
+    c.in-Some-2.text.items c.as_slice-text.result.now _ (omega arith) c.as_slice-text.ensures.value looks reads c.push_source.ensures
 
 pub push_included-returns-in-None : goal.push_included-returns-in-None
 push_included-returns-in-None g t c =
+    let looks = rw c.in-Read.is at c.in_ok-why.ensures in
     let skips = rw c.in-None.is at c.in_ok-text-in-Read.ensures in
     not_read (g.F.Folder.opens c.args.files.now) c.args.included.now _ _ _ _ c.leave_out-in-None.result c.args.depth c.in-Some.depth c.in-Read.source _
-    (omega arith) skips c.leave_out-in-None.ensures
+    (omega arith) looks skips c.leave_out-in-None.ensures
 
 pub push_source-loop-one-init : goal.push_source-loop-one-init
 push_source-loop-one-init g t c =
@@ -38,6 +40,7 @@ push_source-loop-one-preserved g t c =
 
 pub push_source-returns : goal.push_source-returns
 push_source-returns g t c =
+    let found = rw (sym c.as_slice-one-items.ensures.value) at c.in_ok-included.ensures in
     all_put (PutsIncluded (g.F.Folder.opens c.args.files.now) c.args.depth) (view_of c.args.source c.args.text.now) c.in_ok-file.file
-    c.loop-one.one-index c.as_slice-one-items.result.now _ _ _ _ _ c.loop-one.done c.in_ok-file.ensures.index (omega arith) c.loop-one.invariant
+    c.loop-one.one-index c.as_slice-one-items.result.now _ _ _ _ _ c.loop-one.done found c.in_ok-file.ensures.index (omega arith) c.loop-one.invariant
     c.in_ok-close_file.ensures
