@@ -11,7 +11,7 @@
 #   save compares `ncroute run --save` with `ncroute run`
 #   lookup times the lookup of an int in sets of 3 to 1,024 ranges, and the match of a prefix in sets of 12 to 1,024 patterns
 #   diff times `ncroute diff` and `ncroute lint` on lists of 290 and 1,024 patterns
-#   names counts instructions of scripts with names that collide in a hash table, beside other names
+#   names counts instructions of scripts with names that would collide in a table by std's hash, beside other names
 #   NCROUTE=PATH       a proved `ncroute` that is built already: then none is built here
 #   BENCH_PARTS=PATH   the same for `bench_parts`
 #   ROUNDS=N           how often each program is run on each input (7)
