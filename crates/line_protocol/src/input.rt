@@ -24,7 +24,10 @@ pub fn read_input<R: Read>(
     let mut input = Vec::new(alloc);
     let mut count = 0;
     while count <= limit {
-        let n = read_block(reader, &mut input, count, BLOCK.min(limit + 1 - count))?;
+        // Room that is left is used before the buffer grows.
+        let room = input.len() - count;
+        let most = if room > 0 { room } else { BLOCK };
+        let n = read_block(reader, &mut input, count, most.min(limit + 1 - count))?;
         if n == 0 {
             break;
         }

@@ -2,7 +2,7 @@
 
 ghost use Rattle.std.specs.Prelude.{◌≡◌, ℕ, ◌+◌, ◌<◌, ◌≤◌, ◌++◌, List, IfOk, OnOk, get_or, length};
 ghost use Rattle.prefix_patterns.specs.Matching.{PrefixPattern, matches_any};
-ghost use Rattle.prefix_patterns.specs.Trees.{HasEmptyFirst, in_bucket, short_bucket};
+ghost use Rattle.prefix_patterns.specs.Trees.{HasEmptyFirst, IsUnion, StandsFor, in_bucket, short_bucket, tree_levels};
 ghost use Rattle.prefix_patterns.specs.Index.{AreJoined, HasChains, IsIndexOf, ShortStandsFor};
 ghost use Rattle.prefix_patterns.specs.declared.leaf.Leaf.{Leaf as LeafView};
 ghost use Rattle.prefix_patterns.specs.declared.lengths.Lengths.{Lengths as LengthsView};
@@ -97,6 +97,35 @@ fn grow_short(
     Ok(Some(subtree))
 }
 
+/// Makes the tree of a bucket, and finds the lengths that its patterns allow. Most buckets of a set are empty.
+#[inline(always)]
+fn grow_bucket(
+    nodes: &mut Vec<Node>,
+    leaves: &mut Vec<Leaf>,
+    part: &mut Vec<Pattern>,
+    patterns: &[Pattern],
+    chains: &Chains,
+    bucket: usize,
+) -> Result<(Subtree, Lengths), AllocError>
+    requires chains { HasChains patterns.now chains.now }
+    requires bucket { bucket < short_bucket }
+    requires first { HasEmptyFirst leaves.old.items }
+    ensures nodes { OnOk result ((more : List NodeView) × (nodes.new.items ≡ nodes.old.items ++ more)) }
+    ensures leaves { OnOk result ((more : List LeafView) × (leaves.new.items ≡ leaves.old.items ++ more)) }
+    ensures stands { IfOk result (λ grown. (levels : ℕ) → levels + 8 ≡ tree_levels →
+        StandsFor levels nodes.new.items leaves.new.items 8 grown.0 (in_bucket bucket patterns.now)) }
+    ensures allowed { IfOk result (λ grown. IsUnion grown.1 (in_bucket bucket patterns.now)) }
+{
+    if chains.heads[bucket] == 0 {
+        return Ok((Subtree::Few(0), Lengths::none()));
+    }
+    part.clear();
+    push_bucket(part, patterns, chains, bucket)?;
+    let allowed = lengths_of(part.as_slice(), BUCKET_BITS).1;
+    let subtree = grow(nodes, leaves, part, 0, BUCKET_BITS)?;
+    Ok((subtree, allowed))
+}
+
 /// The index of a set of patterns.
 #[derive(Drop)]
 pub(crate) struct PatternIndex {
@@ -123,10 +152,15 @@ impl PatternIndex {
         let mut subtrees = Vec::with_capacity(alloc, SHORT_BUCKET)?;
         let mut lengths = vec![in alloc; Lengths::none(); 2 * SHORT_BUCKET]?;
         for bucket in 0..SHORT_BUCKET {
-            part.clear();
-            push_bucket(&mut part, patterns, &chains, bucket)?;
-            lengths[SHORT_BUCKET + bucket] = lengths_of(part.as_slice(), BUCKET_BITS).1;
-            let subtree = grow(&mut nodes, &mut leaves, &mut part, 0, BUCKET_BITS)?;
+            let (subtree, allowed) = grow_bucket(
+                &mut nodes,
+                &mut leaves,
+                &mut part,
+                patterns,
+                &chains,
+                bucket,
+            )?;
+            lengths[SHORT_BUCKET + bucket] = allowed;
             subtrees.push(subtree)?;
         }
         join(lengths.as_mut_slice());

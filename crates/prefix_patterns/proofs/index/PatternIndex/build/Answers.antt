@@ -57,22 +57,20 @@ loop-bucket-preserved c =
     let count = c.loop-bucket.bucket in
     let patterns = c.args.patterns.now in
     let few : count < 256 = c.loop-bucket-test.true in
-    let part : c.push_bucket.new.part.items ≡ in_bucket count patterns =
-    c.in_ok-push_bucket.ensures ∙ ap (λ xs. xs ++ in_bucket count patterns) c.clear.ensures.items in
-    let (more, longer) = c.in_ok-subtree.ensures.nodes in
-    let (others, wider) = c.in_ok-subtree.ensures.leaves in
-    let stands = rw part at (c.in_ok-subtree.ensures.stands 25 refl) in
-    let union = subst (IsUnion c.lengths_of.result.1) (c.as_slice.ensures.value ∙ part) c.lengths_of.ensures.below in
+    let grown = c.in_ok-subtree.ensures in
+    let (more, longer) = grown.nodes in
+    let (others, wider) = grown.leaves in
+    let subtree = c.in_ok-subtree.subtree in
+    let allowed = c.in_ok-subtree.allowed in
     record {
-      first = empty_first_longer c.loop-bucket.leaves.items c.grow.new.leaves.items others wider inv.first;
-      subtrees = ap length c.in_ok-push.ensures.items ∙ length-append c.loop-bucket.subtrees.items (c.in_ok-subtree.subtree ∷ [])
+      first = empty_first_longer c.loop-bucket.leaves.items c.grow_bucket.new.leaves.items others wider inv.first;
+      subtrees = ap length c.in_ok-push.ensures.items ∙ length-append c.loop-bucket.subtrees.items (subtree ∷ [])
           ∙ ap (λ n. n + 1) inv.subtrees;
-      lengths = length-set c.loop-bucket.lengths.items (256 + count) c.lengths_of.result.1 ∙ inv.lengths;
-      long = one_more_subtree c.loop-bucket.nodes.items c.grow.new.nodes.items more c.loop-bucket.leaves.items c.grow.new.leaves.items
-          others patterns
-          c.loop-bucket.subtrees.items c.push.new.self.items c.in_ok-subtree.subtree count longer wider c.in_ok-push.ensures.items
-          inv.subtrees stands inv.long;
-      allowed = one_more_lengths c.loop-bucket.lengths.items c.lengths_of.result.1 patterns count inv.lengths few union inv.allowed;
+      lengths = length-set c.loop-bucket.lengths.items (256 + count) allowed ∙ inv.lengths;
+      long = one_more_subtree c.loop-bucket.nodes.items c.grow_bucket.new.nodes.items more c.loop-bucket.leaves.items
+          c.grow_bucket.new.leaves.items others patterns c.loop-bucket.subtrees.items c.push.new.self.items subtree count longer wider
+          c.in_ok-push.ensures.items inv.subtrees (grown.stands 25 refl) inv.long;
+      allowed = one_more_lengths c.loop-bucket.lengths.items allowed patterns count inv.lengths few grown.allowed inv.allowed;
     }
 
 -- a whole list that was written back
@@ -88,8 +86,8 @@ returns c =
     let back = written_back c.loop-bucket.lengths.items joined c.loop-bucket.lengths.len count in
     let patterns = c.args.patterns.now in
     let all : c.loop-bucket.bucket ≡ 256 = omega arith in
-    let part : c.push_bucket-2.new.part.items ≡ in_bucket 256 patterns =
-    c.in_ok-push_bucket-2.ensures ∙ ap (λ xs. xs ++ in_bucket 256 patterns) c.clear-2.ensures.items in
+    let part : c.push_bucket.new.part.items ≡ in_bucket 256 patterns =
+    c.in_ok-push_bucket.ensures ∙ ap (λ xs. xs ++ in_bucket 256 patterns) c.clear.ensures.items in
     let (more, longer) = c.in_ok-short.ensures.nodes in
     let (others, wider) = c.in_ok-short.ensures.leaves in
     record {
