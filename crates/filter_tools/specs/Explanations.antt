@@ -13,9 +13,13 @@ use Rattle.filter_tools.specs.Shown.{indent_of, shown, shown_characters}
 abbrev pub position : ℕ → ℕ → List ℕ
 position line column = 58 ∷ [] ++ decimal line ++ 58 ∷ [] ++ decimal column
 
--- words and a code, to the end of the line
+-- words, and a code behind them
+abbrev pub coded : List ℕ → List ℕ → List ℕ
+coded words code = words ++ codes " (" ++ code ++ 41 ∷ []
+
+-- the same behind a place, to the end of the line
 abbrev pub message : List ℕ → List ℕ → List ℕ
-message words code = codes ": " ++ words ++ codes " (" ++ code ++ 41 ∷ (10 ∷ [])
+message words code = codes ": " ++ coded words code ++ 10 ∷ []
 
 -- of a long line at most so many characters are shown at each side of the place, three of which are then dots
 abbrev pub side : ℕ
@@ -58,6 +62,10 @@ told_at name number text words code (Some at) =
 -- the same of a refusal
 abbrev pub explanation : List ℕ → Option ℕ → List ℕ → List ℕ → Refusal → Option ℕ → List ℕ
 explanation name number text words why byte = told_at name number text words (refusal_code why) byte
+
+-- what people are told of a refusal where no place is told: words that end with the range which is told, and its code
+abbrev pub AreRefusalWords : Diagnosis → List ℕ → Type 0
+AreRefusalWords told out = (words : List ℕ) × EndsInRange told words × (out ≡ coded words (refusal_code told.refusal))
 
 -- what people are told of a refusal of a source: words that end with the range which is told, where the refusal is shown
 abbrev pub IsExplanation : List ℕ → List ℕ → Diagnosis → List ℕ → Type 0

@@ -1,8 +1,8 @@
 //! A refusal in words for people, at its line and column where it has one.
 ghost use Rattle.std.specs.Prelude.{◌≡◌, ◌++◌, None, Some, IfOk, OnOk, unwrap_or};
 ghost use Rattle.std.specs.Option.{option_map};
-ghost use Rattle.filter_tools.specs.Explanations.{IsExplanation, IsLineExplanation, blanks_for, byte_of_line, dots_for, excerpt, excerpt_of, told_at};
-ghost use Rattle.filter_tools.specs.Explanations.{explanation, first_of, last_of, message, number_text, position};
+ghost use Rattle.filter_tools.specs.Explanations.{AreRefusalWords, IsExplanation, IsLineExplanation, blanks_for, byte_of_line, dots_for, excerpt, excerpt_of, told_at};
+ghost use Rattle.filter_tools.specs.Explanations.{coded, explanation, first_of, last_of, message, number_text, position};
 
 use crate::finding::find;
 use crate::place::place_in;
@@ -97,15 +97,23 @@ fn push_excerpt(
     push_excerpt_of(alloc, out, before.as_slice(), behind.as_slice())
 }
 
+/// Puts words, and a code behind them, at the end of `out`.
+fn push_coded(out: &mut Vec<u8>, words: &[u8], code: &str) -> Result<(), AllocError>
+    ensures { OnOk result (out.new.items ≡ out.old.items ++ coded words.now code.now) }
+{
+    out.extend_from_slice(words)?;
+    out.extend_from_slice(b" (")?;
+    out.extend_from_slice(code.as_bytes())?;
+    out.extend_from_slice(b")")
+}
+
 /// Puts words and a code at the end of `out`, to the end of the line.
 fn push_message(out: &mut Vec<u8>, words: &[u8], code: &str) -> Result<(), AllocError>
     ensures { OnOk result (out.new.items ≡ out.old.items ++ message words.now code.now) }
 {
     out.extend_from_slice(b": ")?;
-    out.extend_from_slice(words)?;
-    out.extend_from_slice(b" (")?;
-    out.extend_from_slice(code.as_bytes())?;
-    out.extend_from_slice(b")\n")
+    push_coded(out, words, code)?;
+    out.extend_from_slice(b"\n")
 }
 
 /// Puts the number of a line at the end of `out`, if it is known.
@@ -175,6 +183,16 @@ fn line_in(number: Option<u32>, line: usize) -> usize
         Some(number) => number as usize,
         None => line,
     }
+}
+
+/// Why a source is refused, for people, where its place is told elsewhere: `WORDS (CODE)`.
+pub fn refusal_words(alloc: Global, text: &[u8], told: &Diagnosis) -> Result<Vec<u8>, AllocError>
+    ensures { IfOk result (λ out. AreRefusalWords told.now out.items) }
+{
+    let found = find(alloc, text, told)?;
+    let mut out = Vec::new(alloc);
+    push_coded(&mut out, found.words.as_slice(), told.refusal.code())?;
+    Ok(out)
 }
 
 /// Why a source of this name is refused, for people: `NAME: WORDS (CODE)`. Where the refusal has a place in a filter's text, its line

@@ -20,7 +20,7 @@ mod spelling;
 mod told_routes;
 mod words;
 
-pub use explanation::{explain, explain_line, push_position, tell_at};
+pub use explanation::{explain, explain_line, push_position, refusal_words, tell_at};
 pub use filter::{Filtered, PlacedCode, ROUTES_LIMIT, placed_code, verified_filter, write_refusal};
 pub use laws::shown_is_harmless;
 pub use listing::write_listing;
