@@ -1,6 +1,6 @@
 -- What becomes of an item.
-use Rattle.std.proofs.Common.{◌≡◌, ℕ, ◌<◌, ◌≤◌, ◌⊎◌, List, length, subst, sym, inl, inr, arith}
-use Rattle.bird_import.specs.Judged.{AreJudged, AreRefused, AreTaken, Begins, ComesOf, HasReason, IsFilter, IsJudged}
+use Rattle.std.proofs.Common.{ℕ, ◌<◌, ◌≤◌, ◌⊎◌, List, length, inl, inr, arith}
+use Rattle.bird_import.specs.Judged.{AreJudged, Begins, IsFilter, IsJudged}
 use Rattle.bird_import.specs.Reasons.{HaveValues, LacksValue, OpensBlock}
 use Rattle.bird_import.specs.declared.config.Config.{Config}
 use Rattle.bird_import.specs.declared.drafts.Outcome.{Outcome}

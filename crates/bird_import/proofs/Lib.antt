@@ -1,10 +1,15 @@
+mod Balanced
 mod Below
 mod Cutting
 mod Ends
+mod Following
 mod Halted
 mod Including
+mod ItemRows
 mod Judged
 mod Once
+mod Listed
+mod Outside
 mod Pairs
 mod Placed
 mod Reached
@@ -13,4 +18,5 @@ mod Spelled
 mod Splits
 mod Stops
 mod Tests
+mod Walked
 mod Words

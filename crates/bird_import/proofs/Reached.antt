@@ -3,8 +3,8 @@ use Rattle.std.proofs.Common.{Option, subst, sym, ◌≡◌, ℕ, suc, ◌+◌, 
 use Rattle.std.specs.Prelude.{IfOk, IfSome, Result, Ok, Err, slice_get}
 use Rattle.bird_import.specs.Drafts.{IsCallee, IsNext, words_of}
 use Rattle.bird_import.specs.Functions.{IsCallOf}
-use Rattle.bird_import.specs.Judged.{AreRefused, AreTaken, Begins, ComesOf, HasDraft, HasReason, HaveDrafts, IsFilter, IsJudged}
-use Rattle.bird_import.specs.Steps.{Becomes, BecomesWithin, BySteps, IsCallWritten, IsPart, Reaches, Replaces, Writes}
+use Rattle.bird_import.specs.Judged.{HasDraft, HaveDrafts}
+use Rattle.bird_import.specs.Steps.{Becomes, BecomesWithin, IsCallWritten, IsPart, Reaches, Replaces, Writes}
 use Rattle.bird_import.specs.declared.config.Config.{Config}
 use Rattle.bird_import.specs.declared.drafts.Draft.{Draft}
 use Rattle.bird_import.specs.declared.drafts.Next.{Next}

@@ -1,11 +1,26 @@
 -- Tokens that are words, one by one.
-use Rattle.std.proofs.Common.{◌≡◌, ℕ, ◌+◌, ◌<◌, ◌⊎◌, List, length, subst, sym, inl, inr, arith}
-use Rattle.std.proofs.lemmas.Option.{slice_get_within}
+use Rattle.std.proofs.Common.{◌≡◌, ◌≢◌, IfOk, Result, Ok, Err, false, true, ℕ, zero, suc, ◌+◌, ◌<◌, ◌≤◌, ◌⊎◌, List, [], ◌∷◌, Some, length, get_or, slice_get, ap, ◌∙◌, refl, subst, sym, inl, inr, arith}
+use Rattle.std.proofs.lemmas.Option.{slice_get-get_or, slice_get_read, slice_get_within}
 use Rattle.filter_parser.specs.SyntaxText.{FilterView, IsText}
+use Rattle.filter_tokens.specs.Tokenization.{AreInOrder}
 use Rattle.filter_tokens.specs.declared.token.Token.{Token}
 use Rattle.bird_import.specs.Alike.{AreAlike}
-use Rattle.bird_import.specs.Spelling.{IsSpelled, IsSpelledAt, IsWritten}
+use Rattle.bird_import.specs.Spelling.{IsSpelled, IsWritten, LiesIn}
+use Rattle.bird_import.specs.Texts.{Fated}
+use Rattle.bird_import.specs.declared.text.Fate.{Fate}
+use Rattle.bird_import.specs.declared.text.Fate.TheVariants as fates
 use Rattle.bird_import.specs.declared.word.Word.{Word}
+use Rattle.expression_parser.specs.declared.fault.ParseFault.{ParseFault}
+use Rattle.expression_parser.specs.declared.fault.ParseFault.TheVariants as faults
+
+-- what failed did not hold
+pub false_not_true : false ≡ true → ⊥
+false_not_true is = cc
+
+-- the token at an index is the word at that index
+abbrev pub IsSpelledAt : List ℕ → List Token → List Word → ℕ → Type 0
+IsSpelledAt text tokens words k =
+    (token : Token) (word : Word) → slice_get tokens k ≡ Some token → slice_get words k ≡ Some word → IsSpelled text token word
 
 -- below the next number is below a number, or at it
 below_or_at : (k n : ℕ) → k < n + 1 → (k < n) ⊎ (k ≡ n)
@@ -26,7 +41,45 @@ pub all_spelled : (text : List ℕ) (tokens : List Token) (words : List Word) (n
 all_spelled text tokens words n same ends before =
     (same, λ k token word is at. before k (ends k (slice_get_within tokens k token is)) token word is at)
 
--- so a filter is written for its words
+-- the token and the word that were read at an index
+module _ (text : List ℕ) (tokens : List Token) (words : List Word) (k : ℕ) (token : Token) (none : Word) (low : k < length tokens)
+    (is : token ≡ get_or tokens k token) (below : k < length words) where
+  there : slice_get tokens k ≡ Some token
+  there = slice_get_read tokens (length tokens) k token refl low is
+
+  beside : slice_get words k ≡ Some (get_or words k none)
+  beside = slice_get-get_or words k none below
+
+  pub spelled_at : IsSpelled text token (get_or words k none) → IsSpelledAt text tokens words k
+  spelled_at spelled = λ other word at is_word.
+      let at_token : slice_get tokens k ≡ Some other = at in
+      let at_word : slice_get words k ≡ Some word = is_word in
+      let found : slice_get tokens k ≡ Some token = there in
+      let found_word : slice_get words k ≡ Some (get_or words k none) = beside in
+      let same : token ≡ other = cc in
+      let alike : get_or words k none ≡ word = cc in
+      subst (λ t. IsSpelled text t word) same (subst (λ w. IsSpelled text token w) alike spelled)
+
+  pub not_alike : (IsSpelled text token (get_or words k none) → ⊥) → AreAlike (IsSpelled text) tokens words → ⊥
+  not_alike other alike = other (alike.1 k token (get_or words k none) there beside)
+
+-- tokens in order end where they may
+ends : (from to : ℕ) (tokens : List Token) → AreInOrder from tokens to → from ≤ to
+ends from to [] order = order
+ends from to (token ∷ tokens) (low, some, rest) =
+    let behind = ends token.to to tokens rest in
+    omega (arith, low, some, behind)
+
+-- each of them lies in the text
+pub lies_in : (from to k : ℕ) (tokens : List Token) (token : Token) → AreInOrder from tokens to → slice_get tokens k ≡ Some token → LiesIn to token
+lies_in from to k [] token order is = absurd (let inside = slice_get_within [] k token is in omega (arith, inside))
+lies_in from to zero (first ∷ tokens) token (low, some, rest) is =
+    let behind = ends first.to to tokens rest in
+    let same : first ≡ token = cc in
+    subst (λ (t : Token). LiesIn to t) same (record { order = omega (arith, some); within = behind })
+lies_in from to (suc k) (first ∷ tokens) token (low, some, rest) is = lies_in first.to to k tokens token rest is
+
+-- a filter is written for its words
 pub written : (text : List ℕ) (words : List Word) (filter : FilterView) (tokens : List Token) → IsText text filter → tokens ≡ filter.tokens
     → AreAlike (IsSpelled text) tokens words → IsWritten words text
 written text words filter tokens spells same alike = record {
@@ -34,3 +87,17 @@ written text words filter tokens spells same alike = record {
   spells = spells;
   same = subst (λ list. AreAlike (IsSpelled text) list words) same alike;
 }
+
+-- and one whose tokens are others is not
+pub not_written : (text : List ℕ) (words : List Word) (filter : FilterView) (tokens : List Token)
+    → ((other : FilterView) → IsText text other → other ≡ filter) → tokens ≡ filter.tokens
+    → (AreAlike (IsSpelled text) tokens words → ⊥) → IsWritten words text → ⊥
+not_written text words filter tokens only same other is =
+    other (subst (λ list. AreAlike (IsSpelled text) list words) (ap (λ (f : FilterView). f.tokens) (only is.filter is.spells) ∙ sym same) is.same)
+
+-- and a text that the parser refuses, if not for want of memory, spells none
+pub of_fault : {E : Type 0} (words : List Word) (text : List ℕ) (fault : ParseFault) (r : Result Fate E)
+    → IfOk r (λ fate. (fate ≡ fates.Refused fault) × (fault ≢ faults.Memory)) → (fault ≢ faults.Memory → (t : FilterView) → IsText text t → ⊥)
+    → IfOk r (Fated words text)
+of_fault words text fault (Ok fate) (same, other) none = subst (λ (f : Fate). Fated words text f) (sym same) (none other)
+of_fault words text fault (Err e) is none = tt

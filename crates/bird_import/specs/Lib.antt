@@ -10,6 +10,7 @@ pub mod Drafts
 pub mod Texts
 pub mod Cutting
 pub mod Including
+pub mod Items
 pub mod Indices
 pub mod Reasons
 pub mod Stuck

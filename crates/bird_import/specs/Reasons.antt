@@ -1,17 +1,12 @@
 -- Why a filter is left out.
-use Rattle.std.specs.Prelude.{◌≡◌, ◌≢◌, ◌⊎◌, ℕ, zero, suc, ◌+◌, ◌-◌, ◌<◌, ◌≤◌, Bool, true, false, List, Option, Some, None, IfSome, Result, Ok, Err, codes, length, slice_get, ⊤}
-use Rattle.filter_tokens.specs.declared.symbol.Symbol.{Symbol}
+use Rattle.std.specs.Prelude.{◌≡◌, ◌≢◌, ◌⊎◌, ℕ, ◌+◌, ◌-◌, ◌<◌, ◌≤◌, true, List, Option, Some, None, Result, Ok, Err, codes, length, slice_get, ⊤}
 use Rattle.filter_tokens.specs.declared.symbol.Symbol.TheVariants as symbol
-use Rattle.bird_import.specs.Drafts.{words_of}
 use Rattle.bird_import.specs.Indices.{IsAt, IsBehind, IsForeignAt, IsNameAt, IsNamedAt, kind_at, bytes_at}
-use Rattle.bird_import.specs.Rules.{IsNamed, ends_command, is_kind}
-use Rattle.bird_import.specs.Steps.{Becomes, BecomesWithin, Reaches}
-use Rattle.bird_import.specs.declared.config.Config.{Config}
+use Rattle.bird_import.specs.Rules.{is_kind}
 use Rattle.bird_import.specs.declared.drafts.Next.{Next}
 use Rattle.bird_import.specs.declared.drafts.Next.TheVariants as next
 use Rattle.bird_import.specs.declared.drafts.Outcome.{Outcome}
 use Rattle.bird_import.specs.declared.drafts.Outcome.TheVariants as outcome
-use Rattle.bird_import.specs.declared.items.Definition.{Definition}
 use Rattle.bird_import.specs.declared.items.Item.{Item}
 use Rattle.bird_import.specs.declared.items.ItemKind.TheVariants as item
 use Rattle.bird_import.specs.declared.reason.Reason.{Reason}

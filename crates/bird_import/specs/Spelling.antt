@@ -1,5 +1,5 @@
 -- What words of a configuration are, and which text is written for them.
-use Rattle.std.specs.Prelude.{◌≡◌, ℕ, List, Some, slice_get}
+use Rattle.std.specs.Prelude.{◌≡◌, ◌≤◌, ℕ, List}
 use Rattle.bird_import.specs.Alike.{AreAlike}
 use Rattle.filter_parser.specs.SyntaxText.{FilterView, IsText}
 use Rattle.filter_tokens.specs.Lexemes.{covered}
@@ -19,6 +19,11 @@ kind_of (token.Prefix bits) = kind.Prefix
 kind_of token.Text = kind.Text
 kind_of (token.Symbol symbol) = kind.Symbol symbol
 
+-- a token lies in a text of so many bytes
+pub record LiesIn (length : ℕ) (token : Token) : Type 0 where
+  pub order : token.from ≤ token.to
+  pub within : token.to ≤ length
+
 -- a token of a text is a word: it is of the word's kind, and has its bytes
 pub record IsSpelled (text : List ℕ) (token : Token) (word : Word) : Type 0 where
   pub alike : word.kind ≡ kind_of token.kind
@@ -29,8 +34,3 @@ pub record IsWritten (words : List Word) (text : List ℕ) : Type 0 where
   pub filter : FilterView
   pub spells : IsText text filter
   pub same : AreAlike (IsSpelled text) filter.tokens words
-
--- the token at an index is the word at that index
-abbrev pub IsSpelledAt : List ℕ → List Token → List Word → ℕ → Type 0
-IsSpelledAt text tokens words k =
-    (token : Token) (word : Word) → slice_get tokens k ≡ Some token → slice_get words k ≡ Some word → IsSpelled text token word

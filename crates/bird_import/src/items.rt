@@ -1,10 +1,14 @@
 //! What a configuration consists of: its filters, functions and definitions.
-ghost use Rattle.std.specs.Prelude.{◌≡◌, ◌↔◌, ◌<◌, ◌≤◌, ℕ, IfSome, IsTrue, None, length};
+ghost use Rattle.std.specs.Option.{option_copied, option_map};
+ghost use Rattle.std.specs.Prelude.{◌≡◌, ◌↔◌, ◌+◌, ◌-◌, ◌^◌, ◌<◌, ◌≤◌, ◌++◌, [], ◌∷◌, ℕ, AllPairs, Contains, IfOk, IfSome, IsTrue, None, OnOk, length, map, take};
+ghost use Rattle.bird_import.specs.Including.{is_foreign as is_foreign_kind};
+ghost use Rattle.bird_import.specs.Indices as indices;
+ghost use Rattle.bird_import.specs.Items as spec;
+ghost use Rattle.bird_import.specs.Items.{AreItemsIn, IsDefinitionIn};
 ghost use Rattle.bird_import.specs.Reasons.{OpensBlock};
+ghost use Rattle.bird_import.specs.declared.items.Definition.{Definition as TheDefinition};
 
-use crate::word::{
-    Word, WordKind, bytes_at, closing, find_outside, is_at, is_foreign_at, is_name_at, kind_at,
-};
+use crate::word::{Word, WordKind, bytes_at, closing, find_outside, is_at, is_symbol, kind_at};
 use filter_tokens::Symbol;
 use std::alloc::{AllocError, Global};
 
@@ -60,6 +64,7 @@ pub fn opens_block(words: &[Word<'_>], at: usize) -> bool
 pub fn first_block(words: &[Word<'_>], from: usize) -> Option<usize>
     ensures some { IfSome result (λ at. OpensBlock words.now at × ((k : ℕ) → from ≤ k → k < at → OpensBlock words.now k → ⊥)) }
     ensures none { result ≡ None → (k : ℕ) → from ≤ k → k < length words.now → OpensBlock words.now k → ⊥ }
+    ensures within { IfSome result (λ at. (from ≤ at) × (at < length words.now)) }
 {
     for at in from..words.len() {
         if opens_block(words, at) {
@@ -69,41 +74,276 @@ pub fn first_block(words: &[Word<'_>], from: usize) -> Option<usize>
     None
 }
 
-/// The index behind the block of an item that begins at an index, if it is closed.
-fn block_end(words: &[Word<'_>], from: usize) -> Option<usize> {
-    let open = first_block(words, from)?;
-    let close = closing(words, open.saturating_add(1))?;
-    Some(close.saturating_add(1))
+/// Whether a word is a name.
+#[tactic(auto, unfolding(crate::specs::Items::is_name))]
+fn is_name(kind: WordKind) -> bool
+    ensures { result ≡ spec.is_name kind }
+{
+    matches!(kind, WordKind::Name)
 }
 
-/// The definitions of a configuration.
-pub fn find_definitions(alloc: Global, words: &[Word<'_>]) -> Result<Vec<Definition>, AllocError> {
-    let mut found = Vec::new(alloc);
-    let mut depth = 0usize;
-    for at in 0..words.len() {
-        let word = words[at];
-        if word.is(Symbol::LeftBrace) {
-            depth = depth.saturating_add(1);
-        } else if word.is(Symbol::RightBrace) {
-            depth = depth.saturating_sub(1);
-        } else if depth == 0 && word.is_foreign(b"define") {
-            if let Some(definition) = definition_at(words, at) {
-                found.push(definition)?;
-            }
-        }
+/// Whether it is a word that only BIRD's configurations have.
+fn is_foreign(kind: WordKind) -> bool
+    ensures { result ≡ is_foreign_kind kind }
+{
+    matches!(kind, WordKind::Foreign)
+}
+
+/// Whether it is one of both.
+#[tactic(auto, unfolding(crate::specs::Items::is_plain_word))]
+fn is_plain_word(kind: WordKind) -> bool
+    ensures { result ≡ spec.is_plain_word kind }
+{
+    matches!(kind, WordKind::Name | WordKind::Foreign)
+}
+
+/// What the word so many words behind an index is, and a byte that begins no word where there is none.
+#[tactic(auto, using(crate::proofs::Outside::kind_past))]
+fn kind_behind(words: &[Word<'_>], at: usize, more: usize) -> WordKind
+    ensures { result ≡ indices.kind_at words.now (at + more) }
+{
+    match at.checked_add(more) {
+        Some(index) => kind_at(words, index),
+        None => WordKind::Strange,
     }
-    Ok(found)
 }
 
-/// The definition that begins at an index.
-fn definition_at(words: &[Word<'_>], at: usize) -> Option<Definition> {
-    let (name, from) = (at.saturating_add(1), at.saturating_add(3));
-    if is_name_at(words, name) && is_at(words, at.saturating_add(2), Symbol::Equal) {
+/// Its bytes, if there is a word.
+#[tactic(auto, using(crate::proofs::Outside::bytes_past))]
+fn bytes_behind<'a>(words: &[Word<'a>], at: usize, more: usize) -> &'a [u8]
+    ensures { result.now ≡ indices.bytes_at words.now (at + more) }
+{
+    match at.checked_add(more) {
+        Some(index) => bytes_at(words, index),
+        None => b"",
+    }
+}
+
+/// The index of the first block from an index on, as the definition says it.
+fn block_from(words: &[Word<'_>], from: usize) -> Option<usize>
+    ensures is { result ≡ spec.block_from words.now from }
+    ensures within { IfSome result (λ at. at < length words.now) }
+{
+    first_block(words, from)
+}
+
+/// The index behind the block of an item that begins at an index, if it is closed.
+#[tactic(auto, unfolding(crate::specs::Items::block_end))]
+fn block_end(words: &[Word<'_>], from: usize) -> Option<usize>
+    ensures { result ≡ spec.block_end words.now from }
+{
+    let open = block_from(words, from)?;
+    let close = closing(words, open + 1)?;
+    Some(close + 1)
+}
+
+/// How many blocks are open behind a word, where so many are before it.
+#[tactic(auto, unfolding(crate::specs::Items::blocks_behind))]
+fn blocks_behind(depth: usize, kind: WordKind) -> usize
+    requires { depth < 2 ^ 64 - 1 }
+    ensures is { result ≡ spec.blocks_behind depth kind }
+    ensures bound { result ≤ depth + 1 }
+{
+    if is_symbol(kind, Symbol::LeftBrace) {
+        depth + 1
+    } else if is_symbol(kind, Symbol::RightBrace) {
+        depth.saturating_sub(1)
+    } else {
+        depth
+    }
+}
+
+/// Whether the word at an index is `define`.
+#[tactic(auto, unfolding(crate::specs::Items::is_define))]
+fn is_define(words: &[Word<'_>], at: usize) -> bool
+    ensures { result ≡ spec.is_define words.now at }
+{
+    is_foreign(kind_at(words, at)) && bytes_at(words, at) == b"define".as_slice()
+}
+
+/// The definition whose first word has an index, if `NAME = VALUE ;` stands behind that.
+#[tactic(auto, unfolding(crate::specs::Items::definition_behind))]
+fn definition_behind(words: &[Word<'_>], at: usize) -> Option<Definition>
+    requires { at < length words.now }
+    ensures { result ≡ spec.definition_behind words.now at }
+{
+    let (name, from) = (at + 1, at + 3);
+    if is_name(kind_at(words, name)) && is_symbol(kind_at(words, at + 2), Symbol::Equal) {
         let to = find_outside(words, from, Symbol::Semicolon)?;
         Some(Definition { name, from, to })
     } else {
         None
     }
+}
+
+/// The definition that begins at an index, where so many blocks are open.
+#[tactic(auto, unfolding(crate::specs::Items::definition_at))]
+fn definition_at(words: &[Word<'_>], depth: usize, at: usize) -> Option<Definition>
+    requires { at < length words.now }
+    ensures { result ≡ spec.definition_at words.now depth at }
+{
+    if depth == 0 && is_define(words, at) {
+        definition_behind(words, at)
+    } else {
+        None
+    }
+}
+
+/// The definitions of a configuration, in order.
+pub fn find_definitions(alloc: Global, words: &[Word<'_>]) -> Result<Vec<Definition>, AllocError>
+    ensures found { IfOk result (λ found. found.items ≡ spec.definitions_in words.now) }
+    ensures each { IfOk result (λ found. (definition : TheDefinition) → Contains found.items definition ↔ IsDefinitionIn words.now definition) }
+    ensures order { IfOk result (λ found. AllPairs (λ one other. one.name < other.name) found.items) }
+{
+    let mut found = Vec::new(alloc);
+    let mut depth = 0usize;
+    for at in 0..words.len() {
+        if let Some(definition) = definition_at(words, depth, at) {
+            found.push(definition)?;
+        }
+        depth = blocks_behind(depth, kind_at(words, at));
+    }
+    Ok(found)
+}
+
+/// Whether the word at an index is this one, a name or a word that only BIRD's configurations have.
+#[tactic(auto, unfolding(crate::specs::Items::is_word_at))]
+fn is_word_at(words: &[Word<'_>], at: usize, word: &[u8]) -> bool
+    ensures { result ≡ spec.is_word_at words.now at word.now }
+{
+    bytes_at(words, at) == word && is_plain_word(kind_at(words, at))
+}
+
+/// Whether a protocol or a template begins at an index.
+#[tactic(auto, unfolding(crate::specs::Items::is_protocol))]
+fn is_protocol(words: &[Word<'_>], head: usize) -> bool
+    ensures { result ≡ spec.is_protocol words.now head }
+{
+    is_word_at(words, head, b"protocol") || is_word_at(words, head, b"template")
+}
+
+/// Whether a word behind the kind of a protocol belongs to it: there are `ospf v2`, `ospf v3` and `rip ng`.
+#[tactic(auto, unfolding(crate::specs::Items::is_variant))]
+fn is_variant(kind: &[u8], word: &[u8]) -> bool
+    ensures { result ≡ spec.is_variant kind.now word.now }
+{
+    (kind == b"ospf".as_slice() && (word == b"v2".as_slice() || word == b"v3".as_slice()))
+        || (kind == b"rip".as_slice() && word == b"ng".as_slice())
+}
+
+/// How many words stand before the name of the protocol that begins at an index.
+#[tactic(auto, unfolding(crate::specs::Items::words_before_name))]
+fn words_before_name(words: &[Word<'_>], head: usize) -> usize
+    ensures { result ≡ spec.words_before_name words.now head }
+{
+    if is_variant(bytes_behind(words, head, 1), bytes_behind(words, head, 2)) {
+        3
+    } else {
+        2
+    }
+}
+
+/// The name of the protocol that begins at an index, if it has one.
+#[tactic(auto, unfolding(crate::specs::Items::name_of_protocol))]
+fn name_of_protocol<'a>(words: &[Word<'a>], head: usize) -> Option<&'a [u8]>
+    ensures { option_copied result ≡ spec.name_of_protocol words.now head }
+{
+    let more = words_before_name(words, head);
+    let name = bytes_behind(words, head, more);
+    if is_name(kind_behind(words, head, more)) && name != b"from".as_slice() {
+        Some(name)
+    } else {
+        None
+    }
+}
+
+/// Whether a protocol without a name begins at an index.
+#[tactic(auto, unfolding(crate::specs::Items::is_nameless))]
+fn is_nameless(words: &[Word<'_>], head: usize) -> bool
+    ensures { result ≡ spec.is_nameless words.now head }
+{
+    match name_of_protocol(words, head) {
+        Some(_) => false,
+        None => is_protocol(words, head),
+    }
+}
+
+/// The last of some indices at which a protocol or a template begins.
+#[tactic(auto, unfolding(crate::specs::Items::owner_among))]
+fn owner_among(words: &[Word<'_>], heads: &[usize]) -> Option<usize>
+    ensures { result ≡ spec.owner_among words.now heads.now }
+{
+    let mut owner = None;
+    for head in heads {
+        if is_protocol(words, *head) {
+            owner = Some(*head);
+        }
+    }
+    owner
+}
+
+/// How many protocols that begin at some indices are of a kind.
+#[tactic(auto, unfolding(crate::specs::Items::count_of_kind))]
+fn count_of_kind(words: &[Word<'_>], heads: &[usize], kind: &[u8]) -> usize
+    ensures { result ≡ spec.count_of_kind words.now heads.now kind.now }
+{
+    let mut number = 0usize;
+    for head in heads {
+        if bytes_behind(words, *head, 1) == kind {
+            number += 1;
+        }
+    }
+    number
+}
+
+/// Whether a channel of IPv6 begins at some index.
+#[tactic(auto, using(std::proofs::lemmas::List::Folds::list_any_at, std::proofs::lemmas::List::Folds::list_any_more), unfolding(crate::specs::Items::have_ipv6))]
+fn have_ipv6(words: &[Word<'_>], heads: &[usize]) -> bool
+    ensures { result ≡ spec.have_ipv6 words.now heads.now }
+{
+    for head in heads {
+        if bytes_at(words, *head).starts_with(b"ipv6") {
+            return true;
+        }
+    }
+    false
+}
+
+/// Puts the last digit of a number at the end of a name.
+fn push_digit(name: &mut Vec<u8>, number: usize) -> Result<(), AllocError>
+    ensures { OnOk result (name.new.items ≡ name.old.items ++ spec.last_digit number ∷ []) }
+{
+    name.push(b'0' + (number % 10) as u8)?;
+    Ok(())
+}
+
+/// Puts a number at the end of a name.
+#[tactic(auto, unfolding(crate::specs::Items::number_text))]
+fn push_number(name: &mut Vec<u8>, number: usize) -> Result<(), AllocError>
+    ensures { OnOk result (name.new.items ≡ name.old.items ++ spec.number_text number) }
+{
+    if number >= 10 {
+        push_digit(name, number / 10)?;
+        push_digit(name, number)
+    } else {
+        push_digit(name, number)
+    }
+}
+
+/// Puts the index at which a protocol without a name begins at the end of some.
+#[tactic(auto, unfolding(crate::specs::Items::with_nameless))]
+fn push_nameless(
+    nameless: &mut Vec<usize>,
+    words: &[Word<'_>],
+    head: usize,
+) -> Result<(), AllocError>
+    ensures { OnOk result (nameless.new.items ≡ spec.with_nameless words.now head nameless.old.items) }
+{
+    if is_nameless(words, head) {
+        nameless.push(head)?;
+        return Ok(());
+    }
+    Ok(())
 }
 
 /// The heads of the blocks round a place of a configuration, from the outermost.
@@ -118,219 +358,307 @@ struct Blocks {
 }
 
 impl Blocks {
+    /// Goes into the block that opens at an index.
+    fn enter(&mut self, words: &[Word<'_>], at: usize) -> Result<(), AllocError>
+        requires { at < length words.now }
+        ensures heads { OnOk result (self.new.heads.items ≡ self.old.heads.items ++ self.old.start ∷ []) }
+        ensures start { OnOk result (self.new.start ≡ at + 1) }
+        ensures nameless { OnOk result (self.new.nameless.items ≡ spec.with_nameless words.now self.old.start self.old.nameless.items) }
+    {
+        push_nameless(&mut self.nameless, words, self.start)?;
+        self.heads.push(self.start)?;
+        self.start = at + 1;
+        Ok(())
+    }
+
+    /// Goes out of the innermost block, whose brace is at an index.
+    fn leave(&mut self, at: usize)
+        requires { at < 2 ^ 64 - 1 }
+        ensures heads { self.new.heads.items ≡ take (length self.old.heads.items - 1) self.old.heads.items }
+        ensures start { self.new.start ≡ at + 1 }
+        ensures nameless { self.new.nameless.items ≡ self.old.nameless.items }
+    {
+        let _ = self.heads.pop();
+        self.start = at + 1;
+    }
+
     /// Goes past the word at an index.
-    fn pass(&mut self, words: &[Word<'_>], at: usize) -> Result<(), AllocError> {
-        let next = at.saturating_add(1);
-        if is_at(words, at, Symbol::LeftBrace) {
-            if is_nameless(words, self.start) {
-                self.nameless.push(self.start)?;
-            }
-            self.heads.push(self.start)?;
-            self.start = next;
-        } else if is_at(words, at, Symbol::RightBrace) {
-            let _ = self.heads.pop();
-            self.start = next;
-        } else if is_at(words, at, Symbol::Semicolon) {
-            self.start = next;
+    #[tactic(auto, unfolding(crate::specs::Items::blocks_past))]
+    fn pass(&mut self, words: &[Word<'_>], at: usize) -> Result<(), AllocError>
+        requires { at < length words.now }
+        ensures { OnOk result (spec.view_of_blocks self.new ≡ spec.blocks_past words.now at (spec.view_of_blocks self.old)) }
+    {
+        let kind = kind_at(words, at);
+        if is_symbol(kind, Symbol::LeftBrace) {
+            return self.enter(words, at);
+        }
+        if is_symbol(kind, Symbol::RightBrace) {
+            self.leave(at);
+            return Ok(());
+        }
+        if is_symbol(kind, Symbol::Semicolon) {
+            self.start = at + 1;
+            return Ok(());
         }
         Ok(())
     }
 
-    /// The innermost protocol or template round the place.
-    fn owner(&self, words: &[Word<'_>]) -> Option<usize> {
-        let mut owner = None;
-        for head in self.heads.iter() {
-            if is_protocol(words, *head) {
-                owner = Some(*head);
-            }
-        }
-        owner
-    }
-
-    /// The number that BIRD puts behind the kind of a protocol without a name: how many of its kind have begun.
-    fn number_of(&self, words: &[Word<'_>], owner: usize) -> usize {
-        let kind = bytes_at(words, owner.saturating_add(1));
-        let mut number = 0usize;
-        for head in self.nameless.as_slice() {
-            if bytes_at(words, head.saturating_add(1)) == kind {
-                number = number.saturating_add(1);
-            }
-        }
-        number
-    }
-
-    /// Whether a block round the place is a channel of IPv6.
-    fn is_ipv6(&self, words: &[Word<'_>]) -> bool {
-        for head in self.heads.as_slice() {
-            if bytes_at(words, *head).starts_with(b"ipv6") {
-                return true;
-            }
-        }
-        false
-    }
-}
-
-/// Whether a protocol or a template begins at an index.
-fn is_protocol(words: &[Word<'_>], head: usize) -> bool {
-    is_word_at(words, head, b"protocol") || is_word_at(words, head, b"template")
-}
-
-/// Whether the word at an index is this one, a name or a word of BIRD's.
-fn is_word_at(words: &[Word<'_>], at: usize, word: &[u8]) -> bool {
-    bytes_at(words, at) == word && matches!(kind_at(words, at), WordKind::Name | WordKind::Foreign)
-}
-
-/// Whether a word behind the kind of a protocol belongs to it: there are `ospf v2`, `ospf v3` and `rip ng`.
-fn is_variant(kind: &[u8], word: &[u8]) -> bool {
-    match kind {
-        b"ospf" => matches!(word, b"v2" | b"v3"),
-        b"rip" => matches!(word, b"ng"),
-        _ => false,
-    }
-}
-
-/// The index of the name of the protocol that begins at an index, if it has one.
-fn name_of_protocol(words: &[Word<'_>], head: usize) -> Option<usize> {
-    let (kind, second) = (head.saturating_add(1), head.saturating_add(2));
-    let is_longer = is_variant(bytes_at(words, kind), bytes_at(words, second));
-    let at = head.saturating_add(if is_longer { 3 } else { 2 });
-    if is_name_at(words, at) && !matches!(bytes_at(words, at), b"from") {
-        Some(at)
-    } else {
-        None
-    }
-}
-
-/// Whether a protocol without a name begins at an index.
-fn is_nameless(words: &[Word<'_>], head: usize) -> bool {
-    is_protocol(words, head) && name_of_protocol(words, head).is_none()
-}
-
-/// Puts a number at the end of a name.
-fn push_number(name: &mut Vec<u8>, number: usize) -> Result<(), AllocError> {
-    if number >= 10 {
-        name.push(b'0' + (number / 10 % 10) as u8)?;
-    }
-    name.push(b'0' + (number % 10) as u8)?;
-    Ok(())
-}
-
-/// The name of what a protocol imports or exports by: the protocol's, and the direction.
-fn name_of_owner(
-    alloc: Global,
-    words: &[Word<'_>],
-    blocks: &Blocks,
-    direction: &[u8],
-) -> Result<Vec<u8>, AllocError> {
-    let mut name = Vec::new(alloc);
-    if let Some(owner) = blocks.owner(words) {
+    /// The name of the protocol or template that begins at an index, or its kind and the number that BIRD puts behind it: how many of its
+    /// kind have begun without a name.
+    #[tactic(auto, unfolding(crate::specs::Items::name_of_owner))]
+    fn name_of_owner(
+        &self,
+        alloc: Global,
+        words: &[Word<'_>],
+        owner: usize,
+    ) -> Result<Vec<u8>, AllocError>
+        ensures { IfOk result (λ name. name.items ≡ spec.name_of_owner words.now self.now.nameless.items owner) }
+    {
         if let Some(own) = name_of_protocol(words, owner) {
-            name.extend_from_slice(bytes_at(words, own))?;
-        } else {
-            name.extend_from_slice(bytes_at(words, owner.saturating_add(1)))?;
-            push_number(&mut name, blocks.number_of(words, owner))?;
+            return Vec::from_slice(alloc, own);
         }
-        name.push(b'_')?;
+        let kind = bytes_behind(words, owner, 1);
+        let mut name = Vec::from_slice(alloc, kind)?;
+        push_number(
+            &mut name,
+            count_of_kind(words, self.nameless.as_slice(), kind),
+        )?;
+        Ok(name)
     }
-    name.extend_from_slice(direction)?;
-    Ok(name)
+
+    /// The name of what a protocol imports or exports by: the innermost protocol's or template's, and the direction.
+    #[tactic(auto, unfolding(crate::specs::Items::directed_name))]
+    fn directed_name(
+        &self,
+        alloc: Global,
+        words: &[Word<'_>],
+        direction: &[u8],
+    ) -> Result<Vec<u8>, AllocError>
+        ensures { IfOk result (λ name. name.items ≡ spec.directed_name words.now (spec.view_of_blocks self.now) direction.now) }
+    {
+        let Some(owner) = owner_among(words, self.heads.as_slice()) else {
+            return Vec::from_slice(alloc, direction);
+        };
+        let mut name = self.name_of_owner(alloc, words, owner)?;
+        name.push(b'_')?;
+        name.extend_from_slice(direction)?;
+        Ok(name)
+    }
+}
+
+/// Whether a name is at an index. One in quotes is none of this language: its filter is left out, and not overlooked.
+#[tactic(auto, unfolding(crate::specs::Items::is_any_name))]
+fn is_any_name(words: &[Word<'_>], at: usize) -> bool
+    ensures { result ≡ spec.is_any_name words.now at }
+{
+    is_name(kind_at(words, at)) || bytes_at(words, at).starts_with(b"'")
+}
+
+/// Whether the word at an index is `function`.
+#[tactic(auto, unfolding(crate::specs::Items::is_function))]
+fn is_function(words: &[Word<'_>], at: usize) -> bool
+    ensures { result ≡ spec.is_function words.now at }
+{
+    is_foreign(kind_at(words, at)) && bytes_at(words, at) == b"function".as_slice()
 }
 
 /// The kind of the item with a name that begins at an index of the outermost level, if one does.
-fn named_kind(words: &[Word<'_>], at: usize) -> Option<ItemKind> {
-    let name = at.saturating_add(1);
-    // A name in quotes is none of this language: its filter is left out, and not overlooked.
-    if !(is_name_at(words, name) || bytes_at(words, name).starts_with(b"'")) {
+#[tactic(auto, unfolding(crate::specs::Items::named_kind))]
+fn named_kind(words: &[Word<'_>], at: usize) -> Option<ItemKind>
+    requires { at < length words.now }
+    ensures { result ≡ spec.named_kind words.now at }
+{
+    if !is_any_name(words, at + 1) {
         None
-    } else if is_at(words, at, Symbol::Filter) {
+    } else if is_symbol(kind_at(words, at), Symbol::Filter) {
         Some(ItemKind::Filter)
-    } else if is_foreign_at(words, at, b"function") {
+    } else if is_function(words, at) {
         Some(ItemKind::Function)
     } else {
         None
     }
 }
 
+/// Whether the word at an index is `import` or `export`.
+#[tactic(auto, unfolding(crate::specs::Items::is_direction))]
+fn is_direction(words: &[Word<'_>], at: usize) -> bool
+    ensures { result ≡ spec.is_direction words.now at }
+{
+    is_word_at(words, at, b"import") || is_word_at(words, at, b"export")
+}
+
+/// Whether a filter without a name begins at an index.
+#[tactic(auto, unfolding(crate::specs::Items::is_anonymous))]
+fn is_anonymous(words: &[Word<'_>], at: usize) -> bool
+    ensures { result ≡ spec.is_anonymous words.now at }
+{
+    is_symbol(kind_at(words, at), Symbol::Filter) && !is_name(kind_behind(words, at, 1))
+}
+
 /// The kind of the item that stands behind the `import` or `export` at an index of a protocol, if one does.
-fn direction_kind(words: &[Word<'_>], at: usize) -> Option<ItemKind> {
-    let next = at.saturating_add(1);
-    if !(is_word_at(words, at, b"import") || is_word_at(words, at, b"export")) {
+#[tactic(auto, unfolding(crate::specs::Items::direction_kind))]
+fn direction_kind(words: &[Word<'_>], at: usize) -> Option<ItemKind>
+    requires { at < length words.now }
+    ensures { result ≡ spec.direction_kind words.now at }
+{
+    if !is_direction(words, at) {
         None
-    } else if is_at(words, next, Symbol::Filter) && !is_name_at(words, at.saturating_add(2)) {
+    } else if is_anonymous(words, at + 1) {
         Some(ItemKind::Anonymous)
-    } else if is_word_at(words, next, b"where") {
+    } else if is_word_at(words, at + 1, b"where") {
         Some(ItemKind::Condition)
     } else {
         None
     }
 }
 
+/// The kind of the item that begins at an index, if one does.
+#[tactic(auto, unfolding(crate::specs::Items::item_kind))]
+fn item_kind(words: &[Word<'_>], blocks: &Blocks, at: usize) -> Option<ItemKind>
+    requires { at < length words.now }
+    ensures { result ≡ spec.item_kind words.now (spec.view_of_blocks blocks.now) at }
+{
+    if !blocks.heads.as_slice().is_empty() {
+        direction_kind(words, at)
+    } else if at == blocks.start {
+        named_kind(words, at)
+    } else {
+        None
+    }
+}
+
+/// The name of the item of a kind that begins at an index.
+#[tactic(auto, unfolding(crate::specs::Items::item_name))]
+fn item_name(
+    alloc: Global,
+    words: &[Word<'_>],
+    blocks: &Blocks,
+    kind: ItemKind,
+    at: usize,
+) -> Result<Vec<u8>, AllocError>
+    requires { at < length words.now }
+    ensures { IfOk result (λ name. name.items ≡ spec.item_name words.now (spec.view_of_blocks blocks.now) kind at) }
+{
+    match kind {
+        ItemKind::Filter | ItemKind::Function => Vec::from_slice(alloc, bytes_at(words, at + 1)),
+        ItemKind::Anonymous | ItemKind::Condition => {
+            blocks.directed_name(alloc, words, bytes_at(words, at))
+        }
+    }
+}
+
 /// The index behind an item of a kind that begins at an index, if it is closed.
-fn end_of(words: &[Word<'_>], kind: ItemKind, from: usize) -> Option<usize> {
+#[tactic(auto, unfolding(crate::specs::Items::item_end))]
+fn item_end(words: &[Word<'_>], kind: ItemKind, from: usize) -> Option<usize>
+    ensures { result ≡ spec.item_end words.now kind from }
+{
     match kind {
         ItemKind::Condition => find_outside(words, from, Symbol::Semicolon),
         _ => block_end(words, from),
     }
 }
 
-/// The item that begins at an index, if one does.
-fn item_at(
+/// The item of a kind that begins at an index.
+#[tactic(auto, unfolding(crate::specs::Items::item_of))]
+fn item_of(
     alloc: Global,
     words: &[Word<'_>],
     blocks: &Blocks,
     at: usize,
-) -> Result<Option<Item>, AllocError> {
-    let is_outermost = blocks.heads.is_empty();
-    let kind = if is_outermost && at == blocks.start {
-        named_kind(words, at)
-    } else if !is_outermost {
-        direction_kind(words, at)
-    } else {
-        None
-    };
-    let Some(kind) = kind else {
-        return Ok(None);
-    };
-    let name = match kind {
-        ItemKind::Filter | ItemKind::Function => {
-            Vec::from_slice(alloc, bytes_at(words, at.saturating_add(1)))?
-        }
-        ItemKind::Anonymous | ItemKind::Condition => {
-            name_of_owner(alloc, words, blocks, bytes_at(words, at))?
-        }
-    };
-    let end = end_of(words, kind, at);
-    Ok(Some(Item {
+    kind: ItemKind,
+) -> Result<Item, AllocError>
+    requires { at < length words.now }
+    ensures { IfOk result (λ one. spec.view_of_item one ≡ spec.item_of words.now (spec.view_of_blocks blocks.now) at kind) }
+{
+    let name = item_name(alloc, words, blocks, kind, at)?;
+    let end = item_end(words, kind, at);
+    Ok(Item {
         kind,
         from: at,
         to: end.unwrap_or(words.len()),
         name,
         is_closed: end.is_some(),
-        is_ipv6: blocks.is_ipv6(words),
-    }))
+        is_ipv6: have_ipv6(words, blocks.heads.as_slice()),
+    })
+}
+
+/// The item that begins at an index, if one does.
+#[tactic(auto, unfolding(crate::specs::Items::item_at))]
+fn item_at(
+    alloc: Global,
+    words: &[Word<'_>],
+    blocks: &Blocks,
+    at: usize,
+) -> Result<Option<Item>, AllocError>
+    requires { at < length words.now }
+    ensures { IfOk result (λ found. option_map spec.view_of_item found ≡ spec.item_at words.now (spec.view_of_blocks blocks.now) at) }
+{
+    match item_kind(words, blocks, at) {
+        Some(kind) => Ok(Some(item_of(alloc, words, blocks, at, kind)?)),
+        None => Ok(None),
+    }
+}
+
+/// A walk over a configuration, up to a place.
+#[derive(Drop)]
+struct Walk {
+    /// The blocks round the place.
+    blocks: Blocks,
+    /// The index behind the last item.
+    next: usize,
+    /// The filters and functions so far.
+    found: Vec<Item>,
+}
+
+impl Walk {
+    /// Goes past an item.
+    #[tactic(auto, using(std::proofs::lemmas::List::map_push), unfolding(crate::specs::Items::walk_behind))]
+    fn take(&mut self, item: Item) -> Result<(), AllocError>
+        ensures { OnOk result (spec.view_of_walk self.new ≡ spec.walk_behind (spec.view_of_walk self.old) (spec.view_of_item item)) }
+    {
+        self.next = item.to;
+        self.blocks.start = item.to;
+        self.found.push(item)?;
+        Ok(())
+    }
+
+    /// Goes past the word at an index. An item is gone past as a whole.
+    #[tactic(auto, unfolding(crate::specs::Items::walk_past))]
+    fn pass(&mut self, alloc: Global, words: &[Word<'_>], at: usize) -> Result<(), AllocError>
+        requires { at < length words.now }
+        ensures { OnOk result (spec.view_of_walk self.new ≡ spec.walk_past words.now at (spec.view_of_walk self.old)) }
+    {
+        if at < self.next {
+            return Ok(());
+        }
+        match item_at(alloc, words, &self.blocks, at)? {
+            Some(item) => self.take(item),
+            None => self.blocks.pass(words, at),
+        }
+    }
 }
 
 /// The filters and functions of a configuration, in order.
-pub fn find_items(alloc: Global, words: &[Word<'_>]) -> Result<Vec<Item>, AllocError> {
-    let mut found = Vec::new(alloc);
-    let mut blocks = Blocks {
-        heads: Vec::new(alloc),
-        start: 0,
-        nameless: Vec::new(alloc),
+pub fn find_items(alloc: Global, words: &[Word<'_>]) -> Result<Vec<Item>, AllocError>
+    ensures found { IfOk result (λ found. map spec.view_of_item found.items ≡ spec.items_in words.now) }
+    ensures follow { IfOk result (λ found. AreItemsIn words.now (map spec.view_of_item found.items)) }
+{
+    let mut walk = Walk {
+        blocks: Blocks {
+            heads: Vec::new(alloc),
+            start: 0,
+            nameless: Vec::new(alloc),
+        },
+        next: 0,
+        found: Vec::new(alloc),
     };
-    let mut next = 0;
     for at in 0..words.len() {
-        if at < next {
-            continue;
-        }
-        match item_at(alloc, words, &blocks, at)? {
-            Some(item) => {
-                next = item.to;
-                blocks.start = item.to;
-                found.push(item)?;
-            }
-            None => blocks.pass(words, at)?,
-        }
+        walk.pass(alloc, words, at)?;
     }
+    let Walk {
+        blocks: _blocks,
+        next: _next,
+        found,
+    } = walk;
     Ok(found)
 }

@@ -1,7 +1,8 @@
 //! The text of a filter, from its words.
-ghost use Rattle.std.specs.Prelude.{IfOk, IsTrue};
+ghost use Rattle.std.specs.Prelude.{◌≡◌, ◌≢◌, ◌↔◌, IfOk, IsTrue, length};
+ghost use Rattle.filter_tokens.specs.Tokenization.{AreInOrder};
 ghost use Rattle.bird_import.specs.Alike.{AreAlike};
-ghost use Rattle.bird_import.specs.Spelling.{IsSpelled, IsSpelledAt};
+ghost use Rattle.bird_import.specs.Spelling.{IsSpelled, LiesIn};
 ghost use Rattle.bird_import.specs.Texts.{Fated};
 
 use crate::unset::first_unset;
@@ -19,7 +20,7 @@ pub struct Origin {
     pub at: usize,
 }
 
-/// What the parser says of a text.
+/// What becomes of a text that was written for some words.
 #[derive(Clone, Copy)]
 pub enum Fate {
     /// It is a filter, and its tokens are the words that it was written for.
@@ -39,7 +40,7 @@ pub struct FilterText {
     pub text: Vec<u8>,
     /// Where its words come from, in order.
     pub origins: Vec<Origin>,
-    /// What the parser says of it.
+    /// What becomes of it.
     pub fate: Fate,
 }
 
@@ -95,55 +96,54 @@ fn push_text(
 
 /// Whether a token of a text is this word.
 fn is_word(text: &[u8], token: &Token, word: &Word<'_>) -> bool
-    ensures { IsTrue result → IsSpelled text.now token.now word.now }
+    requires { LiesIn (length text.now) token.now }
+    ensures { IsTrue result ↔ IsSpelled text.now token.now word.now }
 {
-    match text.get(token.from..token.to) {
-        Some(bytes) => word.kind == WordKind::of(token.kind) && word.bytes == bytes,
-        None => false,
-    }
-}
-
-/// Whether the token of a text at an index is the word at that index.
-fn is_word_at(text: &[u8], tokens: &[Token], words: &[Word<'_>], at: usize) -> bool
-    ensures { IsTrue result → IsSpelledAt text.now tokens.now words.now at }
-{
-    match (tokens.get(at), words.get(at)) {
-        (Some(token), Some(word)) => is_word(text, token, word),
-        _ => false,
-    }
+    word.kind == WordKind::of(token.kind) && word.bytes == &text[token.from..token.to]
 }
 
 /// Whether the tokens of a text are these words.
 fn are_words(text: &[u8], tokens: &[Token], words: &[Word<'_>]) -> bool
-    ensures { IsTrue result → AreAlike (IsSpelled text.now) tokens.now words.now }
+    requires { AreInOrder 0 tokens.now (length text.now) }
+    ensures { IsTrue result ↔ AreAlike (IsSpelled text.now) tokens.now words.now }
 {
     if tokens.len() != words.len() {
         return false;
     }
     for at in 0..tokens.len() {
-        if !is_word_at(text, tokens, words, at) {
+        let (token, word) = (tokens[at], words[at]);
+        if !is_word(text, &token, &word) {
             return false;
         }
     }
     true
 }
 
-/// What the parser says of a text that was written for some words.
-#[tactic(auto, using(crate::proofs::Spelled::written))]
-fn judge(alloc: Global, text: &[u8], words: &[Word<'_>]) -> Fate
-    ensures { Fated words.now text.now result }
+/// What becomes of a text that the parser refuses.
+fn fate_of(fault: ParseFault) -> Result<Fate, AllocError>
+    ensures { IfOk result (λ fate. (fate ≡ Fate.Refused fault) × (fault ≢ ParseFault.Memory)) }
 {
-    match parse(alloc, text) {
-        Ok(filter) => {
-            if !are_words(text, filter.tokens(), words) {
-                return Fate::Garbled;
-            }
-            match first_unset(&filter) {
-                Some(at) => Fate::Unset(at),
-                None => Fate::Taken,
-            }
-        }
-        Err(fault) => Fate::Refused(fault),
+    match fault {
+        ParseFault::Memory => Err(AllocError),
+        _ => Ok(Fate::Refused(fault)),
+    }
+}
+
+/// What becomes of a text that was written for some words.
+#[tactic(auto, using(crate::proofs::Spelled::written))]
+fn judge(alloc: Global, text: &[u8], words: &[Word<'_>]) -> Result<Fate, AllocError>
+    ensures { IfOk result (Fated words.now text.now) }
+{
+    let filter = match parse(alloc, text) {
+        Ok(filter) => filter,
+        Err(fault) => return fate_of(fault),
+    };
+    if !are_words(text, filter.tokens(), words) {
+        return Ok(Fate::Garbled);
+    }
+    match first_unset(&filter) {
+        Some(at) => Ok(Fate::Unset(at)),
+        None => Ok(Fate::Taken),
     }
 }
 
@@ -153,12 +153,11 @@ pub fn write_filter(
     head: &[u8],
     words: &[Word<'_>],
 ) -> Result<FilterText, AllocError>
-    // A text that is taken spells a filter, and its tokens are the words; a text that is refused spells none.
     ensures { IfOk result (λ written. Fated words.now written.text.items written.fate) }
 {
     let mut text = Vec::from_slice(alloc, head)?;
     let origins = push_text(alloc, &mut text, words)?;
-    let fate = judge(alloc, text.as_slice(), words);
+    let fate = judge(alloc, text.as_slice(), words)?;
     Ok(FilterText {
         text,
         origins,

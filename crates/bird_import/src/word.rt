@@ -1,6 +1,8 @@
 //! The words of a configuration.
-ghost use Rattle.std.specs.Prelude.{◌≡◌, ◌↔◌, IsTrue, slice_get};
+ghost use Rattle.std.specs.Prelude.{◌≡◌, ◌↔◌, ◌+◌, ◌-◌, ◌^◌, ◌<◌, ◌≤◌, IfSome, IsTrue, length, slice_get};
 ghost use Rattle.bird_import.specs.Indices as spec;
+ghost use Rattle.bird_import.specs.Items as items;
+ghost use Rattle.bird_import.specs.Rules.{closes as spec_closes};
 ghost use Rattle.bird_import.specs.Stuck.{BeginsCommandAt};
 ghost use Rattle.bird_import.specs.declared.word.WordKind.TheVariants as kind;
 
@@ -204,39 +206,65 @@ pub fn begins_command(words: &[Word<'_>], at: usize) -> bool
     at > 0 && ends_command(kind_at(words, at - 1))
 }
 
+/// Whether a word is this keyword or punctuator.
+#[tactic(auto, unfolding(crate::specs::Items::is_symbol))]
+pub fn is_symbol(kind: WordKind, symbol: Symbol) -> bool
+    ensures { result ≡ items.is_symbol symbol kind }
+{
+    match kind {
+        WordKind::Symbol(found) => found == symbol,
+        _ => false,
+    }
+}
+
+/// How many parentheses, brackets and braces are open behind a word, where so many are before it, unless it closes one that is not open.
+#[tactic(auto, unfolding(crate::specs::Items::depth_past))]
+fn depth_past(depth: usize, kind: WordKind) -> Option<usize>
+    requires { depth < 2 ^ 64 - 1 }
+    ensures is { result ≡ items.depth_past depth kind }
+    ensures bound { IfSome result (λ after. after ≤ depth + 1) }
+{
+    if opens(kind) {
+        Some(depth + 1)
+    } else if !closes(kind) {
+        Some(depth)
+    } else if depth == 0 {
+        None
+    } else {
+        Some(depth - 1)
+    }
+}
+
 /// The index of the first of these symbols from an index on, outside parentheses, brackets and braces that are opened there.
-pub fn find_outside(words: &[Word<'_>], from: usize, symbol: Symbol) -> Option<usize> {
+#[tactic(auto, using(crate::proofs::Outside::none_outside, crate::proofs::Outside::one_outside), unfolding(crate::specs::Items::outside_from))]
+pub fn find_outside(words: &[Word<'_>], from: usize, symbol: Symbol) -> Option<usize>
+    ensures is { result ≡ items.outside_from words.now (items.is_symbol symbol) from }
+    ensures within { IfSome result (λ at. at < length words.now) }
+{
     let mut depth = 0usize;
     for at in from..words.len() {
-        let kind = words[at].kind;
-        if depth == 0 && kind == WordKind::Symbol(symbol) {
+        let kind = kind_at(words, at);
+        if depth == 0 && is_symbol(kind, symbol) {
             return Some(at);
         }
-        if opens(kind) {
-            depth = depth.saturating_add(1);
-        } else if closes(kind) {
-            if depth == 0 {
-                return None;
-            }
-            depth -= 1;
-        }
+        depth = depth_past(depth, kind)?;
     }
     None
 }
 
 /// The index of what closes the parentheses, brackets or braces that are open before an index.
-pub fn closing(words: &[Word<'_>], from: usize) -> Option<usize> {
+#[tactic(auto, using(crate::proofs::Outside::none_outside, crate::proofs::Outside::one_outside), unfolding(crate::specs::Items::outside_from))]
+pub fn closing(words: &[Word<'_>], from: usize) -> Option<usize>
+    ensures is { result ≡ items.outside_from words.now spec_closes from }
+    ensures within { IfSome result (λ at. at < length words.now) }
+{
     let mut depth = 0usize;
     for at in from..words.len() {
-        let kind = words[at].kind;
-        if opens(kind) {
-            depth = depth.saturating_add(1);
-        } else if closes(kind) {
-            if depth == 0 {
-                return Some(at);
-            }
-            depth -= 1;
+        let kind = kind_at(words, at);
+        if depth == 0 && closes(kind) {
+            return Some(at);
         }
+        depth = depth_past(depth, kind)?;
     }
     None
 }

@@ -1,5 +1,5 @@
 use Rattle.std.specs.Prelude.{◌<◌, ℕ}
-use Rattle.bird_import.specs.Spelling.{IsSpelledAt}
+use Rattle.bird_import.proofs.Spelled.{IsSpelledAt}
 use Rattle.bird_import.proofs.text.are_words.Given as goal
 
 abbrev pub invariant-loop-at : goal.invariant-loop-at
