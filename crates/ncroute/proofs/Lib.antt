@@ -8,5 +8,6 @@ mod Gathered
 mod Imported
 mod JoinedRead
 mod Loaded
+mod MadeTexts
 mod PlanAdded
 mod Routed

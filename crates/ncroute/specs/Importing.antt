@@ -1,6 +1,6 @@
 -- What the program does with a configuration of BIRD whose filters are imported. (This project's own choice.)
-use Rattle.std.specs.Prelude.{◌≡◌, ◌⊎◌, ◌||◌, ◌==◌, ◌-◌, ◌++◌, ℕ, Bool, true, false, not, if◌then◌else◌, is_some, List, [], ◌∷◌, Option, Some, None, IfSome, Result, Ok, Err}
-use Rattle.std.specs.Prelude.{codes, length, slice_get, string_bytes}
+use Rattle.std.specs.Prelude.{◌≡◌, ◌⊎◌, ◌||◌, ◌==◌, ◌-◌, ◌++◌, ℕ, Bool, true, false, not, if◌then◌else◌, is_some, List, [], ◌∷◌, Option, Some, None, Result, Ok, Err, ⊤}
+use Rattle.std.specs.Prelude.{codes, length, map, slice_get, string_bytes}
 use Rattle.std.specs.Option.{option_map}
 use Rattle.std.specs.Str.{is_utf8}
 use Rattle.std.specs.Io.KnownBytes.{Appends}
@@ -8,26 +8,31 @@ use Rattle.std.specs.declared.alloc.Global.{Global}
 use Rattle.std.specs.declared.io.Error.{Error}
 use Rattle.std.specs.declared.string.String.{String}
 use Rattle.bird_import.specs.Cutting.{IsCutInto}
+use Rattle.bird_import.specs.Items.{definitions_in, items_in, view_of_item}
 use Rattle.bird_import.specs.Judged.{HaveDrafts}
 use Rattle.bird_import.specs.Spelling.{IsWritten}
+use Rattle.bird_import.specs.Texts.{Fated}
 use Rattle.bird_import.specs.declared.config.Config.{Config}
 use Rattle.bird_import.specs.declared.cut.Cut.{Cut}
 use Rattle.bird_import.specs.declared.drafts.Draft.{Draft}
 use Rattle.bird_import.specs.declared.drafts.Outcome.{Outcome}
 use Rattle.bird_import.specs.declared.drafts.Outcome.TheVariants.{Drafted, LeftOut}
+use Rattle.bird_import.specs.declared.text.Fate.{Fate}
+use Rattle.bird_import.specs.declared.text.Fate.TheVariants as fate
 use Rattle.bird_import.specs.declared.word.Word.{Word}
 use Rattle.bird_import.specs.declared.word.WordKind.{WordKind}
 use Rattle.bird_import.specs.declared.word.WordKind.TheVariants.{Strange}
 use Rattle.command_line.specs.declared.requests.Importing.{Importing}
 use Rattle.command_line.specs.declared.requests.Source.{Source}
-use Rattle.filter_code.specs.CodeView.{CodeView}
-use Rattle.filter_parser.specs.SyntaxText.{FilterView}
-use Rattle.filter_source.specs.Sources.{Translates}
+use Rattle.filter_commands.specs.Checking.{IsDiagnosis}
 use Rattle.filter_source.specs.VerifiedLine.{verified_line}
+use Rattle.filter_source.specs.declared.diagnosis.Diagnosis.{Diagnosis}
 use Rattle.filter_tokens.specs.Codes.{fault_place}
 use Rattle.filter_tokens.specs.declared.fault.TokenFault.{TokenFault}
+use Rattle.filter_tools.specs.Explanations.{AreRefusalWords}
+use Rattle.filter_tools.specs.Filtering.{IsVerifiedOf}
 use Rattle.filter_tools.specs.Shown.{shown}
-use Rattle.filter_verifier.specs.Safe.{IsSafe}
+use Rattle.filter_verifier.specs.VerifiedView.{VerifiedView}
 use Rattle.ncroute.specs.Ending.{status_of_found}
 use Rattle.ncroute.specs.Following.{DoesFirst}
 use Rattle.ncroute.specs.Including.{ReadsConfig, SkipsText}
@@ -36,36 +41,77 @@ use Rattle.ncroute.specs.Reading.{unmade_line}
 use Rattle.ncroute.specs.Streaming.{Streams, Tells, Writes}
 use Rattle.ncroute.specs.declared.importing.Made.{Made}
 
+-- the text that is written of a filter, if one is
+abbrev pub text_in : Made → Option (List ℕ)
+text_in made = option_map (λ text. text.items) made.text
+
 -- A text is verified for domains of a size, and this is the line of its bounds.
 pub record IsVerifiedText (size : ℕ) (text line : List ℕ) : Type 0 where
-  pub filter : FilterView
-  pub program : CodeView
-  pub translates : Translates text filter program
-  pub safe : IsSafe program size
-  pub bounds : line ≡ verified_line program
+  pub verified : VerifiedView
+  pub is : IsVerifiedOf size text verified
+  pub bounds : line ≡ verified_line verified.program
+
+-- A text is refused for domains of a size, and so it is told.
+pub record IsRefusedText (size : ℕ) (text words : List ℕ) : Type 0 where
+  pub told : Diagnosis
+  pub is : IsDiagnosis size false text told
+  pub told_so : AreRefusalWords told words
+
+-- What comes of the text of a filter that begins at a place: it is verified, and kept; or it is refused.
+abbrev pub KeepsText : ℕ → ℕ → List ℕ → Made → Option (List ℕ) → Type 0
+KeepsText size at text made None = IsRefusedText size text made.words.items
+KeepsText size at text made (Some kept) = (kept ≡ text) × IsVerifiedText size text made.words.items × (made.at ≡ at)
+
+abbrev pub IsMadeOfText : ℕ → ℕ → List ℕ → Made → Type 0
+IsMadeOfText size at text made = KeepsText size at text made (text_in made)
 
 -- A text that is written of a draft is written for the words that are drafted, and verified for domains of a size; the place is that of the
--- draft. None is written of a draft that is left out, and the place is that of the reason.
+-- draft.
 pub record IsOfWords (size at : ℕ) (words : List Word) (made : Made) (text : List ℕ) : Type 0 where
   pub written : IsWritten words text
   pub verified : IsVerifiedText size text made.words.items
   pub place : made.at ≡ at
 
--- the text that is written of a filter, if one is
-abbrev pub text_in : Made → Option (List ℕ)
-text_in made = option_map (λ text. text.items) made.text
+-- Why none is written of a draft: the text for its words is refused, and so it is told; or the words could not be written, or one of them is a
+-- variable that may be read before it is assigned, as the import judges.
+abbrev pub IsLeftFor : ℕ → List ℕ → Made → Fate → Type 0
+IsLeftFor size text made fate.Taken = IsRefusedText size text made.words.items
+IsLeftFor size text made (fate.Refused fault) = IsRefusedText size text made.words.items
+IsLeftFor size text made fate.Garbled = ⊤
+IsLeftFor size text made (fate.Unset at) = ⊤
 
+pub record IsLeftOut (size : ℕ) (words : List Word) (made : Made) : Type 0 where
+  pub text : List ℕ
+  pub fate : Fate
+  pub fated : Fated words text fate
+  pub left : IsLeftFor size text made fate
+
+abbrev pub KeepsWords : ℕ → ℕ → List Word → Made → Option (List ℕ) → Type 0
+KeepsWords size at words made None = IsLeftOut size words made
+KeepsWords size at words made (Some text) = IsOfWords size at words made text
+
+-- what came of a draft's words
+abbrev pub IsMadeOfWords : ℕ → ℕ → List Word → Made → Type 0
+IsMadeOfWords size at words made = KeepsWords size at words made (text_in made)
+
+-- What came of a draft: none is written of one that is left out, and the place is that of the reason.
 abbrev pub IsMade : ℕ → ℕ → Outcome → Made → Type 0
 IsMade size at (LeftOut reason) made = (text_in made ≡ None) × (made.at ≡ reason.at)
-IsMade size at (Drafted words) made = IfSome (text_in made) (IsOfWords size at words.items made)
+IsMade size at (Drafted words) made = IsMadeOfWords size at words.items made
+
+-- the parts of a configuration are all definitions, filters and functions that its words have
+pub record HasParts (words : List Word) (parts : Config) : Type 0 where
+  pub of_words : parts.words.now ≡ words
+  pub definitions : parts.definitions.now ≡ definitions_in words
+  pub items : map view_of_item parts.items.now ≡ items_in words
 
 -- the last byte of a text is a slash
-abbrev pub is_slash : Option ℕ → Bool
-is_slash None = false
-is_slash (Some byte) = byte == 47
+abbrev pub is_some_slash : Option ℕ → Bool
+is_some_slash None = false
+is_some_slash (Some byte) = byte == 47
 
 abbrev pub ends_in_slash : List ℕ → Bool
-ends_in_slash text = is_slash (slice_get text (length text - 1))
+ends_in_slash text = is_some_slash (slice_get text (length text - 1))
 
 -- what stands between the path of a folder and a name in it
 abbrev pub slash_behind : List ℕ → List ℕ
@@ -158,13 +204,17 @@ module _ (creates : List ℕ → Result (Option (List ℕ)) Error → Type 0) wh
     pub is_made : IsMade how.size draft.at draft.outcome made
     pub imported : ImportsMade how.folder (text_in made) config draft.name.now made before after is_left
 
-  -- The filters among the words of a configuration were imported, in order, and it is said whether one of them is left out.
-  pub record ImportsWords (how : Importing) (config : ConfigView) (words : List Word) (before after : Streams) (is_left : Bool) : Type 0 where
-    pub found : Config
+  -- The filters among the parts of a configuration were imported, in order, and it is said whether one of them is left out.
+  pub record ImportsParts (how : Importing) (config : ConfigView) (parts : Config) (before after : Streams) (is_left : Bool) : Type 0 where
     pub drafts : List Draft
-    pub drafted : HaveDrafts found found.items.now (length found.items.now) drafts
-    pub of_words : found.words.now ≡ words
+    pub drafted : HaveDrafts parts parts.items.now (length parts.items.now) drafts
     pub imported : DoesFirst (ImportsDraft how config) drafts (length drafts) before after is_left
+
+  -- So were those among its words.
+  pub record ImportsWords (how : Importing) (config : ConfigView) (words : List Word) (before after : Streams) (is_left : Bool) : Type 0 where
+    pub parts : Config
+    pub has : HasParts words parts
+    pub imported : ImportsParts how config parts before after is_left
 
   -- And then it was told of the bytes that begin no word, and where the words end before the end of the configuration. It is said whether
   -- something of it is left out: a filter, a byte, or what stands behind the words.

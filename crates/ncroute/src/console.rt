@@ -1,5 +1,5 @@
 //! The streams of the program.
-ghost use Rattle.std.specs.Prelude.{◌<◌, ◌^◌, IfErr, OnErr, OnOk};
+ghost use Rattle.std.specs.Prelude.{◌≡◌, ◌<◌, ◌^◌, IfErr, OnOk};
 ghost use Rattle.filter_commands.specs.Faults.{stream_fault};
 ghost use Rattle.ncroute.specs.Ending.{fault_line};
 ghost use Rattle.ncroute.specs.Reading.{IsLoaded, IsWithin};
@@ -91,7 +91,7 @@ impl<R: Read, W: Write, E: Write> Console<R, W, E> {
     /// Tells people of a fault. The error is that of standard error, which did not take the whole line.
     pub fn report(&mut self, fault: ProgramFault) -> Result<(), StreamFault>
         ensures ok { OnOk result (Tells (fault_line fault) self.old self.new) }
-        ensures err { OnErr result (TellsFront (fault_line fault) self.old self.new) }
+        ensures err { IfErr result (λ cut. (cut ≡ StreamFault.Write) × TellsFront (fault_line fault) self.old self.new) }
     {
         match report_fault(&mut self.errors, fault) {
             Ok(()) => Ok(()),

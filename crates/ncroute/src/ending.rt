@@ -1,5 +1,5 @@
 //! How a run ends: its exit status, and the line that tells of a fault.
-ghost use Rattle.std.specs.Prelude.{◌≡◌, OnErr, OnOk};
+ghost use Rattle.std.specs.Prelude.{◌≡◌, IfErr, OnOk};
 ghost use Rattle.std.specs.Io.KnownBytes.{Appends};
 ghost use Rattle.line_protocol.specs.Runs.{AppendsFront};
 ghost use Rattle.ncroute.specs.Ending.{fault_line, status_of, status_of_found};
@@ -43,7 +43,8 @@ pub fn fault_line(fault: ProgramFault) -> &'static str
 /// Writes the line that tells of a fault.
 pub fn report_fault<E: Write>(errors: &mut E, fault: ProgramFault) -> Result<(), StreamFault>
     ensures ok { OnOk result (Appends (E.contents errors.old) (E.contents errors.new) (fault_line fault)) }
-    ensures err { OnErr result (AppendsFront (E.contents errors.old) (E.contents errors.new) (fault_line fault)) }
+    ensures err { IfErr result (λ cut. (cut ≡ StreamFault.Write)
+        × AppendsFront (E.contents errors.old) (E.contents errors.new) (fault_line fault)) }
 {
     write_text(errors, fault_line(fault).as_bytes())
 }

@@ -2,11 +2,12 @@
 ghost use Rattle.std.specs.Option.{option_map};
 ghost use Rattle.std.specs.Prelude.{◌≡◌, ◌≤◌, [], ◌∷◌, ◌++◌, IfOk, IfSome, OnOk, is_some, length, string_bytes};
 ghost use Rattle.ncroute.specs.Following.{DoesFirst};
-ghost use Rattle.ncroute.specs.Importing.{ImportsConfig, ImportsCut, ImportsDraft, ImportsMade, ImportsRead, ImportsSource, ImportsWords, IsMade, IsOfWords, IsVerifiedText};
+ghost use Rattle.ncroute.specs.Importing.{ImportsConfig, ImportsCut, ImportsDraft, ImportsMade, ImportsParts, ImportsRead, ImportsSource, ImportsWords, IsMadeOfText, IsMade, IsMadeOfWords};
 ghost use Rattle.ncroute.specs.Importing.{SavesFilter, SavesText, TellsEnd, TellsStrange, TellsWord, byte_line, end_words, ends_in_slash, fate_words, file_name, file_path, made_line, path_words, slash_behind, strange_words, text_in};
 ghost use Rattle.ncroute.specs.Places.{config_of, place_of};
 ghost use Rattle.ncroute.specs.Streaming.{Tells, Writes};
 ghost use Rattle.filter_source.specs.VerifiedLine.{verified_line};
+ghost use Rattle.filter_tools.specs.Explanations.{AreRefusalWords};
 
 use crate::checking::is_any;
 use crate::console::Console;
@@ -19,30 +20,13 @@ use bird_import::{
 };
 use command_line::{Importing, Source};
 use filter_commands::ProgramFault;
-use filter_source::{Diagnosis, Failure, compile_text_mapped, push_verified, verify_mapped};
+use filter_source::{Diagnosis, Failure, push_verified};
 use filter_tokens::TokenFault;
-use filter_tools::{explain, push_shown};
+use filter_tools::{push_shown, refusal_words, verified_filter};
 use filter_verifier::Verified;
 use line_protocol::write_text;
 use std::alloc::{AllocError, Global};
 use std::io::{Read, Write};
-
-/// The words of a refusal, without its place.
-fn words_of(alloc: Global, text: &[u8], told: &Diagnosis) -> Result<Vec<u8>, AllocError> {
-    let lines = explain(alloc, b"", text, told)?;
-    let first = match lines.as_slice().split(|byte| *byte == b'\n').next() {
-        Some(first) => first,
-        None => b"",
-    };
-    for at in 0..first.len() {
-        if let Some(rest) = first.get(at..) {
-            if rest.starts_with(b": ") {
-                return Vec::from_slice(alloc, &rest[2..]);
-            }
-        }
-    }
-    Vec::from_slice(alloc, first)
-}
 
 /// What is written of a filter, and what is told of it.
 #[derive(Drop)]
@@ -66,22 +50,6 @@ fn left_out(alloc: Global, at: usize, why: Why<'_>) -> Result<Made, AllocError>
         at,
         words: words.into_bytes(),
     })
-}
-
-/// The text of a filter that is verified for domains of a size, or why it is left out.
-fn verified(alloc: Global, text: &[u8], size: u32) -> Result<Result<Vec<u8>, Diagnosis>, AllocError>
-    ensures { IfOk result (λ verified. IfOk verified (λ line. IsVerifiedText size text.now line.items)) }
-{
-    let mapped = match compile_text_mapped(alloc, text) {
-        Ok(mapped) => mapped,
-        Err(Failure::Refused(told)) => return Ok(Err(told)),
-        Err(Failure::Memory) => return Err(AllocError),
-    };
-    match verify_mapped(alloc, mapped.code, mapped.places.as_slice(), size) {
-        Ok(verified) => Ok(Ok(verified_line(alloc, &verified)?)),
-        Err(Failure::Refused(told)) => Ok(Err(told)),
-        Err(Failure::Memory) => Err(AllocError),
-    }
 }
 
 /// The line of a filter that is verified.
@@ -151,65 +119,22 @@ fn make_filter(
     draft: &Draft<'_>,
     words: &[Word<'_>],
 ) -> Result<Made, AllocError>
-    ensures { IfOk result (λ made. IfSome (text_in made) (IsOfWords size draft.now.at words.now made)) }
+    ensures { IfOk result (IsMadeOfWords size draft.now.at words.now) }
 {
     let head = head_of(alloc, whole, draft.at, draft.end, words)?;
     let written = write_filter(alloc, head.as_slice(), words)?;
     match written.fate {
-        Fate::Taken => verify_filter(alloc, size, draft.at, written),
-        _ => refuse_filter(alloc, size, draft.at, &written),
-    }
-}
-
-/// Why a filter is left out whose text is not written for its words, or reads a variable before it is assigned.
-fn refuse_filter(
-    alloc: Global,
-    size: u32,
-    at: usize,
-    written: &FilterText,
-) -> Result<Made, AllocError>
-    ensures { IfOk result (λ made. text_in made ≡ None) }
-{
-    match written.fate {
+        Fate::Taken | Fate::Refused(_) => verify_filter(alloc, size, draft.at, written),
+        Fate::Garbled => left_out(alloc, draft.at, Why::Unwritten),
         Fate::Unset(byte) => {
             let name = name_at(written.text.as_slice(), byte);
-            left_out(alloc, place_of(written, Some(byte), at), Why::Unset(name))
+            left_out(
+                alloc,
+                place_of(&written, Some(byte), draft.at),
+                Why::Unset(name),
+            )
         }
-        Fate::Refused(_) => refuse_text(alloc, size, at, written),
-        Fate::Taken | Fate::Garbled => left_out(alloc, at, Why::Unwritten),
     }
-}
-
-/// Why a filter is left out whose text was refused when it was written.
-fn refuse_text(
-    alloc: Global,
-    size: u32,
-    at: usize,
-    written: &FilterText,
-) -> Result<Made, AllocError>
-    ensures { IfOk result (λ made. text_in made ≡ None) }
-{
-    match verified(alloc, written.text.as_slice(), size)? {
-        Err(told) => refused(alloc, at, written, &told),
-        // Memory was refused when it was parsed, and is there now.
-        Ok(_line) => left_out(alloc, at, Why::Unwritten),
-    }
-}
-
-/// What is told of a filter whose text is refused.
-fn refused(
-    alloc: Global,
-    at: usize,
-    written: &FilterText,
-    told: &Diagnosis,
-) -> Result<Made, AllocError>
-    ensures { IfOk result (λ made. text_in made ≡ None) }
-{
-    Ok(Made {
-        text: None,
-        at: place_of(written, told.byte, at),
-        words: words_of(alloc, written.text.as_slice(), told)?,
-    })
 }
 
 /// The place of a configuration from which a byte of a filter's text comes; that of the filter if there is none.
@@ -220,24 +145,43 @@ fn place_of(written: &FilterText, byte: Option<usize>, filter: usize) -> usize {
     }
 }
 
-/// Verifies the text of a filter, which begins at a place.
+/// What is told of a filter whose text is refused, which begins at a place.
+fn refused(
+    alloc: Global,
+    at: usize,
+    written: &FilterText,
+    told: &Diagnosis,
+) -> Result<Made, AllocError>
+    ensures text { IfOk result (λ made. text_in made ≡ None) }
+    ensures words { IfOk result (λ made. AreRefusalWords told.now made.words.items) }
+{
+    Ok(Made {
+        text: None,
+        at: place_of(written, told.byte, at),
+        words: refusal_words(alloc, written.text.as_slice(), told)?,
+    })
+}
+
+/// Verifies the text of a filter, which begins at a place, for domains of a size.
 fn verify_filter(
     alloc: Global,
     size: u32,
     at: usize,
     written: FilterText,
 ) -> Result<Made, AllocError>
-    ensures verified { IfOk result (λ made. IfSome (text_in made) (λ text. IsVerifiedText size text made.words.items)) }
-    ensures place { IfOk result (λ made. IfSome (text_in made) (λ text. made.at ≡ at)) }
-    ensures text { IfOk result (λ made. IfSome (text_in made) (λ text. text ≡ written.text.items)) }
+    ensures { IfOk result (IsMadeOfText size at written.text.items) }
 {
-    match verified(alloc, written.text.as_slice(), size)? {
-        Ok(words) => Ok(Made {
-            text: Some(written.text),
-            at,
-            words,
-        }),
-        Err(told) => refused(alloc, at, &written, &told),
+    match verified_filter(alloc, written.text.as_slice(), size) {
+        Ok(verified) => {
+            let words = verified_line(alloc, &verified)?;
+            Ok(Made {
+                text: Some(written.text),
+                at,
+                words,
+            })
+        }
+        Err(Failure::Refused(told)) => refused(alloc, at, &written, &told),
+        Err(Failure::Memory) => Err(AllocError),
     }
 }
 
@@ -490,7 +434,7 @@ fn import_parts<F: Folder, R: Read, W: Write, E: Write>(
     config: &Config<'_>,
     console: &mut Console<R, W, E>,
 ) -> Result<bool, ProgramFault>
-    ensures { IfOk result (ImportsWords (F.creates files.now) how.now (config_of whole.now) config.now.words.now console.old console.new) }
+    ensures { IfOk result (ImportsParts (F.creates files.now) how.now (config_of whole.now) config.now console.old console.new) }
 {
     let drafts = make_drafts(alloc, config)?;
     import_drafts(files, alloc, how, whole, drafts.as_slice(), console)

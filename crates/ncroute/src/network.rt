@@ -1,5 +1,5 @@
 //! The command `net`: from the words to an exit status.
-ghost use Rattle.std.specs.Prelude.{◌≡◌, IfOk, OnErr};
+ghost use Rattle.std.specs.Prelude.{◌≡◌, IfErr, IfOk};
 ghost use Rattle.ncroute.specs.Networking.{FailsToReportNetwork, ServesNetwork, network_line};
 
 use crate::console::Console;
@@ -39,7 +39,7 @@ pub fn serve_network<R: Threads + Wait + Clock + Sync, I: Read, W: Write, E: Wri
     console: &mut Console<I, W, E>,
 ) -> Result<u8, StreamFault>
     ensures served { IfOk result (ServesNetwork console.old console.new) }
-    ensures not_reported { OnErr result (FailsToReportNetwork console.old console.new) }
+    ensures not_reported { IfErr result (λ cut. (cut ≡ StreamFault.Write) × FailsToReportNetwork console.old console.new) }
 {
     match net_lines(rt, alloc, &mut console.writer) {
         Ok(()) => Ok(0),

@@ -1,5 +1,5 @@
 //! From what is asked for to an exit status.
-ghost use Rattle.std.specs.Prelude.{◌≡◌, IfErr, IfOk, OnErr};
+ghost use Rattle.std.specs.Prelude.{◌≡◌, IfErr, IfOk};
 ghost use Rattle.filter_commands.specs.Faults.{stream_fault};
 ghost use Rattle.ncroute.specs.Requests.{Answers, EvaluatesTold, FailsToReport, ListsSource, ListsText, RewritesInput, Serves, StopsAnswer, StopsEvaluating};
 ghost use Rattle.ncroute.specs.Requests.{StopsList, StopsListing, StopsRewriting, fault_status};
@@ -217,7 +217,8 @@ pub fn serve<F: Folder, R: Read, W: Write, E: Write>(
     console: &mut Console<R, W, E>,
 ) -> Result<u8, StreamFault>
     ensures served { IfOk result (Serves (F.opens files.now) (F.creates files.now) request.now console.old console.new) }
-    ensures not_reported { OnErr result (FailsToReport (F.opens files.now) (F.creates files.now) request.now console.old console.new) }
+    ensures not_reported { IfErr result (λ cut. (cut ≡ StreamFault.Write)
+        × FailsToReport (F.opens files.now) (F.creates files.now) request.now console.old console.new) }
 {
     match answer(files, alloc, request, console) {
         Ok(status) => Ok(status),
