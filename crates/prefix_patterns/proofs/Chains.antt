@@ -2,39 +2,46 @@
 use Rattle.std.proofs.Common.{◌≡◌, ℕ, ◌+◌, ◌-◌, ◌<◌, ◌≤◌, ◌==◌, true, false, cond, Some, List, [], ◌∷◌, ◌++◌, length, filter, reverse}
 use Rattle.std.proofs.Common.{refl, sym, ap, ◌∙◌, arith, slice_get, get_or, set, take, append-nil, inl, inr}
 use Rattle.std.proofs.lemmas.Bool.Decides.{nat_tests}
-use Rattle.std.proofs.lemmas.List.{length-append, get_or_at, get_or-set_same, get_or-set_other, reverse-append}
+use Rattle.std.proofs.lemmas.List.{length-append, get_or_at, get_or_read_under, get_or-set_same, get_or-set_other, reverse-append}
 use Rattle.std.proofs.lemmas.List.Elements.{filter_more}
-use Rattle.std.proofs.lemmas.Option.{slice_get_read}
+use Rattle.std.proofs.lemmas.Option.{slice_get_read, slice_get_within}
 use Rattle.std.proofs.Math.ListN.{get_or-append}
 use Rattle.std.proofs.lemmas.Bool.{cases_eq}
 use Rattle.prefix_patterns.specs.Matching.{PrefixPattern}
 use Rattle.prefix_patterns.specs.Trees.{bucket, in_bucket}
 use Rattle.prefix_patterns.specs.Index.{IsChain}
 
--- the first pattern of a chain, and the chain after it
-pub record IsStep (patterns : List PrefixPattern) (next : List ℕ) (at : ℕ) (chain : List PrefixPattern) : Type 0 where
+-- the first pattern of a chain, at an index, and the chain after it
+pub record IsStep (patterns : List PrefixPattern) (next : List ℕ) (index : ℕ) (chain : List PrefixPattern) : Type 0 where
   pub first : PrefixPattern
   pub rest : List PrefixPattern
   pub is : chain ≡ first ∷ rest
-  pub there : slice_get patterns (at - 1) ≡ Some first
-  pub within : at - 1 < length next
-  pub back : get_or next (at - 1) 0 ≤ at - 1
-  pub goes_on : IsChain patterns next (get_or next (at - 1) 0) rest
+  pub there : slice_get patterns index ≡ Some first
+  pub inside : index < length patterns
+  pub within : index < length next
+  pub back : get_or next index 0 ≤ index
+  pub goes_on : IsChain patterns next (get_or next index 0) rest
 
-pub step : (patterns : List PrefixPattern) (next : List ℕ) (at : ℕ) (chain : List PrefixPattern) → 0 < at → IsChain patterns next at chain →
-    IsStep patterns next at chain
-step patterns next at [] some h = absurd (omega arith)
-step patterns next at (p ∷ rest) some (index, e, there, within, back, goes_on) =
-    let before : index ≡ at - 1 = omega arith in
+pub step_at : (patterns : List PrefixPattern) (next : List ℕ) (at index : ℕ) (chain : List PrefixPattern) → 0 < at →
+    index ≡ at - 1 → IsChain patterns next at chain → IsStep patterns next index chain
+step_at patterns next at index [] some before h = absurd (omega arith)
+step_at patterns next at index (p ∷ rest) some before (here, e, there, within, back, goes_on) =
+    let same : here ≡ index = omega arith in
+    let found : slice_get patterns index ≡ Some p = rw same at there in
     record {
       first = p;
       rest = rest;
       is = refl;
-      there = rw before at there;
+      there = found;
+      inside = slice_get_within patterns index p found;
       within = omega arith;
-      back = rw before at back;
-      goes_on = rw before at goes_on;
+      back = rw same at back;
+      goes_on = rw same at goes_on;
     }
+
+-- the link that was read
+pub read_link : (next : List ℕ) (index link : ℕ) → link ≡ get_or next index link → index < length next → link ≡ get_or next index 0
+read_link next index link is within = get_or_read_under next index (length next) link 0 is within refl
 
 -- a chain begins at a place of the list
 pub head_within : (patterns : List PrefixPattern) (next : List ℕ) (at : ℕ) (chain : List PrefixPattern) →

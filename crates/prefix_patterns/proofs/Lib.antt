@@ -6,6 +6,7 @@ pub mod DecimalValues
 pub mod Displayed
 pub mod LeadingTokens
 pub mod Leaves
+pub mod Marks
 pub mod Matches
 pub mod Nodes
 pub mod Numbers

@@ -19,6 +19,13 @@ pub slice_get-last : {A : Type 0} (xs : List A) (x : A) → slice_get (xs ++ x �
 slice_get-last [] x = refl
 slice_get-last (y ∷ xs) x = slice_get-last xs x
 
+-- the item that was pushed last
+pub last_pushed : {A : Type 0} (before items : List A) (item : A) (len : ℕ) → items ≡ before ++ item ∷ [] → len ≡ length before + 1 →
+    slice_get items (len - 1) ≡ Some item
+last_pushed before items item len is e =
+    let at : len - 1 ≡ length before = omega arith in
+    rw (at, is) (slice_get-last before item)
+
 stands_longer : (levels : ℕ) (nodes more : List Node) (leaves others : List Leaf) (depth : ℕ) (subtree : Subtree)
     (part : List PrefixPattern) →
     StandsFor levels nodes leaves depth subtree part → StandsFor levels (nodes ++ more) (leaves ++ others) depth subtree part

@@ -1,11 +1,11 @@
 -- The index of a set of patterns: buckets by the first 8 bits, and a tree for each. (This project's own choice.)
-use Rattle.std.specs.Prelude.{◌≡◌, ℕ, ◌+◌, ◌*◌, ◌<◌, ◌≤◌, ◌||◌, Some, None, Option, List, [], ◌∷◌, get_or, length, slice_get}
+use Rattle.std.specs.Prelude.{◌≡◌, ℕ, ◌+◌, ◌<◌, ◌≤◌, ◌==◌, ◌&&◌, not, Bool, Some, None, Option, List, [], ◌∷◌, get_or, length, slice_get}
+use Rattle.std.specs.List.{list_any}
 use Rattle.prefix_patterns.specs.Matching.{PrefixPattern, pattern_limit}
-use Rattle.prefix_patterns.specs.Trees.{AreLeavesOf, IsUnion, StandsFor, has_length, in_bucket, short_bucket, tree_levels}
+use Rattle.prefix_patterns.specs.Trees.{AreLeavesOf, StandsFor, bucket, hits, in_bucket, index_of, short_bucket, tree_levels}
 use Rattle.prefix_patterns.specs.declared.index.Chains.{Chains}
 use Rattle.prefix_patterns.specs.declared.index.PatternIndex.{PatternIndex}
 use Rattle.prefix_patterns.specs.declared.leaf.Leaf.{Leaf}
-use Rattle.prefix_patterns.specs.declared.lengths.Lengths.{Lengths}
 use Rattle.prefix_patterns.specs.declared.set.Search.{Search}
 use Rattle.prefix_patterns.specs.declared.set.Search.TheVariants.{Scan, Index}
 use Rattle.prefix_patterns.specs.declared.tree.Node.{Node}
@@ -23,10 +23,15 @@ pub record HasChains (patterns : List PrefixPattern) (chains : Chains) : Type 0 
   pub chain : (bucket : ℕ) → bucket ≤ short_bucket →
       IsChain patterns chains.next.items (get_or chains.heads.items bucket 0) (in_bucket bucket patterns)
 
--- each prefix of fewer than 8 bits, by its index, has the lengths of the two prefixes that are one bit longer
-abbrev pub AreJoined : List Lengths → Type 0
-AreJoined lengths = (at len : ℕ) (a b c : Lengths) → 1 ≤ at → at < 256 →
-    has_length (get_or lengths at a) len ≡ (has_length (get_or lengths (2 * at) b) len || has_length (get_or lengths (2 * at + 1) c) len)
+-- whether a pattern has 8 bits or more
+abbrev pub is_long : PrefixPattern → Bool
+is_long pattern = not (bucket pattern == short_bucket)
+
+-- for each prefix of up to 8 bits, by its index, whether it matches one of the patterns of 8 bits or more
+pub record AreMarks (marks : List Bool) (patterns : List PrefixPattern) : Type 0 where
+  pub count : length marks ≡ 512
+  pub marked : (prefix : List Bool) (d : Bool) → length prefix ≤ 8 →
+      get_or marks (index_of prefix) d ≡ list_any (λ pattern. is_long pattern && hits prefix pattern) patterns
 
 -- the patterns of fewer than 8 bits have a tree if there are some
 abbrev pub ShortStandsFor : List Node → List Leaf → Option Subtree → List PrefixPattern → Type 0
@@ -34,16 +39,13 @@ ShortStandsFor nodes leaves None part = part ≡ []
 ShortStandsFor nodes leaves (Some subtree) part = (levels : ℕ) → levels ≡ tree_levels → StandsFor levels nodes leaves 0 subtree part
 
 -- The index of a list of patterns: the patterns of fewer than 8 bits have a tree, and those of each other bucket have one,
--- which begins at depth 8. From 256 on, the lengths are those that the patterns of a bucket allow.
+-- which begins at depth 8. Prefixes of up to 8 bits have marks.
 pub record IsIndexOf (index : PatternIndex) (patterns : List PrefixPattern) : Type 0 where
   pub subtrees : length index.subtrees.items ≡ 256
-  pub lengths : length index.lengths.items ≡ 512
   pub short : ShortStandsFor index.nodes.items index.leaves.items index.short (in_bucket short_bucket patterns)
   pub long : (bucket : ℕ) (d : Subtree) → bucket < 256 →
       StandsFor 25 index.nodes.items index.leaves.items 8 (get_or index.subtrees.items bucket d) (in_bucket bucket patterns)
-  pub allowed : (bucket : ℕ) (d : Lengths) → bucket < 256 →
-      IsUnion (get_or index.lengths.items (256 + bucket) d) (in_bucket bucket patterns)
-  pub joined : AreJoined index.lengths.items
+  pub marks : AreMarks index.marks.items patterns
 
 -- the greatest number of patterns in a set that has no index
 abbrev pub scan_limit : ℕ

@@ -63,6 +63,9 @@ pub record IsEntry (leaf : Leaf) (at : ℕ) (pattern : PrefixPattern) : Type 0 w
 
 -- a leaf has these patterns, and at its other places no length
 pub record IsLeafOf (leaf : Leaf) (part : List PrefixPattern) : Type 0 where
+  pub addresses : length leaf.addresses ≡ leaf_limit
+  pub masks : length leaf.masks ≡ leaf_limit
+  pub lengths : length leaf.lengths ≡ leaf_limit
   pub few : length part ≤ leaf_limit
   pub filled : (at : ℕ) (pattern : PrefixPattern) → slice_get part at ≡ Some pattern → IsEntry leaf at pattern
   pub empty : (at : ℕ) (d : Lengths) (len : ℕ) → length part ≤ at → at < leaf_limit → has_length (get_or leaf.lengths at d) len ≡ false
@@ -121,6 +124,10 @@ pub record Reached (nodes : List Node) (leaves : List Leaf) (prefix : List Bool)
   pub stands : StandsFor levels nodes leaves depth subtree part
   pub agreed : AllAgree depth prefix part
   pub same : matches_any prefix all ≡ list_any (hits prefix) part
+
+-- the index of bits: the number of a 1 and them
+abbrev pub index_of : List Bool → ℕ
+index_of bits = 2 ^ length bits + number bits
 
 -- the bucket of the patterns of fewer than 8 bits
 abbrev pub short_bucket : ℕ

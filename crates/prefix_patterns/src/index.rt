@@ -1,32 +1,31 @@
 //! The index of a large set: patterns in buckets by their first 8 bits, and a tree for each bucket.
 
-ghost use Rattle.std.specs.Prelude.{◌≡◌, ℕ, ◌+◌, ◌<◌, ◌≤◌, ◌++◌, List, IfOk, OnOk, get_or, length};
-ghost use Rattle.prefix_patterns.specs.Matching.{PrefixPattern, matches_any};
-ghost use Rattle.prefix_patterns.specs.Trees.{HasEmptyFirst, IsUnion, StandsFor, in_bucket, short_bucket, tree_levels};
-ghost use Rattle.prefix_patterns.specs.Index.{AreJoined, HasChains, IsIndexOf, ShortStandsFor};
+ghost use Rattle.std.specs.Prelude.{◌≡◌, ℕ, ◌+◌, ◌<◌, ◌≤◌, ◌++◌, ◌||◌, Bool, List, IfOk, IfSome, OnOk, get_or, length};
+ghost use Rattle.prefix_patterns.specs.Matching.{PrefixPattern, matches_any, pattern_limit};
+ghost use Rattle.prefix_patterns.specs.Trees.{HasEmptyFirst, IsLeafOf, StandsFor, hits, in_bucket, index_of, short_bucket, tree_levels};
+ghost use Rattle.prefix_patterns.specs.Index.{AreMarks, HasChains, IsIndexOf, ShortStandsFor};
 ghost use Rattle.prefix_patterns.specs.declared.leaf.Leaf.{Leaf as LeafView};
-ghost use Rattle.prefix_patterns.specs.declared.lengths.Lengths.{Lengths as LengthsView};
 ghost use Rattle.prefix_patterns.specs.declared.tree.Node.{Node as NodeView};
 
-use crate::leaf::Leaf;
-use crate::lengths::Lengths;
+use crate::leaf::{FEW, Leaf};
 use crate::pattern::{BUCKET_BITS, Pattern, SHORT_BUCKET};
 use crate::prefix::Prefix;
-use crate::tree::{Node, Subtree, grow, lengths_of, walk};
+use crate::tree::{Node, Subtree, grow, walk};
 use std::alloc::{AllocError, Global};
 
 /// The patterns of each bucket as a linked list, the last pattern first. A link is one more than the index of a pattern, and 0
-/// ends the list.
+/// ends the list. A set has at most 1,024 patterns, so links are small.
 #[derive(Drop)]
 pub(crate) struct Chains {
     /// For each bucket, the link to its first pattern.
-    heads: Vec<usize>,
+    heads: Vec<u16>,
     /// For each pattern, the link to the next one of its bucket.
-    next: Vec<usize>,
+    next: Vec<u16>,
 }
 
 /// Puts patterns into their buckets.
 fn chains_of(alloc: Global, patterns: &[Pattern]) -> Result<Chains, AllocError>
+    requires { length patterns.now ≤ pattern_limit }
     ensures { IfOk result (λ chains. HasChains patterns.now chains) }
 {
     let mut heads = vec![in alloc; 0; SHORT_BUCKET + 1]?;
@@ -34,7 +33,7 @@ fn chains_of(alloc: Global, patterns: &[Pattern]) -> Result<Chains, AllocError>
     for (at, pattern) in patterns.iter().enumerate() {
         let bucket = pattern.bucket();
         next.push(heads[bucket])?;
-        heads[bucket] = at + 1;
+        heads[bucket] = (at + 1) as u16;
     }
     Ok(Chains { heads, next })
 }
@@ -52,30 +51,66 @@ fn push_bucket(
 {
     let mut at = chains.heads[bucket];
     while at > 0 {
-        part.push(patterns[at - 1])?;
-        at = chains.next[at - 1];
+        let index = usize::from(at - 1);
+        part.push(patterns[index])?;
+        at = chains.next[index];
     }
     Ok(())
 }
 
-/// Fills in the lengths of the prefixes of fewer than 8 bits: each has those of the two prefixes that are one bit longer.
-fn join(lengths: &mut [Lengths])
-    requires { length lengths.old ≡ 512 }
-    ensures joined { AreJoined lengths.new }
-    ensures kept { (at : ℕ) (d : LengthsView) → 256 ≤ at → get_or lengths.new at d ≡ get_or lengths.old at d }
+/// The leaf of the patterns of a bucket, if they are few.
+fn leaf_of_bucket(patterns: &[Pattern], chains: &Chains, bucket: usize) -> Option<Leaf>
+    requires chains { HasChains patterns.now chains.now }
+    requires bucket { bucket < short_bucket }
+    ensures { IfSome result (λ leaf. IsLeafOf leaf (in_bucket bucket patterns.now)) }
 {
-    for step in 1..256 {
-        let at = 256 - step;
-        lengths[at] = lengths[2 * at].union(lengths[2 * at + 1]);
+    let mut leaf = Leaf::none();
+    let mut count = 0;
+    let mut at = chains.heads[bucket];
+    while at > 0 {
+        if count == FEW {
+            return None;
+        }
+        let index = usize::from(at - 1);
+        leaf.put(count, &patterns[index]);
+        count += 1;
+        at = chains.next[index];
+    }
+    Some(leaf)
+}
+
+/// Marks the prefixes of up to 8 bits that match a pattern of 8 bits or more.
+fn mark(marks: &mut [bool], pattern: &Pattern)
+    requires count { length marks.old ≡ 512 }
+    requires long { 8 ≤ length pattern.now.bits }
+    ensures { (prefix : List Bool) (d : Bool) → length prefix ≤ 8 →
+        get_or marks.new (index_of prefix) d ≡ (get_or marks.old (index_of prefix) d || hits prefix pattern.now) }
+{
+    let prefix = pattern.prefix();
+    for len in pattern.low()..pattern.high().min(BUCKET_BITS) + 1 {
+        marks[prefix.heap_index(len)] = true;
     }
 }
 
-/// The leaf of no patterns, which all trees without patterns share.
-fn first_leaves(alloc: Global) -> Result<Vec<Leaf>, AllocError>
+/// Marks the prefixes of up to 8 bits that match one of the patterns of 8 bits or more.
+fn marks_of(alloc: Global, patterns: &[Pattern]) -> Result<Vec<bool>, AllocError>
+    ensures { IfOk result (λ marks. AreMarks marks.items patterns.now) }
+{
+    let mut marks = vec![in alloc; false; 2 * SHORT_BUCKET]?;
+    for pattern in patterns {
+        if pattern.prefix().len() >= BUCKET_BITS {
+            mark(marks.as_mut_slice(), pattern);
+        }
+    }
+    Ok(marks)
+}
+
+/// The leaf of no patterns, which all trees without patterns share, with room for other leaves.
+fn first_leaves(alloc: Global, room: usize) -> Result<Vec<Leaf>, AllocError>
     ensures { IfOk result (λ leaves. HasEmptyFirst leaves.items) }
 {
-    let mut leaves = Vec::new(alloc);
-    leaves.push(Leaf::of(&[]))?;
+    let mut leaves = Vec::with_capacity(alloc, room)?;
+    leaves.push(Leaf::none())?;
     Ok(leaves)
 }
 
@@ -97,7 +132,8 @@ fn grow_short(
     Ok(Some(subtree))
 }
 
-/// Makes the tree of a bucket, and finds the lengths that its patterns allow. Most buckets of a set are empty.
+/// Makes the tree of a bucket. Most buckets of a set are empty, and most of the others have a few patterns: these go into a
+/// leaf at once.
 #[inline(always)]
 fn grow_bucket(
     nodes: &mut Vec<Node>,
@@ -106,24 +142,25 @@ fn grow_bucket(
     patterns: &[Pattern],
     chains: &Chains,
     bucket: usize,
-) -> Result<(Subtree, Lengths), AllocError>
+) -> Result<Subtree, AllocError>
     requires chains { HasChains patterns.now chains.now }
     requires bucket { bucket < short_bucket }
     requires first { HasEmptyFirst leaves.old.items }
     ensures nodes { OnOk result ((more : List NodeView) × (nodes.new.items ≡ nodes.old.items ++ more)) }
     ensures leaves { OnOk result ((more : List LeafView) × (leaves.new.items ≡ leaves.old.items ++ more)) }
-    ensures stands { IfOk result (λ grown. (levels : ℕ) → levels + 8 ≡ tree_levels →
-        StandsFor levels nodes.new.items leaves.new.items 8 grown.0 (in_bucket bucket patterns.now)) }
-    ensures allowed { IfOk result (λ grown. IsUnion grown.1 (in_bucket bucket patterns.now)) }
+    ensures stands { IfOk result (λ subtree. (levels : ℕ) → levels + 8 ≡ tree_levels →
+        StandsFor levels nodes.new.items leaves.new.items 8 subtree (in_bucket bucket patterns.now)) }
 {
     if chains.heads[bucket] == 0 {
-        return Ok((Subtree::Few(0), Lengths::none()));
+        return Ok(Subtree::Few(0));
+    }
+    if let Some(leaf) = leaf_of_bucket(patterns, chains, bucket) {
+        leaves.push(leaf)?;
+        return Ok(Subtree::Few(leaves.len() - 1));
     }
     part.clear();
     push_bucket(part, patterns, chains, bucket)?;
-    let allowed = lengths_of(part.as_slice(), BUCKET_BITS).1;
-    let subtree = grow(nodes, leaves, part, 0, BUCKET_BITS)?;
-    Ok((subtree, allowed))
+    grow(nodes, leaves, part, 0, BUCKET_BITS)
 }
 
 /// The index of a set of patterns.
@@ -135,24 +172,25 @@ pub(crate) struct PatternIndex {
     short: Option<Subtree>,
     /// The tree of each other bucket. It begins behind the 8 bits that its patterns share.
     subtrees: Vec<Subtree>,
-    /// For each prefix of up to 8 bits, the lengths that the patterns of 8 bits or more allow which agree with it. The index
-    /// of a prefix is the number whose digits are a 1 and its bits.
-    lengths: Vec<Lengths>,
+    /// For each prefix of up to 8 bits, whether it matches one of the patterns of 8 bits or more. The index of a prefix is
+    /// the number whose digits are a 1 and its bits.
+    marks: Vec<bool>,
 }
 
 impl PatternIndex {
     /// Makes the index of these patterns.
     pub fn build(alloc: Global, patterns: &[Pattern]) -> Result<PatternIndex, AllocError>
+        requires { length patterns.now ≤ pattern_limit }
         ensures { IfOk result (λ index. IsIndexOf index patterns.now) }
     {
+        let marks = marks_of(alloc, patterns)?;
         let chains = chains_of(alloc, patterns)?;
         let mut nodes = Vec::new(alloc);
-        let mut leaves = first_leaves(alloc)?;
+        let mut leaves = first_leaves(alloc, patterns.len().min(SHORT_BUCKET))?;
         let mut part = Vec::new(alloc);
         let mut subtrees = Vec::with_capacity(alloc, SHORT_BUCKET)?;
-        let mut lengths = vec![in alloc; Lengths::none(); 2 * SHORT_BUCKET]?;
         for bucket in 0..SHORT_BUCKET {
-            let (subtree, allowed) = grow_bucket(
+            let subtree = grow_bucket(
                 &mut nodes,
                 &mut leaves,
                 &mut part,
@@ -160,10 +198,8 @@ impl PatternIndex {
                 &chains,
                 bucket,
             )?;
-            lengths[SHORT_BUCKET + bucket] = allowed;
             subtrees.push(subtree)?;
         }
-        join(lengths.as_mut_slice());
         part.clear();
         push_bucket(&mut part, patterns, &chains, SHORT_BUCKET)?;
         let short = grow_short(&mut nodes, &mut leaves, &mut part)?;
@@ -172,7 +208,7 @@ impl PatternIndex {
             leaves,
             short,
             subtrees,
-            lengths,
+            marks,
         })
     }
 
@@ -198,7 +234,7 @@ impl PatternIndex {
         }
         let len = prefix.len();
         if len <= BUCKET_BITS {
-            return self.lengths[(1 << len) + prefix.leading(len)].has(len);
+            return self.marks[prefix.heap_index(len)];
         }
         let subtree = &self.subtrees[prefix.leading(BUCKET_BITS)];
         walk(&self.nodes, &self.leaves, subtree, BUCKET_BITS, prefix)

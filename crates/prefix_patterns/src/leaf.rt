@@ -1,6 +1,6 @@
 //! The leaves of a tree: up to four patterns each.
 
-ghost use Rattle.std.specs.Prelude.{◌≡◌, ℕ, ◌<◌, ◌≤◌, false, List, IfOk, get_or, length};
+ghost use Rattle.std.specs.Prelude.{◌≡◌, ℕ, ◌<◌, ◌≤◌, ◌++◌, false, List, [], ◌∷◌, IfOk, get_or, length};
 ghost use Rattle.prefix_patterns.specs.Matching.{PrefixPattern, matches, matches_any};
 ghost use Rattle.prefix_patterns.specs.Trees.{AreLeavesOf, IsEntry, IsLeafOf, has_length, leaf_limit};
 ghost use Rattle.prefix_patterns.specs.declared.lengths.Lengths.{Lengths as LengthsView};
@@ -23,25 +23,39 @@ pub(crate) struct Leaf {
 }
 
 impl Leaf {
+    /// The leaf of no patterns.
+    pub fn none() -> Leaf
+        ensures { IsLeafOf result [] }
+    {
+        Leaf {
+            addresses: [0; FEW],
+            masks: [0; FEW],
+            lengths: [Lengths::none(); FEW],
+        }
+    }
+
+    /// Puts one more pattern into a leaf of `at` patterns.
+    pub fn put(&mut self, at: usize, pattern: &Pattern)
+        requires { at < leaf_limit }
+        ensures { (part : List PrefixPattern) → length part ≡ at → IsLeafOf self.old part →
+            IsLeafOf self.new (part ++ pattern.now ∷ []) }
+    {
+        let prefix = pattern.prefix();
+        self.addresses[at] = prefix.address().0;
+        self.masks[at] = prefix.mask();
+        self.lengths[at] = pattern.lengths();
+    }
+
     /// The leaf of a few patterns.
     pub fn of(part: &[Pattern]) -> Leaf
         requires { length part.now ≤ leaf_limit }
         ensures { IsLeafOf result part.now }
     {
-        let mut addresses = [0; FEW];
-        let mut masks = [0; FEW];
-        let mut lengths = [Lengths::none(); FEW];
+        let mut leaf = Leaf::none();
         for (at, pattern) in part.iter().enumerate() {
-            let prefix = pattern.prefix();
-            addresses[at] = prefix.address().0;
-            masks[at] = prefix.mask();
-            lengths[at] = pattern.lengths();
+            leaf.put(at, pattern);
         }
-        Leaf {
-            addresses,
-            masks,
-            lengths,
-        }
+        leaf
     }
 
     /// Whether a prefix matches one of the patterns.

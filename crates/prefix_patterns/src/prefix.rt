@@ -6,7 +6,7 @@ ghost use Rattle.std.specs.Prelude.{◌≡◌, ◌^◌, ◌<◌, ◌≤◌, ◌�
 ghost use Rattle.std.specs.Option.{SomeIff};
 ghost use Rattle.prefix_patterns.specs.Bits.{address_bits, address_length, address_of, number, prefix_bits};
 ghost use Rattle.prefix_patterns.specs.Matching.{LiesWithin, lies_within, has_same_bits};
-ghost use Rattle.prefix_patterns.specs.Trees.{mask_of};
+ghost use Rattle.prefix_patterns.specs.Trees.{index_of, mask_of};
 
 use crate::address::{ADDRESS_LENGTH, Ip};
 use std::marker::Model;
@@ -111,6 +111,15 @@ impl Prefix {
         ensures limit { result < 2 ^ count }
     {
         (u64::from(self.address) >> (ADDRESS_LENGTH - count)) as usize
+    }
+
+    /// The place of the first `count` bits in a heap of all prefixes: the number whose digits are a 1 and these bits.
+    pub(crate) fn heap_index(&self, count: u8) -> usize
+        requires { count ≤ length self.now }
+        ensures { result ≡ index_of (take count self.now) }
+    {
+        let above = 1 << ADDRESS_LENGTH;
+        ((above + u64::from(self.address)) >> (ADDRESS_LENGTH - count)) as usize
     }
 
     /// The first address of the prefix: its bits followed by zeros.

@@ -89,6 +89,7 @@ impl PatternSet {
 
     /// Makes the index of these patterns if there are many, and their leaves otherwise.
     fn search_of(alloc: Global, patterns: &[Pattern]) -> Result<Search, AllocError>
+        requires { length patterns.now ≤ pattern_limit }
         ensures { IfOk result (λ search. IsSearchOf search patterns.now) }
     {
         if patterns.len() > SCAN_LIMIT {

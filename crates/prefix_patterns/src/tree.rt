@@ -43,7 +43,7 @@ impl Node {
 }
 
 /// The lengths that the patterns which end at a depth allow, and those that any of the patterns allows.
-pub(crate) fn lengths_of(part: &[Pattern], depth: u8) -> (Lengths, Lengths)
+fn lengths_of(part: &[Pattern], depth: u8) -> (Lengths, Lengths)
     ensures own { IsUnionOfEnds depth result.0 part.now }
     ensures below { IsUnion result.1 part.now }
 {

@@ -5,7 +5,7 @@ use Rattle.std.proofs.Math.Seq.{drop-append_seam, take-append_seam}
 use Rattle.prefix_patterns.specs.Matching.{PrefixPattern}
 use Rattle.prefix_patterns.specs.Trees.{IsUnion, IsUnionOfEnds, StandsFor, side, tree_levels}
 use Rattle.prefix_patterns.specs.declared.tree.Node.{Node}
-use Rattle.prefix_patterns.proofs.Nodes.{node_stands, slice_get-last, stands_in_longer}
+use Rattle.prefix_patterns.proofs.Nodes.{last_pushed, node_stands, stands_in_longer}
 use Rattle.prefix_patterns.proofs.tree.+grow.Goals as goal
 
 -- what follows the items that were there
@@ -19,12 +19,6 @@ cut_back old more new end e is = rw (e, is) (take-append_seam old more)
 -- the items from a place on
 to_end : (xs ys : List PrefixPattern) (from : ℕ) → xs ≡ ys → slice_range xs from (length xs) ≡ drop from ys
 to_end xs ys from e = rw e (take_all (length ys - from) (drop from ys) (omega (arith, length-drop from ys)))
-
-last_node : (before nodes : List Node) (node : Node) (len : ℕ) → nodes ≡ before ++ node ∷ [] → len ≡ length before + 1 →
-    slice_get nodes (len - 1) ≡ Some node
-last_node before nodes node len is e =
-    let at : len - 1 ≡ length before = omega arith in
-    rw (at, is) (slice_get-last before node)
 
 pub returns-clause-stands : goal.returns-clause-stands
 returns-clause-stands t c = λ levels e.
@@ -40,7 +34,7 @@ returns-clause-stands t c = λ levels e.
     let shallow : depth ≤ 32 = c.requires.shallow (omega (arith, c.len-end.ensures)) in
     let at_end : end ≡ length old = omega (arith, c.len-end.ensures, c.args.part.now.ok.0) in
     let grown : nodes ≡ last ++ node ∷ [] = c.in_ok-push.ensures.items in
-    let is : slice_get nodes (c.len.result - 1) ≡ Some node = last_node last nodes node c.len.result grown
+    let is : slice_get nodes (c.len.result - 1) ≡ Some node = last_pushed last nodes node c.len.result grown
     (omega (arith, c.len.ensures, c.in_ok-push.ensures.len, c.grow-2.new.nodes.ok.0)) in
     let range = to_end c.as_slice-2.result.now old c.args.from c.as_slice-2.ensures.value in
     let own : IsUnionOfEnds depth c.lengths_of.result.0 part =

@@ -1,17 +1,17 @@
-use Rattle.std.proofs.Common.{◌≡◌, ℕ, ◌+◌, ◌-◌, ◌^◌, ◌<◌, ◌≤◌, Bool, true, false, ◌&&◌, ◌||◌, List, length}
-use Rattle.std.proofs.Common.{take, get_or, refl, sym, ap, ◌∙◌, subst, arith}
+use Rattle.std.proofs.Common.{◌≡◌, ℕ, ◌<◌, ◌≤◌, Bool, true, false, ◌&&◌, ◌||◌, List, length}
+use Rattle.std.proofs.Common.{take, get_or, sym, ap, ◌∙◌, subst, arith}
 use Rattle.std.specs.List.{list_any}
 use Rattle.std.proofs.lemmas.List.{take_all}
-use Rattle.std.proofs.lemmas.Nat.{one_shl}
 use Rattle.prefix_patterns.specs.Bits.{number}
-use Rattle.prefix_patterns.specs.Index.{IsIndexOf}
+use Rattle.prefix_patterns.specs.Index.{IsIndexOf, is_long}
 use Rattle.prefix_patterns.specs.Matching.{PrefixPattern, matches_any}
-use Rattle.prefix_patterns.specs.Trees.{Reached, has_length, hits, in_bucket, StandsFor}
+use Rattle.prefix_patterns.specs.Trees.{Reached, hits, in_bucket, StandsFor, index_of}
 use Rattle.prefix_patterns.specs.declared.index.PatternIndex.{PatternIndex}
 use Rattle.prefix_patterns.specs.declared.leaf.Leaf.{Leaf}
 use Rattle.prefix_patterns.specs.declared.tree.Node.{Node}
 use Rattle.prefix_patterns.specs.declared.tree.Subtree.{Subtree}
-use Rattle.prefix_patterns.proofs.Buckets.{bucket_agrees, index_of, is_long, long_in_bucket, long_lengths, short_or_long}
+use Rattle.prefix_patterns.proofs.Buckets.{bucket_agrees, long_in_bucket, short_or_long}
+use Rattle.prefix_patterns.proofs.Marks.{index_within}
 use Rattle.prefix_patterns.proofs.Walks.{any_hits}
 use Rattle.prefix_patterns.proofs.index.PatternIndex.matches.Goals as goal
 
@@ -45,31 +45,32 @@ pub returns-then-matches_short : goal.returns-then-matches_short
 returns-then-matches_short c = λ patterns h.
     sym (by_short c.args.prefix.now patterns true c.matches_short.result (c.matches_short.ensures patterns h) c.if-matches_short.true)
 
--- the index of the lengths of a prefix
-at_index : (prefix : List Bool) (len leading shifted : ℕ) → len ≡ length prefix → leading ≡ number (take len prefix) → shifted ≡ 2 ^ len →
-    shifted + leading ≡ index_of prefix
-at_index prefix len leading shifted bits value power =
-    rw (power, value, bits, take_all (length prefix) prefix (omega arith)) refl
+-- the index of the mark of a prefix
+at_index : (prefix : List Bool) (len at : ℕ) → len ≡ length prefix → at ≡ index_of (take len prefix) → at ≡ index_of prefix
+at_index prefix len at bits is = is ∙ ap index_of (take_all len prefix (omega arith))
+
+pub index-requires : goal.index-requires
+index-requires c =
+    let (patterns, h) = c.requires in
+    let index = c.args.self.now in
+    let prefix = c.args.prefix.now in
+    let len = c.len-len.result in
+    let few : len ≤ 8 = c.if-len-le-BUCKET_BITS.true in
+    let at = at_index prefix len c.heap_index.result c.len-len.ensures.bits c.heap_index.ensures in
+    let below = index_within prefix (omega (arith, c.len-len.ensures.bits)) in
+    omega (arith, at, below, h.marks.count, index.marks.ok.0)
 
 pub returns-then-len-le-BUCKET_BITS : goal.returns-then-len-le-BUCKET_BITS
 returns-then-len-le-BUCKET_BITS c = λ patterns h.
     let index = c.args.self.now in
     let prefix = c.args.prefix.now in
     let len = c.len-len.result in
-    let bits : len ≡ length prefix = c.len-len.ensures.bits in
     let few : len ≤ 8 = c.if-len-le-BUCKET_BITS.true in
-    let power = one_shl len 64 (omega arith) in
+    let at = at_index prefix len c.heap_index.result c.len-len.ensures.bits c.heap_index.ensures in
     let found = c.index.result.now in
-    let read : found ≡ get_or index.lengths.items (index_of prefix) found =
-    c.index.ensures ∙ ap (λ i. get_or index.lengths.items i found)
-    (at_index prefix len c.leading.result _ bits c.leading.ensures.value power) in
-    let whole : length prefix + (8 - length prefix) ≡ 8 = omega arith in
-    let told = long_lengths index.lengths.items patterns (length prefix) (omega arith) h.joined h.allowed (8 - length prefix) prefix
-    found whole in
-    c.has.ensures
-    ∙ ap (λ l. has_length l len) read
-    ∙ ap (has_length (get_or index.lengths.items (index_of prefix) found)) bits
-    ∙ told
+    let read : found ≡ get_or index.marks.items (index_of prefix) found =
+    c.index.ensures ∙ ap (λ i. get_or index.marks.items i found) at in
+    read ∙ h.marks.marked prefix found (omega (arith, c.len-len.ensures.bits))
     ∙ sym (by_short prefix patterns false c.matches_short.result (c.matches_short.ensures patterns h) c.if-matches_short.false)
 
 pub walk-requires-clause-reached : goal.walk-requires-clause-reached
@@ -78,8 +79,8 @@ walk-requires-clause-reached c =
     let prefix = c.args.prefix.now in
     let few : 8 ≤ length prefix = omega (arith, c.len-len.ensures.bits) in (
       in_bucket (number (take 8 prefix)) patterns,
-      bucket_reached c.args.self.now c.deref.result.now c.deref-2.result.now prefix patterns c.leading-2.result c.index-subtree.result.now
-          c.deref.ensures.value c.deref-2.ensures.value few c.leading-2.ensures.value c.leading-2.ensures.limit c.index-subtree.ensures h,
+      bucket_reached c.args.self.now c.deref.result.now c.deref-2.result.now prefix patterns c.leading.result c.index-subtree.result.now
+          c.deref.ensures.value c.deref-2.ensures.value few c.leading.ensures.value c.leading.ensures.limit c.index-subtree.ensures h,
     )
 
 pub returns : goal.returns
@@ -87,9 +88,9 @@ returns c = λ patterns h.
     let index = c.args.self.now in
     let prefix = c.args.prefix.now in
     let few : 8 ≤ length prefix = omega (arith, c.len-len.ensures.bits) in
-    let reached = bucket_reached index c.deref.result.now c.deref-2.result.now prefix patterns c.leading-2.result
+    let reached = bucket_reached index c.deref.result.now c.deref-2.result.now prefix patterns c.leading.result
     c.index-subtree.result.now
-    c.deref.ensures.value c.deref-2.ensures.value few c.leading-2.ensures.value c.leading-2.ensures.limit c.index-subtree.ensures h in
+    c.deref.ensures.value c.deref-2.ensures.value few c.leading.ensures.value c.leading.ensures.limit c.index-subtree.ensures h in
     c.walk.ensures (in_bucket (number (take 8 prefix)) patterns) reached
     ∙ sym (long_in_bucket prefix patterns few)
     ∙ sym (by_short prefix patterns false c.matches_short.result (c.matches_short.ensures patterns h) c.if-matches_short.false)
