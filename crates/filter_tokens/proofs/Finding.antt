@@ -1,5 +1,5 @@
 -- Steps of the loops that look for the first that passes.
-use Rattle.std.proofs.Common.{◌≡◌, ℕ, ◌+◌, ◌<◌, ◌≤◌, Bool, true, false, List, ◌∷◌, length, drop, get_or, Option, Some}
+use Rattle.std.proofs.Common.{◌≡◌, ℕ, ◌+◌, ◌<◌, ◌≤◌, Bool, true, false, cond, List, [], ◌∷◌, length, drop, get_or, Option, Some}
 use Rattle.std.proofs.Common.{None, refl, sym, ◌∙◌, ap, arith}
 use Rattle.std.specs.List.{find, list_any}
 use Rattle.std.specs.Option.{option_map}
@@ -77,3 +77,21 @@ digits-refused text at value within e = rw (drop_more text at 0 within, e) refl
 pub digits-end : (text : List ℕ) (at value : ℕ) → length text ≤ at → hexadecimal_from value (drop at text) ≡ Some value
 unfolding hexadecimal_from
 digits-end text at value past = rw (drop_all at text past) refl
+
+-- ---- the first of a few that passes, one at a time
+
+first_as : {X : Type 0} (p : X → Bool) (x y : X) (xs : List X) (passes : Bool) → p x ≡ passes → cond passes (Some x) None ≡ Some y →
+    find p (x ∷ xs) ≡ Some y
+first_as p x y xs true e found = rw e found
+first_as p x y xs false e found = absurd cc
+
+pub found-first : {X : Type 0} (p : X → Bool) (x y : X) (xs : List X) → find p (x ∷ []) ≡ Some y → find p (x ∷ xs) ≡ Some y
+found-first p x y xs found = first_as p x y xs (p x) refl found
+
+later_as : {X : Type 0} (p : X → Bool) (x : X) (xs : List X) (passes : Bool) → p x ≡ passes → cond passes (Some x) None ≡ None →
+    find p (x ∷ xs) ≡ find p xs
+later_as p x xs true e found = absurd cc
+later_as p x xs false e found = rw e refl
+
+pub found-later : {X : Type 0} (p : X → Bool) (x : X) (xs : List X) → find p (x ∷ []) ≡ None → find p (x ∷ xs) ≡ find p xs
+found-later p x xs found = later_as p x xs (p x) refl found

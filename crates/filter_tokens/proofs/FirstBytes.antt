@@ -1,5 +1,5 @@
 -- What begins with a byte: the punctuators, the keywords and the words left out, chosen by the first byte of a text.
-use Rattle.std.proofs.Common.{◌≡◌, ℕ, Bool, true, false, List, [], ◌∷◌, None, ◌||◌, eqb, map, refl, sym, ◌∙◌, ap, subst}
+use Rattle.std.proofs.Common.{◌≡◌, ℕ, Bool, true, false, List, [], ◌∷◌, None, eqb, refl, sym, ◌∙◌, ap, subst}
 use Rattle.std.specs.List.{find, list_any}
 use Rattle.std.specs.Str.{bytes_eq}
 use Rattle.std.proofs.lemmas.Bool.{eqb-true, eqb-false, ne_eqb}
@@ -146,11 +146,6 @@ punctuator-by first others =
       dot = (a46, b46);
     } in
     single-by first others none ∙ ap (λ both. pair_or both (single first)) (sym (no_pair first others none))))))))
-
--- whether one of the things that are made from others passes
-pub any_of_map : {X Y : Type 0} (p : Y → Bool) (made : X → Y) (xs : List X) → list_any (λ x. p (made x)) xs ≡ list_any p (map made xs)
-any_of_map p made [] = refl
-any_of_map p made (x ∷ xs) = ap (λ rest. p (made x) || rest) (any_of_map p made xs)
 
 -- the keyword, among those with the same first byte
 pub keyword-by : (first : ℕ) (others : List ℕ) → keyword_in (first ∷ others) ≡ find (is_spelled (first ∷ others)) (keywords_with first)

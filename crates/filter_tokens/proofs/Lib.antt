@@ -1,6 +1,7 @@
 pub mod ByteParts
 pub mod Finding
 pub mod FirstBytes
+pub mod Flags
 pub mod Forms
 pub mod Fronts
 pub mod Longest
@@ -10,5 +11,6 @@ pub mod PartLaws
 pub mod PlainNumbers
 pub mod Punctuators
 pub mod Rows
+pub mod ShortNumbers
 pub mod Spaces
 pub mod Tokenized

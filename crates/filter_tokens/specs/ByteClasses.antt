@@ -20,3 +20,10 @@ is_in class.Digits = is_ascii_digit
 is_in class.Hexadecimal = is_ascii_hexdigit
 is_in class.Quoted = is_quotable
 is_in class.Line = is_of_line
+
+-- the bytes that are a punctuator whatever follows them
+abbrev pub stands_alone : ℕ → Bool
+stands_alone byte =
+    byte == 40 || byte == 41 || byte == 123 || byte == 125 || byte == 91
+    || byte == 93 || byte == 59 || byte == 58 || byte == 44 || byte == 61
+    || byte == 126 || byte == 43 || byte == 45 || byte == 42

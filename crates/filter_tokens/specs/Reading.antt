@@ -316,6 +316,24 @@ byte_part byte =
     else (if byte == 42 then byte_token symbol.Times
     else None))))))))))))))
 
+-- the punctuator that a byte is whatever follows it, where it is one
+abbrev pub byte_symbol : ℕ → Symbol
+byte_symbol byte =
+    if byte == 40 then symbol.LeftParen
+    else (if byte == 41 then symbol.RightParen
+    else (if byte == 123 then symbol.LeftBrace
+    else (if byte == 125 then symbol.RightBrace
+    else (if byte == 91 then symbol.LeftBracket
+    else (if byte == 93 then symbol.RightBracket
+    else (if byte == 59 then symbol.Semicolon
+    else (if byte == 58 then symbol.Colon
+    else (if byte == 44 then symbol.Comma
+    else (if byte == 61 then symbol.Equal
+    else (if byte == 126 then symbol.Match
+    else (if byte == 43 then symbol.Plus
+    else (if byte == 45 then symbol.Minus
+    else symbol.Times))))))))))))
+
 -- whether the first byte is a digit
 abbrev pub begins_digit : List ℕ → Bool
 begins_digit [] = false

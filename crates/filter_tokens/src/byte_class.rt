@@ -2,8 +2,29 @@
 
 ghost use Rattle.std.specs.List.{prefix_len};
 ghost use Rattle.std.specs.Prelude.{◌≡◌, ◌≤◌, length};
-ghost use Rattle.filter_tokens.specs.ByteClasses.{is_in};
-ghost use Rattle.filter_tokens.specs.Shapes.{begins_word};
+ghost use Rattle.filter_tokens.specs.ByteClasses.{is_in, stands_alone};
+ghost use Rattle.filter_tokens.specs.Shapes.{begins_word, continues_word};
+
+/// The flag of the bytes with which a word begins.
+const BEGINS_WORD: u8 = 1;
+
+/// The flag of the decimal digits.
+const DIGIT: u8 = 2;
+
+/// The flag of the bytes that are a punctuator, whatever follows.
+const STANDS_ALONE: u8 = 4;
+
+/// For each byte a digit, whose low three bits are the byte's flags. Every byte of a word is looked up here, which takes less than to compare it
+/// with the ends of the ranges of letters and digits.
+static FLAGS: [u8; 256] = *b"\
+    00000000000000000000000000000000\
+    00000000444444002222222222440400\
+    01111111111111111111111111140401\
+    01111111111111111111111111140440\
+    00000000000000000000000000000000\
+    00000000000000000000000000000000\
+    00000000000000000000000000000000\
+    00000000000000000000000000000000";
 
 /// Kinds of bytes that go on as long as they can.
 #[derive(Clone, Copy)]
@@ -38,7 +59,7 @@ fn is_in(class: ByteClass, byte: u8) -> bool
     ensures { result ≡ is_in class byte }
 {
     match class {
-        ByteClass::Word => begins_word(byte) || byte.is_ascii_digit(),
+        ByteClass::Word => continues_word(byte),
         ByteClass::Digits => byte.is_ascii_digit(),
         ByteClass::Hexadecimal => byte.is_ascii_hexdigit(),
         ByteClass::Quoted => !(byte == b'"' || byte == b'\n'),
@@ -50,5 +71,19 @@ fn is_in(class: ByteClass, byte: u8) -> bool
 pub fn begins_word(byte: u8) -> bool
     ensures { result ≡ begins_word byte }
 {
-    byte.is_ascii_alphabetic() || byte == b'_'
+    FLAGS[byte as usize] & BEGINS_WORD != 0
+}
+
+/// Whether a word can go on with this byte.
+pub fn continues_word(byte: u8) -> bool
+    ensures { result ≡ continues_word byte }
+{
+    FLAGS[byte as usize] & (BEGINS_WORD | DIGIT) != 0
+}
+
+/// Whether the byte is a punctuator whatever follows it: neither a longer one nor a comment begins with it.
+pub fn stands_alone(byte: u8) -> bool
+    ensures { result ≡ stands_alone byte }
+{
+    FLAGS[byte as usize] & STANDS_ALONE != 0
 }

@@ -3,6 +3,7 @@
 ghost use Rattle.std.specs.Prelude.{◌≡◌, IfSome, Some};
 ghost use Rattle.filter_tokens.specs.Reading as spec;
 
+use crate::byte_class::stands_alone;
 use crate::part::Part;
 use crate::symbol::Symbol;
 use crate::token_kind::TokenKind;
@@ -21,23 +22,35 @@ pub fn leading_byte(text: &[u8]) -> Option<Part>
 fn byte_part(byte: u8) -> Option<Part>
     ensures { spec.byte_part byte ≡ result }
 {
+    if byte == b' ' {
+        return Some(Part::Gap(1));
+    }
+    if stands_alone(byte) {
+        return Some(byte_token(byte_symbol(byte)));
+    }
+    None
+}
+
+/// The punctuator that a byte is whatever follows it. The byte is one.
+#[inline(always)]
+fn byte_symbol(byte: u8) -> Symbol
+    ensures { spec.byte_symbol byte ≡ result }
+{
     match byte {
-        b' ' => Some(Part::Gap(1)),
-        b'(' => Some(byte_token(Symbol::LeftParen)),
-        b')' => Some(byte_token(Symbol::RightParen)),
-        b'{' => Some(byte_token(Symbol::LeftBrace)),
-        b'}' => Some(byte_token(Symbol::RightBrace)),
-        b'[' => Some(byte_token(Symbol::LeftBracket)),
-        b']' => Some(byte_token(Symbol::RightBracket)),
-        b';' => Some(byte_token(Symbol::Semicolon)),
-        b':' => Some(byte_token(Symbol::Colon)),
-        b',' => Some(byte_token(Symbol::Comma)),
-        b'=' => Some(byte_token(Symbol::Equal)),
-        b'~' => Some(byte_token(Symbol::Match)),
-        b'+' => Some(byte_token(Symbol::Plus)),
-        b'-' => Some(byte_token(Symbol::Minus)),
-        b'*' => Some(byte_token(Symbol::Times)),
-        _ => None,
+        b'(' => Symbol::LeftParen,
+        b')' => Symbol::RightParen,
+        b'{' => Symbol::LeftBrace,
+        b'}' => Symbol::RightBrace,
+        b'[' => Symbol::LeftBracket,
+        b']' => Symbol::RightBracket,
+        b';' => Symbol::Semicolon,
+        b':' => Symbol::Colon,
+        b',' => Symbol::Comma,
+        b'=' => Symbol::Equal,
+        b'~' => Symbol::Match,
+        b'+' => Symbol::Plus,
+        b'-' => Symbol::Minus,
+        _ => Symbol::Times,
     }
 }
 

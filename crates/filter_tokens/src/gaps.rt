@@ -5,7 +5,7 @@ ghost use Rattle.std.specs.Prelude.{◌≡◌, ◌≤◌, ◌+◌, ◌<◌, ◌^
 ghost use Rattle.filter_tokens.specs.Tokenization.{is_space, begins_with};
 ghost use Rattle.filter_tokens.specs.Reading as spec;
 
-use crate::byte_class::{ByteClass, leading_len};
+use crate::byte_class::{ByteClass, continues_word, leading_len};
 
 /// The number of bytes of space or of a comment at the front of a text: 0 where neither begins there.
 /// None for a comment that does not end.
@@ -16,6 +16,10 @@ pub fn gap_len(text: &[u8]) -> Option<usize>
     let Some((first, others)) = text.split_first() else {
         return Some(0);
     };
+    // Most parts that are not told by one byte are words and numbers, so this is asked first.
+    if continues_word(*first) {
+        return Some(0);
+    }
     if is_space(*first) {
         return Some(1);
     }

@@ -7,9 +7,57 @@ ghost use Rattle.filter_tokens.specs.Reading.{begins_digit, goes_on, number_ahea
 use crate::byte_class::{ByteClass, leading_len};
 use crate::part::Part;
 use crate::token_kind::TokenKind;
-use prefix_patterns::{leading_prefix, read_number};
+use prefix_patterns::{leading_number, leading_prefix, read_number};
+
+/// In a text of so many bytes, no byte that is looked at while a prefix in the usual spelling is read can lie behind the end: not in its groups of
+/// up to three digits, not in its length, and not after it.
+const USUAL_ROOM: usize = 20;
+
+/// The token at the front of a text that begins with a digit, where it is a prefix in the usual spelling or a decimal number.
+pub fn digits_token(text: &[u8]) -> Option<Part>
+    ensures { IfSome result (λ part. token_in text.now ≡ Some part) }
+{
+    if begins_digit(text) {
+        begun_token(text)
+    } else {
+        None
+    }
+}
+
+/// The same, where the first byte is known to be a digit. It is read in the same way whether or not there is room, but where room is known to be
+/// there, the compiled code does without the tests for the end of the text.
+#[inline(always)]
+fn begun_token(text: &[u8]) -> Option<Part>
+    ensures { IfSome result (λ part. token_in text.now ≡ Some part) }
+{
+    if text.len() < USUAL_ROOM {
+        last_token(text)
+    } else {
+        usual_token(text)
+    }
+}
+
+/// The same near the end of a text.
+#[inline(never)]
+fn last_token(text: &[u8]) -> Option<Part>
+    ensures { IfSome result (λ part. token_in text.now ≡ Some part) }
+{
+    usual_token(text)
+}
+
+/// A prefix in the usual spelling, or a decimal number.
+#[inline(always)]
+fn usual_token(text: &[u8]) -> Option<Part>
+    ensures { IfSome result (λ part. token_in text.now ≡ Some part) }
+{
+    match prefix_token(text) {
+        Some(part) => Some(part),
+        None => number_token(text),
+    }
+}
 
 /// The token at the front of a text, where it is a prefix in the usual spelling: in no number of it more than three digits.
+#[inline(always)]
 pub fn prefix_token(text: &[u8]) -> Option<Part>
     ensures token { IfSome result (λ part. token_in text.now ≡ Some part) }
     // A prefix in the usual spelling is read in one pass.
@@ -19,14 +67,33 @@ pub fn prefix_token(text: &[u8]) -> Option<Part>
         return None;
     };
     // A length of more digits is another one, or none.
-    if leading_len(ByteClass::Digits, rest) > 0 {
+    if begins_digit(rest) {
         return None;
     }
     Some(Part::Token(TokenKind::Prefix(prefix), text.len() - rest.len()))
 }
 
 /// The token at the front of a text, where it is a decimal number, and what follows its digits makes no longer token of them.
+#[inline(always)]
 pub fn number_token(text: &[u8]) -> Option<Part>
+    ensures exact { result ≡ number_ahead text.now }
+    ensures token { IfSome result (λ part. token_in text.now ≡ Some part) }
+{
+    let Some((number, others)) = leading_number(text) else {
+        return long_number_token(text);
+    };
+    if begins_digit(others) {
+        return long_number_token(text);
+    }
+    if goes_on(others) {
+        return None;
+    }
+    Some(Part::Token(TokenKind::Number(number), text.len() - others.len()))
+}
+
+/// The same, of any number of digits. Few numbers have more than three.
+#[inline(never)]
+fn long_number_token(text: &[u8]) -> Option<Part>
     ensures exact { result ≡ number_ahead text.now }
     ensures token { IfSome result (λ part. token_in text.now ≡ Some part) }
 {

@@ -2,7 +2,7 @@
 
 ghost use Rattle.std.specs.Option.{option_map};
 ghost use Rattle.std.specs.List.{list_any};
-ghost use Rattle.std.specs.Prelude.{◌≡◌, IfErr, find, map};
+ghost use Rattle.std.specs.Prelude.{◌≡◌, ◌∷◌, [], IfErr, find};
 ghost use Rattle.std.specs.Str.{bytes_eq};
 ghost use Rattle.filter_tokens.specs.Codes.{fault_place};
 ghost use Rattle.filter_tokens.specs.Reading as spec;
@@ -57,39 +57,61 @@ fn keyword(bytes: &[u8]) -> Option<Symbol>
     ensures { spec.keyword_in bytes.now ≡ result }
 {
     let (first, _) = bytes.split_first()?;
-    symbol_spelled(keywords_with(*first), bytes)
+    keyword_with(*first, bytes)
 }
 
-/// The keywords that begin with this byte.
-fn keywords_with(first: u8) -> &'static [Symbol]
-    ensures { result.now ≡ spec.keywords_with first }
+/// The keyword that is written so, among those that begin with a byte. Each of them is named where it is compared, so that its length and its
+/// bytes are known there.
+fn keyword_with(first: u8, bytes: &[u8]) -> Option<Symbol>
+    ensures { find (spec.is_spelled bytes.now) (spec.keywords_with first) ≡ result }
 {
     match first {
-        b'a' => &[Symbol::Accept],
-        b'b' => &[Symbol::Bool],
-        b'c' => &[Symbol::Case],
-        b'd' => &[Symbol::Defined],
-        b'e' => &[Symbol::Else],
-        b'f' => &[Symbol::Filter, Symbol::False],
-        b'i' => &[Symbol::Int, Symbol::Ip, Symbol::If],
-        b'n' => &[Symbol::Net],
-        b'p' => &[Symbol::Prefix],
-        b'r' => &[Symbol::Reject, Symbol::RipMetric],
-        b't' => &[Symbol::Then, Symbol::True],
-        _ => &[],
+        b'a' => spelled(Symbol::Accept, bytes),
+        b'b' => spelled(Symbol::Bool, bytes),
+        b'c' => spelled(Symbol::Case, bytes),
+        b'd' => spelled(Symbol::Defined, bytes),
+        b'e' => spelled(Symbol::Else, bytes),
+        b'f' => spelled_either(Symbol::Filter, Symbol::False, bytes),
+        b'i' => spelled_any(Symbol::Int, Symbol::Ip, Symbol::If, bytes),
+        b'n' => spelled(Symbol::Net, bytes),
+        b'p' => spelled(Symbol::Prefix, bytes),
+        b'r' => spelled_either(Symbol::Reject, Symbol::RipMetric, bytes),
+        b't' => spelled_either(Symbol::Then, Symbol::True, bytes),
+        _ => None,
     }
 }
 
-/// The first of the symbols that is written so.
-fn symbol_spelled(symbols: &[Symbol], bytes: &[u8]) -> Option<Symbol>
-    ensures { find (spec.is_spelled bytes.now) symbols.now ≡ result }
+/// The symbol, if it is written so.
+#[inline(always)]
+fn spelled(symbol: Symbol, bytes: &[u8]) -> Option<Symbol>
+    ensures { find (spec.is_spelled bytes.now) (symbol ∷ []) ≡ result }
 {
-    for symbol in symbols {
-        if symbol.text().as_bytes() == bytes {
-            return Some(*symbol);
-        }
+    if are_same(symbol.text().as_bytes(), bytes) {
+        return Some(symbol);
     }
     None
+}
+
+/// The first of two symbols that is written so.
+#[inline(always)]
+fn spelled_either(first: Symbol, second: Symbol, bytes: &[u8]) -> Option<Symbol>
+    ensures { find (spec.is_spelled bytes.now) (first ∷ second ∷ []) ≡ result }
+{
+    match spelled(first, bytes) {
+        Some(symbol) => Some(symbol),
+        None => spelled(second, bytes),
+    }
+}
+
+/// The first of three symbols that is written so.
+#[inline(always)]
+fn spelled_any(first: Symbol, second: Symbol, third: Symbol, bytes: &[u8]) -> Option<Symbol>
+    ensures { find (spec.is_spelled bytes.now) (first ∷ second ∷ third ∷ []) ≡ result }
+{
+    match spelled(first, bytes) {
+        Some(symbol) => Some(symbol),
+        None => spelled_either(second, third, bytes),
+    }
 }
 
 /// Whether the language leaves this word out.
@@ -98,41 +120,59 @@ fn is_left_out(bytes: &[u8]) -> bool
     ensures { result ≡ spec.is_left_out bytes.now }
 {
     match bytes.split_first() {
-        Some((first, _)) => is_among(left_out_with(*first), bytes),
+        Some((first, _)) => is_left_out_with(*first, bytes),
         None => false,
     }
 }
 
-/// The words of BIRD's filters that are neither names nor keywords here, and begin with this byte.
-fn left_out_with(first: u8) -> &'static [&'static str]
-    ensures { map (λ word. word.now) result.now ≡ spec.left_out_with first }
+/// Whether it is one of the words of BIRD's filters that are neither names nor keywords here, and begin with a byte.
+fn is_left_out_with(first: u8, bytes: &[u8]) -> bool
+    ensures { result ≡ list_any (λ word. bytes_eq word bytes.now) (spec.left_out_with first) }
 {
     match first {
-        b'b' => &["bgppath", "bgpmask"],
-        b'c' => &["clist"],
-        b'd' => &["define"],
-        b'e' => &["ec", "eclist"],
-        b'f' => &["function", "from"],
-        b'i' => &["include"],
-        b'l' => &["lc", "lclist"],
-        b'p' => &["print", "printn", "pair", "proto", "preference"],
-        b'q' => &["quad"],
-        b'r' => &["return"],
-        b's' => &["string", "set", "source"],
-        _ => &[],
+        b'b' => is_word("bgppath", bytes) || is_word("bgpmask", bytes),
+        b'c' => is_word("clist", bytes),
+        b'd' => is_word("define", bytes),
+        b'e' => is_word("ec", bytes) || is_word("eclist", bytes),
+        b'f' => is_word("function", bytes) || is_word("from", bytes),
+        b'i' => is_word("include", bytes),
+        b'l' => is_word("lc", bytes) || is_word("lclist", bytes),
+        b'p' => {
+            is_word("print", bytes)
+                || is_word("printn", bytes)
+                || is_word("pair", bytes)
+                || is_word("proto", bytes)
+                || is_word("preference", bytes)
+        }
+        b'q' => is_word("quad", bytes),
+        b'r' => is_word("return", bytes),
+        b's' => is_word("string", bytes) || is_word("set", bytes) || is_word("source", bytes),
+        _ => false,
     }
 }
 
-/// Whether one of the words is spelled so.
-fn is_among(words: &[&str], bytes: &[u8]) -> bool
-    ensures { result ≡ list_any (λ word. bytes_eq word.now bytes.now) words.now }
+/// Whether the word is spelled so.
+#[inline(always)]
+fn is_word(word: &str, bytes: &[u8]) -> bool
+    ensures { result ≡ bytes_eq word.now bytes.now }
 {
-    for word in words {
-        if word.as_bytes() == bytes {
-            return true;
+    are_same(word.as_bytes(), bytes)
+}
+
+/// Whether a word is spelled by these bytes. The word is known where this is called and few bytes long, so it is compared byte by byte.
+#[inline(always)]
+fn are_same(word: &[u8], bytes: &[u8]) -> bool
+    ensures { result ≡ bytes_eq word.now bytes.now }
+{
+    if word.len() != bytes.len() {
+        return false;
+    }
+    for at in 0..word.len() {
+        if word[at] != bytes[at] {
+            return false;
         }
     }
-    false
+    true
 }
 
 /// A number that was read, or was too large.

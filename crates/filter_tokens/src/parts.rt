@@ -8,7 +8,7 @@ ghost use Rattle.filter_tokens.specs.Reading as spec;
 use crate::bytes::leading_byte;
 use crate::fault::TokenFault;
 use crate::gaps::gap_len;
-use crate::leading::{number_token, prefix_token};
+use crate::leading::digits_token;
 use crate::meaning::meaning;
 use crate::part::Part;
 use crate::shapes::longest_shape;
@@ -45,10 +45,7 @@ fn token(text: &[u8], at: usize) -> Result<Part, TokenFault>
     ensures is { spec.OkWhereSome result (spec.token_in text.now) }
     ensures placed { IfErr result (λ fault. fault_place fault ≡ at) }
 {
-    if let Some(part) = number_token(text) {
-        return Ok(part);
-    }
-    if let Some(part) = prefix_token(text) {
+    if let Some(part) = digits_token(text) {
         return Ok(part);
     }
     let Some((shape, rest)) = longest_shape(text) else {

@@ -1,14 +1,21 @@
-use Rattle.std.proofs.Common.{◌≡◌, ◌-◌, ◌<◌, length, take, drop, ap, sym, ◌∙◌, arith, length-drop}
-use Rattle.std.proofs.lemmas.List.{take_all}
-use Rattle.filter_tokens.specs.Reading.{goes_on}
-use Rattle.filter_tokens.proofs.PlainNumbers.{number-token}
+use Rattle.std.proofs.Common.{sym, ◌∙◌}
+use Rattle.filter_tokens.proofs.ShortNumbers.{number-leads, number-longer, number-read, number-within}
 use Rattle.filter_tokens.proofs.leading.number_token.Goals as goal
 
-pub returns-in-Some-clause-token : goal.returns-in-Some-clause-token
-returns-in-Some-clause-token c =
-    let text = c.args.text.now in
-    let len = c.leading_len-len.result in
-    let some : 0 < len = omega (arith, c.if-len-eq0.false) in
-    let rest : take (length text - len) (drop len text) ≡ drop len text = take_all _ (drop len text) (omega (arith, length-drop len text)) in
-    number-token text len c.in-Some.number c.leading_len-len.ensures.len c.leading_len-len.ensures.within some
-    (ap goes_on (sym rest) ∙ (sym c.goes_on.ensures ∙ c.if-goes_on.false)) (sym c.in-Some.ensures.exact)
+pub overflow_sub-result : goal.overflow_sub-result
+overflow_sub-result c = number-within c.args.text.now c.in-Some.number c.in-Some.others.now c.in-Some.ensures.found
+
+pub returns-then-goes_on-clause-exact : goal.returns-then-goes_on-clause-exact
+returns-then-goes_on-clause-exact c =
+    sym (number-longer c.args.text.now c.in-Some.number c.in-Some.others.now c.in-Some.ensures.found
+    (sym c.begins_digit.ensures ∙ c.if-begins_digit.false) (sym c.goes_on.ensures ∙ c.if-goes_on.true))
+
+pub returns-clause-exact : goal.returns-clause-exact
+returns-clause-exact c =
+    sym (number-read c.args.text.now c.in-Some.number c.in-Some.others.now c.in-Some.ensures.found c.in-Some.ensures.limit
+    (sym c.begins_digit.ensures ∙ c.if-begins_digit.false) (sym c.goes_on.ensures ∙ c.if-goes_on.false))
+
+pub returns-clause-token : goal.returns-clause-token
+returns-clause-token c =
+    number-leads c.args.text.now c.in-Some.number c.in-Some.others.now c.in-Some.ensures.found c.in-Some.ensures.limit
+    (sym c.begins_digit.ensures ∙ c.if-begins_digit.false) (sym c.goes_on.ensures ∙ c.if-goes_on.false)

@@ -1,4 +1,4 @@
-use Rattle.std.proofs.Common.{◌≡◌, ◌∙◌, sym, ap}
+use Rattle.std.proofs.Common.{◌≡◌, ◌∙◌}
 use Rattle.std.specs.List.{find}
 use Rattle.filter_tokens.specs.Reading.{is_spelled, keyword_in, keywords_with}
 use Rattle.filter_tokens.proofs.FirstBytes.{keyword-by}
@@ -10,4 +10,4 @@ returns c =
     let split = c.in_ok-first.ensures.cases.0 in
     let among : keyword_in bytes ≡ find (is_spelled bytes) (keywords_with c.in_ok-first.first.now) =
     rw split (keyword-by c.in_ok-first.first.now _) in
-    among ∙ ap (find (is_spelled bytes)) (sym c.keywords_with.ensures) ∙ c.symbol_spelled.ensures
+    among ∙ c.keyword_with.ensures
