@@ -12,6 +12,7 @@ text_limit = 65536
 abbrev pub fault_code : ParseFault → List ℕ
 fault_code (fault.Token found) = token_fault_code found
 fault_code (fault.Unexpected at wanted) = codes "P2"
+fault_code (fault.MissingAssign at name) = codes "P2"
 fault_code (fault.MaskOverLimit at) = codes "P4"
 fault_code (fault.PatternLengths at) = codes "P4"
 fault_code (fault.RangeOrder at) = codes "P4"
@@ -26,6 +27,7 @@ fault_code fault.Memory = codes "P11"
 abbrev pub fault_place : ParseFault → ℕ
 fault_place (fault.Token found) = token_fault_place found
 fault_place (fault.Unexpected at wanted) = at
+fault_place (fault.MissingAssign at name) = at
 fault_place (fault.MaskOverLimit at) = at
 fault_place (fault.PatternLengths at) = at
 fault_place (fault.RangeOrder at) = at
@@ -36,11 +38,17 @@ fault_place (fault.EndsEarly at) = at
 fault_place (fault.TextElsewhere at) = at
 fault_place fault.Memory = 0
 
+-- the place at which people are shown the fault: a missing `=` at the name before it
+abbrev pub shown_place : ParseFault → ℕ
+shown_place (fault.MissingAssign at name) = name
+shown_place why = fault_place why
+
 -- where the fault of a text of so many bytes is: an early end at the end of the text, and any other at one of its bytes; refused
 -- memory has no place
 abbrev pub LiesWithin : ℕ → ParseFault → Type 0
 LiesWithin len (fault.Token found) = token_fault_place found < len
 LiesWithin len (fault.Unexpected at wanted) = at < len
+LiesWithin len (fault.MissingAssign at name) = at < len
 LiesWithin len (fault.MaskOverLimit at) = at < len
 LiesWithin len (fault.PatternLengths at) = at < len
 LiesWithin len (fault.RangeOrder at) = at < len

@@ -20,6 +20,9 @@ pub enum ParseFault {
     /// P2: the token at this place cannot follow what comes before it.
     #[error("expected {1} at byte {0}")]
     Unexpected(usize, Expected),
+    /// P2: the token at the first place is not the `=` of an assignment to the name at the second one, with which the command begins.
+    #[error("expected `=` at byte {0}")]
+    MissingAssign(usize, usize),
     /// P4: the argument of `mask` at this place is over 32.
     #[error("the mask length at byte {0} exceeds 32")]
     MaskOverLimit(usize),
@@ -50,7 +53,7 @@ pub enum ParseFault {
 }
 
 impl ParseFault {
-    ghost use Rattle.expression_parser.specs.Codes.{fault_code, fault_place};
+    ghost use Rattle.expression_parser.specs.Codes.{fault_code, fault_place, shown_place};
 
     /// The fault's code, `P1` to `P11`.
     pub fn code(self) -> &'static str
@@ -58,7 +61,7 @@ impl ParseFault {
     {
         match self {
             ParseFault::Token(fault) => fault.code(),
-            ParseFault::Unexpected(_, _) => "P2",
+            ParseFault::Unexpected(_, _) | ParseFault::MissingAssign(_, _) => "P2",
             ParseFault::MaskOverLimit(_)
             | ParseFault::PatternLengths(_)
             | ParseFault::RangeOrder(_) => "P4",
@@ -78,6 +81,7 @@ impl ParseFault {
         match self {
             ParseFault::Token(fault) => fault.at(),
             ParseFault::Unexpected(at, _)
+            | ParseFault::MissingAssign(at, _)
             | ParseFault::MaskOverLimit(at)
             | ParseFault::PatternLengths(at)
             | ParseFault::RangeOrder(at)
@@ -87,6 +91,17 @@ impl ParseFault {
             | ParseFault::TextElsewhere(at) => at,
             ParseFault::TooLong => TEXT_LIMIT,
             ParseFault::Memory => 0,
+        }
+    }
+
+    /// The place at which people are shown the fault: where the `=` of an assignment is missing, the name before it, which may be a
+    /// misspelt command, and otherwise the fault's place.
+    pub fn shown_at(self) -> usize
+        ensures { result ≡ shown_place self }
+    {
+        match self {
+            ParseFault::MissingAssign(_, name) => name,
+            _ => self.at(),
         }
     }
 }

@@ -4,6 +4,7 @@ pub mod CommandsComplete
 pub mod CommandsSound
 pub mod Decls
 pub mod FilterLaws
+pub mod Heads
 pub mod Joined
 pub mod Placing
 pub mod Rows

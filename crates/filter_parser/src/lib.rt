@@ -5,6 +5,7 @@ mod case_label;
 mod command;
 mod decl;
 mod filter;
+mod head;
 mod parts;
 mod text;
 mod tree;

@@ -2,15 +2,17 @@
 
 ghost use Rattle.std.specs.Prelude.{◌≡◌, ◌≢◌, ◌<◌, ◌≤◌, List, None, IfOk, IfErr, IfSome, IsErrOf, length};
 ghost use Rattle.filter_tokens.specs.Codes.{fault_place};
-ghost use Rattle.filter_tokens.specs.Tokenization.{AreInOrder, IsTokenization};
+ghost use Rattle.filter_tokens.specs.Tokenization.{AreInOrder, IsTokenization, StopsAt};
 ghost use Rattle.filter_tokens.specs.declared.token.Token.{Token as TheToken};
 ghost use Rattle.expression_parser.specs.Codes.{LiesWithin};
+ghost use Rattle.filter_parser.specs.Heads.{HasHead};
 ghost use Rattle.filter_parser.specs.Placed.{IsPlaced};
 ghost use Rattle.expression_parser.specs.Codes.{text_limit};
 ghost use Rattle.filter_parser.specs.SyntaxText.{IsText, FilterView, view_filter};
 ghost use Rattle.expression_parser.specs.declared.fault.ParseFault.TheVariants.{Memory, TooLong};
 
 use crate::filter::parse_filter;
+use crate::head::with_head;
 use crate::tree::Filter;
 use expression_parser::{Input, ParseFault, Source, TEXT_LIMIT};
 use filter_tokens::{Lexed, Token, TokenFault, lex};
@@ -26,7 +28,7 @@ fn filter_of_tokens(
     requires size { length text.now ≤ text_limit }
     requires spans { AreInOrder 0 tokens.items (length text.now) }
     requires cut { fault ≡ None → IsTokenization tokens.items 0 text.now }
-    requires stops { IfSome fault (λ why. fault_place why < length text.now) }
+    requires stops { IfSome fault (λ why. StopsAt tokens.items (fault_place why) text.now) }
     requires only { (all : List TheToken) → IsTokenization all 0 text.now → (fault ≡ None) × (tokens.items ≡ all) }
     ensures found { IfOk result (λ f. IsText text.now (view_filter f)) }
     ensures unique { IfOk result (λ f. (t : FilterView) → IsText text.now t → t ≡ view_filter f) }
@@ -34,6 +36,7 @@ fn filter_of_tokens(
     ensures spans { IfOk result (λ f. AreInOrder 0 (view_filter f).tokens (length text.now)) }
     ensures placed { IfOk result (λ f. IsPlaced text.now f) }
     ensures within { IfErr result (LiesWithin (length text.now)) }
+    ensures head { IfErr result (HasHead text.now) }
 {
     let source = Source { text, end: fault };
     let read = parse_filter(
@@ -53,7 +56,7 @@ fn filter_of_tokens(
             }),
             Some(fault) => Err(ParseFault::Token(fault)),
         },
-        Err(fault) => Err(fault),
+        Err(fault) => Err(with_head(tokens.as_slice(), fault)),
     }
 }
 
@@ -76,6 +79,8 @@ pub fn parse(alloc: Global, text: &[u8]) -> Result<Filter, ParseFault>
     ensures placed { IfOk result (λ f. IsPlaced text.now f) }
     // A fault is at a byte of the text, or at its end.
     ensures within { IfErr result (LiesWithin (length text.now)) }
+    // Where the `=` of an assignment is missing, the fault has the name before it, if there is one.
+    ensures head { IfErr result (HasHead text.now) }
     // P7 is the answer if and only if the text is over the limit.
     ensures long { text_limit < length text.now → IsErrOf result TooLong }
     ensures short { length text.now ≤ text_limit → IfErr result (λ e. e ≢ TooLong) }

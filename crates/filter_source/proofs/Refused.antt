@@ -11,6 +11,7 @@ use Rattle.filter_compiler.specs.Translation.{code_of}
 use Rattle.filter_compiler.specs.declared.fault.CompileFault.{CompileFault}
 use Rattle.filter_compiler.specs.declared.fault.CompileFault.TheVariants as compile
 use Rattle.expression_parser.specs.Codes.{LiesWithin}
+use Rattle.filter_parser.specs.Heads.{HasHead}
 use Rattle.filter_parser.specs.Placed.{IsPlaced}
 use Rattle.expression_parser.specs.Codes.{text_limit}
 use Rattle.filter_parser.specs.SyntaxText.{FilterView, IsText, view_filter}
@@ -28,10 +29,10 @@ use Rattle.filter_source.specs.Sources.{IsRefusedText, IsUntyped, IsUnwritten}
 use Rattle.filter_source.proofs.Bytes.{byte_of}
 
 pub no_filter : (text : List ℕ) (why : ParseFault) → (why ≢ parse.Memory → (filter : FilterView) → IsText text filter → ⊥)
-    → LiesWithin (length text) why → (text_limit < length text → why ≡ parse.TooLong) → OnRefusal (IsRefusedText text) (of_parse why)
-no_filter text parse.Memory none within long = tt
-no_filter text why none within long = let other : why ≢ parse.Memory = λ e. cc in
-    record { spells_none = none other; no_memory = other; within = within; long = long }
+    → LiesWithin (length text) why → HasHead text why → (text_limit < length text → why ≡ parse.TooLong) → OnRefusal (IsRefusedText text) (of_parse why)
+no_filter text parse.Memory none within head long = tt
+no_filter text why none within head long = let other : why ≢ parse.Memory = λ e. cc in
+    record { spells_none = none other; no_memory = other; within = within; head = head; long = long }
 
 -- a filter whose names and kinds do not fit has a fault at a byte of its text; of refused memory nothing is said
 pub untyped : (text : List ℕ) (tree : Filter) (why : TypeFault) → IsText text (view_filter tree) → IsPlaced text tree

@@ -1,4 +1,4 @@
--- What is told of a refusal: where in a filter's text it stands, and the range of the int that the verifier refuses. (This project's
+-- What is told of a refusal: where in a filter's text it is shown, and the range of the int that the verifier refuses. (This project's
 -- own choice.)
 use Rattle.std.specs.Prelude.{◌≡◌, ℕ, List, Option, Some, None, slice_get}
 use Rattle.filter_code.specs.CodeView.{CodeView}
@@ -13,9 +13,9 @@ use Rattle.filter_source.specs.declared.diagnosis.Diagnosis.{Diagnosis}
 use Rattle.filter_source.specs.declared.refusal.Refusal.{Refusal}
 use Rattle.filter_source.specs.declared.refusal.Refusal.TheVariants.{TooLong, Hexadecimal, File, Parse, Typing, Compile, Verify}
 
--- the byte of a text at which a refusal stands before there is code: the one that the fault names
+-- the byte of a text at which a refusal is shown before there is code: the one that the fault names
 abbrev pub named_byte : Refusal → Option ℕ
-named_byte (Parse why) = Some (parse.fault_place why)
+named_byte (Parse why) = Some (parse.shown_place why)
 named_byte (Typing why) = Some (types.fault_place why)
 named_byte TooLong = None
 named_byte Hexadecimal = None

@@ -14,12 +14,9 @@ use Rattle.filter_compiler.specs.Same.{MeansTheSame}
 use Rattle.filter_compiler.specs.Translation.{code_of}
 use Rattle.filter_compiler.specs.declared.fault.CompileFault.{CompileFault}
 use Rattle.filter_compiler.specs.declared.fault.CompileFault.TheVariants as compile
-use Rattle.expression_parser.specs.Codes.{LiesWithin}
 use Rattle.filter_parser.specs.Placed.{IsPlaced}
-use Rattle.expression_parser.specs.Codes.{text_limit}
 use Rattle.filter_parser.specs.SyntaxText.{FilterView, IsText, view_filter}
-use Rattle.expression_parser.specs.declared.fault.ParseFault.{ParseFault}
-use Rattle.expression_parser.specs.declared.fault.ParseFault.TheVariants as parse
+use Rattle.filter_parser.specs.Unspelled.{IsUnspelled}
 use Rattle.filter_parser.specs.declared.tree.filter.Filter.{Filter}
 use Rattle.filter_types.specs.Codes.{fault_place}
 use Rattle.filter_types.specs.Faults.{IsFaultOf}
@@ -47,14 +44,6 @@ abbrev pub IsOverLimit : CodeView → CompileFault → Type 0
 IsOverLimit program compile.TooManyInstructions = IsTooLong program
 IsOverLimit program compile.TooManySets = ¬ IsTooLong program × HasTooMany program
 IsOverLimit program compile.Memory = ⊥
-
--- A text spells no filter, and this is a fault of it, at one of its bytes or at its end. P7 is the fault of a text over the limit, and
--- of no other. Which of its other faults it is, is left open.
-pub record IsUnspelled (text : List ℕ) (why : ParseFault) : Type 0 where
-  pub spells_none : (filter : FilterView) → IsText text filter → ⊥
-  pub no_memory : why ≢ parse.Memory
-  pub within : LiesWithin (length text) why
-  pub long : text_limit < length text → why ≡ parse.TooLong
 
 -- A text spells a filter whose names and kinds do not fit, and this is a fault of it, at one of the bytes of the text. Which of its
 -- faults it is, is left open.

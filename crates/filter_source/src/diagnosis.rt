@@ -11,7 +11,7 @@ use std::fmt;
 pub struct Diagnosis {
     /// Why the source is refused.
     pub refusal: Refusal,
-    /// The byte of a filter's text at which it stands. A code file has none, and a limit of the whole filter has none.
+    /// The byte of a filter's text at which it is shown. A code file has none, and a limit of the whole filter has none.
     pub byte: Option<usize>,
     /// The range of the int that is refused: of a divisor that may be 0 (V3), or of a metric that may be too low (V6).
     pub range: Option<Range>,
@@ -19,11 +19,12 @@ pub struct Diagnosis {
 
 impl Diagnosis {
     /// That of a source which gives no code.
-    pub(crate) fn of_source(refusal: Refusal) -> Diagnosis
+    pub fn of_source(refusal: Refusal) -> Diagnosis
         ensures { result ≡ spec.of_source refusal }
     {
         let byte = match refusal {
-            Refusal::Parse(_) | Refusal::Typing(_) => Some(refusal.at()),
+            Refusal::Parse(fault) => Some(fault.shown_at()),
+            Refusal::Typing(fault) => Some(fault.at()),
             _ => None,
         };
         Diagnosis {

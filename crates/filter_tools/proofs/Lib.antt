@@ -5,7 +5,6 @@ pub mod Told
 pub mod Listings
 pub mod Cut
 mod Rows
-pub mod HeadWords
 pub mod Harmless
 pub mod Indents
 pub mod LineWords

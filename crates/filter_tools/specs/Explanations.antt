@@ -4,7 +4,6 @@ use Rattle.std.specs.Option.{option_map}
 use Rattle.filter_source.specs.Refusals.{refusal_code}
 use Rattle.filter_source.specs.declared.diagnosis.Diagnosis.{Diagnosis}
 use Rattle.filter_source.specs.declared.refusal.Refusal.{Refusal}
-use Rattle.filter_tools.specs.HeadWords.{IsShownAt}
 use Rattle.filter_tools.specs.Places.{before_first_feed, behind_last_feed, column_at, line_at}
 use Rattle.filter_tools.specs.Ranges.{EndsInRange}
 use Rattle.filter_tools.specs.Shown.{indent_of, shown, shown_characters}
@@ -69,8 +68,7 @@ AreRefusalWords told out = (words : List ℕ) × EndsInRange told words × (out 
 
 -- what people are told of a refusal of a source: words that end with the range which is told, where the refusal is shown
 abbrev pub IsExplanation : List ℕ → List ℕ → Diagnosis → List ℕ → Type 0
-IsExplanation name text told out = (words : List ℕ) × (byte : Option ℕ) × EndsInRange told words × IsShownAt text told byte
-    × (out ≡ explanation name None text words told.refusal byte)
+IsExplanation name text told out = (words : List ℕ) × EndsInRange told words × (out ≡ explanation name None text words told.refusal told.byte)
 
 -- the byte of a line that is this byte of the source with which the line ends; a byte behind the end is taken for the end
 abbrev pub byte_of_line : List ℕ → List ℕ → ℕ → ℕ
@@ -78,6 +76,5 @@ byte_of_line line source at = length line - length source + min at (length sourc
 
 -- what people are told of a refusal of the source with which the line of a number ends
 abbrev pub IsLineExplanation : List ℕ → ℕ → List ℕ → List ℕ → Diagnosis → List ℕ → Type 0
-IsLineExplanation name number line source told out = (words : List ℕ) × (byte : Option ℕ) × EndsInRange told words
-    × IsShownAt source told byte
-    × (out ≡ explanation name (Some number) line words told.refusal (option_map (byte_of_line line source) byte))
+IsLineExplanation name number line source told out = (words : List ℕ) × EndsInRange told words
+    × (out ≡ explanation name (Some number) line words told.refusal (option_map (byte_of_line line source) told.byte))

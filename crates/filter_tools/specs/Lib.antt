@@ -1,7 +1,6 @@
 pub mod Places
 pub mod Positions
 pub mod Shown
-pub mod HeadWords
 pub mod Ranges
 pub mod Explanations
 pub mod Telling

@@ -4,9 +4,9 @@ ghost use Rattle.std.specs.Option.{option_map};
 ghost use Rattle.filter_tools.specs.Explanations.{AreRefusalWords, IsExplanation, IsLineExplanation, blanks_for, byte_of_line, dots_for, excerpt, excerpt_of, told_at};
 ghost use Rattle.filter_tools.specs.Explanations.{coded, explanation, first_of, last_of, message, number_text, position};
 
-use crate::finding::find;
 use crate::place::place_in;
 use crate::shown::{push_characters, push_indent, push_shown, shown_characters};
+use crate::told_words::told_words;
 use filter_source::{Diagnosis, Refusal};
 use line_protocol::push_decimal;
 use std::alloc::{AllocError, Global};
@@ -189,9 +189,9 @@ fn line_in(number: Option<u32>, line: usize) -> usize
 pub fn refusal_words(alloc: Global, text: &[u8], told: &Diagnosis) -> Result<Vec<u8>, AllocError>
     ensures { IfOk result (λ out. AreRefusalWords told.now out.items) }
 {
-    let found = find(alloc, text, told)?;
+    let words = told_words(alloc, text, told)?;
     let mut out = Vec::new(alloc);
-    push_coded(&mut out, found.words.as_slice(), told.refusal.code())?;
+    push_coded(&mut out, words.as_slice(), told.refusal.code())?;
     Ok(out)
 }
 
@@ -205,15 +205,15 @@ pub fn explain(
 ) -> Result<Vec<u8>, AllocError>
     ensures { IfOk result (λ out. IsExplanation name.now text.now told.now out.items) }
 {
-    let found = find(alloc, text, told)?;
+    let words = told_words(alloc, text, told)?;
     explain_in(
         alloc,
         name,
         None,
         text,
-        found.words.as_slice(),
+        words.as_slice(),
         told.refusal,
-        found.byte,
+        told.byte,
     )
 }
 
@@ -239,14 +239,14 @@ pub fn explain_line(
 ) -> Result<Vec<u8>, AllocError>
     ensures { IfOk result (λ out. IsLineExplanation name.now number line.now source.now told.now out.items) }
 {
-    let found = find(alloc, source, told)?;
-    let byte = byte_of_line(line, source, found.byte);
+    let words = told_words(alloc, source, told)?;
+    let byte = byte_of_line(line, source, told.byte);
     explain_in(
         alloc,
         name,
         Some(number),
         line,
-        found.words.as_slice(),
+        words.as_slice(),
         told.refusal,
         byte,
     )

@@ -4,8 +4,6 @@
 mod around;
 mod explanation;
 mod filter;
-mod finding;
-mod head_word;
 mod laws;
 mod listing;
 mod named;
@@ -18,6 +16,7 @@ mod route_words;
 mod shown;
 mod spelling;
 mod told_routes;
+mod told_words;
 mod words;
 
 pub use explanation::{explain, explain_line, push_position, refusal_words, tell_at};

@@ -3,7 +3,6 @@
 use crate::around::{
     Around, character_at, declared, is_ipv6, is_symbol, name_of, quoted, tokens_around, word_at,
 };
-use crate::head_word::Word;
 use crate::nearest::nearest_word;
 use crate::remedies::{
     IPV6, in_place_of, in_place_of_character, in_place_of_found, in_place_of_name,
@@ -24,7 +23,7 @@ const HEADS: [&str; 8] = [
 /// What a name may mean that is no variable's.
 const VALUES: [&str; 4] = ["net", "rip_metric", "true", "false"];
 
-/// What is wrong with a source, but for a missing `=`.
+/// What is wrong with a source.
 pub(crate) fn words_of(alloc: Global, text: &[u8], told: &Diagnosis) -> Result<String, AllocError> {
     match told.refusal {
         Refusal::Parse(fault) => parse_words(alloc, text, fault),
@@ -42,6 +41,7 @@ fn parse_words(alloc: Global, text: &[u8], fault: ParseFault) -> Result<String, 
             let lexed = lex(alloc, text)?;
             unexpected(alloc, text, lexed.tokens.as_slice(), at, expected)
         }
+        ParseFault::MissingAssign(at, name) => head_words(alloc, text, at, name),
         _ => String::from_str(alloc, plain_words(fault)),
     }
 }
@@ -242,21 +242,19 @@ fn unexpected(
     }
 }
 
-/// What is wrong with a command whose `=` is missing at a byte, and which begins with this word.
-pub(crate) fn head_words(
-    alloc: Global,
-    text: &[u8],
-    tokens: &[Token],
-    word: Option<Word>,
-    at: usize,
-) -> Result<String, AllocError> {
+/// What is wrong with a command whose `=` is missing at a byte, and whose name is at another one.
+fn head_words(alloc: Global, text: &[u8], at: usize, name: usize) -> Result<String, AllocError> {
+    let lexed = lex(alloc, text)?;
+    let tokens = lexed.tokens.as_slice();
     let variables = declared(alloc, text, tokens)?;
-    match word.and_then(|word| quoted(text, word.from, word.to)) {
-        Some(name) if !is_among(name, variables.as_slice()) => {
-            let plain = unexpected(alloc, text, tokens, at, Expected::Assign)?;
-            no_command(alloc, name, plain.as_str())
-        }
-        _ => unexpected(alloc, text, tokens, at, Expected::Assign),
+    let plain = unexpected(alloc, text, tokens, at, Expected::Assign)?;
+    match word_at(text, name) {
+        Some(name) if !is_among(name, variables.as_slice()) => no_command(
+            alloc,
+            name,
+            plain.as_str(),
+        ),
+        _ => Ok(plain),
     }
 }
 

@@ -72,7 +72,7 @@ fn must_show<R: Host>(rt: &R, shown: &Shown, wanted: &str) {
 }
 
 /// Each fault, some addresses and prefixes, and what is shown of them.
-const SHOWN: [(Shown, &str); 118] = [
+const SHOWN: [(Shown, &str); 119] = [
     (
         Shown::Token(TokenFault::BadCharacter(1)),
         "unexpected character at byte 1",
@@ -144,6 +144,10 @@ const SHOWN: [(Shown, &str); 118] = [
     (
         Shown::Parse(ParseFault::Unexpected(7, Expected::Assign)),
         "expected `=` at byte 7",
+    ),
+    (
+        Shown::Parse(ParseFault::MissingAssign(17, 11)),
+        "expected `=` at byte 17",
     ),
     (
         Shown::Parse(ParseFault::Unexpected(7, Expected::Then)),

@@ -1,4 +1,4 @@
-use Rattle.std.proofs.Common.{refl, ◌∙◌, ◌∷◌, ◌++◌, [], None, Some, List, ap, map, sym, append_assoc, arith, rules}
+use Rattle.std.proofs.Common.{refl, ◌∙◌, ◌∷◌, [], None, Some, List, ap, map, sym, append_assoc, arith, rules}
 use Rattle.std.specs.Prelude.{Vec}
 use Rattle.std.specs.declared.alloc.Global.{Global}
 use Rattle.filter_parser.specs.declared.tree.command.Command.{Command}

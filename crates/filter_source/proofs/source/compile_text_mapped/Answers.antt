@@ -10,7 +10,7 @@ pub returns-in_err-filter-clause-refused : goal.returns-in_err-filter-clause-ref
 returns-in_err-filter-clause-refused c =
     of_error c.from_residual.result _ _ c.from_residual.ensures.1
     (no_filter c.args.text.now c.in_err-filter.field-0.0 c.in_err-filter.ensures.refused c.in_err-filter.ensures.within
-    (λ over. let is = c.in_err-filter.ensures.long over in cc))
+    c.in_err-filter.ensures.head (λ over. let is = c.in_err-filter.ensures.long over in cc))
 
 pub returns-in_err-typed-clause-refused : goal.returns-in_err-typed-clause-refused
 returns-in_err-typed-clause-refused c =

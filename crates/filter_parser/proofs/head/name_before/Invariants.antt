@@ -1,6 +1,6 @@
 use Rattle.std.proofs.Common.{◌≡◌, None, drop}
-use Rattle.filter_tools.specs.HeadWords.{name_before}
-use Rattle.filter_tools.proofs.head_word.name_before.Given as goal
+use Rattle.filter_parser.specs.Heads.{name_before}
+use Rattle.filter_parser.proofs.head.name_before.Given as goal
 
 -- the tokens that are left give what all of them give
 abbrev pub invariant-loop-token : goal.invariant-loop-token
