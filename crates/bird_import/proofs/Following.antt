@@ -11,7 +11,7 @@ use Rattle.filter_tokens.specs.declared.symbol.Symbol.TheVariants as symbol
 use Rattle.bird_import.specs.Including.{is_foreign}
 use Rattle.bird_import.specs.Indices.{IsAt, IsForeignAt, IsNameAt, bytes_at, kind_at}
 use Rattle.bird_import.specs.Items.{AreItemsIn, BeginsItem, BlocksView, IsDirectionAt, IsItemIn, IsPlainAt, ItemView, WalkView, block_end, block_from, depth_past, direction_kind, first_opening, first_outside}
-use Rattle.bird_import.specs.Items.{is_anonymous, is_any_name, is_direction, is_function, is_name, is_plain_word, is_symbol, is_word_at, item_at, item_end, item_kind, item_name, item_of, items_in, named_kind}
+use Rattle.bird_import.specs.Items.{is_anonymous, is_any_name, is_direction, is_foreign_at, is_name, is_plain_word, is_symbol, is_word_at, item_at, item_end, item_kind, item_name, item_of, items_in, named_kind}
 use Rattle.bird_import.specs.Items.{opens_block, outside_from, walk_before, walk_behind, walk_on, walk_past}
 use Rattle.bird_import.specs.Rules.{closes}
 use Rattle.bird_import.specs.declared.items.ItemKind.{ItemKind}
@@ -58,11 +58,11 @@ direction_is words k is = elim (or_cases (is_word_at words k (codes "import")) (
   | inr export_there ↦ inr (plain_is words k (codes "export") export_there)
 ]
 
-function_is : (words : List Word) (k : ℕ) → is_function words k ≡ true → IsForeignAt (codes "function") words k
-unfolding is_function
-function_is words k is =
-    let parts = and_parts (is_foreign (kind_at words k)) (bytes_eq (bytes_at words k) (codes "function")) is in
-    ((foreign_decides (kind_at words k)).0 parts.0, (bytes_eq-Decides (bytes_at words k) (codes "function")).0 parts.1)
+foreign_is : (words : List Word) (k : ℕ) (bytes : List ℕ) → is_foreign_at words k bytes ≡ true → IsForeignAt bytes words k
+unfolding is_foreign_at
+foreign_is words k bytes is =
+    let parts = and_parts (is_foreign (kind_at words k)) (bytes_eq (bytes_at words k) bytes) is in
+    ((foreign_decides (kind_at words k)).0 parts.0, (bytes_eq-Decides (bytes_at words k) bytes).0 parts.1)
 
 no_name : (words : List Word) (k : ℕ) → not (is_name (kind_at words k)) ≡ true → IsNameAt words k → ⊥
 no_name words k is named =
@@ -135,13 +135,13 @@ module _ (words : List Word) (blocks : BlocksView) (at : ℕ) where
   named_begins : (one : ItemKind) → named_kind words at ≡ Some one → BeginsHere one
   unfolding named_kind item_name
   named_begins one is =
-      let other : Option ItemKind = if is_function words at then Some item.Function else None in
+      let other : Option ItemKind = if is_foreign_at words at (codes "function") then Some item.Function else None in
       let first : Option ItemKind = if is_symbol symbol.Filter (kind_at words at) then Some item.Filter else other in
       let named = some_if (is_any_name words (at + 1)) first one is in
       elim (one_way (is_symbol symbol.Filter (kind_at words at)) (Some item.Filter) other one named.1) [
         | inl here ↦ subst BeginsHere (same_Some item.Filter one here.1) ((symbol_decides symbol.Filter (kind_at words at)).0 here.0, refl)
-        | inr not_here ↦ let function = some_if (is_function words at) (Some item.Function) one not_here.1 in
-            subst BeginsHere (same_Some item.Function one function.1) (function_is words at function.0, refl)
+        | inr not_here ↦ let function = some_if (is_foreign_at words at (codes "function")) (Some item.Function) one not_here.1 in
+            subst BeginsHere (same_Some item.Function one function.1) (foreign_is words at (codes "function") function.0, refl)
       ]
 
   direction_begins : (one : ItemKind) → direction_kind words at ≡ Some one → BeginsHere one

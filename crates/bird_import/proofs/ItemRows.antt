@@ -1,10 +1,11 @@
 -- Worked rows: the definitions, filters and functions of some words.
-use Rattle.std.proofs.Common.{◌≡◌, ℕ, Bool, true, false, List, [], ◌∷◌, ◌++◌, codes, refl}
+use Rattle.std.proofs.Common.{◌≡◌, ℕ, Bool, true, false, List, [], ◌∷◌, ◌++◌, codes, replicate, refl}
+use Rattle.std.specs.Fmt.{digits}
 use Rattle.filter_tokens.specs.declared.symbol.Symbol.{Symbol}
 use Rattle.filter_tokens.specs.declared.symbol.Symbol.TheVariants as symbol
 use Rattle.bird_import.specs.Items.{ItemView, block_end, block_from, blocks_before, blocks_behind, blocks_past, count_of_kind, definition_at, definition_behind, definitions_before, definitions_in}
-use Rattle.bird_import.specs.Items.{depth_past, directed_name, direction_kind, first_opening, first_outside, have_ipv6, is_anonymous, is_any_name, is_define, is_direction, is_function, is_name, is_nameless, is_plain_word, is_prefix}
-use Rattle.bird_import.specs.Items.{is_protocol, is_symbol, is_variant, is_word_at, item_at, item_end, item_kind, item_name, item_of, items_in, name_of_owner, name_of_protocol, named_kind, number_text, opens_block, outside_from}
+use Rattle.bird_import.specs.Items.{depth_past, directed_name, direction_kind, first_opening, first_outside, have_ipv6, is_anonymous, is_any_name, is_direction, is_foreign_at, is_name, is_nameless, is_plain_word, is_prefix}
+use Rattle.bird_import.specs.Items.{is_protocol, is_symbol, is_variant, is_word_at, item_at, item_end, item_kind, item_name, item_of, items_in, name_of_owner, name_of_protocol, named_kind, opens_block, outside_from}
 use Rattle.bird_import.specs.Items.{owner_among, walk_before, walk_behind, walk_past, with_nameless, words_before_name}
 use Rattle.bird_import.specs.declared.items.Definition.{Definition}
 use Rattle.bird_import.specs.declared.items.ItemKind.{ItemKind}
@@ -51,7 +52,7 @@ accept = sign symbol.Accept ∷ sign symbol.Semicolon ∷ []
 -- define a = 1; filter f { define b = 1; } define c = 1;
 two_defined : definitions_in (define (codes "a") ++ (sign symbol.Filter ∷ name (codes "f") ∷ []) ++ block (define (codes "b")) ++ define (codes "c"))
     ≡ definition 1 3 4 ∷ definition 15 17 18 ∷ []
-unfolding definitions_before definition_at definition_behind is_define blocks_before blocks_behind outside_from first_outside depth_past is_symbol is_name
+unfolding definitions_before definition_at definition_behind is_foreign_at blocks_before blocks_behind outside_from first_outside depth_past is_symbol is_name
 two_defined = refl
 
 -- filter f { accept; } function g() { accept; } filter h {
@@ -60,9 +61,9 @@ named : items_in ((sign symbol.Filter ∷ name (codes "f") ∷ []) ++ block acce
     ++ (sign symbol.Filter ∷ name (codes "h") ∷ sign symbol.LeftBrace ∷ []))
     ≡ view item.Filter 0 6 (codes "f") true false ∷ view item.Function 6 14 (codes "g") true false ∷ view item.Filter 14 17 (codes "h") false false ∷ []
 unfolding walk_before walk_past walk_behind blocks_past with_nameless item_at item_of item_end item_name item_kind named_kind direction_kind is_any_name
-    is_function is_direction is_anonymous is_word_at is_protocol is_nameless name_of_protocol words_before_name is_variant directed_name name_of_owner
+    is_foreign_at is_direction is_anonymous is_word_at is_protocol is_nameless name_of_protocol words_before_name is_variant directed_name name_of_owner
     owner_among count_of_kind have_ipv6 block_end block_from first_opening opens_block outside_from first_outside depth_past is_symbol is_name is_prefix
-    is_plain_word number_text
+    is_plain_word
 named = refl
 
 -- protocol bgp up { ipv6 { import filter { accept; }; }; export where 1; } protocol bgp { import where 1; }
@@ -74,7 +75,12 @@ directed : items_in ((name (codes "protocol") ∷ name (codes "bgp") ∷ name (c
     ≡ view item.Anonymous 6 12 (codes "up_import") true true ∷ view item.Condition 15 18 (codes "up_export") true false
     ∷ view item.Condition 23 26 (codes "bgp1_import") true false ∷ []
 unfolding walk_before walk_past walk_behind blocks_past with_nameless item_at item_of item_end item_name item_kind named_kind direction_kind is_any_name
-    is_function is_direction is_anonymous is_word_at is_protocol is_nameless name_of_protocol words_before_name is_variant directed_name name_of_owner
+    is_foreign_at is_direction is_anonymous is_word_at is_protocol is_nameless name_of_protocol words_before_name is_variant directed_name name_of_owner
     owner_among count_of_kind have_ipv6 block_end block_from first_opening opens_block outside_from first_outside depth_past is_symbol is_name is_prefix
-    is_plain_word number_text
+    is_plain_word digits
 directed = refl
+
+-- protocol rip {, the hundredth of its kind without a name
+hundredth : name_of_owner (name (codes "protocol") ∷ name (codes "rip") ∷ sign symbol.LeftBrace ∷ []) (replicate 100 0) 0 ≡ codes "rip100"
+unfolding name_of_owner name_of_protocol words_before_name is_variant is_name count_of_kind digits
+hundredth = refl

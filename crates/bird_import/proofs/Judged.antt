@@ -1,7 +1,8 @@
 -- What becomes of an item.
-use Rattle.std.proofs.Common.{ℕ, ◌<◌, ◌≤◌, ◌⊎◌, List, length, inl, inr, arith}
+use Rattle.std.proofs.Common.{◌≡◌, true, ℕ, ◌<◌, ◌≤◌, ◌⊎◌, List, length, inl, inr, arith}
 use Rattle.bird_import.specs.Judged.{AreJudged, Begins, IsFilter, IsJudged}
-use Rattle.bird_import.specs.Reasons.{HaveValues, LacksValue, OpensBlock}
+use Rattle.bird_import.specs.Items.{opens_block}
+use Rattle.bird_import.specs.Reasons.{HaveValues, LacksValue}
 use Rattle.bird_import.specs.declared.config.Config.{Config}
 use Rattle.bird_import.specs.declared.drafts.Outcome.{Outcome}
 use Rattle.bird_import.specs.declared.drafts.Outcome.TheVariants.{Drafted, LeftOut}
@@ -18,7 +19,7 @@ before_or_not : (k n : ℕ) → (k < n) ⊎ (n ≤ k)
 before_or_not k n = grind arith
 
 -- each variable has a value, where those behind the first block have
-pub values_given : (words : List Word) (block : ℕ) → ((k : ℕ) → 0 ≤ k → k < block → OpensBlock words k → ⊥)
+pub values_given : (words : List Word) (block : ℕ) → ((k : ℕ) → 0 ≤ k → k < block → opens_block words k ≡ true → ⊥)
     → ((k n : ℕ) → block ≤ k → k < length words → LacksValue words k n → ⊥) → HaveValues words
 values_given words block first none k n within inside lacks =
     elim (before_or_not k block) [

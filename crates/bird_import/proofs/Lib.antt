@@ -7,6 +7,8 @@ mod Halted
 mod Including
 mod ItemRows
 mod Judged
+mod Laying
+mod LayingRows
 mod Once
 mod Listed
 mod Outside

@@ -9,7 +9,7 @@ use Rattle.std.proofs.lemmas.Slice.Eq.{bytes_eq-Decides}
 use Rattle.filter_tokens.specs.declared.symbol.Symbol.TheVariants as symbol
 use Rattle.bird_import.specs.Including.{is_foreign}
 use Rattle.bird_import.specs.Indices.{bytes_at, kind_at}
-use Rattle.bird_import.specs.Items.{IsDefinitionAt, IsDefinitionIn, blocks_before, definition_at, definition_behind, definition_to, definitions_before, definitions_in, is_define, is_name, is_symbol, outside_from}
+use Rattle.bird_import.specs.Items.{IsDefinitionAt, IsDefinitionIn, blocks_before, definition_at, definition_behind, definition_to, definitions_before, definitions_in, is_foreign_at, is_name, is_symbol, outside_from}
 use Rattle.bird_import.specs.declared.items.Definition.{Definition}
 use Rattle.bird_import.specs.declared.word.Word.{Word}
 use Rattle.bird_import.specs.declared.word.WordKind.{WordKind}
@@ -40,10 +40,10 @@ some_map f (Some x) y is = (x, refl, cc)
 -- what is found at an index is a definition there
 is_definition : (words : List Word) (at : ℕ) (definition : Definition) → definition_at words (blocks_before words at) at ≡ Some definition
     → IsDefinitionAt words at definition
-unfolding definition_at definition_behind is_define
+unfolding definition_at definition_behind is_foreign_at
 is_definition words at definition is =
-    let begins = some_if (blocks_before words at == 0 && is_define words at) (definition_behind words at) definition is in
-    let tests = and_parts (blocks_before words at == 0) (is_define words at) begins.0 in
+    let begins = some_if (blocks_before words at == 0 && is_foreign_at words at (codes "define")) (definition_behind words at) definition is in
+    let tests = and_parts (blocks_before words at == 0) (is_foreign_at words at (codes "define")) begins.0 in
     let word = and_parts (is_foreign (kind_at words at)) (bytes_eq (bytes_at words at) (codes "define")) tests.1 in
     let behind = some_if (is_name (kind_at words (at + 1)) && is_symbol symbol.Equal (kind_at words (at + 2)))
     (option_map (definition_to words at) (outside_from words (is_symbol symbol.Semicolon) (at + 3))) definition begins.1 in
@@ -74,15 +74,15 @@ same_definition name from to definition same_name same_from same_to =
 
 definition_is : (words : List Word) (at : ℕ) (definition : Definition) → IsDefinitionAt words at definition
     → definition_at words (blocks_before words at) at ≡ Some definition
-unfolding definition_at definition_behind is_define
+unfolding definition_at definition_behind is_foreign_at
 definition_is words at definition is =
-    let define : is_define words at ≡ true = and_from (is_foreign (kind_at words at)) (bytes_eq (bytes_at words at) (codes "define"))
+    let define : is_foreign_at words at (codes "define") ≡ true = and_from (is_foreign (kind_at words at)) (bytes_eq (bytes_at words at) (codes "define"))
     ((foreign_decides (kind_at words at)).1 is.begins.0) ((bytes_eq-Decides (bytes_at words at) (codes "define")).1 is.begins.1) in
-    let begins = and_from (blocks_before words at == 0) (is_define words at) (eq-eqb (blocks_before words at) 0 is.outermost) define in
+    let begins = and_from (blocks_before words at == 0) (is_foreign_at words at (codes "define")) (eq-eqb (blocks_before words at) 0 is.outermost) define in
     let signs = and_from (is_name (kind_at words (at + 1))) (is_symbol symbol.Equal (kind_at words (at + 2)))
     ((name_decides (kind_at words (at + 1))).1 is.named) ((symbol_decides symbol.Equal (kind_at words (at + 2))).1 is.equals) in
     let value = option_map (definition_to words at) (outside_from words (is_symbol symbol.Semicolon) (at + 3)) in
-    cond-true (blocks_before words at == 0 && is_define words at) (definition_behind words at) None begins
+    cond-true (blocks_before words at == 0 && is_foreign_at words at (codes "define")) (definition_behind words at) None begins
     ∙ cond-true (is_name (kind_at words (at + 1)) && is_symbol symbol.Equal (kind_at words (at + 2))) value None signs
     ∙ ap (option_map (definition_to words at)) is.ends
     ∙ ap Some (same_definition (at + 1) (at + 3) definition.to definition is.name is.value refl)

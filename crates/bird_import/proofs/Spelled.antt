@@ -2,6 +2,7 @@
 use Rattle.std.proofs.Common.{◌≡◌, ◌≢◌, IfOk, Result, Ok, Err, false, true, ℕ, zero, suc, ◌+◌, ◌<◌, ◌≤◌, ◌⊎◌, List, [], ◌∷◌, Some, length, get_or, slice_get, ap, ◌∙◌, refl, subst, sym, inl, inr, arith}
 use Rattle.std.proofs.lemmas.Option.{slice_get-get_or, slice_get_read, slice_get_within}
 use Rattle.filter_parser.specs.SyntaxText.{FilterView, IsText}
+use Rattle.filter_parser.specs.Unspelled.{IsUnspelled}
 use Rattle.filter_tokens.specs.Tokenization.{AreInOrder}
 use Rattle.filter_tokens.specs.declared.token.Token.{Token}
 use Rattle.bird_import.specs.Alike.{AreAlike}
@@ -95,9 +96,9 @@ pub not_written : (text : List ℕ) (words : List Word) (filter : FilterView) (t
 not_written text words filter tokens only same other is =
     other (subst (λ list. AreAlike (IsSpelled text) list words) (ap (λ (f : FilterView). f.tokens) (only is.filter is.spells) ∙ sym same) is.same)
 
--- and a text that the parser refuses, if not for want of memory, spells none
+-- and a text that the parser refuses, if not for want of memory, spells none, for this fault
 pub of_fault : {E : Type 0} (words : List Word) (text : List ℕ) (fault : ParseFault) (r : Result Fate E)
-    → IfOk r (λ fate. (fate ≡ fates.Refused fault) × (fault ≢ faults.Memory)) → (fault ≢ faults.Memory → (t : FilterView) → IsText text t → ⊥)
+    → IfOk r (λ fate. (fate ≡ fates.Refused fault) × (fault ≢ faults.Memory)) → (fault ≢ faults.Memory → IsUnspelled text fault)
     → IfOk r (Fated words text)
-of_fault words text fault (Ok fate) (same, other) none = subst (λ (f : Fate). Fated words text f) (sym same) (none other)
-of_fault words text fault (Err e) is none = tt
+of_fault words text fault (Ok fate) (same, other) unspelled = subst (λ (f : Fate). Fated words text f) (sym same) (unspelled other)
+of_fault words text fault (Err e) is unspelled = tt

@@ -1,7 +1,7 @@
 -- What a configuration consists of: its definitions, its filters and its functions. (Definitions, filters, functions and protocols are those
 -- of the BIRD 2.0 User's Guide. That a filter without a name gets its protocol's, with the direction, is this project's own choice.)
-use Rattle.std.specs.Prelude.{◌≡◌, ◌⊎◌, ℕ, zero, suc, ◌+◌, ◌-◌, ◌<◌, ◌≤◌, ◌/◌, ◌%◌, ◌&&◌, ◌||◌, ◌==◌, not, if◌then◌else◌, nat_eq, nat_le, nat_lt, Bool, true, false}
-use Rattle.std.specs.Prelude.{List, [], ◌∷◌, ◌++◌, All, AllPairs, codes, count_by, drop, fold, length, map, take, Option, Some, None, is_some, unwrap_or}
+use Rattle.std.specs.Prelude.{◌≡◌, ◌⊎◌, ℕ, zero, suc, ◌+◌, ◌-◌, ◌<◌, ◌≤◌, ◌&&◌, ◌||◌, ◌==◌, not, if◌then◌else◌, nat_eq, nat_lt, Bool, true, false}
+use Rattle.std.specs.Prelude.{List, [], ◌∷◌, ◌++◌, All, AllPairs, codes, count_by, decimal, drop, fold, length, map, take, Option, Some, None, is_some, unwrap_or}
 use Rattle.std.specs.Option.{option_and_then, option_map, option_to_list}
 use Rattle.std.specs.List.{list_any, starts_with}
 use Rattle.std.specs.Str.{bytes_eq}
@@ -108,20 +108,15 @@ is_variant protocol word =
     (bytes_eq protocol (codes "ospf") && (bytes_eq word (codes "v2") || bytes_eq word (codes "v3")))
     || (bytes_eq protocol (codes "rip") && bytes_eq word (codes "ng"))
 
--- the last digit of a number
-abbrev pub last_digit : ℕ → ℕ
-last_digit number = 48 + number % 10
-
--- a number of one digit or two
-unfoldable pub number_text : ℕ → List ℕ
-number_text number =
-    if nat_le 10 number then last_digit (number / 10) ∷ last_digit number ∷ [] else last_digit number ∷ []
-
 -- `words` are those of the configuration.
 module _ (words : List Word) where
   -- the index of the first wanted word from an index on, outside of what is opened from there on
   unfoldable pub outside_from : (WordKind → Bool) → ℕ → Option ℕ
   outside_from wanted from = first_outside wanted 0 from (drop from words)
+
+  -- the word at an index is this word of BIRD's
+  unfoldable pub is_foreign_at : ℕ → List ℕ → Bool
+  is_foreign_at k word = is_foreign (kind_at words k) && bytes_eq (bytes_at words k) word
 
   -- a block opens at an index: its brace is not that of a pattern, which stands behind a prefix
   unfoldable pub opens_block : ℕ → Bool
@@ -147,10 +142,6 @@ module _ (words : List Word) where
   blocks_before zero = 0
   blocks_before (suc k) = blocks_behind (blocks_before k) (kind_at words k)
 
-  -- the word at an index is `define`
-  unfoldable pub is_define : ℕ → Bool
-  is_define k = is_foreign (kind_at words k) && bytes_eq (bytes_at words k) (codes "define")
-
   -- a definition whose first word has an index, and its `;` another
   abbrev pub definition_to : ℕ → ℕ → Definition
   definition_to at to = record { name = at + 1; from = at + 3; to = to }
@@ -164,7 +155,7 @@ module _ (words : List Word) where
 
   -- the definition that begins at an index, where so many blocks are open: none is within a block
   unfoldable pub definition_at : ℕ → ℕ → Option Definition
-  definition_at depth at = if depth == 0 && is_define at then definition_behind at else None
+  definition_at depth at = if depth == 0 && is_foreign_at at (codes "define") then definition_behind at else None
 
   -- those that begin before an index, in order
   unfoldable pub definitions_before : ℕ → List Definition
@@ -218,7 +209,7 @@ module _ (words : List Word) where
   abbrev pub name_or_number : List ℕ → ℕ → Option (List ℕ) → List ℕ
   name_or_number nameless owner (Some name) = name
   name_or_number nameless owner None =
-      bytes_at words (owner + 1) ++ number_text (count_of_kind nameless (bytes_at words (owner + 1)))
+      bytes_at words (owner + 1) ++ decimal (count_of_kind nameless (bytes_at words (owner + 1)))
 
   unfoldable pub name_of_owner : List ℕ → ℕ → List ℕ
   name_of_owner nameless owner = name_or_number nameless owner (name_of_protocol owner)
@@ -237,16 +228,12 @@ module _ (words : List Word) where
   unfoldable pub is_any_name : ℕ → Bool
   is_any_name k = is_name (kind_at words k) || starts_with nat_eq (bytes_at words k) (codes "'")
 
-  -- the word at an index is `function`
-  unfoldable pub is_function : ℕ → Bool
-  is_function k = is_foreign (kind_at words k) && bytes_eq (bytes_at words k) (codes "function")
-
   -- the kind of what begins with a name at an index, outside of each block
   unfoldable pub named_kind : ℕ → Option ItemKind
   named_kind at =
       if is_any_name (at + 1)
       then (if is_symbol symbol.Filter (kind_at words at) then Some item.Filter
-      else (if is_function at then Some item.Function else None))
+      else (if is_foreign_at at (codes "function") then Some item.Function else None))
       else None
 
   -- the word at an index is `import` or `export`

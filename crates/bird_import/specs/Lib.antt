@@ -8,6 +8,7 @@ pub mod Cases
 pub mod Steps
 pub mod Drafts
 pub mod Texts
+pub mod Laying
 pub mod Cutting
 pub mod Including
 pub mod Items

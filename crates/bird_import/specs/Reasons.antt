@@ -2,6 +2,7 @@
 use Rattle.std.specs.Prelude.{◌≡◌, ◌≢◌, ◌⊎◌, ℕ, ◌+◌, ◌-◌, ◌<◌, ◌≤◌, true, List, Option, Some, None, Result, Ok, Err, codes, length, slice_get, ⊤}
 use Rattle.filter_tokens.specs.declared.symbol.Symbol.TheVariants as symbol
 use Rattle.bird_import.specs.Indices.{IsAt, IsBehind, IsForeignAt, IsNameAt, IsNamedAt, kind_at, bytes_at}
+use Rattle.bird_import.specs.Items.{opens_block}
 use Rattle.bird_import.specs.Rules.{is_kind}
 use Rattle.bird_import.specs.declared.drafts.Next.{Next}
 use Rattle.bird_import.specs.declared.drafts.Next.TheVariants as next
@@ -96,10 +97,6 @@ IsUnknown words k other = ⊥
 abbrev pub HaveUnknown : List Word → Why → Type 0
 HaveUnknown words why = (k : ℕ) × (k < length words) × IsUnknown words k why
 
--- a block opens at an index: its brace is not that of a pattern
-abbrev pub OpensBlock : List Word → ℕ → Type 0
-OpensBlock words k = IsAt symbol.LeftBrace words k × ((0 < k) × (kind_at words (k - 1) ≡ kind.Prefix) → ⊥)
-
 -- the name of a variable whose kind stands at an index: before it may be `set`
 abbrev pub IsNameBehind : List Word → ℕ → ℕ → Type 0
 IsNameBehind words k n =
@@ -107,7 +104,7 @@ IsNameBehind words k n =
 
 -- an index is in a body
 abbrev pub IsInBody : List Word → ℕ → Type 0
-IsInBody words k = (block : ℕ) × OpensBlock words block × (block ≤ k)
+IsInBody words k = (block : ℕ) × (opens_block words block ≡ true) × (block ≤ k)
 
 -- `KIND NAME;`, where the name is at another index
 pub record LacksValue (words : List Word) (k n : ℕ) : Type 0 where

@@ -1,15 +1,16 @@
 //! What a configuration consists of: its filters, functions and definitions.
 ghost use Rattle.std.specs.Option.{option_copied, option_map};
-ghost use Rattle.std.specs.Prelude.{◌≡◌, ◌↔◌, ◌+◌, ◌-◌, ◌^◌, ◌<◌, ◌≤◌, ◌++◌, [], ◌∷◌, ℕ, AllPairs, Contains, IfOk, IfSome, IsTrue, None, OnOk, length, map, take};
-ghost use Rattle.bird_import.specs.Including.{is_foreign as is_foreign_kind};
+ghost use Rattle.std.specs.Prelude.{◌≡◌, ◌↔◌, ◌+◌, ◌-◌, ◌^◌, ◌<◌, ◌≤◌, ◌++◌, [], ◌∷◌, ℕ, AllPairs, Contains, IfOk, IfSome, None, OnOk, length, map, take, true};
 ghost use Rattle.bird_import.specs.Indices as indices;
 ghost use Rattle.bird_import.specs.Items as spec;
 ghost use Rattle.bird_import.specs.Items.{AreItemsIn, IsDefinitionIn};
-ghost use Rattle.bird_import.specs.Reasons.{OpensBlock};
 ghost use Rattle.bird_import.specs.declared.items.Definition.{Definition as TheDefinition};
 
-use crate::word::{Word, WordKind, bytes_at, closing, find_outside, is_at, is_symbol, kind_at};
+use crate::word::{
+    Word, WordKind, bytes_at, closing, find_outside, is_foreign_at, is_symbol, kind_at,
+};
 use filter_tokens::Symbol;
+use line_protocol::push_decimal;
 use std::alloc::{AllocError, Global};
 
 /// What a part of a configuration is.
@@ -53,17 +54,27 @@ pub struct Definition {
     pub to: usize,
 }
 
-/// Whether a block opens at an index. The braces of a pattern stand behind a prefix.
-pub fn opens_block(words: &[Word<'_>], at: usize) -> bool
-    ensures { IsTrue result ↔ OpensBlock words.now at }
+/// Whether a word is a prefix.
+#[tactic(auto, unfolding(crate::specs::Items::is_prefix))]
+fn is_prefix(kind: WordKind) -> bool
+    ensures { result ≡ spec.is_prefix kind }
 {
-    is_at(words, at, Symbol::LeftBrace) && !(at > 0 && kind_at(words, at - 1) == WordKind::Prefix)
+    matches!(kind, WordKind::Prefix)
+}
+
+/// Whether a block opens at an index. The braces of a pattern stand behind a prefix.
+#[tactic(auto, unfolding(crate::specs::Items::opens_block))]
+fn opens_block(words: &[Word<'_>], at: usize) -> bool
+    ensures { result ≡ spec.opens_block words.now at }
+{
+    is_symbol(kind_at(words, at), Symbol::LeftBrace)
+        && !(at > 0 && is_prefix(kind_at(words, at - 1)))
 }
 
 /// The index of the first block from an index on.
 pub fn first_block(words: &[Word<'_>], from: usize) -> Option<usize>
-    ensures some { IfSome result (λ at. OpensBlock words.now at × ((k : ℕ) → from ≤ k → k < at → OpensBlock words.now k → ⊥)) }
-    ensures none { result ≡ None → (k : ℕ) → from ≤ k → k < length words.now → OpensBlock words.now k → ⊥ }
+    ensures some { IfSome result (λ at. (spec.opens_block words.now at ≡ true) × ((k : ℕ) → from ≤ k → k < at → spec.opens_block words.now k ≡ true → ⊥)) }
+    ensures none { result ≡ None → (k : ℕ) → from ≤ k → k < length words.now → spec.opens_block words.now k ≡ true → ⊥ }
     ensures within { IfSome result (λ at. (from ≤ at) × (at < length words.now)) }
 {
     for at in from..words.len() {
@@ -82,14 +93,7 @@ fn is_name(kind: WordKind) -> bool
     matches!(kind, WordKind::Name)
 }
 
-/// Whether it is a word that only BIRD's configurations have.
-fn is_foreign(kind: WordKind) -> bool
-    ensures { result ≡ is_foreign_kind kind }
-{
-    matches!(kind, WordKind::Foreign)
-}
-
-/// Whether it is one of both.
+/// Whether it is a name or a word that only BIRD's configurations have.
 #[tactic(auto, unfolding(crate::specs::Items::is_plain_word))]
 fn is_plain_word(kind: WordKind) -> bool
     ensures { result ≡ spec.is_plain_word kind }
@@ -153,14 +157,6 @@ fn blocks_behind(depth: usize, kind: WordKind) -> usize
     }
 }
 
-/// Whether the word at an index is `define`.
-#[tactic(auto, unfolding(crate::specs::Items::is_define))]
-fn is_define(words: &[Word<'_>], at: usize) -> bool
-    ensures { result ≡ spec.is_define words.now at }
-{
-    is_foreign(kind_at(words, at)) && bytes_at(words, at) == b"define".as_slice()
-}
-
 /// The definition whose first word has an index, if `NAME = VALUE ;` stands behind that.
 #[tactic(auto, unfolding(crate::specs::Items::definition_behind))]
 fn definition_behind(words: &[Word<'_>], at: usize) -> Option<Definition>
@@ -182,7 +178,7 @@ fn definition_at(words: &[Word<'_>], depth: usize, at: usize) -> Option<Definiti
     requires { at < length words.now }
     ensures { result ≡ spec.definition_at words.now depth at }
 {
-    if depth == 0 && is_define(words, at) {
+    if depth == 0 && is_foreign_at(words, at, b"define") {
         definition_behind(words, at)
     } else {
         None
@@ -309,27 +305,6 @@ fn have_ipv6(words: &[Word<'_>], heads: &[usize]) -> bool
     false
 }
 
-/// Puts the last digit of a number at the end of a name.
-fn push_digit(name: &mut Vec<u8>, number: usize) -> Result<(), AllocError>
-    ensures { OnOk result (name.new.items ≡ name.old.items ++ spec.last_digit number ∷ []) }
-{
-    name.push(b'0' + (number % 10) as u8)?;
-    Ok(())
-}
-
-/// Puts a number at the end of a name.
-#[tactic(auto, unfolding(crate::specs::Items::number_text))]
-fn push_number(name: &mut Vec<u8>, number: usize) -> Result<(), AllocError>
-    ensures { OnOk result (name.new.items ≡ name.old.items ++ spec.number_text number) }
-{
-    if number >= 10 {
-        push_digit(name, number / 10)?;
-        push_digit(name, number)
-    } else {
-        push_digit(name, number)
-    }
-}
-
 /// Puts the index at which a protocol without a name begins at the end of some.
 #[tactic(auto, unfolding(crate::specs::Items::with_nameless))]
 fn push_nameless(
@@ -419,9 +394,9 @@ impl Blocks {
         }
         let kind = bytes_behind(words, owner, 1);
         let mut name = Vec::from_slice(alloc, kind)?;
-        push_number(
+        push_decimal(
             &mut name,
-            count_of_kind(words, self.nameless.as_slice(), kind),
+            count_of_kind(words, self.nameless.as_slice(), kind) as u64,
         )?;
         Ok(name)
     }
@@ -454,14 +429,6 @@ fn is_any_name(words: &[Word<'_>], at: usize) -> bool
     is_name(kind_at(words, at)) || bytes_at(words, at).starts_with(b"'")
 }
 
-/// Whether the word at an index is `function`.
-#[tactic(auto, unfolding(crate::specs::Items::is_function))]
-fn is_function(words: &[Word<'_>], at: usize) -> bool
-    ensures { result ≡ spec.is_function words.now at }
-{
-    is_foreign(kind_at(words, at)) && bytes_at(words, at) == b"function".as_slice()
-}
-
 /// The kind of the item with a name that begins at an index of the outermost level, if one does.
 #[tactic(auto, unfolding(crate::specs::Items::named_kind))]
 fn named_kind(words: &[Word<'_>], at: usize) -> Option<ItemKind>
@@ -472,7 +439,7 @@ fn named_kind(words: &[Word<'_>], at: usize) -> Option<ItemKind>
         None
     } else if is_symbol(kind_at(words, at), Symbol::Filter) {
         Some(ItemKind::Filter)
-    } else if is_function(words, at) {
+    } else if is_foreign_at(words, at, b"function") {
         Some(ItemKind::Function)
     } else {
         None

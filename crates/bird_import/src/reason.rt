@@ -90,52 +90,72 @@ fn owner_of(name: &str) -> Option<&'static str> {
     }
 }
 
+/// The attributes that this router does not keep, but for those whose names begin with their owner's.
+static ATTRIBUTES: [&str; 16] = [
+    "dest",
+    "gw",
+    "ifname",
+    "ifindex",
+    "scope",
+    "cast",
+    "igp_metric",
+    "weight",
+    "from",
+    "proto",
+    "preference",
+    "source",
+    "onlink",
+    "gw_mpls",
+    "gw_mpls_stack",
+    "generated",
+];
+
+/// The types that are not taken.
+static TYPES: [&str; 13] = [
+    "bgppath",
+    "bgpmask",
+    "clist",
+    "eclist",
+    "lclist",
+    "ec",
+    "lc",
+    "pair",
+    "quad",
+    "string",
+    "rd",
+    "bytestring",
+    "enum",
+];
+
+/// Whether a name is that of an attribute.
+fn is_attribute(name: &str) -> bool {
+    ATTRIBUTES.contains(&name)
+}
+
+/// Whether a name is that of a type.
+fn is_type(name: &str) -> bool {
+    TYPES.contains(&name)
+}
+
 /// The same of attributes whose names do not begin with their owner's.
 fn owner_of_word(name: &str) -> Option<&'static str> {
-    match name {
-        "rip_tag" => Some("is an attribute of RIP that this router does not keep"),
-        "dest"
-        | "gw"
-        | "ifname"
-        | "ifindex"
-        | "scope"
-        | "cast"
-        | "igp_metric"
-        | "weight"
-        | "from"
-        | "proto"
-        | "preference"
-        | "source"
-        | "onlink"
-        | "gw_mpls"
-        | "gw_mpls_stack"
-        | "generated" => Some(
-            "is an attribute that this router does not keep: a route has `net` and `rip_metric`",
-        ),
-        _ => None,
+    if name == "rip_tag" {
+        Some("is an attribute of RIP that this router does not keep")
+    } else if is_attribute(name) {
+        Some("is an attribute that this router does not keep: a route has `net` and `rip_metric`")
+    } else {
+        None
     }
 }
 
 /// What is said of a word of BIRD's, if it is one of these.
 fn words_for(name: &str) -> Option<&'static str> {
+    if is_type(name) {
+        return Some("is a type that is not taken: a variable is an int, a bool, an ip or a prefix");
+    }
     match name {
         "for" | "do" => Some("belongs to a loop, and there are no loops"),
         "return" => Some("is a command of a function"),
-        "bgppath"
-        | "bgpmask"
-        | "clist"
-        | "eclist"
-        | "lclist"
-        | "ec"
-        | "lc"
-        | "pair"
-        | "quad"
-        | "string"
-        | "rd"
-        | "bytestring"
-        | "enum" => {
-            Some("is a type that is not taken: a variable is an int, a bool, an ip or a prefix")
-        }
         "set" => Some("makes a variable of sets that is not taken"),
         "include" => Some("names a file that was not read"),
         "unset" => Some("takes an attribute away, and none is taken"),

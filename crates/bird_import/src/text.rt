@@ -1,7 +1,9 @@
 //! The text of a filter, from its words.
-ghost use Rattle.std.specs.Prelude.{◌≡◌, ◌≢◌, ◌↔◌, IfOk, IsTrue, length};
+ghost use Rattle.std.specs.Prelude.{◌≡◌, ◌≢◌, ◌↔◌, ◌++◌, [], ◌∷◌, IfOk, IsTrue, None, OnOk, length};
+ghost use Rattle.filter_tokens.specs.Shapes.{line_feed};
 ghost use Rattle.filter_tokens.specs.Tokenization.{AreInOrder};
 ghost use Rattle.bird_import.specs.Alike.{AreAlike};
+ghost use Rattle.bird_import.specs.Laying as spec;
 ghost use Rattle.bird_import.specs.Spelling.{IsSpelled, LiesIn};
 ghost use Rattle.bird_import.specs.Texts.{Fated};
 
@@ -45,32 +47,35 @@ pub struct FilterText {
 }
 
 /// The space and comments before the first word of a filter, without the space in front.
-fn without_front(gap: &[u8]) -> &[u8] {
+fn without_front(gap: &[u8]) -> &[u8]
+    ensures { result.now ≡ spec.without_front gap.now }
+{
     gap.trim_ascii_start()
 }
 
 /// Whether a word stands right behind another in the configuration.
-fn is_joined(last: Option<Word<'_>>, word: Word<'_>) -> bool {
-    match last {
-        Some(last) => last.at.saturating_add(last.bytes.len()) == word.at,
-        None => true,
-    }
-}
-
-/// Puts what stands before a word, which is behind another, at the end of a text.
-fn push_gap(text: &mut Vec<u8>, last: Option<Word<'_>>, word: Word<'_>) -> Result<(), AllocError> {
-    if last.is_none() {
-        return text.extend_from_slice(without_front(word.gap));
-    }
-    if word.gap.is_empty() && !is_joined(last, word) && !is_tight(word) {
-        text.push(b' ')?;
-    }
-    text.extend_from_slice(word.gap)
+fn is_joined(last: Word<'_>, word: Word<'_>) -> bool
+    ensures { result ≡ spec.is_joined last.entry word.entry }
+{
+    last.at.checked_add(last.bytes.len()) == Some(word.at)
 }
 
 /// Whether a word needs no space before it.
-fn is_tight(word: Word<'_>) -> bool {
-    matches!(word.bytes, b";" | b")" | b",")
+fn is_tight(word: Word<'_>) -> bool
+    ensures { result ≡ spec.is_tight word.entry }
+{
+    word.bytes == b";".as_slice() || word.bytes == b")".as_slice() || word.bytes == b",".as_slice()
+}
+
+/// What stands before a word, behind the last one.
+fn gap_before<'a>(last: Option<Word<'_>>, word: Word<'a>) -> &'a [u8]
+    ensures { result.now ≡ spec.gap_before last.entry word.entry }
+{
+    match last {
+        Some(last) if word.gap.is_empty() && !is_joined(last, word) && !is_tight(word) => b" ",
+        Some(_) => word.gap,
+        None => without_front(word.gap),
+    }
 }
 
 /// Puts words behind the head of a text.
@@ -78,15 +83,16 @@ fn push_text(
     alloc: Global,
     text: &mut Vec<u8>,
     words: &[Word<'_>],
-) -> Result<Vec<Origin>, AllocError> {
+) -> Result<Vec<Origin>, AllocError>
+    ensures text { OnOk result (text.new.items ≡ text.old.items ++ spec.text_behind None words.now ++ line_feed ∷ []) }
+    ensures origins { IfOk result (λ origins. origins.items ≡ spec.origins_behind (length text.old.items) None words.now) }
+{
     let mut origins = Vec::new(alloc);
     let mut last = None;
     for word in words {
-        push_gap(text, last, *word)?;
-        origins.push(Origin {
-            from: text.len(),
-            at: word.at,
-        })?;
+        text.extend_from_slice(gap_before(last, *word))?;
+        let from = text.len();
+        origins.push(Origin { from, at: word.at })?;
         text.extend_from_slice(word.bytes)?;
         last = Some(*word);
     }
@@ -153,7 +159,9 @@ pub fn write_filter(
     head: &[u8],
     words: &[Word<'_>],
 ) -> Result<FilterText, AllocError>
-    ensures { IfOk result (λ written. Fated words.now written.text.items written.fate) }
+    ensures text { IfOk result (λ written. written.text.items ≡ spec.text_of head.now words.now) }
+    ensures origins { IfOk result (λ written. written.origins.items ≡ spec.origins_of head.now words.now) }
+    ensures fate { IfOk result (λ written. Fated words.now written.text.items written.fate) }
 {
     let mut text = Vec::from_slice(alloc, head)?;
     let origins = push_text(alloc, &mut text, words)?;
@@ -166,7 +174,9 @@ pub fn write_filter(
 }
 
 /// The place of a configuration from which a byte of a filter's text comes.
-pub fn origin_of(origins: &[Origin], byte: usize) -> Option<usize> {
+pub fn origin_of(origins: &[Origin], byte: usize) -> Option<usize>
+    ensures { result ≡ spec.origin_of origins.now byte }
+{
     let mut found = None;
     for origin in origins {
         if origin.from <= byte {

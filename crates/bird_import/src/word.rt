@@ -186,10 +186,12 @@ pub fn is_named_at(words: &[Word<'_>], at: usize, name: &[u8]) -> bool
 }
 
 /// Whether the word at an index is this word of BIRD's.
+#[tactic(auto, unfolding(crate::specs::Items::is_foreign_at))]
 pub fn is_foreign_at(words: &[Word<'_>], at: usize, name: &[u8]) -> bool
-    ensures { IsTrue result ↔ spec.IsForeignAt name.now words.now at }
+    ensures is { result ≡ items.is_foreign_at words.now at name.now }
+    ensures means { IsTrue result ↔ spec.IsForeignAt name.now words.now at }
 {
-    kind_at(words, at) == WordKind::Foreign && bytes_at(words, at) == name
+    matches!(kind_at(words, at), WordKind::Foreign) && bytes_at(words, at) == name
 }
 
 /// Whether the word before an index is this keyword or punctuator.

@@ -11,7 +11,7 @@ use Rattle.ncroute.specs.Streaming.{Streams}
 use Rattle.ncroute.specs.declared.importing.Made.{Made}
 
 pub of_made : {E : Type 0} (creates : List ℕ → Result (Option (List ℕ)) Error → Type 0) (how : Importing) (config : ConfigView) (draft : Draft)
-    (made : Made) (before after : Streams) (r : Result Bool E) → IsMade how.size draft.at draft.outcome made
+    (made : Made) (before after : Streams) (r : Result Bool E) → IsMade config how.size draft made
     → IfOk r (ImportsMade creates how.folder (text_in made) config draft.name.now made before after)
     → IfOk r (ImportsDraft creates how config draft before after)
 of_made creates how config draft made before after (Ok left) is imported = record { made = made; is_made = is; imported = imported }

@@ -1,6 +1,6 @@
 -- What the program does with a configuration of BIRD whose filters are imported. (This project's own choice.)
-use Rattle.std.specs.Prelude.{◌≡◌, ◌⊎◌, ◌||◌, ◌==◌, ◌-◌, ◌++◌, ℕ, Bool, true, false, not, if◌then◌else◌, is_some, List, [], ◌∷◌, Option, Some, None, Result, Ok, Err, ⊤}
-use Rattle.std.specs.Prelude.{codes, length, map, slice_get, string_bytes}
+use Rattle.std.specs.Prelude.{◌≡◌, ◌⊎◌, ◌||◌, ◌&&◌, ◌==◌, ◌-◌, ◌++◌, ℕ, nat_lt, Bool, true, false, not, if◌then◌else◌, is_some, List, [], ◌∷◌, Option, Some, None, Result, Ok, Err, ⊤}
+use Rattle.std.specs.Prelude.{codes, length, map, slice_get, string_bytes, unwrap_or}
 use Rattle.std.specs.Option.{option_map}
 use Rattle.std.specs.Str.{is_utf8}
 use Rattle.std.specs.Io.KnownBytes.{Appends}
@@ -10,6 +10,7 @@ use Rattle.std.specs.declared.string.String.{String}
 use Rattle.bird_import.specs.Cutting.{IsCutInto}
 use Rattle.bird_import.specs.Items.{definitions_in, items_in, view_of_item}
 use Rattle.bird_import.specs.Judged.{HaveDrafts}
+use Rattle.bird_import.specs.Laying.{origin_of, origins_of, text_of}
 use Rattle.bird_import.specs.Spelling.{IsWritten}
 use Rattle.bird_import.specs.Texts.{Fated}
 use Rattle.bird_import.specs.declared.config.Config.{Config}
@@ -19,6 +20,7 @@ use Rattle.bird_import.specs.declared.drafts.Outcome.{Outcome}
 use Rattle.bird_import.specs.declared.drafts.Outcome.TheVariants.{Drafted, LeftOut}
 use Rattle.bird_import.specs.declared.text.Fate.{Fate}
 use Rattle.bird_import.specs.declared.text.Fate.TheVariants as fate
+use Rattle.bird_import.specs.declared.text.Origin.{Origin}
 use Rattle.bird_import.specs.declared.word.Word.{Word}
 use Rattle.bird_import.specs.declared.word.WordKind.{WordKind}
 use Rattle.bird_import.specs.declared.word.WordKind.TheVariants.{Strange}
@@ -45,59 +47,97 @@ use Rattle.ncroute.specs.declared.importing.Made.{Made}
 abbrev pub text_in : Made → Option (List ℕ)
 text_in made = option_map (λ text. text.items) made.text
 
+-- a comment that tells a place of a configuration
+abbrev pub origin_line : List ℕ → ConfigView → ℕ → List ℕ
+origin_line words config at = words ++ place_of config at ++ 10 ∷ []
+
+-- whether a place is outside of a filter that begins at one place and ends at another
+abbrev pub is_outside : ℕ → ℕ → ℕ → Bool
+is_outside from to at = nat_lt at from || nat_lt to at
+
+-- the comment of a word, behind one at another place, if it is outside of the filter and that one is not
+abbrev pub outside_line : ConfigView → ℕ → ℕ → ℕ → ℕ → List ℕ
+outside_line config from to last at =
+    if is_outside from to at && not (is_outside from to last) then origin_line (codes "# and ") config at else []
+
+-- the comments of the words of a filter, which are behind one at a place
+abbrev pub outside_lines : ConfigView → ℕ → ℕ → ℕ → List Word → List ℕ
+outside_lines config from to last [] = []
+outside_lines config from to last (word ∷ words) = outside_line config from to last word.at ++ outside_lines config from to word.at words
+
+-- the comments at the head of a filter's text: where it begins, and where each stretch of its words begins that comes from elsewhere
+abbrev pub head_of : ConfigView → ℕ → ℕ → List Word → List ℕ
+head_of config from to words = origin_line (codes "# From ") config from ++ outside_lines config from to from words
+
 -- A text is verified for domains of a size, and this is the line of its bounds.
 pub record IsVerifiedText (size : ℕ) (text line : List ℕ) : Type 0 where
   pub verified : VerifiedView
   pub is : IsVerifiedOf size text verified
   pub bounds : line ≡ verified_line verified.program
 
--- A text is refused for domains of a size, and so it is told.
-pub record IsRefusedText (size : ℕ) (text words : List ℕ) : Type 0 where
+-- the place of a configuration from which a byte of a filter's text comes, and that of the filter where there is none
+abbrev pub place_from : List Origin → ℕ → Option ℕ → ℕ
+place_from origins at None = at
+place_from origins at (Some byte) = unwrap_or (origin_of origins byte) at
+
+-- A text is refused for domains of a size, and so it is told, at the place from which the byte comes that is told of it.
+pub record IsRefusedText (size at : ℕ) (text : List ℕ) (origins : List Origin) (made : Made) : Type 0 where
   pub told : Diagnosis
   pub is : IsDiagnosis size false text told
-  pub told_so : AreRefusalWords told words
+  pub told_so : AreRefusalWords told made.words.items
+  pub place : made.at ≡ place_from origins at told.byte
 
 -- What comes of the text of a filter that begins at a place: it is verified, and kept; or it is refused.
-abbrev pub KeepsText : ℕ → ℕ → List ℕ → Made → Option (List ℕ) → Type 0
-KeepsText size at text made None = IsRefusedText size text made.words.items
-KeepsText size at text made (Some kept) = (kept ≡ text) × IsVerifiedText size text made.words.items × (made.at ≡ at)
+abbrev pub KeepsText : ℕ → ℕ → List ℕ → List Origin → Made → Option (List ℕ) → Type 0
+KeepsText size at text origins made None = IsRefusedText size at text origins made
+KeepsText size at text origins made (Some kept) = (kept ≡ text) × IsVerifiedText size text made.words.items × (made.at ≡ at)
 
-abbrev pub IsMadeOfText : ℕ → ℕ → List ℕ → Made → Type 0
-IsMadeOfText size at text made = KeepsText size at text made (text_in made)
+abbrev pub IsMadeOfText : ℕ → ℕ → List ℕ → List Origin → Made → Type 0
+IsMadeOfText size at text origins made = KeepsText size at text origins made (text_in made)
 
--- A text that is written of a draft is written for the words that are drafted, and verified for domains of a size; the place is that of the
--- draft.
-pub record IsOfWords (size at : ℕ) (words : List Word) (made : Made) (text : List ℕ) : Type 0 where
+-- What is kept of a draft is the text that was written for its words, and it is verified for domains of a size; the place is that of the draft.
+pub record IsOfWords (size at : ℕ) (words : List Word) (text : List ℕ) (made : Made) (kept : List ℕ) : Type 0 where
+  pub same : kept ≡ text
   pub written : IsWritten words text
   pub verified : IsVerifiedText size text made.words.items
   pub place : made.at ≡ at
 
--- Why none is written of a draft: the text for its words is refused, and so it is told; or the words could not be written, or one of them is a
--- variable that may be read before it is assigned, as the import judges.
-abbrev pub IsLeftFor : ℕ → List ℕ → Made → Fate → Type 0
-IsLeftFor size text made fate.Taken = IsRefusedText size text made.words.items
-IsLeftFor size text made (fate.Refused fault) = IsRefusedText size text made.words.items
-IsLeftFor size text made fate.Garbled = ⊤
-IsLeftFor size text made (fate.Unset at) = ⊤
+-- Why none is kept of a draft: the text for its words is refused, and so it is told; or the words could not be written, or one of them is a
+-- variable that may be read before it is assigned, as the import judges, and its place is told.
+abbrev pub IsLeftFor : ℕ → ℕ → List ℕ → List Origin → Made → Fate → Type 0
+IsLeftFor size at text origins made fate.Taken = IsRefusedText size at text origins made
+IsLeftFor size at text origins made (fate.Refused fault) = IsRefusedText size at text origins made
+IsLeftFor size at text origins made fate.Garbled = made.at ≡ at
+IsLeftFor size at text origins made (fate.Unset byte) = made.at ≡ place_from origins at (Some byte)
 
-pub record IsLeftOut (size : ℕ) (words : List Word) (made : Made) : Type 0 where
-  pub text : List ℕ
+pub record IsLeftOut (size at : ℕ) (words : List Word) (text : List ℕ) (origins : List Origin) (made : Made) : Type 0 where
   pub fate : Fate
   pub fated : Fated words text fate
-  pub left : IsLeftFor size text made fate
+  pub left : IsLeftFor size at text origins made fate
 
-abbrev pub KeepsWords : ℕ → ℕ → List Word → Made → Option (List ℕ) → Type 0
-KeepsWords size at words made None = IsLeftOut size words made
-KeepsWords size at words made (Some text) = IsOfWords size at words made text
+abbrev pub KeepsWords : ℕ → ℕ → List Word → List ℕ → List Origin → Made → Option (List ℕ) → Type 0
+KeepsWords size at words text origins made None = IsLeftOut size at words text origins made
+KeepsWords size at words text origins made (Some kept) = IsOfWords size at words text made kept
 
--- what came of a draft's words
-abbrev pub IsMadeOfWords : ℕ → ℕ → List Word → Made → Type 0
-IsMadeOfWords size at words made = KeepsWords size at words made (text_in made)
+-- what came of a draft's words, for which a text was written whose words come from these places
+abbrev pub IsMadeOfWords : ℕ → ℕ → List Word → List ℕ → List Origin → Made → Type 0
+IsMadeOfWords size at words text origins made = KeepsWords size at words text origins made (text_in made)
+
+-- the text that is written for the words of a filter that begins at one place and ends at another, and the places from which its words come
+abbrev pub text_for : ConfigView → ℕ → ℕ → List Word → List ℕ
+text_for config from to words = text_of (head_of config from to words) words
+
+abbrev pub origins_for : ConfigView → ℕ → ℕ → List Word → List Origin
+origins_for config from to words = origins_of (head_of config from to words) words
 
 -- What came of a draft: none is written of one that is left out, and the place is that of the reason.
-abbrev pub IsMade : ℕ → ℕ → Outcome → Made → Type 0
-IsMade size at (LeftOut reason) made = (text_in made ≡ None) × (made.at ≡ reason.at)
-IsMade size at (Drafted words) made = IsMadeOfWords size at words.items made
+abbrev pub IsMadeBy : ConfigView → ℕ → ℕ → ℕ → Outcome → Made → Type 0
+IsMadeBy config size from to (LeftOut reason) made = (text_in made ≡ None) × (made.at ≡ reason.at)
+IsMadeBy config size from to (Drafted words) made =
+    IsMadeOfWords size from words.items (text_for config from to words.items) (origins_for config from to words.items) made
+
+abbrev pub IsMade : ConfigView → ℕ → Draft → Made → Type 0
+IsMade config size draft made = IsMadeBy config size draft.at draft.end draft.outcome made
 
 -- the parts of a configuration are all definitions, filters and functions that its words have
 pub record HasParts (words : List Word) (parts : Config) : Type 0 where
@@ -201,7 +241,7 @@ module _ (creates : List ℕ → Result (Option (List ℕ)) Error → Type 0) wh
   -- A filter was made of a draft, and imported.
   pub record ImportsDraft (how : Importing) (config : ConfigView) (draft : Draft) (before after : Streams) (is_left : Bool) : Type 0 where
     pub made : Made
-    pub is_made : IsMade how.size draft.at draft.outcome made
+    pub is_made : IsMade config how.size draft made
     pub imported : ImportsMade how.folder (text_in made) config draft.name.now made before after is_left
 
   -- The filters among the parts of a configuration were imported, in order, and it is said whether one of them is left out.

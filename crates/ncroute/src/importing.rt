@@ -1,11 +1,13 @@
 //! From a configuration of BIRD to verified filters, in files of their own: the engine of `import`.
 ghost use Rattle.std.specs.Option.{option_map};
-ghost use Rattle.std.specs.Prelude.{◌≡◌, ◌≤◌, [], ◌∷◌, ◌++◌, IfOk, IfSome, OnOk, is_some, length, string_bytes};
+ghost use Rattle.std.specs.Prelude.{◌≡◌, ◌≤◌, ℕ, false, [], ◌∷◌, ◌++◌, IfOk, IfSome, OnOk, is_some, length, string_bytes};
 ghost use Rattle.ncroute.specs.Following.{DoesFirst};
-ghost use Rattle.ncroute.specs.Importing.{ImportsConfig, ImportsCut, ImportsDraft, ImportsMade, ImportsParts, ImportsRead, ImportsSource, ImportsWords, IsMadeOfText, IsMade, IsMadeOfWords};
-ghost use Rattle.ncroute.specs.Importing.{SavesFilter, SavesText, TellsEnd, TellsStrange, TellsWord, byte_line, end_words, ends_in_slash, fate_words, file_name, file_path, made_line, path_words, slash_behind, strange_words, text_in};
+ghost use Rattle.ncroute.specs.Importing.{ImportsConfig, ImportsCut, ImportsDraft, ImportsMade, ImportsParts, ImportsRead, ImportsSource, ImportsWords, IsMade, IsMadeOfText, IsMadeOfWords, IsRefusedText};
+ghost use Rattle.ncroute.specs.Importing.{SavesFilter, SavesText, TellsEnd, TellsStrange, TellsWord, byte_line, end_words, ends_in_slash, fate_words, file_name, file_path, head_of, is_outside, made_line, origin_line, origins_for, outside_line, path_words, place_from, slash_behind, strange_words, text_for, text_in};
 ghost use Rattle.ncroute.specs.Places.{config_of, place_of};
 ghost use Rattle.ncroute.specs.Streaming.{Tells, Writes};
+ghost use Rattle.filter_commands.specs.Check.{IsRefused};
+ghost use Rattle.filter_parser.specs.Unspelled.{IsUnspelled};
 ghost use Rattle.filter_source.specs.VerifiedLine.{verified_line};
 ghost use Rattle.filter_tools.specs.Explanations.{AreRefusalWords};
 
@@ -20,7 +22,8 @@ use bird_import::{
 };
 use command_line::{Importing, Source};
 use filter_commands::ProgramFault;
-use filter_source::{Diagnosis, Failure, push_verified};
+use filter_parser::ParseFault;
+use filter_source::{Diagnosis, Failure, Refusal, SOURCE_LIMIT, push_verified};
 use filter_tokens::TokenFault;
 use filter_tools::{push_shown, refusal_words, verified_filter};
 use filter_verifier::Verified;
@@ -61,23 +64,46 @@ fn verified_line(alloc: Global, verified: &Verified) -> Result<Vec<u8>, AllocErr
     Ok(line)
 }
 
+/// Whether a place is outside of a filter that begins at one place and ends at another.
+fn is_outside(from: usize, to: usize, at: usize) -> bool
+    ensures { result ≡ is_outside from to at }
+{
+    at < from || at > to
+}
+
+/// Adds a comment that tells the place of a word outside of the filter, where the word before it is inside.
+fn push_outside(
+    alloc: Global,
+    head: &mut Vec<u8>,
+    whole: &Whole,
+    draft: &Draft<'_>,
+    last: usize,
+    at: usize,
+) -> Result<(), AllocError>
+    ensures { OnOk result (head.new.items
+        ≡ head.old.items ++ outside_line (config_of whole.now) draft.now.at draft.now.end last at) }
+{
+    if is_outside(draft.at, draft.end, at) && !is_outside(draft.at, draft.end, last) {
+        push_origin(alloc, head, whole, b"# and ", at)
+    } else {
+        Ok(())
+    }
+}
+
 /// Where the words of a filter come from, as comments at the head of its text.
 fn head_of(
     alloc: Global,
     whole: &Whole,
-    at: usize,
-    end: usize,
+    draft: &Draft<'_>,
     words: &[Word<'_>],
-) -> Result<Vec<u8>, AllocError> {
+) -> Result<Vec<u8>, AllocError>
+    ensures { IfOk result (λ head. head.items ≡ head_of (config_of whole.now) draft.now.at draft.now.end words.now) }
+{
     let mut head = Vec::new(alloc);
-    push_origin(alloc, &mut head, whole, b"# From ", at)?;
-    let mut last = at;
+    push_origin(alloc, &mut head, whole, b"# From ", draft.at)?;
+    let mut last = draft.at;
     for word in words {
-        let is_outside = word.at < at || word.at > end;
-        let was_outside = last < at || last > end;
-        if is_outside && !was_outside {
-            push_origin(alloc, &mut head, whole, b"# and ", word.at)?;
-        }
+        push_outside(alloc, &mut head, whole, draft, last, word.at)?;
         last = word.at;
     }
     Ok(head)
@@ -91,7 +117,7 @@ fn push_origin(
     words: &[u8],
     at: usize,
 ) -> Result<(), AllocError>
-    ensures { OnOk result (head.new.items ≡ head.old.items ++ words.now ++ place_of (config_of whole.now) at ++ 10 ∷ []) }
+    ensures { OnOk result (head.new.items ≡ head.old.items ++ origin_line words.now (config_of whole.now) at) }
 {
     head.extend_from_slice(words)?;
     push_place(alloc, head, whole, at)?;
@@ -119,18 +145,20 @@ fn make_filter(
     draft: &Draft<'_>,
     words: &[Word<'_>],
 ) -> Result<Made, AllocError>
-    ensures { IfOk result (IsMadeOfWords size draft.now.at words.now) }
+    ensures { IfOk result (IsMadeOfWords size draft.now.at words.now (text_for (config_of whole.now) draft.now.at draft.now.end words.now)
+        (origins_for (config_of whole.now) draft.now.at draft.now.end words.now)) }
 {
-    let head = head_of(alloc, whole, draft.at, draft.end, words)?;
+    let head = head_of(alloc, whole, draft, words)?;
     let written = write_filter(alloc, head.as_slice(), words)?;
     match written.fate {
-        Fate::Taken | Fate::Refused(_) => verify_filter(alloc, size, draft.at, written),
+        Fate::Taken => verify_filter(alloc, size, draft.at, written),
+        Fate::Refused(fault) => refuse_text(alloc, draft.at, &written, fault),
         Fate::Garbled => left_out(alloc, draft.at, Why::Unwritten),
         Fate::Unset(byte) => {
             let name = name_at(written.text.as_slice(), byte);
             left_out(
                 alloc,
-                place_of(&written, Some(byte), draft.at),
+                place_from(&written, Some(byte), draft.at),
                 Why::Unset(name),
             )
         }
@@ -138,7 +166,9 @@ fn make_filter(
 }
 
 /// The place of a configuration from which a byte of a filter's text comes; that of the filter if there is none.
-fn place_of(written: &FilterText, byte: Option<usize>, filter: usize) -> usize {
+fn place_from(written: &FilterText, byte: Option<usize>, filter: usize) -> usize
+    ensures { result ≡ place_from written.now.origins.items filter byte }
+{
     match byte {
         Some(byte) => origin_of(written.origins.as_slice(), byte).unwrap_or(filter),
         None => filter,
@@ -154,12 +184,39 @@ fn refused(
 ) -> Result<Made, AllocError>
     ensures text { IfOk result (λ made. text_in made ≡ None) }
     ensures words { IfOk result (λ made. AreRefusalWords told.now made.words.items) }
+    ensures place { IfOk result (λ made. made.at ≡ place_from written.now.origins.items at told.now.byte) }
 {
     Ok(Made {
         text: None,
-        at: place_of(written, told.byte, at),
+        at: place_from(written, told.byte, at),
         words: refusal_words(alloc, written.text.as_slice(), told)?,
     })
+}
+
+/// Why a text that the parser refuses is refused as a source: its length comes first.
+fn source_refusal(text: &[u8], fault: ParseFault) -> Refusal
+    ensures { IsUnspelled text.now fault → IsRefused false text.now result }
+{
+    if text.len() > SOURCE_LIMIT {
+        Refusal::TooLong
+    } else {
+        Refusal::Parse(fault)
+    }
+}
+
+/// What is told of a filter, which begins at a place, whose text the parser refuses for this fault.
+fn refuse_text(
+    alloc: Global,
+    at: usize,
+    written: &FilterText,
+    fault: ParseFault,
+) -> Result<Made, AllocError>
+    requires unspelled { IsUnspelled written.now.text.items fault }
+    ensures text { IfOk result (λ made. text_in made ≡ None) }
+    ensures told { IfOk result (λ made. (size : ℕ) → IsRefusedText size at written.now.text.items written.now.origins.items made) }
+{
+    let refusal = source_refusal(written.text.as_slice(), fault);
+    refused(alloc, at, written, &Diagnosis::of_source(refusal))
 }
 
 /// Verifies the text of a filter, which begins at a place, for domains of a size.
@@ -169,7 +226,7 @@ fn verify_filter(
     at: usize,
     written: FilterText,
 ) -> Result<Made, AllocError>
-    ensures { IfOk result (IsMadeOfText size at written.text.items) }
+    ensures { IfOk result (IsMadeOfText size at written.text.items written.origins.items) }
 {
     match verified_filter(alloc, written.text.as_slice(), size) {
         Ok(verified) => {
@@ -187,7 +244,7 @@ fn verify_filter(
 
 /// What comes of a filter.
 fn make(alloc: Global, whole: &Whole, size: u32, draft: &Draft<'_>) -> Result<Made, AllocError>
-    ensures { IfOk result (IsMade size draft.now.at draft.now.outcome) }
+    ensures { IfOk result (IsMade (config_of whole.now) size draft.now) }
 {
     match &draft.outcome {
         Outcome::LeftOut(reason) => left_out(alloc, reason.at, reason.why),

@@ -1,7 +1,9 @@
-use Rattle.std.proofs.Common.{subst, inl, inr}
+use Rattle.std.proofs.Common.{◌≡◌, ◌∙◌, ℕ, List, IfOk, ap, subst}
+use Rattle.bird_import.specs.Laying.{origins_of, text_of}
 use Rattle.bird_import.specs.Texts.{Fated}
 use Rattle.bird_import.specs.declared.text.Fate.TheVariants as fate
-use Rattle.ncroute.proofs.MadeTexts.{of_left, of_refused, of_taken, of_text}
+use Rattle.ncroute.specs.declared.importing.Made.{Made}
+use Rattle.ncroute.proofs.MadeTexts.{of_left, of_same, of_size, of_text}
 use Rattle.ncroute.proofs.importing.make_filter.Goals as goal
 
 pub returns-in-Taken : goal.returns-in-Taken
@@ -9,28 +11,61 @@ returns-in-Taken c =
     let size = c.args.size in
     let at = c.args.draft.now.at in
     let words = c.args.words.now in
-    let text = c.in_ok-written.written.text.items in
-    let fated = c.in_ok-written.ensures in
-    of_text size at words text c.verify_filter.result
-    (elim c.in-Taken.is [
-      | inl taken ↦ λ made kept is. of_taken size at words text made kept (subst (Fated words text) taken fated) is
-      | inr refused ↦ λ made kept is.
-          let (fault, same) = refused in
-          let none = subst (Fated words text) same fated in
-          of_refused size at words text (fate.Refused fault) made kept none (λ h. h) none is
-    ])
-    c.verify_filter.ensures
+    let written = c.in_ok-written.written in
+    let text = written.text.items in
+    let origins = written.origins.items in
+    let is_head = c.as_slice.ensures.value ∙ c.in_ok-head.ensures in
+    let same = c.in_ok-written.ensures.text ∙ ap (λ (head : List ℕ). text_of head words) is_head in
+    let alike = c.in_ok-written.ensures.origins ∙ ap (λ (head : List ℕ). origins_of head words) is_head in
+    let taken = subst (Fated words text) c.in-Taken.is c.in_ok-written.ensures.fate in
+    of_same size at words c.verify_filter.result same alike
+    (of_text size at words text origins c.verify_filter.result taken c.verify_filter.ensures)
+
+pub returns-in-Refused : goal.returns-in-Refused
+returns-in-Refused c =
+    let size = c.args.size in
+    let at = c.args.draft.now.at in
+    let words = c.args.words.now in
+    let written = c.in_ok-written.written in
+    let text = written.text.items in
+    let origins = written.origins.items in
+    let is_head = c.as_slice.ensures.value ∙ c.in_ok-head.ensures in
+    let same = c.in_ok-written.ensures.text ∙ ap (λ (head : List ℕ). text_of head words) is_head in
+    let alike = c.in_ok-written.ensures.origins ∙ ap (λ (head : List ℕ). origins_of head words) is_head in
+    let fault = c.in-Refused.fault in
+    let fated = subst (Fated words text) c.in-Refused.is c.in_ok-written.ensures.fate in
+    of_same size at words c.refuse_text.result same alike
+    (of_left size at words text origins (fate.Refused fault) c.refuse_text.result fated
+    (of_size size at text origins c.refuse_text.result c.refuse_text.ensures.told) c.refuse_text.ensures.text)
 
 pub returns-in-Garbled : goal.returns-in-Garbled
 returns-in-Garbled c =
+    let size = c.args.size in
+    let at = c.args.draft.now.at in
     let words = c.args.words.now in
-    let text = c.in_ok-written.written.text.items in
-    of_left c.args.size c.args.draft.now.at words text fate.Garbled c.left_out.result
-    (subst (Fated words text) c.in-Garbled.is c.in_ok-written.ensures) (λ made. tt) c.left_out.ensures.text
+    let written = c.in_ok-written.written in
+    let text = written.text.items in
+    let origins = written.origins.items in
+    let is_head = c.as_slice.ensures.value ∙ c.in_ok-head.ensures in
+    let same = c.in_ok-written.ensures.text ∙ ap (λ (head : List ℕ). text_of head words) is_head in
+    let alike = c.in_ok-written.ensures.origins ∙ ap (λ (head : List ℕ). origins_of head words) is_head in
+    let fated = subst (Fated words text) c.in-Garbled.is c.in_ok-written.ensures.fate in
+    of_same size at words c.left_out.result same alike
+    (of_left size at words text origins fate.Garbled c.left_out.result fated c.left_out.ensures.place c.left_out.ensures.text)
 
 pub returns : goal.returns
 returns c =
+    let size = c.args.size in
+    let at = c.args.draft.now.at in
     let words = c.args.words.now in
-    let text = c.in_ok-written.written.text.items in
-    of_left c.args.size c.args.draft.now.at words text (fate.Unset c.in-Unset.byte) c.left_out-in-Unset.result
-    (subst (Fated words text) c.in-Unset.is c.in_ok-written.ensures) (λ made. tt) c.left_out-in-Unset.ensures.text
+    let written = c.in_ok-written.written in
+    let text = written.text.items in
+    let origins = written.origins.items in
+    let is_head = c.as_slice.ensures.value ∙ c.in_ok-head.ensures in
+    let same = c.in_ok-written.ensures.text ∙ ap (λ (head : List ℕ). text_of head words) is_head in
+    let alike = c.in_ok-written.ensures.origins ∙ ap (λ (head : List ℕ). origins_of head words) is_head in
+    let byte = c.in-Unset.byte in
+    let r = c.left_out-in-Unset.result in
+    let fated = subst (Fated words text) c.in-Unset.is c.in_ok-written.ensures.fate in
+    let place = subst (λ (p : ℕ). IfOk r (λ (made : Made). made.at ≡ p)) c.place_from.ensures c.left_out-in-Unset.ensures.place in
+    of_same size at words r same alike (of_left size at words text origins (fate.Unset byte) r fated place c.left_out-in-Unset.ensures.text)

@@ -8,5 +8,5 @@ returns-in-Err-Refused c =
     let told = c.in-Err-Refused.told in
     let is = told_of c.args.size c.as_slice.result.now c.verified_filter.result c.in-Err-Refused.field-0 told c.verified_filter.ensures.refused
     c.in-Err-Refused.is c.in-Err-Refused.field-0-is in
-    of_told c.args.size c.args.at c.args.written.text.items told c.refused.result c.refused.ensures.text c.refused.ensures.words
-    (subst (λ (text : List ℕ). IsDiagnosis c.args.size false text told) c.as_slice.ensures.value is)
+    of_told c.args.size c.args.at c.args.written.text.items c.args.written.origins.items told c.refused.result c.refused.ensures.text
+    c.refused.ensures.words c.refused.ensures.place (subst (λ (text : List ℕ). IsDiagnosis c.args.size false text told) c.as_slice.ensures.value is)
