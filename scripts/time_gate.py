@@ -1,5 +1,5 @@
 #!/usr/bin/env python3
-"""Runs the gate, `rt ci`, and prints how much processor time each crate took, in seconds.
+"""Runs the gate, `rt ci`, from nothing, and prints how much processor time each crate took, in seconds.
 
 usage: scripts/time_gate.py > TABLE       (the gate's own output goes to standard error)
 
@@ -95,7 +95,7 @@ def table(seen, in_all):
 
 def main():
     start, seen = time.time(), {}
-    gate = subprocess.Popen(["rt", "ci"], cwd=TOP, stdout=sys.stderr, start_new_session=True)
+    gate = subprocess.Popen(["rt", "ci", "--anew"], cwd=TOP, stdout=sys.stderr, start_new_session=True)
     while gate.poll() is None:
         look(gate.pid, seen)
         time.sleep(1)
