@@ -19,9 +19,6 @@ impl ProgramFault {
     /// Want of memory.
     pub const MEMORY: ProgramFault = ProgramFault::Stream(StreamFault::Memory);
 
-    /// Output that could not be written.
-    pub const WRITE: ProgramFault = ProgramFault::Stream(StreamFault::Write);
-
     /// The code by which the program names the fault.
     pub fn code(&self) -> &'static str
         ensures { result.now ≡ program_code self.now }

@@ -11,6 +11,6 @@ pub mod PartLaws
 pub mod PlainNumbers
 pub mod Punctuators
 pub mod Rows
-pub mod ShortNumbers
+pub mod FrontNumbers
 pub mod Spaces
 pub mod Tokenized

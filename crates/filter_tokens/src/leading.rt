@@ -1,13 +1,13 @@
 //! Prefixes and decimal numbers, which most tokens of a long set are: their ends are found once, and no other shape is tried.
 
-ghost use Rattle.std.specs.Prelude.{◌≡◌, IfSome, IsSome, List, ℕ, Some};
+ghost use Rattle.std.specs.Prelude.{◌≡◌, false, IfSome, IsSome, List, ℕ, Some};
 ghost use Rattle.prefix_patterns.specs.Leading.{BeginsWith, BeginsWithDigit, IsUsualPrefix};
+ghost use Rattle.prefix_patterns.specs.Number.{IsDigits, decimal_value};
 ghost use Rattle.filter_tokens.specs.Reading.{begins_digit, goes_on, number_ahead, token_in};
 
-use crate::byte_class::{ByteClass, leading_len};
 use crate::part::Part;
 use crate::token_kind::TokenKind;
-use prefix_patterns::{leading_number, leading_prefix, read_number};
+use prefix_patterns::{leading_number, leading_prefix};
 
 /// In a text of so many bytes, no byte that is looked at while a prefix in the usual spelling is read can lie behind the end: not in its groups of
 /// up to three digits, not in its length, and not after it.
@@ -85,10 +85,7 @@ pub fn number_token(text: &[u8]) -> Option<Part>
     if begins_digit(others) {
         return long_number_token(text);
     }
-    if goes_on(others) {
-        return None;
-    }
-    Some(Part::Token(TokenKind::Number(number), text.len() - others.len()))
+    ended_number_token(text, number, others)
 }
 
 /// The same, of any number of digits. Few numbers have more than three.
@@ -97,14 +94,36 @@ fn long_number_token(text: &[u8]) -> Option<Part>
     ensures exact { result ≡ number_ahead text.now }
     ensures token { IfSome result (λ part. token_in text.now ≡ Some part) }
 {
-    let len = leading_len(ByteClass::Digits, text);
-    if len == 0 || goes_on(&text[len..]) {
+    if !begins_digit(text) {
         return None;
     }
-    match read_number(&text[..len], u32::MAX) {
-        Some(number) => Some(Part::Token(TokenKind::Number(number), len)),
-        None => None,
+    let mut number = u32::from(text[0] - b'0');
+    for at in 1..text.len() {
+        let byte = text[at];
+        if !byte.is_ascii_digit() {
+            return ended_number_token(text, number, &text[at..]);
+        }
+        let longer = u64::from(number) * 10 + u64::from(byte - b'0');
+        if longer > u64::from(u32::MAX) {
+            return None;
+        }
+        number = longer as u32;
     }
+    ended_number_token(text, number, &[])
+}
+
+/// The same, where the digits are read: they write the number, and `others` follows them.
+#[inline(always)]
+fn ended_number_token(text: &[u8], number: u32, others: &[u8]) -> Option<Part>
+    requires leads { BeginsWith (λ digits. IsDigits digits × (number ≡ decimal_value digits)) text.now others.now }
+    requires ends { begins_digit others.now ≡ false }
+    ensures exact { result ≡ number_ahead text.now }
+    ensures token { IfSome result (λ part. token_in text.now ≡ Some part) }
+{
+    if goes_on(others) {
+        return None;
+    }
+    Some(Part::Token(TokenKind::Number(number), text.len() - others.len()))
 }
 
 /// Whether digits with this text behind them may begin a longer token: an address, by a dot and a digit, or hexadecimal, by an `x`.

@@ -3,7 +3,7 @@ use Rattle.filter_tokens.specs.declared.part.Part.TheVariants as part
 use Rattle.filter_tokens.specs.declared.token_kind.TokenKind.TheVariants as kind
 use Rattle.filter_tokens.specs.Reading.{begins_digit, token_in}
 use Rattle.filter_tokens.proofs.OnePass.{leads-token, leads-within}
-use Rattle.filter_tokens.proofs.ShortNumbers.{begins_with_digit, no_first_digit}
+use Rattle.filter_tokens.proofs.FrontNumbers.{begins_with_digit, no_first_digit}
 use Rattle.filter_tokens.proofs.leading.prefix_token.Goals as goal
 
 pub overflow_sub-result : goal.overflow_sub-result

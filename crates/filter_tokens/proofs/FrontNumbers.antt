@@ -1,16 +1,18 @@
--- Numbers of a few digits, which are read in one pass: what is read is the number at the front.
-use Rattle.std.proofs.Common.{◌≡◌, ℕ, ◌+◌, ◌-◌, ◌≤◌, eqb, true, false, cond, ◌||◌, List, [], ◌∷◌, ◌++◌, All, length, take, drop}
+-- Numbers that are read in one pass: what is read is the number at the front.
+use Rattle.std.proofs.Common.{◌≡◌, ℕ, ◌+◌, ◌-◌, ◌*◌, ◌<◌, ◌≤◌, eqb, Bool, true, false, cond, ◌||◌, List, [], ◌∷◌, ◌++◌, All, length, take, drop, get_or}
 use Rattle.std.proofs.Common.{Option, Some, None, refl, sym, ◌∙◌, ap, arith}
-use Rattle.std.specs.Char.{is_ascii_digit}
+use Rattle.std.specs.Char.{IsAsciiDigit, is_ascii_digit}
 use Rattle.std.specs.List.{prefix_len}
 use Rattle.std.specs.Option.{option_map}
 use Rattle.std.proofs.Math.Seq.{drop-append_seam, take-append_seam}
 use Rattle.std.proofs.lemmas.Bool.{ne_eqb}
-use Rattle.std.proofs.lemmas.List.Elements.{All-head, All-tail}
+use Rattle.std.proofs.lemmas.List.{length-take-le, take-append-drop, take-take}
+use Rattle.std.proofs.lemmas.List.Elements.{All-head, All-more, All-tail}
 use Rattle.prefix_patterns.specs.Leading.{BeginsWith, BeginsWithDigit}
 use Rattle.prefix_patterns.specs.Number.{IsDigits, decimal_value}
 use Rattle.prefix_patterns.specs.Reading.{number_in}
-use Rattle.prefix_patterns.proofs.Numbers.{number_in-some}
+use Rattle.prefix_patterns.proofs.DecimalValues.{decimal_value-more, decimal_value-take}
+use Rattle.prefix_patterns.proofs.Numbers.{number_in-none, number_in-some}
 use Rattle.filter_tokens.specs.declared.part.Part.{Part}
 use Rattle.filter_tokens.specs.declared.part.Part.TheVariants as part
 use Rattle.filter_tokens.specs.declared.token_kind.TokenKind.TheVariants as kind
@@ -39,9 +41,18 @@ count_with (byte ∷ bytes) rest each =
     let others = count_with bytes rest (All-tail (λ byte. is_ascii_digit byte ≡ true) byte bytes each) in
     rw first (omega (arith, others))
 
--- a number of a few digits is at the front, and this follows it
+-- digits at the front write a number, and this follows them
 abbrev pub LeadsNumber : List ℕ → ℕ → List ℕ → Type 0
 LeadsNumber text number rest = BeginsWith (λ digits. IsDigits digits × (number ≡ decimal_value digits)) text rest
+
+-- so many bytes at the front are digits, and write the number
+pub front_leads : (text : List ℕ) (n number : ℕ) → 0 < n → n ≤ length text → All IsAsciiDigit (take n text) →
+    number ≡ decimal_value (take n text) → LeadsNumber text number (drop n text)
+front_leads text n number some within each value = record {
+  token = take n text;
+  wanted = (record { some = omega (arith, length-take-le n text within, some); each = each }, value);
+  spelled = sym (take-append-drop n text);
+}
 
 -- it leaves no more than there is
 pub number-within : (text : List ℕ) (number : ℕ) (rest : List ℕ) → LeadsNumber text number rest → length rest ≤ length text
@@ -74,7 +85,7 @@ number-longer text number rest leads ends e =
     number_counted text number rest leads ends ∙ rw (some, on) refl
 
 -- where it does not, it is read
-pub number-read : (text : List ℕ) (number : ℕ) (rest : List ℕ) → LeadsNumber text number rest → number ≤ 999 → begins_digit rest ≡ false →
+pub number-read : (text : List ℕ) (number : ℕ) (rest : List ℕ) → LeadsNumber text number rest → number ≤ greatest_number → begins_digit rest ≡ false →
     goes_on rest ≡ false → number_ahead text ≡ Some (part.Token (kind.Number number) (length text - length rest))
 number-read text number rest leads limit ends e =
     let digits = leads.token in
@@ -87,7 +98,7 @@ number-read text number rest leads limit ends e =
     number_counted text number rest leads ends ∙ rw (some, on, read) (ap (λ n. Some (part.Token (kind.Number number) n)) len)
 
 -- and is the token at the front
-pub number-leads : (text : List ℕ) (number : ℕ) (rest : List ℕ) → LeadsNumber text number rest → number ≤ 999 → begins_digit rest ≡ false →
+pub number-leads : (text : List ℕ) (number : ℕ) (rest : List ℕ) → LeadsNumber text number rest → number ≤ greatest_number → begins_digit rest ≡ false →
     goes_on rest ≡ false → token_in text ≡ Some (part.Token (kind.Number number) (length text - length rest))
 number-leads text number rest leads limit ends e =
     let digits = leads.token in
@@ -102,3 +113,47 @@ number-leads text number rest leads limit ends e =
     ∙ number_in-some greatest_number digits (leads.wanted.0, omega (arith, leads.wanted.1, limit)) ∙ ap Some (sym leads.wanted.1) in
     number-token text (length text - length rest) number (len ∙ sym (digits_counted text number rest leads ends)) (omega arith)
     (omega (arith, len, leads.wanted.0.some)) (ap goes_on dropped ∙ e) read
+
+-- so many digits at the front are among all that are there
+among_digits : (text : List ℕ) (n : ℕ) → 0 < n → n ≤ length text → All IsAsciiDigit (take n text) → n ≤ prefix_len is_ascii_digit text
+among_digits text n some within each =
+    let long = length-take-le n text within in
+    let pass = digits_pass (take n text) (record { some = omega (arith, long, some); each = each }) in
+    omega (arith, long, ap (prefix_len is_ascii_digit) (take-append-drop n text), count_with (take n text) (drop n text) pass)
+
+-- digits that write more than the greatest number begin no number
+too_many : (text : List ℕ) (n number : ℕ) → n < length text → All IsAsciiDigit (take (n + 1) text) → number ≡ decimal_value (take n text) →
+    greatest_number < number * 10 + (get_or text n 0 - 48) → number_in greatest_number (take (prefix_len is_ascii_digit text) text) ≡ None
+too_many text n number within each value large =
+    let front = among_digits text (n + 1) (omega arith) (omega arith) each in
+    let same = take-take (n + 1) (prefix_len is_ascii_digit text) text front in
+    number_in-none greatest_number _ (λ number.
+    absurd (omega (
+      arith,
+      number.1,
+      ap decimal_value same,
+      decimal_value-take (take (prefix_len is_ascii_digit text) text) (n + 1),
+      decimal_value-more text n within,
+      value,
+      large,
+    )))
+
+pub number-large : (text : List ℕ) (n number : ℕ) → n < length text → All IsAsciiDigit (take n text) → IsAsciiDigit (get_or text n 0) →
+    number ≡ decimal_value (take n text) → greatest_number < number * 10 + (get_or text n 0 - 48) → number_ahead text ≡ None
+number-large text n number within each digit value large =
+    ended text (too_many text n number within (All-more IsAsciiDigit text n 0 within each digit) value large)
+    (eqb (prefix_len is_ascii_digit text) 0 || goes_on (drop (prefix_len is_ascii_digit text) text)) where
+      ended : (text : List ℕ) → number_in greatest_number (take (prefix_len is_ascii_digit text) text) ≡ None → (longer : Bool) →
+          cond longer None (option_map (λ number. part.Token (kind.Number number) (prefix_len is_ascii_digit text))
+          (number_in greatest_number (take (prefix_len is_ascii_digit text) text))) ≡ None
+      ended text none true = refl
+      ended text none false = ap (option_map (λ number. part.Token (kind.Number number) (prefix_len is_ascii_digit text))) none
+
+-- a text that begins with a digit, and that digit
+pub one_digit : (text : List ℕ) → begins_digit text ≡ true →
+    All IsAsciiDigit (take 1 text) × (decimal_value (take 1 text) ≡ get_or text 0 0 - 48) × (get_or text 0 0 ≤ 57)
+unfolding decimal_value
+one_digit [] e = absurd cc
+one_digit (byte ∷ bytes) e =
+    let digit = digit_fact byte e in
+    (All-more IsAsciiDigit (byte ∷ bytes) 0 0 (omega arith) (λ k d within. absurd (omega arith)) digit, omega arith, digit.1)
