@@ -116,9 +116,9 @@ class Run:
                 return answer
             time.sleep(0.01)
 
-    def said(self, wanted):
+    def said(self, wanted, patience=PATIENCE):
         """What standard error says, when it has this or patience is over."""
-        until = time.monotonic() + PATIENCE
+        until = time.monotonic() + patience
         while True:
             with open(self.errors) as it:
                 text = it.read()
@@ -554,26 +554,53 @@ class Rows:
             run.close()
 
     def row_no_threads(self):
-        """Only some of 20 links get a thread for their writers: the others are closed, and these are served."""
+        """Only some of 20 links get a thread for their writers: the others are closed, and these are served.
+
+        What the threads leave may be too little for the router itself, which then ends by E3. So other limits are tried until one leaves enough.
+        """
+        for limit in range(100 << 20, 104 << 20, 1 << 20):
+            found = self.serve_without_threads(limit)
+            if found:
+                break
+        self.judge("has memory", found)
+        for what, holds, told in found:
+            self.judge(what, holds, told)
+
+    def serve_without_threads(self, limit):
+        """What is to be judged of a router with so many bytes of addresses: nothing where it ended by E3."""
         def prepare():
-            resource.setrlimit(resource.RLIMIT_AS, (100 << 20,) * 2)
-        nodes = range(1, 21)
-        run = Run(self.program, nodes=nodes, size=30, prepare=prepare)
+            resource.setrlimit(resource.RLIMIT_AS, (limit, limit))
+        run, found = Run(self.program, nodes=range(1, 21), size=30, prepare=prepare), []
         try:
-            text = run.said("X2")
-            self.judge("says", "a thread was not started (X2): closed\n" in text, text)
-            closed = {int(node) for node in re.findall(r"link (\d+): ", text)}
-            # More links may be closed while this goes on: then the pipe is broken, and the next one is tried.
-            for node in (node for node in nodes if node not in closed):
-                neighbour = run.neighbours[node]
+            self.find_without_threads(run, found)
+        except BrokenPipeError as why:
+            found.append(("runs", False, str(why)))
+        finally:
+            ended = run.said("", patience=0).endswith("ncroute: E3\n")
+            run.close()
+        return [] if ended else found
+
+    def find_without_threads(self, run, found):
+        text = run.said("X2")
+        found.append(("says", "a thread was not started (X2): closed\n" in text, text))
+        answer = run.ask("routes")
+        found.append(("answers", answer.startswith("routes 0:0 "), answer))
+        if not answer:
+            return
+        closed = {int(node) for node in re.findall(r"link (\d+): ", text)}
+        # More links may be closed while this goes on: then the pipe is broken, and the next one is tried.
+        for node, neighbour in run.neighbours.items():
+            if node not in closed:
                 neighbour.open()
                 with contextlib.suppress(BrokenPipeError):
                     neighbour.greet(size=30)
                     break
-            self.judge("answers", run.ask("routes").startswith("routes 0:0 "))
-            self.end(run)
-        finally:
-            run.close()
+        answer = run.ask("routes")
+        found.append(("still answers", answer.startswith("routes 0:0 "), answer))
+        answer = run.quit()
+        found.append(("quit", answer == ("ok", 0), answer))
+        said = run.replays()
+        found.append(("replay", said.startswith("replay ok "), said))
 
     def run(self, chosen):
         for name in [name for name in dir(self) if name.startswith("row_")]:
