@@ -75,7 +75,7 @@ fn all_commands() -> &'static [(&'static str, &'static str)]
 }
 
 /// The table of options and arguments, likewise.
-fn all_parameters() -> &'static [(&'static str, Parameter)]
+pub fn all_parameters() -> &'static [(&'static str, Parameter)]
     ensures { map spec.taken_by result.now ≡ spec.all_taken }
 {
     &PARAMETERS
@@ -117,7 +117,7 @@ static COMMANDS: [(&str, &str); 15] = [
     ),
     (
         "lint",
-        "Warn of what is plainly wrong in filters, as a command that no route reaches",
+        "Warn of what is plainly wrong in filters, such as a command that no route reaches",
     ),
     (
         "list",
@@ -149,7 +149,7 @@ static COMMANDS: [(&str, &str); 15] = [
     ),
     (
         "router",
-        "Run a router that talks to its neighbours over files, as FIFOs",
+        "Run a router that talks to its neighbours over files such as FIFOs",
     ),
     (
         "run",
@@ -344,7 +344,7 @@ const WHY: Parameter = Parameter {
 const COVERAGE: Parameter = Parameter {
     name: "coverage",
     value: "",
-    help: "Say behind all routes how many of them came to each command",
+    help: "After all routes, say how many of them came to each command",
     kind: Kind::Flag,
     is_required: false,
 };

@@ -77,8 +77,8 @@ Example:
 prints `differ 0.0.0.0/0{0,32}, metrics 8..8: accept 11 | reject`, the same of metric 9 with
 `accept 12`, and `same on all other routes`.
 The exit status is 0 if they are the same on all routes; 1 if they differ; 2 if the command
-line is wrong; 3 if that is undecided, if a filter was refused, or if a fault ended the run, as
-a file that cannot be read.
+line is wrong; 3 if that is undecided, if a filter was refused, if a fault ended the run, or if
+a file could not be read.
 ";
 
 /// Of `filter`.
@@ -98,13 +98,13 @@ and below it, behind two blanks, by what happened on the way:
   5:3 worse = 13          an assignment
   6:12 13 < 6 is false    a comparison
   6:3 if false            a condition
-With --coverage refused lines alone are answered. Behind all routes, a line for each command,
+With --coverage refused lines alone are answered. After all routes, a line for each command,
 `COUNT LINE:COL WORD`, says how many of them came to it; those that none came to are last.
 
 Example:
   echo '8.8.8.0/24 9' | ncroute filter --size 16 examples/backup_link.filter
 prints `accept 12`. The exit status is 0; 1 if something was refused; 2 if the command
-line is wrong; 3 if a fault ended the run, as a file that cannot be read.
+line is wrong; 3 if a fault ended the run or a file could not be read.
 ";
 
 /// Of `import`.
@@ -112,17 +112,18 @@ const IMPORT_HELP: &str = "\
 FILE is a configuration of BIRD 2.0. Its filters are found, with those that a protocol has
 without a name, and each is written in this language: definitions and functions stand where
 they are used. Files that it includes are read. What has no counterpart is left out, and so
-is the whole filter that it stands in: no filter is written that means something else.
+is the whole filter that it stands in. `ncroute lint` says where a filter that is taken would
+lower a metric in BIRD, and does not here.
 
 For each filter a line is printed:
   FILE:LINE:COL filter NAME verified BUDGET DEPTH
-                    it is taken; with --out behind its name ` -> FOLDER/NAME.filter`, a new
+                    it is taken; with --out after its name ` -> FOLDER/NAME.filter`, a new
                     file with its text and the places that it comes from
   FILE:LINE:COL filter NAME: WHY: this filter was left out
                     what stands there is not taken
 
 Example:
-  ncroute import --out filters examples/customers.bird
+  mkdir filters; ncroute import --out filters examples/edge_router.bird
 The exit status is 0; 1 if something was left out or a fault ended the run; 2 if the command
 line is wrong.
 ";
@@ -165,7 +166,7 @@ is refused, with `refused CODE AT`.
 Example:
   echo 'filter up { rip_metric = rip_metric + 2; accept; }' | ncroute list --size 16
 The exit status is 0; 1 if something was refused; 2 if the command line is wrong;
-3 if a fault ended the run, as a file that cannot be read.
+3 if a fault ended the run or a file could not be read.
 ";
 
 /// Of `test`.
@@ -293,7 +294,7 @@ out again, in order, and one line is printed:
 Example:
   ncroute replay examples/one_neighbour.history
 prints `replay ok 8`. The exit status is 0 for `replay ok`; 1 for the other lines; 2 if the
-command line is wrong; 3 if a fault ended the run, as a file that cannot be read.
+command line is wrong; 3 if a fault ended the run or a file could not be read.
 ";
 
 /// Of `router`.

@@ -1,9 +1,8 @@
 //! Negative numbers behind options.
 
+use crate::commands::all_parameters;
+use crate::options::Kind;
 use std::convert::AsStr;
-
-/// The options that take a number.
-static NUMBERED: [&str; 4] = ["--limit", "--node", "--retry", "--size"];
 
 /// The first option with a negative number behind it, and that number.
 pub fn negative_number<S: AsStr>(words: &[S]) -> Option<(&str, &str)> {
@@ -16,9 +15,22 @@ pub fn negative_number<S: AsStr>(words: &[S]) -> Option<(&str, &str)> {
     None
 }
 
-/// Whether an option takes a number.
+/// Whether an option of some command takes a number.
 fn takes_number(option: &str) -> bool {
-    NUMBERED.contains(&option)
+    let Some(name) = option.strip_prefix("--") else {
+        return false;
+    };
+    for (_, parameter) in all_parameters() {
+        if parameter.name == name && is_numbered(parameter.kind) {
+            return true;
+        }
+    }
+    false
+}
+
+/// Whether a parameter of this kind takes a number.
+fn is_numbered(kind: Kind) -> bool {
+    matches!(kind, Kind::Number | Kind::Count)
 }
 
 /// Whether a word is a negative number.

@@ -22,7 +22,7 @@ fault_line fault.Memory = 0
 
 -- what is wrong, in words, behind the name of the file
 unfoldable pub line_words : List ℕ
-line_words = codes ": not as a test file has it, which is `filter FILE`, `size N`, and tests `PREFIX METRIC -> VERDICT` and `every PATTERN -> VERDICT` (O1)"
+line_words = codes ": this line is none of `filter FILE`, `size N`, `PREFIX METRIC -> VERDICT` and `every PATTERN -> VERDICT`, or a number in it is out of range (O1)"
 
 abbrev pub fault_words : FileFault → List ℕ
 fault_words (fault.Line at) = codes ":" ++ decimal at ++ line_words

@@ -31,12 +31,12 @@ impl FileFault {
     }
 }
 
-/// What is said of a line that is not as a test file has it.
+/// What is said of a line that a test file has not there.
 #[tactic(auto, unfolding(crate::specs::Faults::line_words))]
 fn line_words() -> &'static [u8]
     ensures { result.now ≡ spec.line_words }
 {
-    b": not as a test file has it, which is `filter FILE`, `size N`, and tests `PREFIX METRIC -> VERDICT` and `every PATTERN -> VERDICT` (O1)"
+    b": this line is none of `filter FILE`, `size N`, `PREFIX METRIC -> VERDICT` and `every PATTERN -> VERDICT`, or a number in it is out of range (O1)"
 }
 
 /// Puts what is wrong at the end of `out`, in words.

@@ -40,7 +40,7 @@ pub struct TestFile {
 /// Why a text is no test file.
 #[derive(Clone, Copy)]
 pub enum FileFault {
-    /// The line of this number is not as a test file has it there.
+    /// The line of this number is none that may stand there.
     Line(usize),
     /// The text ends before its filter and its size are said.
     Ended,

@@ -26,6 +26,11 @@ pub(crate) fn is_kind(kind: TokenKind) -> bool {
     )
 }
 
+/// Whether a token is a number.
+pub(crate) fn is_number(kind: TokenKind) -> bool {
+    matches!(kind, TokenKind::Number(_))
+}
+
 /// Whether a token is this keyword or punctuator.
 pub(crate) fn is_symbol(token: Option<Token>, symbol: Symbol) -> bool {
     match token {

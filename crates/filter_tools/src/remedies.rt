@@ -119,8 +119,21 @@ fn in_place_of_number(kind: TokenKind) -> Option<&'static str> {
     }
 }
 
+/// Whether a name stands before a `(`, as where a function is called.
+fn is_call(around: Around) -> bool {
+    match around.last {
+        Some(last) => last.kind == TokenKind::Name && is_symbol(around.found, Symbol::LeftParen),
+        None => false,
+    }
+}
+
 /// What to write where this is expected, if that is no plain slip.
 pub(crate) fn in_place_of_found(expected: Expected, around: Around) -> Option<&'static str> {
+    if is_call(around) {
+        return Some(
+            "there are no functions: write the commands in place, as `ncroute import` does",
+        );
+    }
     match expected {
         Expected::Semicolon => in_place_of_semicolon(around),
         Expected::Operand | Expected::OperandOrSet => in_place_of_operand(around),

@@ -44,10 +44,10 @@ fn count_finding(alloc: Global, line: &[u8], size: Option<u32>) -> Result<Findin
     let count = count_words(line, wanted);
     if count > wanted {
         let word = spelled(alloc, word_at(line, wanted))?;
-        let words = format!(in alloc; "a route is `{form}`, and {word} is behind it")?;
+        let words = format!(in alloc; "a route is `{form}`, and {word} follows it")?;
         return Ok(found_at(line, wanted, words));
     }
-    let words = format!(in alloc; "a route is `{form}`, and this line ends before that")?;
+    let words = format!(in alloc; "a route is `{form}`, and this line has too few words")?;
     Ok(found_at(line, count, words))
 }
 

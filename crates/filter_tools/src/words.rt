@@ -1,7 +1,8 @@
 //! What is wrong with a refused source, in words.
 
 use crate::around::{
-    Around, character_at, declared, is_ipv6, is_symbol, name_of, quoted, tokens_around, word_at,
+    Around, character_at, declared, is_ipv6, is_number, is_symbol, name_of, quoted, tokens_around,
+    word_at,
 };
 use crate::nearest::nearest_word;
 use crate::remedies::{
@@ -197,10 +198,14 @@ fn is_foreign_address(text: &[u8], expected: Expected, found: Option<Token>, at:
     }
 }
 
-/// Whether a member of a set is an address of fewer than four numbers and a `/`.
+/// Whether a member of a set is an address of fewer than four numbers and a `/`. The lexer takes the first of them for a number.
 fn is_short_member(text: &[u8], expected: Expected, last: Option<Token>) -> bool {
     match last {
-        Some(token) => expected == Expected::CommaOrBracket && is_short_prefix(text, token.from),
+        Some(token) => {
+            expected == Expected::CommaOrBracket
+                && is_number(token.kind)
+                && is_short_prefix(text, token.from)
+        }
         None => false,
     }
 }
@@ -293,7 +298,8 @@ fn plain_kind_words(fault: TypeFault) -> &'static str {
     match fault {
         TypeFault::NetAssigned(_) => "`net` cannot be assigned",
         TypeFault::TooManyVariables(_) => "a filter has at most 16 variables",
-        TypeFault::SharedLabel(_) => "an earlier label of this `case` has a number of this label",
+        TypeFault::SharedLabel(_) =>
+            "the label shares a number with an earlier label of its `case`",
         _ => "out of memory",
     }
 }
