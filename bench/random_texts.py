@@ -40,15 +40,15 @@ def changed(numbers, tokens):
     """Tokens of which one is left out, put in, replaced, or exchanged with another."""
     at, other = numbers.below(len(tokens)), numbers.below(len(tokens))
     new = list(tokens)
-    match numbers.below(4):
-        case 0:
-            del new[at]
-        case 1:
-            new.insert(at, numbers.one_of(TOKENS))
-        case 2:
-            new[at] = numbers.one_of(TOKENS)
-        case _:
-            new[at], new[other] = new[other], new[at]
+    what = numbers.below(4)
+    if what == 0:
+        del new[at]
+    elif what == 1:
+        new.insert(at, numbers.one_of(TOKENS))
+    elif what == 2:
+        new[at] = numbers.one_of(TOKENS)
+    else:
+        new[at], new[other] = new[other], new[at]
     return new or [" "]
 
 

@@ -24,7 +24,7 @@ class Block:
                 self.routes.append((route[1], int(route[2])))
                 self.said.append(route[3].strip())
             elif line.startswith(("# refused ", f"# {BIRD_REFUSES}")):
-                self.refusals.append(line.removeprefix("# "))
+                self.refusals.append(line[len("# "):])
             else:
                 filter_lines.append(line)
         self.filter = "\n".join(filter_lines) + "\n"

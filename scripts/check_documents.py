@@ -37,6 +37,11 @@ def read(name):
         return it.read()
 
 
+def documents_here():
+    """The documents, by their names from the top of the repository."""
+    return ["README.md", *sorted(os.path.relpath(path, program.TOP) for path in glob.glob(os.path.join(program.TOP, "docs", "*.md")))]
+
+
 def examples(text):
     """The commands of a document, and what they write."""
     found = []
@@ -125,7 +130,7 @@ def played(ncroute, tell):
     """Plays what the documents show of several terminals. One that needs a command that is not there is left out."""
     if not os.environ.get("NCROUTE"):
         return
-    for name in ["README.md", *sorted(glob.glob("docs/*.md", root_dir=program.TOP))]:
+    for name in documents_here():
         blocks = [block for block in terminals.blocks(read(name)) if all(shutil.which(needed) for needed in needs(block))]
         if blocks:
             tell(name, "blocks of terminals", [(" ".join(block[-1]), terminals.play(block, ncroute.environment())) for block in blocks])
@@ -149,7 +154,7 @@ def main():
         for what, why in wrong:
             print(f"  {what}\n    {why}")
 
-    documents = [(name, list(examples(read(name)))) for name in ["README.md", *sorted(glob.glob("docs/*.md", root_dir=program.TOP))]]
+    documents = [(name, list(examples(read(name)))) for name in documents_here()]
     if not os.environ.get("NCROUTE"):
         left_out = sum(needs_program(command) for _, rows in documents for command, _ in rows)
         documents = [(name, [row for row in rows if not needs_program(row[0])]) for name, rows in documents]

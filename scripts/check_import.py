@@ -212,7 +212,7 @@ class Trial:
         written = {}
         for name in os.listdir(out):
             with open(os.path.join(out, name)) as it:
-                written[name.removesuffix(".filter")] = it.read()
+                written[re.sub(r"\.filter$", "", name)] = it.read()
         return ran.stdout, ran.returncode, written
 
     def taken(self, name, config, filters):

@@ -540,7 +540,7 @@ def full_filters(ncroute):
     line, _, verdict = output.partition(b"\n")
     if (verdict, shown, status) != (b"verified 1021 2\n", b"", 0) or not line.startswith(b"code 4e434632"):
         return f"wrote {output[-100:]!r}, and ended with {status}"
-    code = line.removeprefix(b"code ")
+    code = line[len(b"code "):]
     routes = b"10.3.255.0/24 3 250\n10.4.0.0/24 3 250\n10.4.0.0/24 40 250\n1.0.0.0/8 64 250\n"
     rows = [("check --size 250 --code", code, output, 0), ("eval", code + b"\n" + routes, b"reject\naccept 15\naccept 40\naccept 64\n", 0)]
     more = [

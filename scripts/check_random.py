@@ -199,7 +199,7 @@ class Laws:
         words = f"--code --size {size}"
         said = self.check(words, [it.hex().encode() for it in made])
         read = [number for number, lines in enumerate(said) if len(lines) == 2]
-        again = dict(zip(read, self.check(words, [said[number][0].removeprefix("code ").encode() for number in read])))
+        again = dict(zip(read, self.check(words, [hexadecimal(said[number][0]).encode() for number in read])))
         taken = [number for number in read if said[number][1].startswith("verified ")]
         wrongs = dict(zip(taken, self.pool.map(lambda number: self.unsafe(self.numbers("routes", number), said[number], size), taken)))
         for number, (file, lines) in enumerate(zip(made, said)):
@@ -207,7 +207,7 @@ class Laws:
                 refused = re.fullmatch(r"refused C[1-6] (\d+)", " ".join(lines))
                 self.judge("code file", number, None if refused and int(refused[1]) <= len(file) else f"{file.hex()}: {lines}")
                 continue
-            wrong = wrongs.get(number) or self.rewritten(file, lines[0].removeprefix("code "))
+            wrong = wrongs.get(number) or self.rewritten(file, hexadecimal(lines[0]))
             self.judge("code file", number, wrong or (None if again[number] == lines else f"{lines} and then {again[number]}"))
         # Neither all files nor none are code, and neither all code nor none is safe.
         self.judge("code files", len(made), None if len(made) // 14 < len(taken) < len(read) - len(made) // 14 and len(read) < len(made) * 0.9
@@ -222,7 +222,7 @@ class Laws:
 
     def unsafe(self, numbers, lines, size):
         """What is wrong with the answers of verified code to some routes."""
-        code, (_, _, depth) = lines[0].removeprefix("code "), lines[1].split()
+        code, (_, _, depth) = hexadecimal(lines[0]), lines[1].split()
         metrics = [numbers.randint(0, size) for _ in range(ROUTES)]
         routes = "".join(f"{random_prefix(numbers)} {metric} {size}\n" for metric in metrics)
         answers, status = self.run("eval", f"{code}\n{routes}".encode())
@@ -288,7 +288,9 @@ class Laws:
             warnings = self.run(f"lint --size {size} {file.name}", b"")[0]
         heads = [line.rsplit(" ", 1) for line in whys if not line.startswith(" ")]
         steps = [line.split() for line in whys if line.startswith(" ")]
-        for wanted, (head, _) in zip((f"{route} {answer}" for route, answer in zip(routes, answers)), heads, strict=True):
+        if not len(routes) == len(answers) == len(heads):
+            return f"{text!r}: {len(answers)} answers and {len(heads)} heads to {len(routes)} routes"
+        for wanted, (head, _) in zip((f"{route} {answer}" for route, answer in zip(routes, answers)), heads):
             if head != wanted:
                 return f"{text!r}: {wanted}, but why {head}"
         ends, passed = collections.Counter(place for _, place in heads), collections.Counter(place for place, *_ in steps)
@@ -331,7 +333,9 @@ class Laws:
             routes = [route_at(numbers, *near, size) for near in places(numbers, parts, old + new, COMPARED_ROUTES)]
             given = "".join(f"{prefix} {metric}\n" for prefix, metric in routes).encode()
             before, after = (self.run(f"filter --size {size} {path}", given)[0] for path in paths)
-        for (prefix, metric), one, other in zip(routes, before, after, strict=True):
+        if not len(routes) == len(before) == len(after):
+            return f"{old!r} and {new!r}: {len(before)} and {len(after)} answers to {len(routes)} routes"
+        for (prefix, metric), one, other in zip(routes, before, after):
             wrong = differs_otherwise(parts, prefix, metric, one, other)
             if wrong:
                 return f"{old!r} and {new!r}, size {size}: {prefix} {metric}: {one} and {other}, but {wrong}"
@@ -443,6 +447,11 @@ def random_event(numbers):
     if what < 14:
         return f"{('import', 'import', 'export')[what - 11]} {node} {numbers.choice('ABC')}"
     return f"show {node}"
+
+
+def hexadecimal(line):
+    """The hexadecimal of a line `code HEX`, or a line as it is."""
+    return re.sub("^code ", "", line)
 
 
 def bits(address):

@@ -214,7 +214,7 @@ class Place:
 
 def main(names):
     is_built = bool(os.environ.get("NCROUTE"))
-    paths = [os.path.join(FOLDER, name) for name in sorted(os.listdir(FOLDER)) if not names or name.removesuffix(".rows") in names]
+    paths = [os.path.join(FOLDER, name) for name in sorted(os.listdir(FOLDER)) if not names or os.path.splitext(name)[0] in names]
     rows = [row for path in paths for row in rows_of(path)]
     if not is_built:
         print(f"{sum(bool(row.needs_program()) for row in rows)} rows are left out: they need the program, NCROUTE=PATH")

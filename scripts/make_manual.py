@@ -33,7 +33,7 @@ class Command:
         head, *self.body = re.split(r"(?m)^(?=Usage: )", text, maxsplit=1)
         self.about = head.strip()
         sections = "".join(self.body).split("\n\n")
-        self.usage = sections[0].removeprefix("Usage: ").strip()
+        self.usage = re.sub("^Usage: ", "", sections[0]).strip()
         self.commands, self.arguments, self.options, self.rest = [], [], [], []
         for section in sections[1:]:
             title, *lines = section.rstrip("\n").split("\n")
@@ -158,7 +158,7 @@ def fish(program, commands):
         for option in command.options:
             value = f" -x -a '{' '.join(option.values)}'" if option.value else ""
             text = option.text.replace("'", "\\'")
-            lines.append(f"{when} -l {option.long().removeprefix('--')}{value} -d '{text}'")
+            lines.append(f"{when} -l {option.long().lstrip('-')}{value} -d '{text}'")
         if command.takes_files():
             lines.append(f"{when} -F")
     return "\n".join(lines) + "\n"
