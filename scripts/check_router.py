@@ -7,6 +7,7 @@ Most rows start node 0 of a domain of 8 nodes with links to node 1, which does w
 They compare what standard error says, look that node 2 is served all the while, have the router quit, and replay the history that was saved.
 """
 import contextlib
+import fcntl
 import os
 import re
 import resource
@@ -21,10 +22,19 @@ import time
 SIZE = 8
 PATIENCE = 10.0
 
+# Seconds: no row takes so long. A FIFO that nobody opens at the other end, or an answer that does not come, would keep a row for ever.
+LONGEST = 120
+
 GIGABYTE = 1 << 30
 
-# What a line without an end may cost: the bytes that are taken of it, of which a FIFO holds 65,536, and kilobytes of memory.
-MOST_TAKEN, MOST_MEMORY = 1 << 17, 4096
+# What a line without an end may cost: the bytes that are taken of it beyond those that a FIFO holds, and kilobytes of memory.
+MOST_TAKEN, MOST_MEMORY = 1 << 16, 4096
+
+# What Linux calls the question how many bytes a FIFO holds: 65,536 where a page has 4,096 bytes, and more where pages are larger.
+F_GETPIPE_SZ = 1032
+
+# The bytes of a thread's stack where nothing else is said, and what a router has beside its threads, for the row in which these find no room.
+STACK, BESIDE = 8 << 20, 4 << 20
 
 
 class Neighbour:
@@ -62,6 +72,10 @@ class Neighbour:
         except BrokenPipeError:
             pass
         return taken
+
+    def holds(self):
+        """How many bytes the FIFO that the router reads holds."""
+        return fcntl.fcntl(self.writes, F_GETPIPE_SZ)
 
     def hear(self, enough, patience=PATIENCE):
         """Reads until what came contains these bytes: whether it does."""
@@ -124,6 +138,12 @@ class Run:
                 text = it.read()
             if wanted in text or time.monotonic() > until:
                 return text
+            time.sleep(0.01)
+
+    def told_closed(self, node, times):
+        """Waits until standard error has said so many times that the link to a node was closed: then its IN is read no more."""
+        until = time.monotonic() + PATIENCE
+        while self.said("", patience=0).count(f"link {node}: ") < times and time.monotonic() < until:
             time.sleep(0.01)
 
     def rests(self):
@@ -235,9 +255,10 @@ class Rows:
             one.open()
             begin(one)
             before = run.memory()
+            most = one.holds() + MOST_TAKEN
             taken = one.say_without_end(GIGABYTE)
             print(f"a gigabyte without a line feed: {taken} bytes were taken", file=sys.stderr)
-            self.judge("taken", taken <= MOST_TAKEN, taken)
+            self.judge("taken", taken <= most, taken)
             self.judge_too_long(run, line, before, history)
         finally:
             run.close()
@@ -377,13 +398,15 @@ class Rows:
         try:
             self.serve_two(run)
             one = run.neighbours[1]
-            for _ in range(3):
+            for times in range(1, 4):
                 one.open()
                 one.greet()
                 one.say(b"1 0\n")
                 self.judge("1 is up", run.asks_until("show 1", "via 1") == "route 1 via 1")
                 one.close()
                 self.judge("1 is down", run.asks_until("show 1", "none") == "route 8 none")
+                # The session is over before its files are closed. Until then its reader could take the next greeting, or break the pipe.
+                run.told_closed(1, times)
             found = run.ask("history 0")
             self.judge("sessions", len(re.findall(r"up 1 opened", found)) == 3 == len(re.findall(r"down \d+ done", found)), found)
             self.end(run)
@@ -558,17 +581,21 @@ class Rows:
 
         What the threads leave may be too little for the router itself, which then ends by E3. So other limits are tried until one leaves enough.
         """
-        for limit in range(100 << 20, 104 << 20, 1 << 20):
-            found = self.serve_without_threads(limit)
+        # A thread gets as much for its stack as the caller's limit says. Where that is little or unlimited, all threads would find room.
+        most = resource.getrlimit(resource.RLIMIT_STACK)[1]
+        stack = STACK if most == resource.RLIM_INFINITY else min(STACK, most)
+        for eighths in range(8):
+            found = self.serve_without_threads(stack, BESIDE + 12 * stack + eighths * stack // 8)
             if found:
                 break
         self.judge("has memory", found)
         for what, holds, told in found:
             self.judge(what, holds, told)
 
-    def serve_without_threads(self, limit):
-        """What is to be judged of a router with so many bytes of addresses: nothing where it ended by E3."""
+    def serve_without_threads(self, stack, limit):
+        """What is to be judged of a router with so many bytes for each stack and of addresses: nothing where it ended by E3."""
         def prepare():
+            resource.setrlimit(resource.RLIMIT_STACK, (stack, resource.getrlimit(resource.RLIMIT_STACK)[1]))
             resource.setrlimit(resource.RLIMIT_AS, (limit, limit))
         run, found = Run(self.program, nodes=range(1, 21), size=30, prepare=prepare), []
         try:
@@ -608,11 +635,19 @@ class Rows:
                 continue
             self.name = name[4:]
             begun = time.monotonic()
+            signal.alarm(LONGEST)
             try:
                 getattr(self, name)()
             except (OSError, subprocess.TimeoutExpired, ValueError) as why:
                 self.judge("runs", False, str(why))
+            finally:
+                signal.alarm(0)
             print(f"{name[4:]}: {time.monotonic() - begun:.2f} s", file=sys.stderr)
+
+
+def take_too_long(*_):
+    """Ends a row that waits for what does not come."""
+    raise TimeoutError(f"not at its end after {LONGEST} seconds")
 
 
 def main(words):
@@ -623,6 +658,7 @@ def main(words):
         return
     soft, hard = resource.getrlimit(resource.RLIMIT_NOFILE)
     resource.setrlimit(resource.RLIMIT_NOFILE, (max(soft, min(2048, hard)), hard))
+    signal.signal(signal.SIGALRM, take_too_long)
     rows = Rows(os.path.realpath(program))
     rows.run(words)
     print(f"{rows.passed} passed, {rows.failed} failed")
