@@ -19,6 +19,9 @@ import tempfile
 import time
 
 PATIENCE = 10.0
+# Seconds between what is shown and the next line that changes something: nobody types it at once. A router that is told to quit while its neighbour
+# still tells it something ends the link by another fault than one that is told when all is quiet.
+PAUSE = 0.2
 LOOKS = ("routes", "neighbours", "show", "told")
 LINE = re.compile(r"    (\w+)([$>:]) (.*)")
 
@@ -56,6 +59,8 @@ class Terminal:
         self.process, self.shown, self.typed = started, b"", None
 
     def type(self, line):
+        if line.split(" ")[0] not in LOOKS:
+            time.sleep(PAUSE)
         self.typed = line
         self.process.stdin.write(line.encode() + b"\n")
         self.process.stdin.flush()
