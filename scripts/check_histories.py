@@ -22,6 +22,16 @@ REPLIES = (b"opened ", b"done ", b"messages", b"route ", b"refused N")
 LINES = 20_000
 
 
+def seconds_of(program, script, kept):
+    """How long the program takes to its end, and its exit status."""
+    begun = time.monotonic()
+    status = subprocess.run([program, "run", "--save", kept, script], stdout=subprocess.DEVNULL).returncode
+    took = time.monotonic() - begun
+    if os.path.exists(kept):
+        os.remove(kept)
+    return took, status
+
+
 def written_by(program, script, kept, seconds):
     """What the program had answered when it was killed, after so many seconds, and what it had saved."""
     with open(script, "rb") as given, tempfile.TemporaryFile() as answers:
@@ -34,7 +44,9 @@ def written_by(program, script, kept, seconds):
     if not os.path.exists(kept):
         return answered, b""
     with open(kept, "rb") as it:
-        return answered, it.read()
+        saved = it.read()
+    os.remove(kept)
+    return answered, saved
 
 
 def replayed(program, text):
@@ -72,14 +84,15 @@ def main(runs=200, seed=1):
         with open(script, "wb") as it:
             made = [sys.executable, os.path.join(TOP, "bench", "script.py"), "mixed", "16", str(LINES)]
             subprocess.run(made, stdout=it, check=True)
-        begun = time.monotonic()
-        written_by_end = subprocess.run([program, "run", "--save", os.path.join(folder, "all"), script], stdout=subprocess.DEVNULL)
-        longest = time.monotonic() - begun
-        if written_by_end.returncode not in (0, 1):
+        _, status = seconds_of(program, script, os.path.join(folder, "all"))
+        if status not in (0, 1):
             failed += 1
-            print(f"the run to its end has status {written_by_end.returncode}")
+            print(f"the run to its end has status {status}")
         cut = 0
         for run in range(runs):
+            # A machine that has more to do than before takes longer, and would be killed before the first entry each time.
+            if run % 20 == 0:
+                longest, _ = seconds_of(program, script, os.path.join(folder, "all"))
             kept = os.path.join(folder, str(run))
             answered, saved = written_by(program, script, kept, chosen.uniform(0, longest))
             cut += bool(saved)
