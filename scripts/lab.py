@@ -20,6 +20,7 @@ import argparse
 import os
 import re
 import resource
+import select
 import shutil
 import signal
 import subprocess
@@ -91,6 +92,9 @@ class Router:
     def ask(self, line):
         self.process.stdin.write(line.encode() + b"\n")
         self.process.stdin.flush()
+        # Each answer is one line, so that none is left in the buffer. A router that gives none would keep the lab for ever.
+        if not select.select([self.process.stdout], [], [], PATIENCE)[0]:
+            raise TimeoutError(f"node {self.node} does not answer {line!r}")
         return self.process.stdout.readline().decode().rstrip("\n")
 
     def saved(self):
@@ -172,8 +176,8 @@ class Lab:
     def sizes(self):
         return [router.saved() for router in self.routers if router.process]
 
-    def await_quiet(self):
-        """Waits until no history grows: the seconds until then, or None."""
+    def await_quiet(self, quiet=QUIET):
+        """Waits until no history grows for so long: the seconds until then, or None."""
         begun = last = time.monotonic()
         sizes = self.sizes()
         while time.monotonic() - begun < PATIENCE:
@@ -181,7 +185,7 @@ class Lab:
             now = self.sizes()
             if now != sizes:
                 sizes, last = now, time.monotonic()
-            elif time.monotonic() - last > QUIET:
+            elif time.monotonic() - last > quiet:
                 return last - begun
         return None
 
@@ -205,6 +209,8 @@ class Lab:
         print(f"{self.name}: {what}: " + ("not at rest" if rest is None else f"at rest after {rest:.2f} s"), file=sys.stderr)
 
     def look_at_idle(self):
+        # The tables may be right before the last message is entered, which on a loaded machine comes late.
+        self.await_quiet(IDLE)
         before = [(router.saved(), router.processor_time()) for router in self.routers]
         time.sleep(self.idle)
         after = [(router.saved(), router.processor_time()) for router in self.routers]
@@ -287,6 +293,8 @@ def main(words):
         begun = time.monotonic()
         try:
             lab.run()
+        except (OSError, subprocess.TimeoutExpired, ValueError) as why:
+            lab.judge("runs", False, str(why))
         finally:
             lab.close(asked.keep)
         print(f"{lab.name}: {lab.passed} passed, {lab.failed} failed, {time.monotonic() - begun:.1f} s", file=sys.stderr)
