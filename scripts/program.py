@@ -65,8 +65,8 @@ class Program:
         return ran.stdout, ran.returncode
 
     def environment(self):
-        """The environment in which a shell finds the program."""
-        return {**os.environ, "PATH": self.bin + os.pathsep + os.environ["PATH"]}
+        """The environment in which a shell finds the program. Of a locale that is not there bash would warn on standard error."""
+        return {**os.environ, "LC_ALL": "C", "PATH": self.bin + os.pathsep + os.environ["PATH"]}
 
     def on_terminal(self, line, typed):
         """What a line writes on standard output, and on standard error, which is a terminal, as standard input is where something is typed."""
