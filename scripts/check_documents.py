@@ -3,7 +3,7 @@
 
 usage: scripts/check_documents.py        (NCROUTE=PATH: the program; without it, the sources as they are, by `rt try`)
 
-- Each example: a line `    $ COMMAND` of README.md or docs/*.md, run at the top of the repository, writes the indented lines below it. One that
+- Each example: a line `    $ COMMAND` of README.md or docs/*.md, run where the examples of the repository are, writes the indented lines below it. One that
   looks at standard error (`2>&1`), names a file of a filter (`ncroute filter`) or runs a router (`ncroute router`) needs the program, and is left out without NCROUTE=PATH.
 - Each block of several terminals (`    one$ COMMAND`, `    one> LINE`, `    one: LINE`), played as scripts/terminals.py says, needs the program too.
 - Each example that hands a filter from `ncroute check` on to another `ncroute` does nothing, and fails, with a filter that is refused.

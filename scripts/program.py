@@ -17,6 +17,9 @@ import termios
 TOP = os.path.realpath(os.path.join(os.path.dirname(os.path.abspath(__file__)), ".."))
 NOT_RUN = 125
 
+# What of the repository the commands read.
+READ = ("README.md", "docs", "examples", "tests")
+
 # Where the settings of a terminal have the flags of its output and of its lines.
 OUTPUT_MODES, LOCAL_MODES = 1, 3
 
@@ -44,9 +47,12 @@ class Program:
 
     def __init__(self):
         self.folder = tempfile.mkdtemp()
-        self.bin, self.asked, self.answers = (os.path.join(self.folder, name) for name in ("bin", "asked", "answers"))
-        for folder in (self.bin, self.asked, self.answers):
+        self.bin, self.asked, self.answers, self.here = (os.path.join(self.folder, name) for name in ("bin", "asked", "answers", "here"))
+        for folder in (self.bin, self.asked, self.answers, self.here):
             os.mkdir(folder)
+        # Some examples make files where they run. In the repository those of a run that was ended would be in the way of the next one.
+        for name in READ:
+            os.symlink(os.path.join(TOP, name), os.path.join(self.here, name))
         built = os.environ.get("NCROUTE")
         command = os.path.join(self.bin, "ncroute")
         if built:
@@ -60,8 +66,8 @@ class Program:
         shutil.rmtree(self.folder)
 
     def shell(self, line, given=b""):
-        """What a line writes and its status, at the top of the repository."""
-        ran = subprocess.run(["bash", "-o", "pipefail", "-c", line], cwd=TOP, env=self.environment(), input=given, capture_output=True)
+        """What a line writes and its status, in a folder that has what is read of the repository."""
+        ran = subprocess.run(["bash", "-o", "pipefail", "-c", line], cwd=self.here, env=self.environment(), input=given, capture_output=True)
         return ran.stdout, ran.returncode
 
     def environment(self):
@@ -76,7 +82,7 @@ class Program:
         settings[OUTPUT_MODES] &= ~termios.OPOST
         termios.tcsetattr(side, termios.TCSANOW, settings)
         os.write(terminal, typed)
-        ran = subprocess.Popen(["bash", "-c", line], cwd=TOP, env=self.environment(), stdin=side if typed else subprocess.DEVNULL,
+        ran = subprocess.Popen(["bash", "-c", line], cwd=self.here, env=self.environment(), stdin=side if typed else subprocess.DEVNULL,
                                stdout=subprocess.PIPE, stderr=side)
         os.close(side)
         output, shown = ran.stdout.read(), b""
