@@ -22,6 +22,7 @@ import glob
 import itertools
 import os
 import re
+import resource
 import signal
 import subprocess
 import sys
@@ -177,6 +178,8 @@ def sweep_runs(sweep, pool):
 def main():
     names = sys.argv[1:] or ["calls", "runs"]
     passed = failed = 0
+    # Thousands of tests end by an abort, and are not to leave a core each.
+    resource.setrlimit(resource.RLIMIT_CORE, (0, resource.getrlimit(resource.RLIMIT_CORE)[1]))
     with tempfile.TemporaryDirectory() as folder, concurrent.futures.ThreadPoolExecutor(AT_ONCE) as pool:
         sweep = Sweep(folder)
         for name in names:
