@@ -26,6 +26,14 @@ pub(crate) fn is_kind(kind: TokenKind) -> bool {
     )
 }
 
+/// Whether a token is a name.
+pub(crate) fn is_name(token: Option<Token>) -> bool {
+    match token {
+        Some(token) => token.kind == TokenKind::Name,
+        None => false,
+    }
+}
+
 /// Whether a token is a number.
 pub(crate) fn is_number(kind: TokenKind) -> bool {
     matches!(kind, TokenKind::Number(_))

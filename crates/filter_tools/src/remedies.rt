@@ -1,6 +1,6 @@
 //! What to write in place of what this language has not.
 
-use crate::around::{Around, is_kind, is_symbol};
+use crate::around::{Around, is_kind, is_name, is_symbol};
 use filter_parser::Expected;
 use filter_tokens::{Symbol, Token, TokenKind};
 
@@ -121,10 +121,7 @@ fn in_place_of_number(kind: TokenKind) -> Option<&'static str> {
 
 /// Whether a name stands before a `(`, as where a function is called.
 fn is_call(around: Around) -> bool {
-    match around.last {
-        Some(last) => last.kind == TokenKind::Name && is_symbol(around.found, Symbol::LeftParen),
-        None => false,
-    }
+    is_name(around.last) && is_symbol(around.found, Symbol::LeftParen)
 }
 
 /// What to write where this is expected, if that is no plain slip.
