@@ -1,21 +1,20 @@
 -- How a run of `filter` ends, by its text.
-use Rattle.std.proofs.Common.{◌≡◌, ℕ, false, List, Option, Some, None, IfSome, IfErr, IfOk, Result, Ok, Err, inl, inr, refl, sym, subst, ◌∙◌, ap}
+use Rattle.std.proofs.Common.{◌≡◌, ℕ, false, List, Option, Some, None, IfSome, inl, inr, refl, sym, subst, ◌∙◌, ap}
 use Rattle.std.specs.Io.KnownBytes.{Appends, Keeps}
 use Rattle.filter_code.specs.CodeView.{CodeView}
 use Rattle.filter_parser.specs.SyntaxText.{FilterView}
 use Rattle.filter_source.specs.Diagnoses.{TellsOfCode}
-use Rattle.filter_source.specs.Failures.{IsOfSource, OnDiagnosis, OnRefusal}
+use Rattle.filter_source.specs.Failures.{OnDiagnosis, OnRefusal}
 use Rattle.filter_source.specs.Sources.{IsUnsafe, Translates}
 use Rattle.filter_source.specs.declared.failure.Failure.{Failure}
 use Rattle.filter_source.specs.declared.failure.Failure.TheVariants.{Refused, Memory}
 use Rattle.filter_source.specs.declared.diagnosis.Diagnosis.{Diagnosis}
-use Rattle.filter_verifier.specs.FirstFault.{the_fault}
 use Rattle.filter_verifier.specs.Safe.{IsSafe}
 use Rattle.filter_verifier.specs.VerifiedView.{VerifiedView}
 use Rattle.line_protocol.specs.declared.faults.StreamFault.{StreamFault}
 use Rattle.line_protocol.specs.declared.faults.StreamFault.TheVariants as stream
 use Rattle.filter_commands.proofs.Endings.{if_known}
-use Rattle.filter_commands.specs.Check.{GivesCode, IsRefused}
+use Rattle.filter_commands.specs.Check.{GivesCode}
 use Rattle.filter_commands.specs.Checking.{ArePlaces, IsDiagnosis}
 use Rattle.filter_commands.specs.Eval.{Line}
 use Rattle.filter_commands.specs.Evaluation.{IsCut}

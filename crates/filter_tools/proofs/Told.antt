@@ -1,5 +1,5 @@
 -- How a run of `filter` ends that people are told of.
-use Rattle.std.proofs.Common.{◌≡◌, ℕ, false, Bool, List, Option, IfSome, inl, inr}
+use Rattle.std.proofs.Common.{ℕ, false, Bool, List, Option, IfSome, inl, inr}
 use Rattle.filter_source.specs.declared.diagnosis.Diagnosis.{Diagnosis}
 use Rattle.filter_verifier.specs.VerifiedView.{VerifiedView}
 use Rattle.line_protocol.specs.declared.faults.StreamFault.{StreamFault}
