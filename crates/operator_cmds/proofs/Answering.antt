@@ -4,10 +4,13 @@ use Rattle.line_protocol.specs.Answers.{Answer}
 use Rattle.line_protocol.specs.declared.answers.Reply.{Reply}
 use Rattle.operator_cmds.specs.Replies.{Adds, Answers}
 
+pub given : (reply : Reply) (a : Answer) (P : Answer → Type 0) (old new : List ℕ) → ((answer : Answer) → answer ≡ a → P answer)
+    → Adds a old new reply → Answers P old new reply
+given reply a P old new f h = (a.text, h.0, f (record { text = a.text; reply = reply }) (ap (λ (x : Reply). record { text = a.text; reply = x }) h.1))
+
 pub added : {E : Type 0} (r : Result Reply E) (a : Answer) (P : Answer → Type 0) (old new : List ℕ)
     → ((answer : Answer) → answer ≡ a → P answer) → IfOk r (Adds a old new) → IfOk r (Answers P old new)
-added (Ok reply) a P old new f h =
-    (a.text, h.0, f (record { text = a.text; reply = reply }) (ap (λ (x : Reply). record { text = a.text; reply = x }) h.1))
+added (Ok reply) a P old new f h = given reply a P old new f h
 added (Err e) a P old new f h = tt
 
 -- of an answer more follows

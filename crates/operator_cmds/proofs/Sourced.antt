@@ -1,11 +1,14 @@
 -- What became of a source, and the answer to it.
-use Rattle.std.proofs.Common.{◌≡◌, ℕ, List, ◌++◌, Some, None, Result, Ok, Err, IfOk, IfErr, inl, inr, refl, sym, subst, ap, ◌∙◌}
+use Rattle.std.proofs.Common.{◌≡◌, ℕ, List, [], ◌++◌, Option, Some, None, Result, Ok, Err, IfOk, IfErr, inl, inr, refl, sym, subst, ap, ◌∙◌}
 use Rattle.std.specs.Prelude.{OnOk}
 use Rattle.filter_code.specs.CodeView.{CodeView}
-use Rattle.filter_source.specs.Failures.{OnRefusal}
+use Rattle.filter_source.specs.Diagnoses.{TellsOfCode}
+use Rattle.filter_source.specs.Failures.{OnDiagnosis, OnRefusal}
 use Rattle.filter_source.specs.Refusals.{place_in_line, refusal_code}
-use Rattle.filter_source.specs.Sources.{IsUnsafe}
+use Rattle.filter_source.specs.Sources.{IsRefusedText, IsUnsafe}
+use Rattle.filter_source.specs.TextPlaces.{ArePlacesOf}
 use Rattle.filter_source.specs.VerifiedLine.{verified_line}
+use Rattle.filter_source.specs.declared.diagnosis.Diagnosis.{Diagnosis}
 use Rattle.filter_source.specs.declared.failure.Failure.{Failure}
 use Rattle.filter_source.specs.declared.failure.Failure.TheVariants as failure
 use Rattle.filter_source.specs.declared.refusal.Refusal.{Refusal}
@@ -16,9 +19,11 @@ use Rattle.line_protocol.specs.Answers.{Answer}
 use Rattle.line_protocol.specs.declared.answers.Reply.{Reply}
 use Rattle.line_protocol.specs.declared.answers.Reply.TheVariants.{Answered}
 use Rattle.operator_cmds.specs.Replies.{Adds, Answers, refused}
-use Rattle.operator_cmds.specs.Script.{AnswersFilter, AnswersSource, Filters, GetsName, IsRefusedBy, IsVerified, NamesSource, ScriptView}
+use Rattle.operator_cmds.specs.Script.{AnswersFilter, AnswersSource, Filters, GetsName, GivesFile, GivesText, IsDiagnosedBy, IsRefusedBy, IsRefusedFile, IsVerified, NamesSource, ScriptView, TellsSource, diagnoses, gives, lacks}
 use Rattle.operator_cmds.specs.Stages.{StageView, Empty, Setting, Open, size_in}
-use Rattle.operator_cmds.proofs.Answering.{added, answers}
+use Rattle.operator_cmds.specs.declared.filter.Source.{Source}
+use Rattle.operator_cmds.specs.declared.filter.Source.TheVariants as source
+use Rattle.operator_cmds.proofs.Answering.{answers, given}
 
 same : (size other : ℕ) → Some other ≡ Some size → size ≡ other
 same size other e = cc
@@ -34,11 +39,31 @@ verified Gives code size (Ok v) gives h safe = record {
 }
 verified Gives code size (Err e) gives h safe = tt
 
-pub refused_by : (Gives : CodeView → Type 0) (Lacks : Refusal → Type 0) (code : CodeView) (size : ℕ) (r : Result VerifiedView Failure)
-    → Gives code → IfErr r (OnRefusal (IsUnsafe code size)) → IfErr r (OnRefusal (IsRefusedBy Gives Lacks size))
-refused_by Gives Lacks code size (Ok v) gives h = tt
-refused_by Gives Lacks code size (Err (failure.Refused told)) gives h = inr (code, gives, h)
-refused_by Gives Lacks code size (Err failure.Memory) gives h = tt
+-- what is told of code that is refused is told of its source
+pub diagnosed_by : (Gives : CodeView → Type 0) (Lacks : Refusal → Type 0) (ArePlaces : List ℕ → Type 0) (code : CodeView) (places : List ℕ)
+    (size : ℕ) (r : Result VerifiedView Failure) → Gives code → ArePlaces places → IfErr r (OnRefusal (IsUnsafe code size))
+    → IfErr r (OnDiagnosis (TellsOfCode code places size)) → IfErr r (OnDiagnosis (IsDiagnosedBy Gives Lacks ArePlaces size))
+diagnosed_by Gives Lacks ArePlaces code places size (Ok v) gives are h tells = tt
+diagnosed_by Gives Lacks ArePlaces code places size (Err (failure.Refused told)) gives are h tells = inr (code, gives, h, (places, are, tells))
+diagnosed_by Gives Lacks ArePlaces code places size (Err failure.Memory) gives are h tells = tt
+
+-- of what something is told, that is refused
+is_refused : (Gives : CodeView → Type 0) (Lacks : Refusal → Type 0) (ArePlaces : List ℕ → Type 0) (size : ℕ) (told : Diagnosis)
+    → IsDiagnosedBy Gives Lacks ArePlaces size told → IsRefusedBy Gives Lacks size told.refusal
+is_refused Gives Lacks ArePlaces size told (inl h) = inl h.0
+is_refused Gives Lacks ArePlaces size told (inr h) = inr (h.0, h.1, h.2)
+
+pub refused_source : (given : Source) (size : ℕ) (told : Diagnosis) → diagnoses given size told
+    → IsRefusedBy (gives given) (lacks given) size told.refusal
+refused_source (source.Text text) size told h =
+    is_refused (GivesText text.now) (IsRefusedText text.now) (ArePlacesOf text.now) size told h
+refused_source (source.File bytes) size told h =
+    is_refused (GivesFile bytes.now) (IsRefusedFile bytes.now) (λ places. places ≡ []) size told h
+
+-- the line of a refusal, by its code and its place
+refused_as : (why : Refusal) (number : ℕ) (code : List ℕ) (at : ℕ) → code ≡ refusal_code why → at ≡ place_in_line why number
+    → refused code at ≡ refused (refusal_code why) (place_in_line why number)
+refused_as why number code at e f = ap (λ (c : List ℕ). refused c at) e ∙ ap (λ (n : ℕ). refused (refusal_code why) n) f
 
 module _ (Gives : CodeView → Type 0) (Lacks : Refusal → Type 0) (number : ℕ) (name : List ℕ) where
   -- verified code is answered by its cost and its peak
@@ -48,20 +73,12 @@ module _ (Gives : CodeView → Type 0) (Lacks : Refusal → Type 0) (number : �
   taken size before after filter old new is added gets = (verified_line filter.program, added, inl (filter, is, (refl, gets)))
 
   -- a refusal is answered by its code and its place, and changes no name
-  pub turned_away : {E : Type 0} (size : ℕ) (names : Filters) (why : Refusal) (code : List ℕ) (at : ℕ) (done : Result Reply E)
-      (old new : List ℕ) → IsRefusedBy Gives Lacks size why → code ≡ refusal_code why → at ≡ place_in_line why number
-      → IfOk done (Adds (refused code at) old new)
-      → IfOk done (Answers (λ answer. AnswersSource Gives Lacks size number name names answer names) old new)
-  turned_away size names why code at done old new is e f h =
-      added done (refused code at) (λ answer. AnswersSource Gives Lacks size number name names answer names) old new
-      (λ answer told. inr (
-        why,
-        is,
-        (
-          told ∙ ap (λ (c : List ℕ). refused c at) e ∙ ap (λ (n : ℕ). refused (refusal_code why) n) f,
-          λ other. refl,
-        ),
-      )) h
+  pub turned_away : (size : ℕ) (names : Filters) (why : Refusal) (code : List ℕ) (at : ℕ) (reply : Reply) (old new : List ℕ)
+      → IsRefusedBy Gives Lacks size why → code ≡ refusal_code why → at ≡ place_in_line why number → Adds (refused code at) old new reply
+      → Answers (λ answer. AnswersSource Gives Lacks size number name names answer names) old new reply
+  turned_away size names why code at reply old new is e f h =
+      given reply (refused code at) (λ answer. AnswersSource Gives Lacks size number name names answer names) old new
+      (λ answer told. inr (why, is, (told ∙ refused_as why number code at e f, λ other. refl))) h
 
   by_stage : (stage : StageView) (size : ℕ) (before : ScriptView) (answer : Answer) (after : ScriptView) → size_in stage ≡ Some size
       → NamesSource Gives Lacks size number name before answer after → AnswersFilter stage Gives Lacks number name before answer after
@@ -80,3 +97,11 @@ module _ (Gives : CodeView → Type 0) (Lacks : Refusal → Type 0) (number : �
       answers done (λ answer. AnswersSource Gives Lacks size number name before.filters answer after.filters)
       (λ answer. AnswersFilter stage Gives Lacks number name before answer after) old new
       (λ answer a. by_stage stage size before answer after e (record { stage = stays; filters = a })) h
+
+-- a refusal is told of the source that is refused
+pub told_of : (IsTold : Diagnosis → Type 0) (number : ℕ) (before after : Option Diagnosis) (told : Diagnosis) (code : List ℕ) (at : ℕ)
+    (reply : Reply) (old new : List ℕ) → IsTold told → code ≡ refusal_code told.refusal → at ≡ place_in_line told.refusal number
+    → after ≡ Some told → Adds (refused code at) old new reply → Answers (λ answer. TellsSource IsTold number before answer after) old new reply
+told_of IsTold number before after told code at reply old new is e f kept h =
+    given reply (refused code at) (λ answer. TellsSource IsTold number before answer after) old new
+    (λ answer same. inr (told, is, same ∙ refused_as told.refusal number code at e f, kept)) h

@@ -5,9 +5,12 @@ use Rattle.std.specs.declared.sync.Arc.{Arc}
 use Rattle.std.proofs.Common.{Global}
 use Rattle.filter_code.specs.CodeView.{CodeView}
 use Rattle.filter_parser.specs.SyntaxText.{FilterView}
+use Rattle.filter_source.specs.Diagnoses.{TellsOfCode, of_source}
 use Rattle.filter_source.specs.Refusals.{place_in_line, refusal_code}
 use Rattle.filter_source.specs.Sources.{IsRefusedText, IsUnsafe, Translates, code_in_file}
+use Rattle.filter_source.specs.TextPlaces.{ArePlacesOf}
 use Rattle.filter_source.specs.VerifiedLine.{verified_line}
+use Rattle.filter_source.specs.declared.diagnosis.Diagnosis.{Diagnosis}
 use Rattle.filter_source.specs.declared.refusal.Refusal.{Refusal}
 use Rattle.filter_verifier.specs.FirstFault.{the_fault}
 use Rattle.filter_verifier.specs.Safe.{IsSafe}
@@ -110,6 +113,14 @@ pub record IsVerified (Gives : CodeView → Type 0) (size : ℕ) (filter : Verif
 abbrev pub IsRefusedBy : (CodeView → Type 0) → (Refusal → Type 0) → ℕ → Refusal → Type 0
 IsRefusedBy Gives Lacks size why = Lacks why ⊎ ((program : CodeView) × Gives program × IsUnsafe program size why)
 
+-- This is told of a source that is refused: what follows from the refusal where it gives no code; and otherwise the part of the source that
+-- gave the instruction which is refused, and the range that the verifier knows there. The last function says which places the
+-- instructions come from.
+abbrev pub IsDiagnosedBy : (CodeView → Type 0) → (Refusal → Type 0) → (List ℕ → Type 0) → ℕ → Diagnosis → Type 0
+IsDiagnosedBy Gives Lacks ArePlaces size told = (Lacks told.refusal × (told ≡ of_source told.refusal))
+    ⊎ ((program : CodeView) × Gives program × IsUnsafe program size told.refusal
+    × ((places : List ℕ) × ArePlaces places × TellsOfCode program places size told))
+
 -- a filter gets a name, and is answered with its cost and its peak
 abbrev pub Takes : List ℕ → VerifiedView → Filters → Answer → Filters → Type 0
 Takes name filter before answer after =
@@ -125,6 +136,13 @@ abbrev pub AnswersSource : (CodeView → Type 0) → (Refusal → Type 0) → �
 AnswersSource Gives Lacks size number name before answer after =
     ((filter : VerifiedView) × IsVerified Gives size filter × Takes name filter before answer after)
     ⊎ ((why : Refusal) × IsRefusedBy Gives Lacks size why × TurnsAway why number before answer after)
+
+-- What is told of the last filter that was refused, before a source is answered and after: of another one where this source is verified; and
+-- of this source where it is refused, as the answer says.
+abbrev pub TellsSource : (Diagnosis → Type 0) → ℕ → Option Diagnosis → Answer → Option Diagnosis → Type 0
+TellsSource IsTold number before answer after = ((answer.reply ≡ Answered) × (after ≡ before))
+    ⊎ ((told : Diagnosis) × IsTold told × (answer ≡ refused (refusal_code told.refusal) (place_in_line told.refusal number))
+    × (after ≡ Some told))
 
 -- so a script answers it, and changes nothing else
 pub record NamesSource (Gives : CodeView → Type 0) (Lacks : Refusal → Type 0) (size number : ℕ) (name : List ℕ) (before : ScriptView)
@@ -149,7 +167,15 @@ GivesFile bytes program = code_in_file bytes ≡ Ok program
 abbrev pub IsRefusedFile : List ℕ → Refusal → Type 0
 IsRefusedFile bytes why = code_in_file bytes ≡ Err why
 
--- what a source gives, and why it gives nothing
+-- this is told of a text that is refused
+abbrev pub IsTextDiagnosis : List ℕ → ℕ → Diagnosis → Type 0
+IsTextDiagnosis text size = IsDiagnosedBy (GivesText text) (IsRefusedText text) (ArePlacesOf text) size
+
+-- the instructions of a file come from no places of a text
+abbrev pub IsFileDiagnosis : List ℕ → ℕ → Diagnosis → Type 0
+IsFileDiagnosis bytes size = IsDiagnosedBy (GivesFile bytes) (IsRefusedFile bytes) (λ places. places ≡ []) size
+
+-- what a source gives, why it gives nothing, and what is told of it where it is refused
 abbrev pub gives : Source → CodeView → Type 0
 gives (source.Text text) = GivesText text.now
 gives (source.File bytes) = GivesFile bytes.now
@@ -157,6 +183,10 @@ gives (source.File bytes) = GivesFile bytes.now
 abbrev pub lacks : Source → Refusal → Type 0
 lacks (source.Text text) = IsRefusedText text.now
 lacks (source.File bytes) = IsRefusedFile bytes.now
+
+abbrev pub diagnoses : Source → ℕ → Diagnosis → Type 0
+diagnoses (source.Text text) = IsTextDiagnosis text.now
+diagnoses (source.File bytes) = IsFileDiagnosis bytes.now
 
 -- ---- events
 

@@ -1,8 +1,7 @@
 //! The filters of a script: sources that are verified, and get names.
 ghost use Rattle.std.specs.Prelude.{◌≡◌, IfErr, IfOk, OnErr, OnOk};
 ghost use Rattle.std.specs.Io.{StartsWith};
-ghost use Rattle.filter_source.specs.Failures.{OnRefusal};
-ghost use Rattle.filter_source.specs.Sources.{IsRefusedText};
+ghost use Rattle.filter_source.specs.Failures.{OnDiagnosis};
 ghost use Rattle.operator_cmds.specs.Replies.{Answers};
 ghost use Rattle.operator_cmds.specs.Script as spec;
 ghost use Rattle.operator_cmds.specs.State.{filter_at};
@@ -33,7 +32,7 @@ pub enum Source<'a> {
 /// The verified code of a filter's text, for domains of a size.
 pub fn verify_text(alloc: Global, text: &[u8], size: u16) -> Result<Verified, Failure>
     ensures verified { IfOk result (λ v. spec.IsVerified (spec.GivesText text.now) size v) }
-    ensures refused { IfErr result (OnRefusal (spec.IsRefusedBy (spec.GivesText text.now) (IsRefusedText text.now) size)) }
+    ensures refused { IfErr result (OnDiagnosis (spec.IsTextDiagnosis text.now size)) }
 {
     let MappedCode { code, places } = compile_text_mapped(alloc, text)?;
     verify_mapped(alloc, code, places.as_slice(), u32::from(size))
@@ -42,7 +41,7 @@ pub fn verify_text(alloc: Global, text: &[u8], size: u16) -> Result<Verified, Fa
 /// The verified code of a code file, for domains of a size.
 fn verify_file(alloc: Global, bytes: &[u8], size: u16) -> Result<Verified, Failure>
     ensures verified { IfOk result (λ v. spec.IsVerified (spec.GivesFile bytes.now) size v) }
-    ensures refused { IfErr result (OnRefusal (spec.IsRefusedBy (spec.GivesFile bytes.now) (spec.IsRefusedFile bytes.now) size)) }
+    ensures refused { IfErr result (OnDiagnosis (spec.IsFileDiagnosis bytes.now size)) }
 {
     verify_code(alloc, read_file(alloc, bytes)?, u32::from(size))
 }
@@ -50,7 +49,7 @@ fn verify_file(alloc: Global, bytes: &[u8], size: u16) -> Result<Verified, Failu
 /// The verified code of a source, for domains of a size.
 fn verify_source(alloc: Global, source: Source<'_>, size: u16) -> Result<Verified, Failure>
     ensures verified { IfOk result (λ v. spec.IsVerified (spec.gives source.entry) size v) }
-    ensures refused { IfErr result (OnRefusal (spec.IsRefusedBy (spec.gives source.entry) (spec.lacks source.entry) size)) }
+    ensures refused { IfErr result (OnDiagnosis (spec.diagnoses source.entry size)) }
 {
     match source {
         Source::Text(text) => verify_text(alloc, text, size),
@@ -73,7 +72,7 @@ pub fn give_name(
 }
 
 /// Answers `load` and `code`: a source is verified for domains of a size, and gets a name. A refused one leaves the filter that the name
-/// has, and what is told of it is kept in `told`.
+/// has, and what is told of it is kept in `told`, which a verified one leaves.
 pub fn name_source(
     alloc: Global,
     filters: &mut NamedFilters,
@@ -86,8 +85,11 @@ pub fn name_source(
 ) -> Result<Reply, AllocError>
     ensures ok { IfOk result (Answers (λ answer. spec.AnswersSource (spec.gives source.entry) (spec.lacks source.entry) size number name.now
         (filter_at filters.old) answer (filter_at filters.new)) out.old.items out.new.items) }
+    ensures told { IfOk result (Answers (λ answer. spec.TellsSource (spec.diagnoses source.entry size) number told.old answer told.new)
+        out.old.items out.new.items) }
     ensures err { OnErr result (StartsWith out.new.items out.old.items) }
     ensures left { OnErr result (filters.new.entries ≡ filters.old.entries) }
+    ensures untold { OnErr result (told.new ≡ told.old) }
 {
     match verify_source(alloc, source, size) {
         Ok(filter) => {
@@ -96,9 +98,10 @@ pub fn name_source(
             Ok(Reply::Answered)
         }
         Err(Failure::Refused(refused)) => {
-            *told = Some(refused);
             let why = refused.refusal;
-            refuse(out, why.code(), why.place_in_line(number))
+            let reply = refuse(out, why.code(), why.place_in_line(number))?;
+            *told = Some(refused);
+            Ok(reply)
         }
         Err(Failure::Memory) => Err(AllocError),
     }

@@ -1,9 +1,10 @@
 -- The verifier's answer is that to the text's code.
-use Rattle.std.proofs.Common.{IfErr, IfOk, ℕ, subst}
-use Rattle.filter_source.specs.Failures.{OnRefusal}
+use Rattle.std.proofs.Common.{IfErr, IfOk, ℕ, subst, sym}
+use Rattle.filter_source.specs.Failures.{OnDiagnosis}
 use Rattle.filter_source.specs.Sources.{IsRefusedText}
-use Rattle.operator_cmds.specs.Script.{GivesText, IsRefusedBy, IsVerified}
-use Rattle.operator_cmds.proofs.Sourced.{refused_by, verified}
+use Rattle.filter_source.specs.TextPlaces.{ArePlacesOf}
+use Rattle.operator_cmds.specs.Script.{GivesText, IsTextDiagnosis, IsVerified}
+use Rattle.operator_cmds.proofs.Sourced.{diagnosed_by, verified}
 use Rattle.operator_cmds.proofs.filter.verify_text.Goals as goal
 
 pub returns-clause-verified : goal.returns-clause-verified
@@ -15,8 +16,9 @@ returns-clause-verified c =
 
 pub returns-clause-refused : goal.returns-clause-refused
 returns-clause-refused c =
-    let gives = GivesText c.args.text.now in
-    let lacks = IsRefusedText c.args.text.now in
-    subst (λ (n : ℕ). IfErr c.verify_mapped.result (OnRefusal (IsRefusedBy gives lacks n))) c.from.ensures
-    (refused_by gives lacks c.in_ok-code.field-0.code c.from.result c.verify_mapped.result c.in_ok-code.ensures.code
-    c.verify_mapped.ensures.refused)
+    let text = c.args.text.now in
+    let mapped = c.in_ok-code.field-0 in
+    subst (λ (n : ℕ). IfErr c.verify_mapped.result (OnDiagnosis (IsTextDiagnosis text n))) c.from.ensures
+    (diagnosed_by (GivesText text) (IsRefusedText text) (ArePlacesOf text) mapped.code c.as_slice.result.now c.from.result c.verify_mapped.result
+    c.in_ok-code.ensures.code (subst (ArePlacesOf text) (sym c.as_slice.ensures.value) c.in_ok-code.ensures.places)
+    c.verify_mapped.ensures.refused c.verify_mapped.ensures.told)
