@@ -59,7 +59,7 @@ impl Service for Script {
 
 impl Script {
     ghost use Rattle.std.specs.Option.{option_map};
-    ghost use Rattle.std.specs.Prelude.{OnErr, OnOk};
+    ghost use Rattle.std.specs.Prelude.{OnErr, OnOk, Some};
     ghost use Rattle.std.specs.Io.{StartsWith};
     ghost use Rattle.operator_cmds.specs.CommandView.{view_of};
     ghost use Rattle.operator_cmds.specs.Entries.{open_journal};
@@ -110,7 +110,7 @@ impl Script {
         ensures answer { result.answer.now ≡ answer.now }
         ensures number { result.number ≡ number }
         ensures size { result.size ≡ size_in (script_of self.now).stage }
-        ensures filters { IfSome result.filters (λ filters. filter_at filters.now ≡ (script_of self.now).filters) }
+        ensures filters { option_map (λ filters. filter_at filters.now) result.filters ≡ Some (script_of self.now).filters }
     {
         RefusedLine {
             number,
