@@ -4,8 +4,7 @@ use Rattle.std.specs.Prelude.{OnOk}
 use Rattle.std.proofs.Math.Seq.{take-append_seam}
 use Rattle.std.proofs.lemmas.List.{take_more}
 use Rattle.std.proofs.lemmas.Option.{slice_get_read}
-use Rattle.filter_source.specs.Failures.{OnRefusal}
-use Rattle.filter_source.specs.Sources.{IsRefusedText}
+use Rattle.filter_source.specs.Failures.{OnDiagnosis}
 use Rattle.filter_source.specs.declared.failure.Failure.{Failure}
 use Rattle.filter_source.specs.declared.failure.Failure.TheVariants as failure
 use Rattle.filter_verifier.specs.VerifiedView.{VerifiedView}
@@ -13,7 +12,7 @@ use Rattle.line_protocol.specs.Answers.{Answer}
 use Rattle.line_protocol.specs.declared.answers.Reply.{Reply}
 use Rattle.line_protocol.specs.declared.answers.Reply.TheVariants.{Ended}
 use Rattle.operator_cmds.specs.Replies.{Answers}
-use Rattle.operator_cmds.specs.Script.{AnswersLine, GivesText, IsRefusedBy, IsVerified, Names, ScriptView}
+use Rattle.operator_cmds.specs.Script.{AnswersLine, GivesText, IsTextDiagnosis, IsVerified, Names, ScriptView}
 use Rattle.operator_cmds.specs.Stages.{size_in}
 use Rattle.script_runs.specs.Naming.{AnswersPrepared, AreNamed, GetNames, GetsName, Prepares, PreparedView, size_set_up, told_unless}
 use Rattle.script_runs.specs.News.{IsFailureAt, Tells}
@@ -68,14 +67,14 @@ gets_name size x text name filter a b is_text is_name good names = (
 -- a filter that is not verified, behind others that got their names
 pub stopped_at : {E : Type 0} (size : ℕ) (xs : List NamedFilter) (i : ℕ) (x : NamedFilter) (text : List ℕ) (a b : ScriptView)
     (why : Failure) (r : Result (Option Unfit) E) → i < length xs → x ≡ get_or xs i x → text ≡ x.text.items
-    → GetNames size (take i xs) a b → OnRefusal (IsRefusedBy (GivesText text) (IsRefusedText text) size) why
+    → GetNames size (take i xs) a b → OnDiagnosis (IsTextDiagnosis text size) why
     → IfOk r (IsFailureAt i why) → IfOk r (λ unfit. AreNamed size xs unfit a b)
 stopped_at size xs i x text a b (failure.Refused told) (Ok unfit) within is is_text names refused h =
     subst (λ (u : Option Unfit). AreNamed size xs u a b) (sym h) (
       (
         x,
         slice_get_read xs (length xs) i x refl within is,
-        subst (λ (t : List ℕ). IsRefusedBy (GivesText t) (IsRefusedText t) size told.refusal) is_text refused,
+        subst (λ (t : List ℕ). IsTextDiagnosis t size told) is_text refused,
       ),
       names,
     )

@@ -1,10 +1,9 @@
 -- A script that is started with filters: they get their names when its domain is set up. (This project's own choice.)
 use Rattle.std.specs.Prelude.{◌≡◌, ℕ, List, [], ◌∷◌, Option, Some, None, slice_get, take}
-use Rattle.filter_source.specs.Sources.{IsRefusedText}
 use Rattle.filter_verifier.specs.VerifiedView.{VerifiedView}
 use Rattle.line_protocol.specs.Answers.{Answer}
 use Rattle.line_protocol.specs.declared.answers.Reply.TheVariants.{Ended}
-use Rattle.operator_cmds.specs.Script.{AnswersLine, GivesText, IsRefusedBy, IsVerified, Names, ScriptView, fresh}
+use Rattle.operator_cmds.specs.Script.{AnswersLine, GivesText, IsTextDiagnosis, IsVerified, Names, ScriptView, fresh}
 use Rattle.operator_cmds.specs.Stages.{size_in}
 use Rattle.script_runs.specs.declared.naming.NamedFilter.{NamedFilter}
 use Rattle.script_runs.specs.declared.naming.Unfit.{Unfit}
@@ -30,10 +29,10 @@ GetNames size [] before after = after ≡ before
 GetNames size (named ∷ more) before after =
     (mid : ScriptView) × GetsName size named before mid × GetNames size more mid after
 
--- this one is refused for domains of this size
+-- this one is refused for domains of this size, and what is told of it is told of its text
 abbrev pub IsUnfit : ℕ → List NamedFilter → Unfit → Type 0
 IsUnfit size filters unfit = (named : NamedFilter) × (slice_get filters unfit.index ≡ Some named)
-    × IsRefusedBy (GivesText named.text.items) (IsRefusedText named.text.items) size unfit.told.refusal
+    × IsTextDiagnosis named.text.items size unfit.told
 
 -- all of them get their names; or this one is the first that is refused, and those before it get theirs
 abbrev pub AreNamed : ℕ → List NamedFilter → Option Unfit → ScriptView → ScriptView → Type 0
