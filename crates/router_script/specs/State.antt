@@ -1,4 +1,6 @@
 -- What contracts see of a script between two lines.
+use Rattle.std.specs.Prelude.{Option}
+use Rattle.filter_source.specs.declared.diagnosis.Diagnosis.{Diagnosis}
 use Rattle.operator_cmds.specs.Script.{ScriptView}
 use Rattle.operator_cmds.specs.Stages.{StageView, Empty, Setting, Open}
 use Rattle.operator_cmds.specs.State.{filter_at}
@@ -13,3 +15,7 @@ stage_of (stage.Open journal) = Open journal
 
 abbrev pub script_of : Script → ScriptView
 script_of script = record { stage = stage_of script.stage; filters = filter_at script.filters }
+
+-- what is told of the last filter that it refused, which no answer names
+abbrev pub told_of : Script → Option Diagnosis
+told_of script = script.told

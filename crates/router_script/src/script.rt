@@ -69,7 +69,7 @@ impl Script {
     ghost use Rattle.operator_cmds.specs.Script as spec;
     ghost use Rattle.operator_cmds.specs.Stages.{session_in, size_in};
     ghost use Rattle.operator_cmds.specs.State.{filter_at};
-    ghost use Rattle.router_script.specs.State.{script_of, stage_of};
+    ghost use Rattle.router_script.specs.State.{script_of, stage_of, told_of};
 
     /// A script at its first line.
     pub fn new(alloc: Global) -> Script
@@ -111,6 +111,7 @@ impl Script {
         ensures number { result.number ≡ number }
         ensures size { result.size ≡ size_in (script_of self.now).stage }
         ensures filters { option_map (λ filters. filter_at filters.now) result.filters ≡ Some (script_of self.now).filters }
+        ensures told { result.told ≡ told_of self.now }
     {
         RefusedLine {
             number,
@@ -298,6 +299,9 @@ impl Script {
     ) -> Result<Reply, AllocError>
         ensures ok { IfOk result (Answers (λ answer. spec.AnswersFilter (stage_of self.old.stage) (spec.gives source.entry)
             (spec.lacks source.entry) number name.now (script_of self.old) answer (script_of self.new)) out.old.items out.new.items) }
+        ensures told { IfSome (size_in (stage_of self.old.stage)) (λ size. IfOk result (Answers (λ answer.
+            spec.TellsSource (spec.diagnoses source.entry size) number (told_of self.old) answer (told_of self.new))
+            out.old.items out.new.items)) }
         ensures err { OnErr result (StartsWith out.new.items out.old.items) }
     {
         match self.stage.size() {
