@@ -137,8 +137,8 @@ AnswersSource Gives Lacks size number name before answer after =
     ((filter : VerifiedView) × IsVerified Gives size filter × Takes name filter before answer after)
     ⊎ ((why : Refusal) × IsRefusedBy Gives Lacks size why × TurnsAway why number before answer after)
 
--- What is told of the last filter that was refused, before a source is answered and after: of another one where this source is verified; and
--- of this source where it is refused, as the answer says.
+-- What is told of the last filter that was refused, before a source is answered and after: the same where the source is verified; and where it
+-- is refused what is told of this source, and the answer gives the same refusal.
 abbrev pub TellsSource : (Diagnosis → Type 0) → ℕ → Option Diagnosis → Answer → Option Diagnosis → Type 0
 TellsSource IsTold number before answer after = ((answer.reply ≡ Answered) × (after ≡ before))
     ⊎ ((told : Diagnosis) × IsTold told × (answer ≡ refused (refusal_code told.refusal) (place_in_line told.refusal number))
