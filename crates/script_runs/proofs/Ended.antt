@@ -1,5 +1,5 @@
 -- How a run ends, and what is saved by then, follows from how each line was answered.
-use Rattle.std.proofs.Common.{◌≡◌, ℕ, Bool, true, false, List, [], ◌∷◌, ◌++◌, Option, Some, None, Result, Ok, Err, IfOk, IfErr, IfSome, refl, sym, ap, subst, ◌∙◌, append_assoc, append-nil, inl, inr}
+use Rattle.std.proofs.Common.{◌≡◌, ℕ, Bool, true, false, List, [], ◌∷◌, ◌++◌, Option, Result, IfOk, IfErr, IfSome, refl, sym, ap, subst, ◌∙◌, append_assoc, append-nil, inl, inr}
 use Rattle.std.specs.Prelude.{MatchBool, ⊤}
 use Rattle.std.proofs.KnownBytes.{Appends-nil, Appends-trans}
 use Rattle.std.specs.Io.KnownBytes.{Appends}
@@ -16,7 +16,6 @@ use Rattle.script_runs.specs.Running.{IsSaved, IsSavedInPart, IsSavedUntil}
 use Rattle.script_runs.specs.Saved.{AnswersSaved, SavedView, SavesMore, saved_text}
 use Rattle.script_runs.specs.Stopping.{AnswersStopping}
 use Rattle.script_runs.specs.declared.naming.NamedFilter.{NamedFilter}
-use Rattle.script_runs.specs.declared.naming.Unfit.{Unfit}
 
 either : (b : Bool) {P Q R : Type 0} → (P → R) → (Q → R) → MatchBool b P Q → R
 either true f g h = f h

@@ -10,7 +10,6 @@ use Rattle.filter_source.specs.declared.failure.Failure.TheVariants as failure
 use Rattle.filter_verifier.specs.VerifiedView.{VerifiedView}
 use Rattle.line_protocol.specs.Answers.{Answer}
 use Rattle.line_protocol.specs.declared.answers.Reply.{Reply}
-use Rattle.line_protocol.specs.declared.answers.Reply.TheVariants.{Ended}
 use Rattle.operator_cmds.specs.Replies.{Answers}
 use Rattle.operator_cmds.specs.Script.{AnswersLine, GivesText, IsTextDiagnosis, IsVerified, Names, ScriptView}
 use Rattle.operator_cmds.specs.Stages.{size_in}

@@ -1,5 +1,5 @@
 -- The entry at the position, if there is one.
-use Rattle.std.proofs.Common.{◌≡◌, ◌<◌, ◌++◌, ℕ, List, length, Option, Some, None, OnOk, [], ◌∷◌, append_assoc, slice_get, sym, ap, subst, ◌∙◌, append-nil, arith}
+use Rattle.std.proofs.Common.{◌≡◌, ◌++◌, ℕ, List, Option, Some, None, OnOk, [], ◌∷◌, append_assoc, slice_get, sym, ap, subst, ◌∙◌, append-nil, arith}
 use Rattle.std.proofs.lemmas.Option.{slice_get_within}
 use Rattle.history_file.specs.Text.{entry_line}
 use Rattle.history_file.specs.Views.{entry_view}

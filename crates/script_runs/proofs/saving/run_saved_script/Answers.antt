@@ -2,7 +2,7 @@
 use Rattle.std.proofs.Common.{false}
 use Rattle.std.proofs.lemmas.Result.{IfErr-weaker, IfOk-weaker}
 use Rattle.line_protocol.proofs.Viewed.{finishes, if_known, stops}
-use Rattle.script_runs.specs.Saved.{AnswersSaved, SavedView}
+use Rattle.script_runs.specs.Saved.{AnswersSaved}
 use Rattle.script_runs.specs.State.{prepared_of}
 use Rattle.script_runs.proofs.Ended.{breaks, ends, told_err, told_ok}
 use Rattle.script_runs.proofs.saving.run_saved_script.Goals as goal

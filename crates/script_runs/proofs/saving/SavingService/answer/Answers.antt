@@ -1,6 +1,5 @@
 -- A line is answered as the script answers it, then its news is written, and then it may end the script.
 use Rattle.std.proofs.Common.{Bool, ap, ◌∙◌}
-use Rattle.line_protocol.specs.Answers.{Answer}
 use Rattle.line_protocol.specs.declared.answers.Reply.{Reply}
 use Rattle.script_runs.specs.State.{prepared_of}
 use Rattle.script_runs.specs.Stopping.{reply_where}
