@@ -8,7 +8,7 @@ use Rattle.route_history.specs.declared.entry.Entry.{Entry}
 use Rattle.route_history.specs.Beginning.{Begins}
 use Rattle.route_session.specs.declared.ends.Cause.{Cause}
 use Rattle.route_session.specs.declared.ends.Cause.TheVariants as cause
-use Rattle.route_session.specs.Calls.{EndsStale, Gained, IsCauseAt, IsCauseIn, IsFresh, StandsAt, StaysSound}
+use Rattle.route_session.specs.Calls.{Gained, IsCauseAt, IsCauseIn, IsFresh, StandsAt, StaysSound}
 use Rattle.route_session.specs.Told.{Rose, Told, ended_now, grown}
 use Rattle.slot_lock.specs.Held.{IsPassOf, Part, PassView, RouterView}
 

@@ -1,13 +1,7 @@
 -- A pass of a session, and what was entered by it.
-use Rattle.std.proofs.Common.{◌≡◌, refl, ℕ, Bool, true, false, inl, inr}
-use Rattle.message_streams.specs.Views.{ReaderView, WriterView}
 use Rattle.route_session.specs.Calls.{StaysSound}
 use Rattle.slot_lock.specs.Held.{PassView, RouterView}
-use Rattle.neighbour_session.specs.Calls.{Closes}
-use Rattle.neighbour_session.specs.Ending.{Ends, GoesDown}
 use Rattle.neighbour_session.specs.Keeping.{one_less}
-use Rattle.neighbour_session.specs.declared.ends.SessionEnd.{SessionEnd}
-use Rattle.slot_lock.specs.declared.answer.Answer.{Answer}
 
 -- a pass that gave a share away is as right as it was
 pub sound_less : (r : RouterView) (old up : PassView) → StaysSound r old up → StaysSound r old (one_less up)

@@ -1,5 +1,6 @@
 mod Calling
 mod Gaining
 mod Keeping
+mod Links
 mod Reading
 mod Writing

@@ -1,5 +1,5 @@
 -- A reader that has turns again and again.
-use Rattle.std.proofs.Common.{◌≡◌, ◌∙◌, sym, ap, subst, refl, ℕ, Option, None, List, [], ◌∷◌, ◌++◌, append_assoc, append-nil, length}
+use Rattle.std.proofs.Common.{◌≡◌, ◌∙◌, sym, ap, subst, refl, ℕ, List, [], ◌++◌, append_assoc, append-nil, length}
 use Rattle.std.specs.Prelude.{All, Bool, false}
 use Rattle.std.proofs.lemmas.List.Elements.{All-nil}
 use Rattle.std.specs.List.{AllZip}
@@ -9,11 +9,12 @@ use Rattle.route_session.specs.declared.ends.Cause.{Cause}
 use Rattle.route_session.specs.declared.ends.Cause.TheVariants as cause
 use Rattle.route_session.specs.declared.ends.ReadEnd.{ReadEnd}
 use Rattle.route_session.specs.Calls.{Gained, IsCauseAt, IsCauseIn, IsFresh}
-use Rattle.route_session.specs.Reads.{IsReadBy, LosesBy, Reads, Receives}
+use Rattle.route_session.specs.Reads.{IsReadBy, LosesBy, Receives}
 use Rattle.route_session.specs.Told.{Told, grown}
+use Rattle.message_streams.specs.Views.{ReaderView}
 use Rattle.slot_lock.specs.Held.{Part, PassView, RouterView}
-use Rattle.stream_link.specs.Views.{LinkView}
-use Rattle.neighbour_session.specs.Reading.{IsReaderOver, IsReaderStopped, ReadsOut}
+use Rattle.neighbour_session.specs.Links.{ReadsLines}
+use Rattle.neighbour_session.specs.Reading.{IsReaderOver, IsReaderStopped, ReadsOut, told_by}
 use Rattle.neighbour_session.specs.declared.ends.SessionEnd.{SessionEnd}
 use Rattle.neighbour_session.specs.declared.ends.SessionEnd.TheVariants as end
 use Rattle.neighbour_session.proofs.Gaining.{cause_after, gained_both, gained_none, grown_both, grown_none, told_after, zip_both}
@@ -95,28 +96,36 @@ reads_on r session old t mid m last new u h turns k =
     (read_last r session old t mid m last new u h k)
 
 -- a reader that ended by itself, or because the session is not there
-stopped_over : (may : Bool → Type 0) (c : Cause) (link : LinkView) (why : SessionEnd) → IsReaderStopped c link why → IsReaderOver may c link why
-stopped_over may cause.Turns link why h = absurd h
-stopped_over may cause.LinkEnded link why h = h
-stopped_over may cause.LinkFault link why h = h
-stopped_over may cause.Stale link why h = h
-stopped_over may cause.Full link why h = h
-stopped_over may cause.Memory link why h = h
+stopped_over : (may : Bool → Type 0) (c : Cause) (left : ReaderView) (why : SessionEnd) → IsReaderStopped c left why → IsReaderOver may c left why
+stopped_over may cause.Turns left why h = absurd h
+stopped_over may cause.LinkEnded left why h = h
+stopped_over may cause.LinkFault left why h = h
+stopped_over may cause.Stale left why h = h
+stopped_over may cause.Full left why h = h
+stopped_over may cause.Memory left why h = h
 
-pub reads_stopped : (may : Bool → Type 0) (r : RouterView) (session : ℕ) (old : PassView) (t : Told) (mid : PassView) (m : Told)
-    (last : ReadEnd) (why : SessionEnd) (new : PassView) (link : LinkView) → HasRead session old.part t mid.part m →
-    IsReadBy r session mid.part m last new.part link.told → IsReaderStopped last.cause link why → ReadsOut may r session old t why new link
-reads_stopped may r session old t mid m last why new link h k over = record {
+pub reads_stopped : (may : Bool → Type 0) (r : RouterView) (session : ℕ) (old : PassView) (input : ReaderView) (mid : PassView) (m : Told)
+    (last : ReadEnd) (why : SessionEnd) (new : PassView) (u : Told) (left : ReaderView) → HasRead session old.part (told_by input) mid.part m →
+    IsReadBy r session mid.part m last new.part u → ReadsLines input u.handed left → IsReaderStopped last.cause left why →
+    ReadsOut may r session old input why new
+reads_stopped may r session old input mid m last why new u left h k lines over = record {
   end = record { cause = last.cause; entered = length (h.calls ++ k.calls); lost = last.lost };
-  read = read_last r session old.part t mid.part m last new.part link.told h k;
-  because = stopped_over may last.cause link why over;
+  last = u;
+  read = read_last r session old.part (told_by input) mid.part m last new.part u h k;
+  left = left;
+  lines = lines;
+  because = stopped_over may last.cause left why over;
 }
 
-pub reads_absent : (may : Bool → Type 0) (r : RouterView) (session : ℕ) (old : PassView) (t : Told) (mid : PassView) (m : Told)
-    (last : ReadEnd) (new : PassView) (link : LinkView) → HasRead session old.part t mid.part m →
-    IsReadBy r session mid.part m last new.part link.told → last.cause ≡ cause.Turns → may false → ReadsOut may r session old t end.Closed new link
-reads_absent may r session old t mid m last new link h k turns absent = record {
+pub reads_absent : (may : Bool → Type 0) (r : RouterView) (session : ℕ) (old : PassView) (input : ReaderView) (mid : PassView) (m : Told)
+    (last : ReadEnd) (new : PassView) (u : Told) (left : ReaderView) → HasRead session old.part (told_by input) mid.part m →
+    IsReadBy r session mid.part m last new.part u → ReadsLines input u.handed left → last.cause ≡ cause.Turns → may false →
+    ReadsOut may r session old input end.Closed new
+reads_absent may r session old input mid m last new u left h k lines turns absent = record {
   end = record { cause = last.cause; entered = length (h.calls ++ k.calls); lost = last.lost };
-  read = read_last r session old.part t mid.part m last new.part link.told h k;
-  because = subst (λ c. IsReaderOver may c link end.Closed) (sym turns) (refl, absent);
+  last = u;
+  read = read_last r session old.part (told_by input) mid.part m last new.part u h k;
+  left = left;
+  lines = lines;
+  because = subst (λ c. IsReaderOver may c left end.Closed) (sym turns) (refl, absent);
 }

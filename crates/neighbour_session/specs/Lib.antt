@@ -3,6 +3,7 @@ pub mod Calls
 pub mod Ending
 pub mod Greeting
 pub mod Keeping
+pub mod Links
 pub mod Reading
 pub mod Words
 pub mod Writing

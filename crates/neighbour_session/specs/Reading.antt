@@ -8,8 +8,9 @@ use Rattle.route_session.specs.declared.ends.ReadEnd.{ReadEnd}
 use Rattle.route_session.specs.Reads.{IsReadBy}
 use Rattle.route_session.specs.Told.{Told}
 use Rattle.slot_lock.specs.Held.{PassView, RouterView}
-use Rattle.stream_link.specs.Views.{LinkView, new_view}
+use Rattle.stream_link.specs.Views.{new_view}
 use Rattle.neighbour_session.specs.Ending.{Ends}
+use Rattle.neighbour_session.specs.Links.{ReadsLines}
 use Rattle.neighbour_session.specs.declared.ends.SessionEnd.{SessionEnd}
 use Rattle.neighbour_session.specs.declared.ends.SessionEnd.TheVariants as end
 
@@ -23,32 +24,34 @@ link_end None line = end.Closed
 link_end (Some why) line = end.Read why line
 
 -- why a reader's session is over, where it did not use up its turns: the neighbour's stream, or a call that was refused
-abbrev pub IsReaderStopped : Cause → LinkView → SessionEnd → Type 0
-IsReaderStopped cause.Turns link why = ⊥
-IsReaderStopped cause.LinkEnded link why = why ≡ link_end link.end link.line
-IsReaderStopped cause.LinkFault link why = why ≡ link_end link.end link.line
-IsReaderStopped cause.Stale link why = why ≡ end.Closed
-IsReaderStopped cause.Full link why = why ≡ end.Full
-IsReaderStopped cause.Memory link why = why ≡ end.Memory
+abbrev pub IsReaderStopped : Cause → ReaderView → SessionEnd → Type 0
+IsReaderStopped cause.Turns input why = ⊥
+IsReaderStopped cause.LinkEnded input why = why ≡ link_end input.end input.line
+IsReaderStopped cause.LinkFault input why = why ≡ link_end input.end input.line
+IsReaderStopped cause.Stale input why = why ≡ end.Closed
+IsReaderStopped cause.Full input why = why ≡ end.Full
+IsReaderStopped cause.Memory input why = why ≡ end.Memory
 
 -- and where it did: the session was said not to be there
-abbrev pub IsReaderOver : (Bool → Type 0) → Cause → LinkView → SessionEnd → Type 0
-IsReaderOver may_be_present cause.Turns link why = (why ≡ end.Closed) × may_be_present false
-IsReaderOver may_be_present c link why = IsReaderStopped c link why
+abbrev pub IsReaderOver : (Bool → Type 0) → Cause → ReaderView → SessionEnd → Type 0
+IsReaderOver may_be_present cause.Turns input why = (why ≡ end.Closed) × may_be_present false
+IsReaderOver may_be_present c input why = IsReaderStopped c input why
 
--- Each message that the link handed out was entered, once and in order; then, for a reason, the reader ended. A message was lost only
--- where the history is full or memory was refused.
-pub record ReadsOut (may_be_present : Bool → Type 0) (r : RouterView) (session : ℕ) (old : PassView) (t : Told) (why : SessionEnd)
-    (new : PassView) (link : LinkView) : Type 0 where
+-- Each message that the lines of the neighbour's stream say was entered, once and in order; then, for a reason, the reader ended, and the
+-- stream was left so. A message was lost only where the history is full or memory was refused.
+pub record ReadsOut (may_be_present : Bool → Type 0) (r : RouterView) (session : ℕ) (old : PassView) (input : ReaderView) (why : SessionEnd)
+    (new : PassView) : Type 0 where
   pub end : ReadEnd
-  pub read : IsReadBy r session old.part t end new.part link.told
-  pub because : IsReaderOver may_be_present end.cause link why
+  pub last : Told
+  pub read : IsReadBy r session old.part (told_by input) end new.part last
+  pub left : ReaderView
+  pub lines : ReadsLines input last.handed left
+  pub because : IsReaderOver may_be_present end.cause left why
 
 -- and the session with it
 pub record Hears (may_be_present may_be_first : Bool → Type 0) (r : RouterView) (session : ℕ) (old : PassView) (input : ReaderView)
     (result : SessionEnd) (new : PassView) : Type 0 where
-  pub link : LinkView
   pub before : PassView
   pub why : SessionEnd
-  pub reads : ReadsOut may_be_present r session old (told_by input) why before link
+  pub reads : ReadsOut may_be_present r session old input why before
   pub ends : Ends may_be_first r session why before result new

@@ -6,6 +6,7 @@ mod crew;
 mod ends;
 mod finish;
 mod greeting;
+mod input_link;
 mod keep;
 mod read;
 mod write;

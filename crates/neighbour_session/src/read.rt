@@ -7,20 +7,21 @@ ghost use Rattle.slot_lock.specs.Held.{IsPassOf};
 use crate::crew::{Crew, READER};
 use crate::ends::SessionEnd;
 use crate::finish::end_session;
+use crate::input_link::{InputLink, Source};
 use message_streams::MessageReader;
 use route_session::{Cause, read_session};
 use slot_lock::{Pass, Router};
-use std::io::{Read, Write};
+use std::io::Read;
+use std::marker::Brand;
 use std::rt::Clock;
 use std::sync::Wait;
-use stream_link::StreamLink;
 
 /// The turns that a reader has at a time. The gate answers no to each once the session is over.
 const TURNS: u32 = 1_000;
 
 /// Why a link hands out no more.
-fn end_of_link<I: Read + Drop, O: Write + Drop>(link: &StreamLink<I, O>) -> SessionEnd
-    ensures { result ≡ spec.link_end link.now.end link.now.line }
+fn end_of_link<I: Read, S: Source>(link: &InputLink<I, S>) -> SessionEnd
+    ensures { result ≡ spec.link_end link.now.reader.end link.now.reader.line }
 {
     match link.end() {
         Some(why) => SessionEnd::Read {
@@ -32,11 +33,8 @@ fn end_of_link<I: Read + Drop, O: Write + Drop>(link: &StreamLink<I, O>) -> Sess
 }
 
 /// Why a reader's session is over; None where it is not.
-fn end_of_reader<I: Read + Drop, O: Write + Drop>(
-    cause: Cause,
-    link: &StreamLink<I, O>,
-) -> Option<SessionEnd>
-    ensures over { IfSome result (λ why. spec.IsReaderStopped cause link.now why) }
+fn end_of_reader<I: Read, S: Source>(cause: Cause, link: &InputLink<I, S>) -> Option<SessionEnd>
+    ensures over { IfSome result (λ why. spec.IsReaderStopped cause link.now.reader why) }
     ensures goes_on { IfNone result (cause ≡ Cause.Turns) }
 {
     match cause {
@@ -48,23 +46,26 @@ fn end_of_reader<I: Read + Drop, O: Write + Drop>(
     }
 }
 
-/// Enters what a link hands out until the session is over: why it is.
-fn read_all<R: Wait + Clock, I: Read + Drop, O: Write + Drop, C: Crew>(
+/// Enters what the stream of a neighbour says until the session is over: why it is.
+fn read_all<S: Source, R: Wait + Clock, I: Read + Drop, C: Crew>(
     rt: &R,
     router: &Router,
     pass: &mut Pass,
     session: u32,
-    link: &mut StreamLink<I, O>,
+    input: MessageReader<I>,
     crew: &C,
 ) -> SessionEnd
-    requires { IsPassOf router.now pass.old }
+    requires of { IsPassOf router.now pass.old }
+    requires named { input ≡ S.reader }
     ensures pass { StaysSound router.now pass.old pass.new }
     ensures shares { pass.new.part.shares ≡ pass.old.part.shares }
-    ensures reads { spec.ReadsOut (C.may_be_present crew.now) router.now session pass.old link.old.told result pass.new link.new }
+    ensures reads { spec.ReadsOut (C.may_be_present crew.now) router.now session pass.old input result pass.new }
 {
+    let mut link: InputLink<I, S> = InputLink::new(input);
     for _ in rt.forever() {
-        let read = read_session(rt, router, pass, session, link, crew, READER, TURNS);
-        if let Some(why) = end_of_reader(read.cause, link) {
+        let read = read_session(rt, router, pass, session, &mut link, crew, READER, TURNS);
+        link.lines_are_told();
+        if let Some(why) = end_of_reader(read.cause, &link) {
             return why;
         }
         if !crew.is_present(rt) {
@@ -75,7 +76,7 @@ fn read_all<R: Wait + Clock, I: Read + Drop, O: Write + Drop, C: Crew>(
 }
 
 /// Reads a session until it is over, and enters Down if nobody ended it before. Why it is over.
-pub fn serve_reader<R: Wait + Clock, I: Read + Drop, O: Write + Drop, C: Crew>(
+pub fn serve_reader<R: Wait + Clock, I: Read + Drop, C: Crew>(
     rt: &R,
     router: &Router,
     pass: &mut Pass,
@@ -88,7 +89,6 @@ pub fn serve_reader<R: Wait + Clock, I: Read + Drop, O: Write + Drop, C: Crew>(
     ensures shares { pass.new.part.shares ≡ pass.old.part.shares }
     ensures hears { spec.Hears (C.may_be_present crew.now) (C.may_be_first crew.now) router.now session pass.old input result pass.new }
 {
-    let mut link: StreamLink<I, O> = StreamLink::new(Some(input), None);
-    let why = read_all(rt, router, pass, session, &mut link, crew);
+    let why = read_all::<Brand, R, I, C>(rt, router, pass, session, input, crew);
     end_session(rt, router, pass, session, crew, why)
 }

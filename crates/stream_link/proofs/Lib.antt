@@ -1,2 +1,2 @@
 mod Links
-mod Moves
+pub mod Moves

@@ -1,28 +1,38 @@
-use Rattle.std.proofs.Common.{◌≡◌, ◌∙◌, refl}
+use Rattle.std.proofs.Common.{◌∙◌, refl, subst, sym}
+use Rattle.neighbour_session.specs.Links.{InputView, ReadsLines}
+use Rattle.message_streams.specs.Views.{ReaderView}
+use Rattle.neighbour_session.specs.Reading.{told_by}
 use Rattle.neighbour_session.proofs.Gaining.{sound_both, sound_same}
-use Rattle.neighbour_session.proofs.Reading.{read_none, reads_absent, reads_on, reads_stopped}
+use Rattle.neighbour_session.proofs.Reading.{HasRead, read_none, reads_absent, reads_on, reads_stopped}
 use Rattle.neighbour_session.proofs.read.read_all.Goals as goal
 
 pub loop-init : goal.loop-init
 loop-init g c = record {
   next = tt;
   finite = tt;
-  pass = sound_same c.args.router.now c.args.pass.now c.requires;
+  pass = sound_same c.args.router.now c.args.pass.now c.requires.of;
   shares = refl;
-  read = read_none c.args.session c.args.pass.now.part c.args.link.now.told;
+  read = subst (λ (v : InputView). HasRead c.args.session c.args.pass.now.part (told_by c.args.input) c.args.pass.now.part v.told)
+      (sym c.new-link.ensures) (read_none c.args.session c.args.pass.now.part (told_by c.args.input));
 }
 
 pub returns-in-Some-end_of_reader-clause-reads : goal.returns-in-Some-end_of_reader-clause-reads
 returns-in-Some-end_of_reader-clause-reads g c =
-    reads_stopped (g.C.Crew.may_be_present c.args.crew.now) c.args.router.now c.args.session c.args.pass.now c.args.link.now.told
+    let link = c.read_session-read.new.link in
+    reads_stopped (g.C.Crew.may_be_present c.args.crew.now) c.args.router.now c.args.session c.args.pass.now c.args.input
     c.loop.pass c.loop.link.told c.read_session-read.result c.in-Some-end_of_reader.why c.read_session-read.new.pass
-    c.read_session-read.new.link c.loop.invariant.read c.read_session-read.ensures.read c.in-Some-end_of_reader.ensures.over
+    link.told link.reader c.loop.invariant.read c.read_session-read.ensures.read
+    (subst (λ (r : ReaderView). ReadsLines r link.told.handed link.reader) (sym c.requires.named) c.lines_are_told.ensures)
+    c.in-Some-end_of_reader.ensures.over
 
 pub returns-then-not-is_present-clause-reads : goal.returns-then-not-is_present-clause-reads
 returns-then-not-is_present-clause-reads g c =
-    reads_absent (g.C.Crew.may_be_present c.args.crew.now) c.args.router.now c.args.session c.args.pass.now c.args.link.now.told
-    c.loop.pass c.loop.link.told c.read_session-read.result c.read_session-read.new.pass c.read_session-read.new.link
-    c.loop.invariant.read c.read_session-read.ensures.read c.in_default.ensures.goes_on c.if-not-is_present.ensures
+    let link = c.read_session-read.new.link in
+    reads_absent (g.C.Crew.may_be_present c.args.crew.now) c.args.router.now c.args.session c.args.pass.now c.args.input
+    c.loop.pass c.loop.link.told c.read_session-read.result c.read_session-read.new.pass link.told link.reader
+    c.loop.invariant.read c.read_session-read.ensures.read
+    (subst (λ (r : ReaderView). ReadsLines r link.told.handed link.reader) (sym c.requires.named) c.lines_are_told.ensures)
+    c.in_default.ensures.goes_on c.if-not-is_present.ensures
 
 pub loop-preserved : goal.loop-preserved
 loop-preserved g c = record {
@@ -31,7 +41,7 @@ loop-preserved g c = record {
   pass = sound_both c.args.router.now c.args.pass.now c.loop.pass c.read_session-read.new.pass c.loop.invariant.pass
       c.read_session-read.ensures.pass;
   shares = c.read_session-read.ensures.read.reads.gained.shares ∙ c.loop.invariant.shares;
-  read = reads_on c.args.router.now c.args.session c.args.pass.now.part c.args.link.now.told c.loop.pass.part c.loop.link.told
+  read = reads_on c.args.router.now c.args.session c.args.pass.now.part (told_by c.args.input) c.loop.pass.part c.loop.link.told
       c.read_session-read.result c.read_session-read.new.pass.part c.read_session-read.new.link.told c.loop.invariant.read
       c.in_default.ensures.goes_on c.read_session-read.ensures.read;
 }

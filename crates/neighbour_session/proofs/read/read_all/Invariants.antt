@@ -1,5 +1,6 @@
 use Rattle.std.proofs.Common.{◌≡◌}
 use Rattle.route_session.specs.Calls.{StaysSound}
+use Rattle.neighbour_session.specs.Reading.{told_by}
 use Rattle.neighbour_session.proofs.Reading.{HasRead}
 use Rattle.neighbour_session.proofs.read.read_all.Given as goal
 
@@ -10,5 +11,5 @@ invariant-loop g l = record {
   finite : (goal.iterator-loop g).is_finite l.iterator';
   pass : StaysSound l.router l.fn.pass l.pass;
   shares : l.pass.part.shares ≡ l.fn.pass.part.shares;
-  read : HasRead l.session l.fn.pass.part l.fn.link.told l.pass.part l.link.told;
+  read : HasRead l.session l.fn.pass.part (told_by l.fn.input) l.pass.part l.link.told;
 }

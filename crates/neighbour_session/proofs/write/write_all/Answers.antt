@@ -1,4 +1,4 @@
-use Rattle.std.proofs.Common.{◌≡◌, ◌∙◌, refl, subst, sym}
+use Rattle.std.proofs.Common.{◌∙◌, refl, subst, sym}
 use Rattle.stream_link.specs.Views.{LinkView}
 use Rattle.neighbour_session.specs.Writing.{told_to}
 use Rattle.neighbour_session.proofs.Gaining.{sound_both, sound_same}

@@ -1,0 +1,11 @@
+use Rattle.std.proofs.Common.{subst}
+use Rattle.neighbour_session.specs.Links.{InputView, ReadsLines}
+use Rattle.neighbour_session.proofs.Links.{input_lines}
+use Rattle.neighbour_session.proofs.input_link.InputLink.lines_are_told.Goals as goal
+
+pub returns : goal.returns
+returns g c =
+    let i = c.self.inside in
+    let first = g.S.Source.reader in
+    subst (λ (v : InputView). ReadsLines first v.told.handed v.reader) c.self.view_is
+    (input_lines first i.last.value i.input c.self.invariant)
