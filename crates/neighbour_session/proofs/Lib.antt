@@ -1,6 +1,6 @@
 mod Calling
 mod Gaining
 mod Keeping
-mod Links
+mod Linking
 mod Reading
 mod Writing

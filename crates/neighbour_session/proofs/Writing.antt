@@ -11,8 +11,10 @@ use Rattle.route_session.specs.declared.ends.WriteEnd.{WriteEnd}
 use Rattle.route_session.specs.Calls.{Gained, IsCauseAt, IsCauseIn, IsFresh}
 use Rattle.route_session.specs.Writes.{IsWrittenBy, LeavesBy, Takes, carried_by}
 use Rattle.route_session.specs.Told.{Told, grown}
+use Rattle.message_streams.specs.Views.{WriterView}
 use Rattle.slot_lock.specs.Held.{Part, PassView, RouterView}
-use Rattle.neighbour_session.specs.Writing.{IsWriterOver, IsWriterStopped, WritesOut}
+use Rattle.neighbour_session.specs.Writing.{GotAfter, IsWriterOver, IsWriterStopped, WritesOut, told_to}
+use Rattle.neighbour_session.specs.Links.{GotLinesOf}
 use Rattle.neighbour_session.specs.declared.ends.SessionEnd.{SessionEnd}
 use Rattle.neighbour_session.specs.declared.ends.SessionEnd.TheVariants as end
 use Rattle.neighbour_session.proofs.Gaining.{cause_after, gained_both, gained_none, grown_both, grown_none, told_after}
@@ -103,22 +105,44 @@ stopped_over may cause.Stale why h = h
 stopped_over may cause.Full why h = h
 stopped_over may cause.Memory why h = h
 
-pub writes_stopped : (may : Bool → Type 0) (r : RouterView) (session : ℕ) (old : PassView) (t : Told) (mid : PassView) (m : Told)
-    (last : WriteEnd) (why : SessionEnd) (new : PassView) (u : Told) → HasWritten session old.part t mid.part m →
-    IsWrittenBy r session mid.part m last new.part u → IsWriterStopped last.cause why → WritesOut may r session old t why new
-writes_stopped may r session old t mid m last why new u h k over = record {
-  end = record { cause = last.cause; sent = length (h.accepted ++ k.accepted); unsent = last.unsent };
-  last = u;
-  written = written_last r session old.part t mid.part m last new.part u h k;
-  because = stopped_over may last.cause why over;
-}
+-- what the stream got behind the last whole line
+got_after : (c : Cause) (output : WriterView) (u : Told) (later : WriterView) (g : GotLinesOf output u later) → IsCauseAt c (told_to output) u →
+    GotAfter c g.held later.held
+got_after cause.Turns output u later g h = g.whole h.1
+got_after cause.LinkEnded output u later g h = g.whole h.1
+got_after cause.LinkFault output u later g h = g.torn
+got_after cause.Stale output u later g h = g.whole h.1
+got_after cause.Full output u later g h = g.whole h.1
+got_after cause.Memory output u later g h = g.whole h.1
 
-pub writes_absent : (may : Bool → Type 0) (r : RouterView) (session : ℕ) (old : PassView) (t : Told) (mid : PassView) (m : Told)
-    (last : WriteEnd) (new : PassView) (u : Told) → HasWritten session old.part t mid.part m →
-    IsWrittenBy r session mid.part m last new.part u → last.cause ≡ cause.Turns → may false → WritesOut may r session old t end.Closed new
-writes_absent may r session old t mid m last new u h k turns absent = record {
-  end = record { cause = last.cause; sent = length (h.accepted ++ k.accepted); unsent = last.unsent };
-  last = u;
-  written = written_last r session old.part t mid.part m last new.part u h k;
-  because = subst (λ c. IsWriterOver may c end.Closed) (sym turns) (refl, absent);
-}
+pub writes_stopped : (may : Bool → Type 0) (r : RouterView) (session : ℕ) (old : PassView) (output : WriterView) (mid : PassView) (m : Told)
+    (last : WriteEnd) (why : SessionEnd) (new : PassView) (u : Told) (later : WriterView) →
+    HasWritten session old.part (told_to output) mid.part m → IsWrittenBy r session mid.part m last new.part u → GotLinesOf output u later →
+    IsWriterStopped last.cause why → WritesOut may r session old output why new later
+writes_stopped may r session old output mid m last why new u later h k got over =
+    let written = written_last r session old.part (told_to output) mid.part m last new.part u h k in
+    record {
+      end = record { cause = last.cause; sent = length (h.accepted ++ k.accepted); unsent = last.unsent };
+      last = u;
+      written = written;
+      held = got.held;
+      lines = got.lines;
+      after = got_after last.cause output u later got written.at_link;
+      because = stopped_over may last.cause why over;
+    }
+
+pub writes_absent : (may : Bool → Type 0) (r : RouterView) (session : ℕ) (old : PassView) (output : WriterView) (mid : PassView) (m : Told)
+    (last : WriteEnd) (new : PassView) (u : Told) (later : WriterView) → HasWritten session old.part (told_to output) mid.part m →
+    IsWrittenBy r session mid.part m last new.part u → GotLinesOf output u later → last.cause ≡ cause.Turns → may false →
+    WritesOut may r session old output end.Closed new later
+writes_absent may r session old output mid m last new u later h k got turns absent =
+    let written = written_last r session old.part (told_to output) mid.part m last new.part u h k in
+    record {
+      end = record { cause = last.cause; sent = length (h.accepted ++ k.accepted); unsent = last.unsent };
+      last = u;
+      written = written;
+      held = got.held;
+      lines = got.lines;
+      after = got_after last.cause output u later got written.at_link;
+      because = subst (λ c. IsWriterOver may c end.Closed) (sym turns) (refl, absent);
+    }

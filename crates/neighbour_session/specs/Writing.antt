@@ -1,5 +1,6 @@
 -- What who writes to a neighbour does. (This project's own choice.)
-use Rattle.std.specs.Prelude.{◌≡◌, ℕ, Bool, false, None, Some}
+use Rattle.std.specs.Prelude.{◌≡◌, ℕ, Bool, false, List, Option, None, Some}
+use Rattle.std.specs.Io.KnownBytes.{Appends}
 use Rattle.message_streams.specs.Views.{WriterView}
 use Rattle.route_session.specs.declared.ends.Cause.{Cause}
 use Rattle.route_session.specs.declared.ends.Cause.TheVariants as cause
@@ -7,8 +8,9 @@ use Rattle.route_session.specs.declared.ends.WriteEnd.{WriteEnd}
 use Rattle.route_session.specs.Told.{Told}
 use Rattle.route_session.specs.Writes.{IsWrittenBy}
 use Rattle.slot_lock.specs.Held.{PassView, RouterView}
-use Rattle.stream_link.specs.Views.{new_view}
+use Rattle.stream_link.specs.Views.{AreLines, new_view}
 use Rattle.neighbour_session.specs.Ending.{Ends}
+use Rattle.neighbour_session.specs.Links.{TearsLine}
 use Rattle.neighbour_session.specs.declared.ends.SessionEnd.{SessionEnd}
 use Rattle.neighbour_session.specs.declared.ends.SessionEnd.TheVariants as end
 
@@ -30,19 +32,27 @@ abbrev pub IsWriterOver : (Bool → Type 0) → Cause → SessionEnd → Type 0
 IsWriterOver may_be_present cause.Turns why = (why ≡ end.Closed) × may_be_present false
 IsWriterOver may_be_present c why = IsWriterStopped c why
 
--- What the router queued was taken, and written in order; then, for a reason, the writer ended. What was taken and not written is none,
--- but where a line was not written.
-pub record WritesOut (may_be_present : Bool → Type 0) (r : RouterView) (session : ℕ) (old : PassView) (t : Told) (why : SessionEnd)
-    (new : PassView) : Type 0 where
+-- what the neighbour's stream got behind the last whole line: nothing; but where a line was not written, a front of one at most
+abbrev pub GotAfter : Cause → Option (List ℕ) → Option (List ℕ) → Type 0
+GotAfter cause.LinkFault held holds = TearsLine held holds
+GotAfter _ held holds = holds ≡ held
+
+-- What the router queued was taken, and the neighbour's stream got the lines of it, each in its turn; then, for a reason, the writer ended.
+-- What was taken and not written is none, but where a line was not written.
+pub record WritesOut (may_be_present : Bool → Type 0) (r : RouterView) (session : ℕ) (old : PassView) (output : WriterView) (why : SessionEnd)
+    (new : PassView) (later : WriterView) : Type 0 where
   pub end : WriteEnd
   pub last : Told
-  pub written : IsWrittenBy r session old.part t end new.part last
+  pub written : IsWrittenBy r session old.part (told_to output) end new.part last
+  pub held : Option (List ℕ)
+  pub lines : AreLines (Appends output.held held) last.given
+  pub after : GotAfter end.cause held later.held
   pub because : IsWriterOver may_be_present end.cause why
 
 -- and the session with it
 pub record Serves (may_be_present may_be_first : Bool → Type 0) (r : RouterView) (session : ℕ) (old : PassView) (output : WriterView)
-    (result : SessionEnd) (new : PassView) : Type 0 where
+    (result : SessionEnd) (new : PassView) (later : WriterView) : Type 0 where
   pub before : PassView
   pub why : SessionEnd
-  pub writes : WritesOut may_be_present r session old (told_to output) why before
+  pub writes : WritesOut may_be_present r session old output why before later
   pub ends : Ends may_be_first r session why before result new

@@ -6,8 +6,8 @@ mod crew;
 mod ends;
 mod finish;
 mod greeting;
-mod input_link;
 mod keep;
+mod links;
 mod read;
 mod write;
 

@@ -7,7 +7,7 @@ ghost use Rattle.slot_lock.specs.Held.{IsPassOf};
 use crate::crew::{Crew, READER};
 use crate::ends::SessionEnd;
 use crate::finish::end_session;
-use crate::input_link::{InputLink, Source};
+use crate::links::{InputLink, Source};
 use message_streams::MessageReader;
 use route_session::{Cause, read_session};
 use slot_lock::{Pass, Router};

@@ -8,15 +8,16 @@ use crate::calls::end_of;
 use crate::crew::{Crew, WRITER};
 use crate::ends::SessionEnd;
 use crate::finish::end_session;
+use crate::links::{OutputLink, Target};
 use message_streams::MessageWriter;
 use route_history::CallFault;
 use route_session::{Cause, write_session};
 use slot_lock::{Pass, Router};
 use std::alloc::Global;
-use std::io::{Read, Write};
+use std::io::Write;
+use std::marker::Brand;
 use std::rt::Clock;
 use std::sync::Wait;
-use stream_link::StreamLink;
 
 /// The turns that a writer has at a time. The gate makes it sleep before each of them, and answers no to each once the session is over.
 const TURNS: u32 = 1_000;
@@ -35,8 +36,8 @@ fn end_of_writer(cause: Cause) -> Option<SessionEnd>
     }
 }
 
-/// Gives a neighbour what the router queued for it, until the session is over: why it is.
-fn write_all<R: Wait + Clock, I: Read + Drop, O: Write + Drop, C: Crew>(
+/// Gives a neighbour what the router queued for it, until the session is over: why it is, and the stream.
+fn write_all<T: Target, R: Wait + Clock, O: Write + Drop, C: Crew>(
     rt: &R,
     alloc: Global,
     router: &Router,
@@ -44,30 +45,31 @@ fn write_all<R: Wait + Clock, I: Read + Drop, O: Write + Drop, C: Crew>(
     session: u32,
     output: MessageWriter<O>,
     crew: &C,
-) -> SessionEnd
-    requires { IsPassOf router.now pass.old }
+) -> (SessionEnd, MessageWriter<O>)
+    requires of { IsPassOf router.now pass.old }
+    requires named { output ≡ T.writer }
     ensures pass { StaysSound router.now pass.old pass.new }
     ensures shares { pass.new.part.shares ≡ pass.old.part.shares }
-    ensures writes { spec.WritesOut (C.may_be_present crew.now) router.now session pass.old (spec.told_to output) result pass.new }
+    ensures writes { spec.WritesOut (C.may_be_present crew.now) router.now session pass.old output result.0 pass.new result.1 }
 {
-    let mut link: StreamLink<I, O> = StreamLink::new(None, Some(output));
+    let mut link: OutputLink<O, T> = OutputLink::new(output);
     for _ in rt.forever() {
         let end = write_session(
             rt, alloc, router, pass, session, &mut link, crew, WRITER, TURNS,
         );
         if let Some(why) = end_of_writer(end.cause) {
-            return why;
+            return (why, link.into_writer());
         }
         if !crew.is_present(rt) {
-            return SessionEnd::Closed;
+            return (SessionEnd::Closed, link.into_writer());
         }
     }
     unreachable!()
 }
 
 /// Gives a neighbour what the router queued for it, until the session is over, and enters Down if nobody ended it before. Says why it
-/// is over.
-pub fn serve_writer<R: Wait + Clock, I: Read + Drop, O: Write + Drop, C: Crew>(
+/// is over, and hands the stream back, which is closed by letting it go.
+pub fn serve_writer<R: Wait + Clock, O: Write + Drop, C: Crew>(
     rt: &R,
     alloc: Global,
     router: &Router,
@@ -75,12 +77,14 @@ pub fn serve_writer<R: Wait + Clock, I: Read + Drop, O: Write + Drop, C: Crew>(
     session: u32,
     output: MessageWriter<O>,
     crew: &C,
-) -> SessionEnd
+) -> (SessionEnd, MessageWriter<O>)
     requires { IsPassOf router.now pass.old }
     ensures pass { StaysSound router.now pass.old pass.new }
     ensures shares { pass.new.part.shares ≡ pass.old.part.shares }
-    ensures serves { spec.Serves (C.may_be_present crew.now) (C.may_be_first crew.now) router.now session pass.old output result pass.new }
+    ensures serves { spec.Serves (C.may_be_present crew.now) (C.may_be_first crew.now) router.now session pass.old output result.0 pass.new result.1 }
 {
-    let why = write_all::<R, I, O, C>(rt, alloc, router, pass, session, output, crew);
-    end_session(rt, router, pass, session, crew, why)
+    let (why, written) = write_all::<Brand, R, O, C>(
+        rt, alloc, router, pass, session, output, crew,
+    );
+    (end_session(rt, router, pass, session, crew, why), written)
 }

@@ -1,5 +1,5 @@
 -- A pass that has seen a legal history is divided.
-use Rattle.std.proofs.Common.{◌≡◌, sym, subst, ℕ, [], ◌-◌}
+use Rattle.std.proofs.Common.{◌≡◌, sym, subst, ℕ, []}
 use Rattle.route_history.specs.History.{IsLegal}
 use Rattle.slot_lock.specs.Held.{IsPassOf, Part, PassView, RouterView}
 use Rattle.router_daemon.specs.Passes.{IsLegalPass}

@@ -1,5 +1,5 @@
 -- A line that people are told, if there was memory for it.
-use Rattle.std.proofs.Common.{◌≡◌, sym, subst, refl, ℕ, List, [], ◌++◌, append-nil, Option, Some, None, Result, Ok, Err, Global}
+use Rattle.std.proofs.Common.{◌≡◌, sym, subst, refl, ℕ, List, [], append-nil, Option, Some, None, Result, Ok, Err, Global}
 use Rattle.std.specs.Io.KnownBytes.{Appends}
 use Rattle.std.specs.Prelude.{IfOk, MatchResult, String, string_bytes}
 use Rattle.std.specs.declared.alloc.AllocError.{AllocError}

@@ -1,5 +1,5 @@
 -- What the passes of a router have seen stays legal.
-use Rattle.std.proofs.Common.{◌≡◌, refl, sym, subst, Bool, true, false, if◌then◌else◌, nat_lt, List, [], length}
+use Rattle.std.proofs.Common.{sym, subst, Bool, true, false, if◌then◌else◌, nat_lt, List, length}
 use Rattle.netchange_core.specs.OpeningView.{OpeningView}
 use Rattle.route_history.specs.History.{IsLegal}
 use Rattle.route_history.specs.declared.entry.Entry.{Entry}

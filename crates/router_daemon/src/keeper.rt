@@ -154,14 +154,7 @@ fn serve_begun<R: Wait + Clock, I: Read + Drop, O: Write + Drop, J: Naming, E: W
         link: link.index,
         session,
     };
-    let why = serve_reader::<R, I, O, LinkCrew<'_>>(
-        rt,
-        &shared.router,
-        pass,
-        session,
-        input,
-        &crew,
-    );
+    let why = serve_reader(rt, &shared.router, pass, session, input, &crew);
     tell_unless_closed(rt, alloc, shared, node, why);
     let done = room.await_done(rt);
     if why == SessionEnd::Closed {

@@ -38,7 +38,6 @@ pub(crate) struct Links {
 /// Starts the thread of a link's writer. Whether it was started.
 fn start_writer<
     R: Threads + Wait + Clock + Copy + Send + Drop + 'static,
-    I: Read + Send + Drop + 'static,
     O: Write + Send + Drop + 'static,
     J: Naming + Send + Sync + 'static,
     E: Write + Send + Drop + 'static,
@@ -53,7 +52,7 @@ fn start_writer<
     let shared = Arc::try_clone(shared)?;
     let room = Arc::try_clone(room)?;
     let started = thread::spawn(rt, move || {
-        write_link::<R, I, O, J, E>(handle, alloc, shared, room, link)
+        write_link::<R, O, J, E>(handle, alloc, shared, room, link)
     });
     Ok(started.is_ok())
 }
@@ -101,7 +100,7 @@ fn start_link<
     ticket: Ticket<J>,
 ) -> Result<bool, AllocError> {
     let room: Arc<Room<O, J>> = Arc::new(alloc, Room::new())?;
-    if !start_writer::<R, I, O, J, E>(rt, alloc, shared, &room, link.index)? {
+    if !start_writer::<R, O, J, E>(rt, alloc, shared, &room, link.index)? {
         return Ok(false);
     }
     start_keeper::<R, I, O, D, J, E>(rt, alloc, folder, shared, room, link, ticket)

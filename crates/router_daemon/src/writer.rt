@@ -6,22 +6,22 @@ use crate::crew::LinkCrew;
 use crate::naming::{Naming, Ticket};
 use crate::room::{Done, Order, Room};
 use crate::shared::Shared;
-use neighbour_session::{SessionEnd, serve_writer};
-use slot_lock::Pass;
+use message_streams::MessageWriter;
+use neighbour_session::serve_writer;
 use std::alloc::Global;
-use std::io::{Read, Write};
+use std::io::Write;
 use std::rt::Clock;
 use std::sync::{Arc, Wait};
 
-/// Writes one session, until it is over. `I` is what the link is read from.
-fn write_session<R: Wait + Clock, I: Read + Drop, O: Write + Drop, J: Naming, E: Write>(
+/// Writes one session, until it is over, and hands its stream back.
+fn write_session<R: Wait + Clock, O: Write + Drop, J: Naming, E: Write>(
     rt: &R,
     alloc: Global,
     shared: &Shared<J, E>,
     link: usize,
     order: Order<O, J>,
-) -> Done<J>
-    ensures { Serves (λ _. ⊤) (λ _. ⊤) J.router order.session order.ticket.pass order.output result.why result.ticket.pass }
+) -> (Done<J>, MessageWriter<O>)
+    ensures { Serves (λ _. ⊤) (λ _. ⊤) J.router order.session order.ticket.pass order.output result.0.why result.0.ticket.pass result.1 }
 {
     let Order {
         session,
@@ -34,32 +34,23 @@ fn write_session<R: Wait + Clock, I: Read + Drop, O: Write + Drop, J: Naming, E:
         link,
         session,
     };
-    let why = serve_writer::<R, I, O, LinkCrew<'_>>(
-        rt,
-        alloc,
-        &shared.router,
-        &mut pass,
-        session,
-        output,
-        &crew,
-    );
-    Done {
-        why,
-        ticket: Ticket::new(pass),
-    }
+    let (why, written) = serve_writer(rt, alloc, &shared.router, &mut pass, session, output, &crew);
+    let ticket = Ticket::new(pass);
+    (Done { why, ticket }, written)
 }
 
-/// Writes the sessions of a link, one after another, as they are ordered.
-pub(crate) fn write_link<
-    R: Wait + Clock + Drop,
-    I: Read + Drop,
-    O: Write + Drop,
-    J: Naming,
-    E: Write + Drop,
->(rt: R, alloc: Global, shared: Arc<Shared<J, E>>, room: Arc<Room<O, J>>, link: usize) {
+/// Writes the sessions of a link, one after another, as they are ordered. The stream of each is closed before it is said to be done.
+pub(crate) fn write_link<R: Wait + Clock + Drop, O: Write + Drop, J: Naming, E: Write + Drop>(
+    rt: R,
+    alloc: Global,
+    shared: Arc<Shared<J, E>>,
+    room: Arc<Room<O, J>>,
+    link: usize,
+) {
     for _ in rt.forever() {
         let order = room.await_order(&rt);
-        let done = write_session::<R, I, O, J, E>(&rt, alloc, &shared, link, order);
+        let (done, written) = write_session(&rt, alloc, &shared, link, order);
+        drop(written);
         room.put_done(&rt, done);
     }
 }

@@ -3,8 +3,8 @@ use Rattle.message_streams.specs.Views.{ReaderView}
 use Rattle.route_session.specs.Links.{Received}
 use Rattle.route_session.specs.declared.link.Got.TheVariants as got
 use Rattle.neighbour_session.specs.Links.{InputView, IsInput, input_view}
-use Rattle.neighbour_session.proofs.Links.{input_read, input_told}
-use Rattle.neighbour_session.proofs.input_link.InputLinkLink.recv.Goals as goal
+use Rattle.neighbour_session.proofs.Linking.{input_read, input_told}
+use Rattle.neighbour_session.proofs.links.InputLinkLink.recv.Goals as goal
 
 pub invariant_of-self-in-Ok : goal.invariant_of-self-in-Ok
 invariant_of-self-in-Ok g c =

@@ -1,7 +1,7 @@
 use Rattle.std.proofs.Common.{subst}
 use Rattle.neighbour_session.specs.Links.{InputView, ReadsLines}
-use Rattle.neighbour_session.proofs.Links.{input_lines}
-use Rattle.neighbour_session.proofs.input_link.InputLink.lines_are_told.Goals as goal
+use Rattle.neighbour_session.proofs.Linking.{input_lines}
+use Rattle.neighbour_session.proofs.links.InputLink.lines_are_told.Goals as goal
 
 pub returns : goal.returns
 returns g c =

@@ -1,0 +1,10 @@
+use Rattle.std.proofs.Common.{subst}
+use Rattle.neighbour_session.specs.Links.{GotLinesOf, OutputView}
+use Rattle.neighbour_session.proofs.Linking.{output_lines}
+use Rattle.neighbour_session.proofs.links.OutputLink.into_writer.Goals as goal
+
+pub returns : goal.returns
+returns g c =
+    let i = c.self.inside in
+    subst (λ (v : OutputView). GotLinesOf g.T.Target.writer v.told i.output) c.self.view_is
+    (output_lines g.T.Target.writer i.last.value i.output i.failures i.has_ended i.is_closed c.self.invariant)
