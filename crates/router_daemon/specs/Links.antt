@@ -1,5 +1,5 @@
 -- What becomes of a link. (This project's own choice.)
-use Rattle.std.specs.Prelude.{◌≡◌, ◌⊎◌, ℕ, Bool, true, false, None, ⊤}
+use Rattle.std.specs.Prelude.{◌≡◌, ◌⊎◌, ℕ, Bool, true, false, List, None, string_bytes, ⊤}
 use Rattle.message_streams.specs.Views.{ReaderView, WriterView}
 use Rattle.neighbour_session.specs.Ending.{GoesDown}
 use Rattle.neighbour_session.specs.Greeting.{Greets}
@@ -9,6 +9,7 @@ use Rattle.neighbour_session.specs.Words.{can_be_opened_again}
 use Rattle.neighbour_session.specs.declared.ends.SessionEnd.{SessionEnd}
 use Rattle.neighbour_session.specs.declared.ends.SessionEnd.TheVariants as end
 use Rattle.neighbour_session.specs.declared.greeting.Domain.{Domain}
+use Rattle.router_options.specs.declared.parts.LinkFiles.{LinkFiles}
 use Rattle.slot_lock.specs.Held.{PassView, RouterView}
 use Rattle.router_daemon.specs.Passes.{TakesBack}
 
@@ -51,6 +52,16 @@ pub record Opens (r : RouterView) (d : Domain) (neighbour : ℕ) (old : PassView
   pub serves : Serves r d neighbour input output old why new
   pub again_is : again ≡ can_be_opened_again why
 
--- a link is opened once, or one of its files cannot be opened, and nothing is entered
-abbrev pub KeepsOnce : RouterView → Domain → ℕ → PassView → Bool → PassView → Type 0
-KeepsOnce r d neighbour old again new = Opens r d neighbour old again new ⊎ ((again ≡ true) × (new ≡ old))
+-- A file was asked for to be read, and is not: it was not opened, or there is no memory to read it. `may_read` says what may be answered
+-- where a file is to be read, `may_write` where it is to be written: whether it is opened.
+abbrev pub IsUnreadable : (List ℕ → Bool → Type 0) → List ℕ → Type 0
+IsUnreadable may_read name = may_read name false ⊎ may_read name true
+
+-- so it was with the file that a neighbour's lines come from; or the one for the router's was not opened
+abbrev pub IsUnopened : (List ℕ → Bool → Type 0) → (List ℕ → Bool → Type 0) → LinkFiles → Type 0
+IsUnopened may_read may_write files = IsUnreadable may_read (string_bytes files.input) ⊎ may_write (string_bytes files.output) false
+
+-- a link is opened once, or one of its files was not opened, and nothing is entered
+abbrev pub KeepsOnce : (List ℕ → Bool → Type 0) → (List ℕ → Bool → Type 0) → RouterView → Domain → LinkFiles → PassView → Bool → PassView → Type 0
+KeepsOnce may_read may_write r d files old again new =
+    Opens r d files.node old again new ⊎ (IsUnopened may_read may_write files × (again ≡ true) × (new ≡ old))

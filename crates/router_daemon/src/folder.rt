@@ -5,12 +5,26 @@ use std::io::{self, Read, Write};
 use std::rt::Files;
 
 /// Where the files of links are opened by their names. To open a FIFO waits until its other end is opened.
+///
+/// A contract sees what a folder says of its answers. A folder that says nothing may give any.
 pub trait LinkFolder<I: Read, O: Write> {
+    ghost use Rattle.std.specs.Prelude.{ℕ, Bool, List, true, false, ⊤, IfErr, IfOk};
+
+    // What it may answer where the file of a name is to be read: whether it is opened.
+    ghost may_read: { Self → List ℕ → Bool → Type 0 } = { λ _ _ _. ⊤ };
+
+    // And where it is to be written.
+    ghost may_write: { Self → List ℕ → Bool → Type 0 } = { λ _ _ _. ⊤ };
+
     /// Opens the file that a neighbour's lines come from.
-    fn open_input(&self, name: &str) -> io::Result<I>;
+    fn open_input(&self, name: &str) -> io::Result<I>
+        ensures opened { IfOk result (λ _. may_read self.now name.now true) }
+        ensures unopened { IfErr result (λ _. may_read self.now name.now false) };
 
     /// Opens the file that the router's lines go to.
-    fn open_output(&self, name: &str) -> io::Result<O>;
+    fn open_output(&self, name: &str) -> io::Result<O>
+        ensures opened { IfOk result (λ _. may_write self.now name.now true) }
+        ensures unopened { IfErr result (λ _. may_write self.now name.now false) };
 }
 
 impl<R: Files<File = File>> LinkFolder<File, File> for R {

@@ -1,7 +1,7 @@
 //! Who keeps a link.
-ghost use Rattle.std.specs.Prelude.{◌≡◌, ◌<◌, ⊤, IfOk};
+ghost use Rattle.std.specs.Prelude.{◌≡◌, ◌<◌, ⊤, false, IfErr, IfOk};
 ghost use Rattle.slot_lock.specs.Held.{IsPassOf};
-ghost use Rattle.router_daemon.specs.Links.{AreFresh, IsOver, KeepsOnce, Serves, ServesNeighbour};
+ghost use Rattle.router_daemon.specs.Links.{AreFresh, IsOver, IsUnopened, IsUnreadable, KeepsOnce, Serves, ServesNeighbour};
 ghost use Rattle.neighbour_session.specs.Reading.{Hears};
 
 use crate::crew::LinkCrew;
@@ -53,7 +53,9 @@ fn open_input<'a, I: Read + Drop, O: Write, D: LinkFolder<I, O>>(
     folder: &D,
     alloc: Global,
     name: &'a str,
-) -> Result<BufReader<I>, Unopened<'a>> {
+) -> Result<BufReader<I>, Unopened<'a>>
+    ensures { IfErr result (λ _. IsUnreadable (D.may_read folder.now) name.now) }
+{
     match folder.open_input(name) {
         Ok(input) => BufReader::new(alloc, input).map_err(|why| Unopened { name, why }),
         Err(why) => Err(Unopened { name, why }),
@@ -64,10 +66,13 @@ fn open_input<'a, I: Read + Drop, O: Write, D: LinkFolder<I, O>>(
 fn open_output<'a, I: Read, O: Write, D: LinkFolder<I, O>>(
     folder: &D,
     name: &'a str,
-) -> Result<O, Unopened<'a>> {
-    folder
-        .open_output(name)
-        .map_err(|why| Unopened { name, why })
+) -> Result<O, Unopened<'a>>
+    ensures { IfErr result (λ _. D.may_write folder.now name.now false) }
+{
+    match folder.open_output(name) {
+        Ok(output) => Ok(output),
+        Err(why) => Err(Unopened { name, why }),
+    }
 }
 
 /// The streams over two files that were opened, of which nothing is used.
@@ -90,7 +95,8 @@ fn open_streams<'a, I: Read + Drop, O: Write + Drop, D: LinkFolder<I, O>>(
     alloc: Global,
     link: &'a Link,
 ) -> Result<Streams<I, O>, Unopened<'a>>
-    ensures { IfOk result (λ streams. AreFresh streams.input streams.output) }
+    ensures opened { IfOk result (λ streams. AreFresh streams.input streams.output) }
+    ensures unopened { IfErr result (λ _. IsUnopened (D.may_read folder.now) (D.may_write folder.now) link.now.files) }
 {
     let (from, to) = (link.files.input.as_str(), link.files.output.as_str());
     if link.domain.me < link.files.node {
@@ -272,7 +278,7 @@ fn keep_once<
 ) -> bool
     requires { IsPassOf J.router pass.old }
     ensures of { IsPassOf J.router pass.new }
-    ensures keeps { KeepsOnce J.router link.now.domain link.now.files.node pass.old result pass.new }
+    ensures keeps { KeepsOnce (D.may_read folder.now) (D.may_write folder.now) J.router link.now.domain link.now.files pass.old result pass.new }
 {
     match open_streams::<I, O, D>(folder, alloc, link) {
         Ok(Streams { input, output }) => {
