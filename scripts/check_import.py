@@ -1,7 +1,7 @@
 #!/usr/bin/env python3
-"""Tries `ncroute import`: each rewrite, what is left out and at which place, and random configurations that are made of the filters in
-`tests/bird/`, whose import must have the tokens of the filter itself. Where BIRD takes a filter that is refused here, what is imported must
-answer as BIRD did. Prints what fails, and at last 'N passed, M failed'.
+"""Tries `ncroute import`: each rewrite, what is left out and at which place, names that would steer a terminal, and random configurations that
+are made of the filters in `tests/bird/`, whose import must have the tokens of the filter itself. Where BIRD takes a filter that is refused here,
+what is imported must answer as BIRD did. Prints what fails, and at last 'N passed, M failed'.
 
 usage: NCROUTE=PATH scripts/check_import.py     (PATH: the program as it is built)
 """
@@ -179,6 +179,39 @@ LEFT_OUT = [
     ("many files", "include \"*.bird\";\nfilter f { accept; }", "1:1", "include *.bird: include each file by its own name"),
 ]
 
+# A name that steers a terminal where it is not shown: it has a title, a line that is written over, and text that runs the other way.
+STEERING = "a\x1b]0;x\x07\r\u202e\u2028b"
+SHOWN = "a ]0;x  \ufffd\ufffdb"
+HIDDEN = re.compile("[\x00-\x08\x0b-\x1f\x7f-\x9f\u061c\u200e\u200f\u2028-\u202e\u2066-\u2069]")
+
+# Each place of a configuration of which something is told: how often such a name is told that stands there.
+ECHOED = [
+    ("a filter's name", "filter '{}' {{ accept; }}", 2),
+    ("one that is not UTF-8", "filter '\udc80{}' {{ accept; }}", 2),
+    ("a variable's name", "filter f int '{}'; {{ accept; }}", 1),
+    ("a variable in the body", "filter f {{ int '{}' = 4; accept; }}", 1),
+    ("a name that is read", "filter f {{ if net.len > '{}' then accept; }}", 1),
+    ("a name that is assigned", "filter f {{ '{}' = 4; accept; }}", 1),
+    ("a name in a set", "filter f {{ if net.len ~ [ 8, '{}' ] then accept; }}", 1),
+    ("a label", "filter f {{ case net.len {{ '{}': accept; }} }}", 1),
+    ("a part of a value", "filter f {{ if net.'{}' then accept; }}", 1),
+    ("what is printed", "filter f {{ print '{}'; accept; }}", 0),
+    ("a set's name", "filter f prefix set '{}'; {{ accept; }}", 0),
+    ("a name that is defined", "define '{0}' = 8;\nfilter f {{ if net.len = '{0}' then accept; }}", 1),
+    ("what a name is defined as", "define A = '{}';\nfilter f {{ if net.len = A then accept; }}", 1),
+    ("a function's name", "function '{0}'() {{ accept; }}\nfilter f {{ '{0}'(); }}", 1),
+    ("a function's argument", "function g(int '{0}') {{ accept; }}\nfilter f {{ g('{0}'); }}", 0),
+    ("a name in a function", "function g() {{ return '{}'; }}\nfilter f {{ if g() then accept; }}", 1),
+    ("a protocol's name", "protocol rip '{}' {{ ipv4 {{ import filter {{ accept; }}; export where '{}'; }}; }}", 1),
+    ("a file that is included", "include \"{}.bird\";\nfilter f {{ accept; }}", 2),
+    ("files that are included", "include \"{}*.bird\";\nfilter f {{ accept; }}", 1),
+    ("a text", "filter f {{ reject \"{}\"; }}\nfilter g {{ accept \"{}\" \"{}\"; }}\nfilter h {{ if \"{}\" then accept; }}", 0),
+    ("a comment", "filter f # {}\n{{ /* {} */ accept /* {} */ }}\n# {}", 0),
+    ("a text that does not end", "filter f {{ accept; }}\nlog \"{}", 0),
+    ("a name that does not end", "filter f {{ '{} }}", 0),
+    ("no words", "{}\nfilter f {{ {} accept; }}", 0),
+]
+
 
 def tokens(text):
     return [found[1] for found in TOKEN.finditer(text) if found[1]]
@@ -227,6 +260,33 @@ class Trial:
         is_told = place is None or any(line.startswith(f"bird.conf:{place} ") and words in line for line in lines)
         taken = [line for line in lines if " verified " in line]
         self.check(name, status == 1 and is_told and len(taken) == len(written), f"status {status}\n{said}{written}")
+
+    def printed(self, config, name="bird.conf", folder="out", files=()):
+        """What is printed on both streams, where files may have any names and bytes."""
+        self.number += 1
+        here = os.path.join(self.folder, str(self.number))
+        os.makedirs(os.path.join(here, folder))
+        for file, text in [(name, config), *files]:
+            with open(os.path.join(here, file), "wb") as it:
+                it.write(text.encode("utf-8", "surrogateescape"))
+        ran = subprocess.run([self.ncroute, "import", "--size", SIZE, "--out", folder, name], cwd=here, capture_output=True)
+        return ran.stdout + ran.stderr
+
+
+def shown(trial):
+    """Names that would steer a terminal, in each place of which something is told: they are shown, and nothing else of them is printed."""
+
+    def check(name, said, times):
+        text = said.decode("utf-8", "surrogateescape")
+        is_text = not any("\ud800" <= c <= "\udfff" for c in text)
+        trial.check(f"{name} is shown", is_text and not HIDDEN.search(text) and text.count(SHOWN) == times and text.endswith("\n"), repr(text))
+
+    for name, config, times in ECHOED:
+        check(name, trial.printed(config.format(*[STEERING] * 4)), times)
+    check("the name of the configuration", trial.printed("filter f { accept; }\n$", name=STEERING), 2)
+    check("the folder", trial.printed("filter f { accept; }", folder=STEERING), 1)
+    file = (f"{STEERING}.bird", "filter f { accept; }\n$")
+    check("the name of an included file", trial.printed(f"include \"{STEERING}.bird\";", files=[file]), 2)
 
 
 def includes(trial):
@@ -310,6 +370,7 @@ def main():
             trial.taken(name, config, filters)
         for name, config, place, words in LEFT_OUT:
             trial.left_out(name, config, place, words)
+        shown(trial)
         includes(trial)
         comments(trial)
         randoms(trial, seed, 300)

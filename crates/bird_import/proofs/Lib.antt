@@ -20,5 +20,6 @@ mod Spelled
 mod Splits
 mod Stops
 mod Tests
+mod Variables
 mod Walked
 mod Words

@@ -1,5 +1,5 @@
 -- Why a filter is left out.
-use Rattle.std.specs.Prelude.{◌≡◌, ◌≢◌, ◌⊎◌, ℕ, ◌+◌, ◌-◌, ◌<◌, ◌≤◌, true, List, Option, Some, None, Result, Ok, Err, codes, length, slice_get, ⊤}
+use Rattle.std.specs.Prelude.{◌≡◌, ◌≢◌, ◌⊎◌, ℕ, ◌+◌, ◌-◌, ◌<◌, ◌≤◌, ◌++◌, true, List, Option, Some, None, Result, Ok, Err, codes, length, slice_get, ⊤}
 use Rattle.filter_tokens.specs.declared.symbol.Symbol.TheVariants as symbol
 use Rattle.bird_import.specs.Indices.{IsAt, IsBehind, IsForeignAt, IsNameAt, IsNamedAt, kind_at, bytes_at}
 use Rattle.bird_import.specs.Items.{opens_block}
@@ -19,6 +19,31 @@ use Rattle.bird_import.specs.declared.step.Plan.TheVariants as plan
 use Rattle.bird_import.specs.declared.word.Word.{Word}
 use Rattle.bird_import.specs.declared.word.WordKind.{WordKind}
 use Rattle.bird_import.specs.declared.word.WordKind.TheVariants as kind
+
+-- the name that a reason is about, if it is about one
+abbrev pub name_in : Why → Option (List ℕ)
+name_in (why.Unknown name) = Some name.now
+name_in (why.Foreign name) = Some name.now
+name_in (why.Property name) = Some name.now
+name_in (why.DefinedLater name) = Some name.now
+name_in (why.DefinedTwice name) = Some name.now
+name_in (why.OneWord name) = Some name.now
+name_in (why.UnknownCall name) = Some name.now
+name_in (why.FunctionArguments name) = Some name.now
+name_in (why.FunctionShape name) = Some name.now
+name_in (why.SetVariable name) = Some name.now
+name_in (why.Unset name) = Some name.now
+name_in (why.NoValue name) = Some name.now
+name_in others = None
+
+-- words name a name, if there is one
+abbrev pub AreWordsOn : Option (List ℕ) → List ℕ → Type 0
+AreWordsOn None words = ⊤
+AreWordsOn (Some name) words = (front : List ℕ) × (back : List ℕ) × (words ≡ front ++ name ++ back)
+
+-- The words of a reason name what it is about. What they say of it, no clause says.
+abbrev pub AreReasonWords : Why → List ℕ → Type 0
+AreReasonWords why words = AreWordsOn (name_in why) words
 
 -- why a filter is left out, if what is planned does not fit, or by what is planned itself
 abbrev pub why_of_plan : Plan → Option Why

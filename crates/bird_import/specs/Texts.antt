@@ -1,15 +1,24 @@
 -- What becomes of a text that was written for some words.
-use Rattle.std.specs.Prelude.{List, ℕ}
+use Rattle.std.specs.Prelude.{◌≡◌, List, Some, slice_get, ℕ}
+use Rattle.filter_parser.specs.SyntaxCommands.{DeclView}
 use Rattle.filter_parser.specs.Unspelled.{IsUnspelled}
+use Rattle.bird_import.specs.Indices.{IsNamedAt}
 use Rattle.bird_import.specs.Spelling.{IsWritten}
 use Rattle.bird_import.specs.declared.text.Fate.{Fate}
 use Rattle.bird_import.specs.declared.text.Fate.TheVariants as fate
 use Rattle.bird_import.specs.declared.word.Word.{Word}
 
+-- A text is written for some words, and the one at an index is the name of a variable that the filter declares.
+pub record HasVariableAt (words : List Word) (text : List ℕ) (k : ℕ) : Type 0 where
+  pub written : IsWritten words text
+  pub variable : DeclView
+  pub declared : (n : ℕ) × (slice_get written.filter.decls n ≡ Some variable)
+  pub named : IsNamedAt variable.name words k
+
 -- A text that is taken spells a filter, and its tokens are the words. One that is refused spells no filter, for a fault that it has, and one that is
--- garbled is not written for the words. One with a variable that may be read before it is assigned is; of the variable nothing more is said.
+-- garbled is not written for the words. One with a variable that may be read before it is assigned is, and has that variable.
 abbrev pub Fated : List Word → List ℕ → Fate → Type 0
 Fated words text fate.Taken = IsWritten words text
 Fated words text (fate.Refused fault) = IsUnspelled text fault
 Fated words text fate.Garbled = IsWritten words text → ⊥
-Fated words text (fate.Unset at) = IsWritten words text
+Fated words text (fate.Unset k) = HasVariableAt words text k

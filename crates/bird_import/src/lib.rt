@@ -32,6 +32,6 @@ pub use cut::{Cut, cut_words, one_cut};
 pub use drafts::{Draft, Outcome, make_drafts};
 pub use includes::{Include, find_includes};
 pub use items::{Definition, Item, ItemKind, find_definitions, find_items};
-pub use reason::{Reason, Why};
+pub use reason::{Reason, Why, reason_words};
 pub use text::{Fate, FilterText, Origin, origin_of, write_filter};
 pub use word::{Word, WordKind};

@@ -1,8 +1,10 @@
 //! Why a filter is left out.
-ghost use Rattle.std.specs.Prelude.{◌≡◌};
+ghost use Rattle.std.specs.Option.{option_map};
+ghost use Rattle.std.specs.Prelude.{◌≡◌, IfOk};
+ghost use Rattle.bird_import.specs.Reasons.{AreReasonWords, name_in};
 ghost use Rattle.bird_import.specs.declared.reason.Why.TheVariants as why;
 
-use std::fmt;
+use std::alloc::{AllocError, Global};
 
 /// Why a filter is left out, and at which byte of the configuration.
 #[derive(Clone, Copy)]
@@ -164,16 +166,25 @@ fn words_for(name: &str) -> Option<&'static str> {
         "rt" | "ro" | "generic" | "unknown" => Some("makes a community, and none is taken"),
         _ if name.starts_with("RTS_") || name.starts_with("RTD_") || name.starts_with("SCOPE_") =>
             Some("is a value of an attribute that this router does not keep"),
-        _ if name.starts_with('\'') => {
-            Some("is a name in quotes: take one of letters, digits and `_`")
-        }
         "net_type" | "NET_IP4" | "NET_IP6" => Some("is not taken in this place"),
         _ => None,
     }
 }
 
+/// The text of a word: of one that is no text, none.
+fn text_of(bytes: &[u8]) -> &str {
+    match str::from_utf8(bytes) {
+        Ok(text) => text,
+        Err(_) => "",
+    }
+}
+
 /// What is said of a word that is neither a variable nor defined, or of one of BIRD's.
-fn words_of_word(name: &str, is_foreign: bool) -> &'static str {
+fn words_of_word(name: &[u8], is_foreign: bool) -> &'static str {
+    if name.starts_with(b"'") {
+        return "is a name in quotes: take one of letters, digits and `_`";
+    }
+    let name = text_of(name);
     if let Some(words) = owner_of(name) {
         return words;
     }
@@ -184,29 +195,28 @@ fn words_of_word(name: &str, is_foreign: bool) -> &'static str {
     }
 }
 
-/// The text of a name: of a word that is no text, the words for it.
-fn text_of(bytes: &[u8]) -> &str {
-    match str::from_utf8(bytes) {
-        Ok(text) => text,
-        Err(_) => "?",
-    }
-}
-
-impl<'a> fmt::Display for Why<'a> {
-    fn fmt<W: fmt::Write>(&self, f: &mut fmt::Formatter<W>) -> fmt::Result {
-        match self.name() {
-            Some(name) => {
-                let text = text_of(name);
-                write!(f, "{}{}` {}", self.front(), text, self.words(text))
-            }
-            None => f.write_str(self.plain_words()),
+/// The words of a reason. The name that it is about is in them as the configuration has it: it is not yet shown.
+pub fn reason_words(alloc: Global, why: Why<'_>) -> Result<Vec<u8>, AllocError>
+    ensures { IfOk result (λ words. AreReasonWords why.entry words.items) }
+{
+    let mut words = Vec::new(alloc);
+    match why.name() {
+        Some(name) => {
+            words.extend_from_slice(why.front().as_bytes())?;
+            words.extend_from_slice(name)?;
+            words.extend_from_slice(b"` ")?;
+            words.extend_from_slice(why.words(name).as_bytes())?;
         }
+        None => words.extend_from_slice(why.plain_words().as_bytes())?,
     }
+    Ok(words)
 }
 
 impl<'a> Why<'a> {
     /// The name that it is about, if it is about one.
-    fn name(&self) -> Option<&'a [u8]> {
+    fn name(&self) -> Option<&'a [u8]>
+        ensures { option_map (λ name. name.now) result ≡ name_in self.now }
+    {
         match self {
             Why::Unknown(name) | Why::Foreign(name) | Why::Property(name) => Some(*name),
             Why::DefinedLater(name) | Why::DefinedTwice(name) | Why::UnknownCall(name) => {
@@ -230,11 +240,11 @@ impl<'a> Why<'a> {
         }
     }
 
-    /// What is said of the name, whose text this is.
-    fn words(&self, text: &str) -> &'static str {
+    /// What is said of the name.
+    fn words(&self, name: &[u8]) -> &'static str {
         match self {
-            Why::Unknown(_) => words_of_word(text, false),
-            Why::Foreign(_) => words_of_word(text, true),
+            Why::Unknown(_) => words_of_word(name, false),
+            Why::Foreign(_) => words_of_word(name, true),
             Why::Property(_) =>
                 "is not taken: a prefix has `.ip` and `.len`, an address `.mask(n)`",
             Why::DefinedLater(_) => "is used before its definition ends: move the definition up",

@@ -1,14 +1,15 @@
 //! The text of a filter, from its words.
-ghost use Rattle.std.specs.Prelude.{◌≡◌, ◌≢◌, ◌↔◌, ◌++◌, [], ◌∷◌, IfOk, IsTrue, None, OnOk, length};
+ghost use Rattle.std.specs.Prelude.{◌≡◌, ◌≢◌, ℕ, ◌↔◌, ◌++◌, [], ◌∷◌, IfOk, IsTrue, None, OnOk, length};
 ghost use Rattle.filter_tokens.specs.Shapes.{line_feed};
 ghost use Rattle.filter_tokens.specs.Tokenization.{AreInOrder};
 ghost use Rattle.bird_import.specs.Alike.{AreAlike};
+ghost use Rattle.bird_import.specs.Indices.{IsNamedAt};
 ghost use Rattle.bird_import.specs.Laying as spec;
 ghost use Rattle.bird_import.specs.Spelling.{IsSpelled, LiesIn};
 ghost use Rattle.bird_import.specs.Texts.{Fated};
 
 use crate::unset::first_unset;
-use crate::word::{Word, WordKind};
+use crate::word::{Word, WordKind, is_named_at};
 use filter_parser::{ParseFault, parse};
 use filter_tokens::Token;
 use std::alloc::{AllocError, Global};
@@ -31,7 +32,7 @@ pub enum Fate {
     Refused(ParseFault),
     /// It is a filter of other words.
     Garbled,
-    /// It is a filter that may read a variable before it is assigned, at this byte of the text.
+    /// It is a filter that may read a variable before it is assigned, by the word at this index.
     Unset(usize),
 }
 
@@ -135,6 +136,29 @@ fn fate_of(fault: ParseFault) -> Result<Fate, AllocError>
     }
 }
 
+/// Whether a token begins at a byte of the text or before it.
+fn begins_by(tokens: &[Token], at: usize, byte: usize) -> bool {
+    match tokens.get(at) {
+        Some(token) => token.from <= byte,
+        None => false,
+    }
+}
+
+/// The index of a word that is this name: of the one that begins at a byte of the text.
+fn index_of_name(tokens: &[Token], words: &[Word<'_>], name: &[u8], byte: usize) -> usize
+    requires { (k : ℕ) × IsNamedAt name.now words.now k }
+    ensures { IsNamedAt name.now words.now result }
+{
+    let mut found = None;
+    for at in 0..words.len() {
+        // The last one up to that byte; only where the tree had a place that is no word's own could it be another one.
+        if is_named_at(words, at, name) && (found.is_none() || begins_by(tokens, at, byte)) {
+            found = Some(at);
+        }
+    }
+    found.unwrap_or(0)
+}
+
 /// What becomes of a text that was written for some words.
 #[tactic(auto, using(crate::proofs::Spelled::written))]
 fn judge(alloc: Global, text: &[u8], words: &[Word<'_>]) -> Result<Fate, AllocError>
@@ -148,7 +172,11 @@ fn judge(alloc: Global, text: &[u8], words: &[Word<'_>]) -> Result<Fate, AllocEr
         return Ok(Fate::Garbled);
     }
     match first_unset(&filter) {
-        Some(at) => Ok(Fate::Unset(at)),
+        Some(unset) => {
+            let name = filter.decls()[unset.variable].name.as_slice();
+            let tokens = filter.tokens();
+            Ok(Fate::Unset(index_of_name(tokens, words, name, unset.at)))
+        }
         None => Ok(Fate::Taken),
     }
 }

@@ -1,7 +1,10 @@
 -- What comes of the words of a draft, where that of the text which was written for them is known.
-use Rattle.std.proofs.Common.{◌≡◌, ℕ, false, List, Option, Some, None, IfErr, IfOk, Result, Ok, Err, subst, sym}
+use Rattle.std.proofs.Common.{◌≡◌, ◌<◌, ℕ, zero, suc, false, List, [], ◌∷◌, Option, Some, None, IfErr, IfOk, Result, Ok, Err, arith, get_or, length, slice_get, subst, sym}
+use Rattle.std.proofs.lemmas.Option.{slice_get-get_or}
+use Rattle.bird_import.specs.Indices.{IsNameAt}
 use Rattle.bird_import.specs.Spelling.{IsWritten}
 use Rattle.bird_import.specs.Texts.{Fated}
+use Rattle.bird_import.specs.declared.reason.Why.TheVariants as why
 use Rattle.bird_import.specs.declared.text.Fate.{Fate}
 use Rattle.bird_import.specs.declared.text.Fate.TheVariants as fate
 use Rattle.bird_import.specs.declared.text.Origin.{Origin}
@@ -12,7 +15,7 @@ use Rattle.filter_source.specs.declared.diagnosis.Diagnosis.{Diagnosis}
 use Rattle.filter_source.specs.declared.failure.Failure.{Failure}
 use Rattle.filter_source.specs.declared.failure.Failure.TheVariants as failure
 use Rattle.filter_tools.specs.Explanations.{AreRefusalWords}
-use Rattle.ncroute.specs.Importing.{IsLeftFor, IsMadeOfText, IsMadeOfWords, IsRefusedText, KeepsText, KeepsWords, place_from, text_in}
+use Rattle.ncroute.specs.Importing.{IsLeftFor, IsMadeOfText, IsMadeOfWords, IsRefusedText, IsToldFor, IsToldUnset, KeepsText, KeepsWords, place_from, text_in}
 use Rattle.ncroute.specs.declared.importing.Made.{Made}
 
 -- the text is taken
@@ -53,12 +56,26 @@ of_text size at words text origins (Err e) written is = tt
 
 -- a filter of which no text is kept is left out for this
 pub of_left : {E : Type 0} (size at : ℕ) (words : List Word) (text : List ℕ) (origins : List Origin) (others : Fate) (r : Result Made E)
-    → Fated words text others → IfOk r (λ made. IsLeftFor size at text origins made others) → IfOk r (λ made. text_in made ≡ None)
+    → Fated words text others → IfOk r (λ made. IsLeftFor size at words text origins made others) → IfOk r (λ made. text_in made ≡ None)
     → IfOk r (IsMadeOfWords size at words text origins)
 of_left size at words text origins others (Ok made) fated left none =
     subst (λ (kept : Option (List ℕ)). KeepsWords size at words text origins made kept) (sym none)
     (record { fate = others; fated = fated; left = left })
 of_left size at words text origins others (Err e) fated left none = tt
+
+-- a name is one of the words
+pub is_among : (words : List Word) (k : ℕ) → IsNameAt words k → k < length words
+is_among [] k is = cc
+is_among (word ∷ words) zero is = omega arith
+is_among (word ∷ words) (suc k) is =
+    let further = is_among words k is in
+    omega (arith, further)
+
+-- of a variable that may not be assigned it is told at its word
+pub of_unset : {E : Type 0} (words : List Word) (k : ℕ) (none : Word) (r : Result Made E) → k < length words
+    → IfOk r (IsToldFor (get_or words k none).at (why.Unset (get_or words k none).bytes)) → IfOk r (λ made. IsToldUnset (slice_get words k) made)
+of_unset words k none r below told =
+    subst (λ (found : Option Word). IfOk r (λ made. IsToldUnset found made)) (sym (slice_get-get_or words k none below)) told
 
 -- the parser refused it, so it is refused for every size
 pub of_size : {E : Type 0} (size at : ℕ) (text : List ℕ) (origins : List Origin) (r : Result Made E)

@@ -11,6 +11,7 @@ use Rattle.bird_import.specs.Cutting.{IsCutInto}
 use Rattle.bird_import.specs.Items.{definitions_in, items_in, view_of_item}
 use Rattle.bird_import.specs.Judged.{HaveDrafts}
 use Rattle.bird_import.specs.Laying.{origin_of, origins_of, text_of}
+use Rattle.bird_import.specs.Reasons.{AreReasonWords}
 use Rattle.bird_import.specs.Spelling.{IsWritten}
 use Rattle.bird_import.specs.Texts.{Fated}
 use Rattle.bird_import.specs.declared.config.Config.{Config}
@@ -18,6 +19,8 @@ use Rattle.bird_import.specs.declared.cut.Cut.{Cut}
 use Rattle.bird_import.specs.declared.drafts.Draft.{Draft}
 use Rattle.bird_import.specs.declared.drafts.Outcome.{Outcome}
 use Rattle.bird_import.specs.declared.drafts.Outcome.TheVariants.{Drafted, LeftOut}
+use Rattle.bird_import.specs.declared.reason.Why.{Why}
+use Rattle.bird_import.specs.declared.reason.Why.TheVariants as why
 use Rattle.bird_import.specs.declared.text.Fate.{Fate}
 use Rattle.bird_import.specs.declared.text.Fate.TheVariants as fate
 use Rattle.bird_import.specs.declared.text.Origin.{Origin}
@@ -102,18 +105,31 @@ pub record IsOfWords (size at : ℕ) (words : List Word) (text : List ℕ) (made
   pub verified : IsVerifiedText size text made.words.items
   pub place : made.at ≡ at
 
+-- The words of a reason, as they are shown: no character of them steers a terminal or ends a line, whatever the name in them is.
+abbrev pub AreWordsFor : Why → List ℕ → Type 0
+AreWordsFor why words = (plain : List ℕ) × AreReasonWords why plain × (words ≡ shown plain)
+
+-- a filter is left out for a reason, and so it is told, at a place
+abbrev pub IsToldFor : ℕ → Why → Made → Type 0
+IsToldFor at why made = (made.at ≡ at) × AreWordsFor why made.words.items
+
+-- one of some words is a variable, and it is told that this one may be read before it is assigned
+abbrev pub IsToldUnset : Option Word → Made → Type 0
+IsToldUnset None made = ⊥
+IsToldUnset (Some word) made = IsToldFor word.at (why.Unset word.bytes) made
+
 -- Why none is kept of a draft: the text for its words is refused, and so it is told; or the words could not be written, or one of them is a
 -- variable that may be read before it is assigned, as the import judges, and its place is told.
-abbrev pub IsLeftFor : ℕ → ℕ → List ℕ → List Origin → Made → Fate → Type 0
-IsLeftFor size at text origins made fate.Taken = IsRefusedText size at text origins made
-IsLeftFor size at text origins made (fate.Refused fault) = IsRefusedText size at text origins made
-IsLeftFor size at text origins made fate.Garbled = made.at ≡ at
-IsLeftFor size at text origins made (fate.Unset byte) = made.at ≡ place_from origins at (Some byte)
+abbrev pub IsLeftFor : ℕ → ℕ → List Word → List ℕ → List Origin → Made → Fate → Type 0
+IsLeftFor size at words text origins made fate.Taken = IsRefusedText size at text origins made
+IsLeftFor size at words text origins made (fate.Refused fault) = IsRefusedText size at text origins made
+IsLeftFor size at words text origins made fate.Garbled = IsToldFor at why.Unwritten made
+IsLeftFor size at words text origins made (fate.Unset k) = IsToldUnset (slice_get words k) made
 
 pub record IsLeftOut (size at : ℕ) (words : List Word) (text : List ℕ) (origins : List Origin) (made : Made) : Type 0 where
   pub fate : Fate
   pub fated : Fated words text fate
-  pub left : IsLeftFor size at text origins made fate
+  pub left : IsLeftFor size at words text origins made fate
 
 abbrev pub KeepsWords : ℕ → ℕ → List Word → List ℕ → List Origin → Made → Option (List ℕ) → Type 0
 KeepsWords size at words text origins made None = IsLeftOut size at words text origins made
@@ -130,9 +146,9 @@ text_for config from to words = text_of (head_of config from to words) words
 abbrev pub origins_for : ConfigView → ℕ → ℕ → List Word → List Origin
 origins_for config from to words = origins_of (head_of config from to words) words
 
--- What came of a draft: none is written of one that is left out, and the place is that of the reason.
+-- What came of a draft: none is written of one that is left out, and what is told is its reason, at the place of that.
 abbrev pub IsMadeBy : ConfigView → ℕ → ℕ → ℕ → Outcome → Made → Type 0
-IsMadeBy config size from to (LeftOut reason) made = (text_in made ≡ None) × (made.at ≡ reason.at)
+IsMadeBy config size from to (LeftOut reason) made = (text_in made ≡ None) × IsToldFor reason.at reason.why made
 IsMadeBy config size from to (Drafted words) made =
     IsMadeOfWords size from words.items (text_for config from to words.items) (origins_for config from to words.items) made
 

@@ -2,7 +2,7 @@
 ghost use Rattle.std.specs.Option.{option_map};
 ghost use Rattle.std.specs.Prelude.{◌≡◌, ◌≤◌, ℕ, false, [], ◌∷◌, ◌++◌, IfOk, IfSome, OnOk, is_some, length, string_bytes};
 ghost use Rattle.ncroute.specs.Following.{DoesFirst};
-ghost use Rattle.ncroute.specs.Importing.{ImportsConfig, ImportsCut, ImportsDraft, ImportsMade, ImportsParts, ImportsRead, ImportsSource, ImportsWords, IsMade, IsMadeOfText, IsMadeOfWords, IsRefusedText};
+ghost use Rattle.ncroute.specs.Importing.{AreWordsFor, ImportsConfig, ImportsCut, ImportsDraft, ImportsMade, ImportsParts, ImportsRead, ImportsSource, ImportsWords, IsMade, IsMadeOfText, IsMadeOfWords, IsRefusedText, IsToldFor};
 ghost use Rattle.ncroute.specs.Importing.{SavesFilter, SavesText, TellsEnd, TellsStrange, TellsWord, byte_line, end_words, ends_in_slash, fate_words, file_name, file_path, head_of, is_outside, made_line, origin_line, origins_for, outside_line, path_words, place_from, slash_behind, strange_words, text_for, text_in};
 ghost use Rattle.ncroute.specs.Places.{config_of, place_of};
 ghost use Rattle.ncroute.specs.Streaming.{Tells, Writes};
@@ -18,7 +18,7 @@ use crate::including::{Whole, push_place, push_texts, read_whole};
 use crate::texts::{Folder, tell_unmade};
 use bird_import::{
     Config, Cut, Draft, Fate, FilterText, Outcome, Why, Word, WordKind, cut_words,
-    find_definitions, find_items, make_drafts, origin_of, write_filter,
+    find_definitions, find_items, make_drafts, origin_of, reason_words, write_filter,
 };
 use command_line::{Importing, Source};
 use filter_commands::ProgramFault;
@@ -42,16 +42,25 @@ struct Made {
     words: Vec<u8>,
 }
 
+/// The words of a reason, as they are shown.
+fn shown_reason(alloc: Global, why: Why<'_>) -> Result<Vec<u8>, AllocError>
+    ensures { IfOk result (λ words. AreWordsFor why.entry words.items) }
+{
+    let plain = reason_words(alloc, why)?;
+    let mut words = Vec::new(alloc);
+    push_shown(alloc, &mut words, plain.as_slice())?;
+    Ok(words)
+}
+
 /// What is told of a filter that is left out.
 fn left_out(alloc: Global, at: usize, why: Why<'_>) -> Result<Made, AllocError>
     ensures text { IfOk result (λ made. text_in made ≡ None) }
-    ensures place { IfOk result (λ made. made.at ≡ at) }
+    ensures told { IfOk result (IsToldFor at why.entry) }
 {
-    let words = format!(in alloc; "{why}")?;
     Ok(Made {
         text: None,
         at,
-        words: words.into_bytes(),
+        words: shown_reason(alloc, why)?,
     })
 }
 
@@ -125,18 +134,6 @@ fn push_origin(
     Ok(())
 }
 
-/// The name that stands at a byte of a text.
-fn name_at(text: &[u8], byte: usize) -> &[u8] {
-    let Some(rest) = text.get(byte..) else {
-        return b"";
-    };
-    let len = rest
-        .iter()
-        .take_while(|byte| byte.is_ascii_alphanumeric() || **byte == b'_')
-        .count();
-    &rest[..len.min(rest.len())]
-}
-
 /// Writes the text of a filter, and verifies it.
 fn make_filter(
     alloc: Global,
@@ -154,13 +151,9 @@ fn make_filter(
         Fate::Taken => verify_filter(alloc, size, draft.at, written),
         Fate::Refused(fault) => refuse_text(alloc, draft.at, &written, fault),
         Fate::Garbled => left_out(alloc, draft.at, Why::Unwritten),
-        Fate::Unset(byte) => {
-            let name = name_at(written.text.as_slice(), byte);
-            left_out(
-                alloc,
-                place_from(&written, Some(byte), draft.at),
-                Why::Unset(name),
-            )
+        Fate::Unset(index) => {
+            let word = words[index];
+            left_out(alloc, word.at, Why::Unset(word.bytes))
         }
     }
 }

@@ -1,4 +1,12 @@
+use Rattle.std.proofs.Common.{◌∙◌, ◌<◌, ℕ, List, ap, length, subst, sym}
+use Rattle.filter_parser.specs.SyntaxCommands.{view_decl}
 use Rattle.filter_parser.specs.SyntaxText.{view_filter}
+use Rattle.filter_parser.specs.declared.tree.decl.Decl.{Decl}
+use Rattle.filter_tokens.specs.declared.token.Token.{Token}
+use Rattle.bird_import.specs.Alike.{AreAlike}
+use Rattle.bird_import.specs.Indices.{IsNamedAt}
+use Rattle.bird_import.specs.Spelling.{IsSpelled}
+use Rattle.bird_import.proofs.Variables.{decl_at, has_variable}
 use Rattle.bird_import.proofs.Spelled.{false_not_true, not_written, of_fault}
 use Rattle.bird_import.proofs.text.judge.Goals as goal
 
@@ -18,3 +26,31 @@ pub returns-then-not-are_words : goal.returns-then-not-are_words
 returns-then-not-are_words c =
     not_written c.args.text.now c.args.words.now (view_filter c.in-Ok.filter) c.tokens.result.now c.in-Ok.ensures.unique c.tokens.ensures
     (λ alike. false_not_true (c.if-not-are_words.ensures.1 alike))
+
+pub index_of_name-requires : goal.index_of_name-requires
+index_of_name-requires c =
+    let filter = view_filter c.in-Ok.filter in
+    let decl = c.index-decls-unset.result in
+    let alike = subst (λ (tokens : List Token). AreAlike (IsSpelled c.args.text.now) tokens c.args.words.now) c.tokens.ensures
+    (c.are_words.ensures.0 c.if-not-are_words.false) in
+    let below = subst (λ (decls : List Decl). c.in-Some.unset.variable < length decls) (sym c.decls.ensures.value) c.in-Some.ensures in
+    let is = decl_at c.decls.result.now filter.decls c.in-Some.unset.variable decl c.decls.ensures.view below c.index-decls-unset.is in
+    let same = c.as_slice-name.ensures.value ∙ ap (λ (d : Decl). d.name.items) (sym c.index-decls-unset.is) in
+    let has = has_variable c.args.text.now c.args.words.now filter c.in-Ok.ensures.found alike (view_decl decl) c.in-Some.unset.variable is in
+    subst (λ (name : List ℕ). (k : ℕ) × IsNamedAt name c.args.words.now k) (sym same) has
+
+pub returns-in-Some : goal.returns-in-Some
+returns-in-Some c =
+    let filter = view_filter c.in-Ok.filter in
+    let decl = c.index-decls-unset.result in
+    let alike = subst (λ (tokens : List Token). AreAlike (IsSpelled c.args.text.now) tokens c.args.words.now) c.tokens.ensures
+    (c.are_words.ensures.0 c.if-not-are_words.false) in
+    let below = subst (λ (decls : List Decl). c.in-Some.unset.variable < length decls) (sym c.decls.ensures.value) c.in-Some.ensures in
+    let is = decl_at c.decls.result.now filter.decls c.in-Some.unset.variable decl c.decls.ensures.view below c.index-decls-unset.is in
+    let same = c.as_slice-name.ensures.value ∙ ap (λ (d : Decl). d.name.items) (sym c.index-decls-unset.is) in
+    record {
+      written = record { filter = filter; spells = c.in-Ok.ensures.found; same = alike };
+      variable = view_decl decl;
+      declared = (c.in-Some.unset.variable, is);
+      named = subst (λ (name : List ℕ). IsNamedAt name c.args.words.now c.index_of_name.result) same c.index_of_name.ensures;
+    }

@@ -1,9 +1,8 @@
-use Rattle.std.proofs.Common.{◌≡◌, ◌∙◌, ℕ, List, IfOk, ap, subst}
+use Rattle.std.proofs.Common.{◌∙◌, ℕ, List, ap, subst}
 use Rattle.bird_import.specs.Laying.{origins_of, text_of}
 use Rattle.bird_import.specs.Texts.{Fated}
 use Rattle.bird_import.specs.declared.text.Fate.TheVariants as fate
-use Rattle.ncroute.specs.declared.importing.Made.{Made}
-use Rattle.ncroute.proofs.MadeTexts.{of_left, of_same, of_size, of_text}
+use Rattle.ncroute.proofs.MadeTexts.{is_among, of_left, of_same, of_size, of_text, of_unset}
 use Rattle.ncroute.proofs.importing.make_filter.Goals as goal
 
 pub returns-in-Taken : goal.returns-in-Taken
@@ -51,7 +50,7 @@ returns-in-Garbled c =
     let alike = c.in_ok-written.ensures.origins ∙ ap (λ (head : List ℕ). origins_of head words) is_head in
     let fated = subst (Fated words text) c.in-Garbled.is c.in_ok-written.ensures.fate in
     of_same size at words c.left_out.result same alike
-    (of_left size at words text origins fate.Garbled c.left_out.result fated c.left_out.ensures.place c.left_out.ensures.text)
+    (of_left size at words text origins fate.Garbled c.left_out.result fated c.left_out.ensures.told c.left_out.ensures.text)
 
 pub returns : goal.returns
 returns c =
@@ -64,8 +63,14 @@ returns c =
     let is_head = c.as_slice.ensures.value ∙ c.in_ok-head.ensures in
     let same = c.in_ok-written.ensures.text ∙ ap (λ (head : List ℕ). text_of head words) is_head in
     let alike = c.in_ok-written.ensures.origins ∙ ap (λ (head : List ℕ). origins_of head words) is_head in
-    let byte = c.in-Unset.byte in
+    let index = c.in-Unset.index in
     let r = c.left_out-in-Unset.result in
     let fated = subst (Fated words text) c.in-Unset.is c.in_ok-written.ensures.fate in
-    let place = subst (λ (p : ℕ). IfOk r (λ (made : Made). made.at ≡ p)) c.place_from.ensures c.left_out-in-Unset.ensures.place in
-    of_same size at words r same alike (of_left size at words text origins (fate.Unset byte) r fated place c.left_out-in-Unset.ensures.text)
+    let told = of_unset words index _ r (is_among words index fated.named.0) c.left_out-in-Unset.ensures.told in
+    of_same size at words r same alike (of_left size at words text origins (fate.Unset index) r fated told c.left_out-in-Unset.ensures.text)
+
+pub bounds-words-index : goal.bounds-words-index
+bounds-words-index c =
+    let words = c.args.words.now in
+    let fated = subst (Fated words c.in_ok-written.written.text.items) c.in-Unset.is c.in_ok-written.ensures.fate in
+    is_among words c.in-Unset.index fated.named.0
