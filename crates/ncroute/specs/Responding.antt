@@ -8,7 +8,7 @@ use Rattle.line_protocol.specs.declared.faults.StreamFault.{StreamFault}
 use Rattle.ncroute.specs.Ending.{fault_line}
 use Rattle.ncroute.specs.Networking.{FailsToReportNetwork, ServesNetwork}
 use Rattle.ncroute.specs.Requests.{FailsToReport, Serves, fault_status}
-use Rattle.ncroute.specs.Routing.{ServesRouter}
+use Rattle.ncroute.specs.Routing.{CutsRouter, ServesRouter}
 use Rattle.ncroute.specs.Streaming.{Streams, TellsFront}
 
 -- What was asked for was served, with its status; where standard error did not take the whole line of a fault, the status is that of a fault.
@@ -21,5 +21,6 @@ Responds opens creates (Ok (Asked what)) before after status = Serves opens crea
 Responds opens creates (Ok Network) before after status = ServesNetwork before after status
     ⊎ (FailsToReportNetwork before after × (status ≡ 1))
 Responds opens creates (Ok (Router words)) before after status = ServesRouter opens creates words before after status
+    ⊎ ((cut : StreamFault) × CutsRouter opens creates cut words before after status)
 Responds opens creates (Ok (Shown shown)) before after status = (status ≡ shown) × (after ≡ before)
 Responds opens creates (Err fault) before after status = (status ≡ 1) × TellsFront (fault_line (Stream fault)) before after

@@ -1,13 +1,11 @@
 -- What the program does for `router`, and its exit status. (This project's own choice.)
-use Rattle.std.specs.Prelude.{◌≡◌, ◌⊎◌, ℕ, List, [], ◌∷◌, ◌++◌, Option, Some, None, Result, Ok, IfSome, String, codes, map, string_bytes}
+use Rattle.std.specs.Prelude.{◌≡◌, ◌⊎◌, ℕ, List, [], ◌∷◌, ◌++◌, Option, Some, None, Result, Ok, IfSome, String, codes, decimal, map, string_bytes}
 use Rattle.std.specs.Io.KnownBytes.{Appends}
 use Rattle.std.specs.declared.io.Error.{Error}
 use Rattle.std.proofs.Common.{Global}
 use Rattle.filter_commands.specs.Evaluation.{IsCut}
 use Rattle.filter_commands.specs.Faults.{stream_fault}
-use Rattle.filter_commands.specs.declared.fault.ProgramFault.{ProgramFault}
 use Rattle.history_saver.specs.Saved.{SaverView}
-use Rattle.line_protocol.specs.Runs.{AppendsFront}
 use Rattle.line_protocol.specs.declared.faults.StreamFault.{StreamFault}
 use Rattle.line_protocol.specs.declared.faults.StreamFault.TheVariants.{Memory}
 use Rattle.router_daemon.specs.Codes.{fault_code}
@@ -24,25 +22,38 @@ use Rattle.ncroute.specs.Planning.{IsPlanOf, LacksPlan}
 use Rattle.ncroute.specs.Reading.{unmade_line}
 use Rattle.ncroute.specs.Ending.{fault_line}
 use Rattle.ncroute.specs.Streaming.{Streams}
+use Rattle.ncroute.specs.declared.routing.SetupFault.{SetupFault}
+use Rattle.ncroute.specs.declared.routing.SetupFault.TheVariants.{Program, Words}
+
+-- what is said of a node, with these words before its number and behind it
+abbrev pub words_of_node : List ℕ → ℕ → List ℕ → List ℕ
+words_of_node before node behind = before ++ decimal node ++ behind
+
+-- what is said of an option that is refused
+abbrev pub option_words : OptionFault → List ℕ
+option_words option_fault.Numbers = codes "--size is 2 to 250, --node is below it, and --limit is 1 to 1000000"
+option_words option_fault.Form = codes "the form is --link W=IN,OUT, --import W=NAME, --export W=NAME or --prefix V=PREFIX"
+option_words (option_fault.Node node) = words_of_node [] node (codes " is no neighbour's number")
+option_words (option_fault.TwoLinks node) = words_of_node (codes "node ") node (codes " has two links")
+option_words option_fault.UnknownFilter = codes "--import and --export name a filter that --filter gives"
+option_words option_fault.Memory = codes "out of memory"
 
 -- the line that tells what is wrong with the words
-abbrev pub wrong_line : List ℕ → List ℕ
-wrong_line words = codes "error: " ++ words ++ 10 ∷ []
+abbrev pub wrong_line : OptionFault → List ℕ
+wrong_line why = codes "error: " ++ option_words why ++ 10 ∷ []
 
 -- the line that tells of a fault of a router
 abbrev pub router_line : DaemonFault → List ℕ
 router_line fault = codes "ncroute: " ++ fault_code fault ++ 10 ∷ []
 
--- Standard error was told a front of the line that tells what is wrong with the words.
-abbrev pub TellsWrong : Option (List ℕ) → Option (List ℕ) → Type 0
-TellsWrong told tells = (words : List ℕ) × AppendsFront told tells (wrong_line words)
+-- the line that tells what kept a router from being set up, and the exit status
+abbrev pub setup_line : SetupFault → List ℕ
+setup_line (Words why) = wrong_line why
+setup_line (Program fault) = fault_line fault
 
--- The words tell no plan, and memory is not why.
-pub record AreWrong (words : RouterWords) (told tells : Option (List ℕ)) : Type 0 where
-  pub why : OptionFault
-  pub lacks : LacksPlan words why
-  pub wrong : why ≡ option_fault.Memory → ⊥
-  pub tells_wrong : TellsWrong told tells
+abbrev pub setup_status : SetupFault → ℕ
+setup_status (Words why) = 2
+setup_status (Program fault) = 1
 
 -- `creates name` says what may come of making a file of this name: what it holds at first, or why there is none.
 module _ (creates : List ℕ → Result (Option (List ℕ)) Error → Type 0) where
@@ -86,17 +97,21 @@ module _ (creates : List ℕ → Result (Option (List ℕ)) Error → Type 0) wh
       pub planned : IsPlanOf words plan
       pub fits : FitsOut words plan names kept known left told tells
 
-    -- The words are wrong, or what is needed is not there; the status tells which. Standard error was told.
-    abbrev pub TurnsAway : RouterWords → Option (List ℕ) → Option (List ℕ) → Option (List ℕ) → Option (List ℕ) → ℕ → Type 0
-    TurnsAway words known left told tells status =
-        (AreWrong words told tells × (left ≡ known) × (status ≡ 2))
-        ⊎ ((plan : PlanView) × IsPlanOf words plan × LacksParts words plan known left told tells × (status ≡ 1))
+    -- The words tell a plan, but something that it is run with is not there, which standard error was told.
+    abbrev pub LacksSetting : RouterWords → Option (List ℕ) → Option (List ℕ) → Option (List ℕ) → Option (List ℕ) → Type 0
+    LacksSetting words known left told tells = (plan : PlanView) × IsPlanOf words plan × LacksParts words plan known left told tells
 
-    -- A fault ended it.
-    abbrev pub StopsSettingUp : StreamFault → RouterWords → Option (List ℕ) → Option (List ℕ) → Option (List ℕ) → Option (List ℕ) → Type 0
-    StopsSettingUp fault words known left told tells =
+    -- A fault of the program ended it.
+    abbrev pub StopsProgram : StreamFault → RouterWords → Option (List ℕ) → Option (List ℕ) → Option (List ℕ) → Option (List ℕ) → Type 0
+    StopsProgram fault words known left told tells =
         (LacksPlan words option_fault.Memory × (fault ≡ Memory) × (left ≡ known) × (tells ≡ told))
         ⊎ ((plan : PlanView) × IsPlanOf words plan × StopsParts fault words plan known left told tells)
+
+    -- The words tell no plan, and memory is not why: nothing was read, and nothing told yet. Or a fault of the program ended it.
+    abbrev pub StopsSettingUp : SetupFault → RouterWords → Option (List ℕ) → Option (List ℕ) → Option (List ℕ) → Option (List ℕ) → Type 0
+    StopsSettingUp (Words why) words known left told tells =
+        LacksPlan words why × (why ≡ option_fault.Memory → ⊥) × (left ≡ known) × (tells ≡ told)
+    StopsSettingUp (Program fault) words known left told tells = StopsProgram (stream_fault fault) words known left told tells
 
 -- The operator's lines ended so, at a router of this plan.
 abbrev pub Operated : PlanView → Names → Streams → Streams → Result ℕ StreamFault → Type 0
@@ -111,31 +126,49 @@ pub record RunsToEnd (plan : PlanView) (names : Names) (kept : Option (Option (L
   pub saved : SavesTo plan.opening plan.limit kept saver
   pub quiet : after.tells ≡ before.tells
 
--- A fault ended it, of which standard error was told a front of the line.
-pub record EndsInFault (plan : PlanView) (names : Names) (before after : Streams) : Type 0 where
+-- A fault ended it, and `TellsLine told tells line` says what standard error was told of the line of the fault.
+pub record EndsInFault (TellsLine : Option (List ℕ) → Option (List ℕ) → List ℕ → Type 0) (plan : PlanView) (names : Names)
+    (before after : Streams) : Type 0 where
   pub why : DaemonFault
   pub fails : Fails (Operated plan names before after) ((after.reads ≡ before.reads) × (after.holds ≡ before.holds)) why
-  pub told : AppendsFront before.tells after.tells (router_line why)
+  pub told : TellsLine before.tells after.tells (router_line why)
 
--- The exit status tells which.
+-- The exit status tells which. The whole line of the fault was told.
 abbrev pub RunsPlan : PlanView → Names → Option (Option (List ℕ)) → Streams → Streams → ℕ → Type 0
 RunsPlan plan names kept before after status = (RunsToEnd plan names kept before after × (status ≡ 0))
-    ⊎ (EndsInFault plan names before after × (status ≡ 1))
+    ⊎ (EndsInFault Appends plan names before after × (status ≡ 1))
 
--- A router was run as words say: it was set up first, all of it, and then run; or it was not set up, no line was answered, and standard error
--- was told.
+-- A fault ended it, and another one cut what standard error was told of that.
+abbrev pub CutsPlan : StreamFault → PlanView → Names → Streams → Streams → ℕ → Type 0
+CutsPlan cut plan names before after status = EndsInFault (IsCut cut) plan names before after × (status ≡ 1)
+
+-- `opens name` and `creates name` say what may come of opening and of making a file of this name.
 module _ (opens creates : List ℕ → Result (Option (List ℕ)) Error → Type 0) where
-  abbrev pub RunsRouter : RouterWords → Streams → Streams → ℕ → Type 0
-  RunsRouter words before after status = (plan : PlanView) × (names : Names) × (kept : Option (Option (List ℕ))) × (left : Option (List ℕ))
+  -- It was set up as words say, all of it, and then ran so: `Ran plan names kept before after`.
+  abbrev pub SetUpRan : (PlanView → Names → Option (Option (List ℕ)) → Streams → Streams → Type 0) → RouterWords → Streams → Streams → Type 0
+  SetUpRan Ran words before after = (plan : PlanView) × (names : Names) × (kept : Option (Option (List ℕ))) × (left : Option (List ℕ))
       × (tells : Option (List ℕ)) × SetsUp creates opens words plan names kept before.reads left before.tells tells
-      × RunsPlan plan names kept (record { reads = left; holds = before.holds; tells = tells }) after status
+      × Ran plan names kept (record { reads = left; holds = before.holds; tells = tells }) after
 
-  abbrev pub StopsRouter : RouterWords → Streams → Streams → ℕ → Type 0
-  StopsRouter words before after status = (fault : ProgramFault) × (tells : Option (List ℕ))
-      × StopsSettingUp creates opens (stream_fault fault) words before.reads after.reads before.tells tells
-      × AppendsFront tells after.tells (fault_line fault) × (after.holds ≡ before.holds) × (status ≡ 1)
+  -- It was not set up, for want of something that it is run with.
+  abbrev pub LacksRouter : RouterWords → Streams → Streams → ℕ → Type 0
+  LacksRouter words before after status =
+      LacksSetting creates opens words before.reads after.reads before.tells after.tells × (after.holds ≡ before.holds) × (status ≡ 1)
 
+  -- A fault kept it from being set up, and `TellsLine told tells line` says what standard error was told of the line of the fault.
+  abbrev pub StopsRouter : (Option (List ℕ) → Option (List ℕ) → List ℕ → Type 0) → RouterWords → Streams → Streams → ℕ → Type 0
+  StopsRouter TellsLine words before after status = (fault : SetupFault) × (tells : Option (List ℕ))
+      × StopsSettingUp creates opens fault words before.reads after.reads before.tells tells
+      × TellsLine tells after.tells (setup_line fault) × (after.holds ≡ before.holds) × (status ≡ setup_status fault)
+
+  -- A router was run as words say: it was set up first, all of it, and then run; or it was not set up, and no line was answered. Standard
+  -- error was told why, the whole line.
   unfoldable pub ServesRouter : RouterWords → Streams → Streams → ℕ → Type 0
-  ServesRouter words before after status = RunsRouter words before after status
-      ⊎ ((TurnsAway creates opens words before.reads after.reads before.tells after.tells status × (after.holds ≡ before.holds))
-      ⊎ StopsRouter words before after status)
+  ServesRouter words before after status = SetUpRan (λ plan names kept mid end. RunsPlan plan names kept mid end status) words before after
+      ⊎ (LacksRouter words before after status ⊎ StopsRouter Appends words before after status)
+
+  -- It ended with a line, and a fault cut what standard error was told of that one.
+  unfoldable pub CutsRouter : StreamFault → RouterWords → Streams → Streams → ℕ → Type 0
+  CutsRouter cut words before after status =
+      SetUpRan (λ plan names kept mid end. CutsPlan cut plan names mid end status) words before after
+      ⊎ StopsRouter (IsCut cut) words before after status

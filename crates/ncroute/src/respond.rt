@@ -5,6 +5,7 @@ ghost use Rattle.ncroute.specs.Ending.{fault_line};
 ghost use Rattle.ncroute.specs.Networking.{FailsToReportNetwork, ServesNetwork};
 ghost use Rattle.ncroute.specs.Requests.{FailsToReport, Serves, fault_status};
 ghost use Rattle.ncroute.specs.Responding.{Responds};
+ghost use Rattle.ncroute.specs.Routing.{CutsRouter, ServesRouter};
 ghost use Rattle.ncroute.specs.Streaming.{TellsFront};
 
 use crate::console::Console;
@@ -13,7 +14,7 @@ use crate::network::serve_network;
 use crate::requests::{fault_status, serve};
 use crate::routing::serve_router;
 use crate::texts::Folder;
-use command_line::{Request, Words};
+use command_line::{Request, RouterWords, Words};
 use filter_commands::ProgramFault;
 use line_protocol::StreamFault;
 use router_daemon::LinkFolder;
@@ -53,6 +54,35 @@ fn status_of_network<R: Threads + Wait + Clock + Sync, I: Read, W: Write, E: Wri
     }
 }
 
+/// Serves `router`, likewise. Where its last line was not told whole, the exit status is the same.
+fn status_of_router<
+    R: Threads + Wait + Clock + Folder + LinkFolder<FI, FO> + Copy + Send + Sync + Drop + 'static,
+    FI: Read + Send + Drop + 'static,
+    FO: Write + Send + Drop + 'static,
+    T: Write + Send + Drop + 'static,
+    I: Read,
+    W: Write,
+    E: Write,
+>(rt: &R, alloc: Global, words: &RouterWords, console: &mut Console<I, W, E>, voice: T) -> u8
+where
+    R::New: Send + 'static,
+    ensures { ServesRouter (R.opens rt.now) (R.creates rt.now) words.now console.old console.new result
+        ⊎ ((cut : StreamFault) × CutsRouter (R.opens rt.now) (R.creates rt.now) cut words.now console.old console.new result) }
+{
+    match serve_router::<R, FI, FO, T, I, W, E>(
+        rt,
+        alloc,
+        words,
+        &mut console.reader,
+        &mut console.writer,
+        &mut console.errors,
+        voice,
+    ) {
+        Ok(status) => status,
+        Err(untold) => untold.status,
+    }
+}
+
 /// Tells of a fault that kept the words from being read: the exit status.
 fn status_of_fault<R: Read, W: Write, E: Write>(
     console: &mut Console<R, W, E>,
@@ -86,15 +116,9 @@ where
 {
     match words {
         Ok(Words::Asked(request)) => status_of_request(rt, alloc, &request, console),
-        Ok(Words::Router(words)) => serve_router::<R, FI, FO, T, I, W, E>(
-            rt,
-            alloc,
-            &words,
-            &mut console.reader,
-            &mut console.writer,
-            &mut console.errors,
-            voice,
-        ),
+        Ok(Words::Router(words)) => {
+            status_of_router::<R, FI, FO, T, I, W, E>(rt, alloc, &words, console, voice)
+        }
         Ok(Words::Network) => status_of_network(rt, alloc, console),
         Ok(Words::Shown(status)) => status,
         Err(fault) => status_of_fault(console, fault),

@@ -1,18 +1,19 @@
 //! The command `router`: from the words to an exit status.
 ghost use Rattle.std.specs.Option.{option_map};
-ghost use Rattle.std.specs.Prelude.{◌≡◌, None, Some, IfErr, IfOk, MatchOption, MatchResult, List, ℕ, ◌++◌, ◌∷◌, []};
+ghost use Rattle.std.specs.Prelude.{◌≡◌, ◌++◌, IfErr, IfOk, MatchOption, OnOk};
+ghost use Rattle.std.specs.Io.KnownBytes.{Appends};
+ghost use Rattle.filter_commands.specs.Evaluation.{IsCut};
 ghost use Rattle.filter_commands.specs.Faults.{stream_fault};
-ghost use Rattle.line_protocol.specs.Runs.{AppendsFront};
 ghost use Rattle.ncroute.specs.Routing as spec;
 
-use crate::ending::{FAILED, end_by_fault, fault_line};
+use crate::ending::{FAILED, fault_line};
 use crate::loading::load_filters;
 use crate::planning::plan_of;
-use crate::texts::{Folder, tell_unmade};
+use crate::texts::{Folder, tell_unmade, write_line};
 use command_line::RouterWords;
 use filter_commands::ProgramFault;
 use history_saver::SaveFault;
-use line_protocol::write_text;
+use line_protocol::push_decimal;
 use route_history::CallFault;
 use router_daemon::{DaemonFault, LinkFolder, Setting, run_router};
 use router_options::{OptionFault, RouterPlan};
@@ -26,31 +27,107 @@ use std::thread::Threads;
 /// The exit status where the words are wrong.
 const WRONG_WORDS: u8 = 2;
 
-/// The line that tells what is wrong with the words, with the words of the fault.
-fn wrong_line(alloc: Global, words: &str) -> Result<Vec<u8>, AllocError>
-    ensures { IfOk result (λ line. line.items ≡ spec.wrong_line words.now) }
+/// What kept a router from being set up.
+#[derive(Clone, Copy)]
+enum SetupFault {
+    /// The words are wrong.
+    Words(OptionFault),
+    /// A fault of the program.
+    Program(ProgramFault),
+}
+
+/// The exit status of a router that ended with a line which people were not told, or not whole.
+#[derive(Clone, Copy)]
+pub struct Untold {
+    /// The exit status.
+    pub status: u8,
+    /// Why the line was not told: memory was refused, or standard error did not take it.
+    pub why: ProgramFault,
+}
+
+/// Adds what is said of a node, with these words before its number and behind it.
+fn push_of_node(
+    line: &mut Vec<u8>,
+    before: &[u8],
+    node: u16,
+    behind: &[u8],
+) -> Result<(), AllocError>
+    ensures { OnOk result (line.new.items ≡ line.old.items ++ spec.words_of_node before.now node behind.now) }
+{
+    line.extend_from_slice(before)?;
+    push_decimal(line, u64::from(node))?;
+    line.extend_from_slice(behind)?;
+    Ok(())
+}
+
+/// Adds what is said of an option that is refused.
+fn push_option_words(line: &mut Vec<u8>, fault: OptionFault) -> Result<(), AllocError>
+    ensures { OnOk result (line.new.items ≡ line.old.items ++ spec.option_words fault) }
+{
+    match fault {
+        OptionFault::Numbers => line.extend_from_slice(
+            b"--size is 2 to 250, --node is below it, and --limit is 1 to 1000000",
+        ),
+        OptionFault::Form => line.extend_from_slice(
+            b"the form is --link W=IN,OUT, --import W=NAME, --export W=NAME or --prefix V=PREFIX",
+        ),
+        OptionFault::Node(node) => push_of_node(line, b"", node, b" is no neighbour's number"),
+        OptionFault::TwoLinks(node) => push_of_node(line, b"node ", node, b" has two links"),
+        OptionFault::UnknownFilter => {
+            line.extend_from_slice(b"--import and --export name a filter that --filter gives")
+        }
+        OptionFault::Memory => line.extend_from_slice(b"out of memory"),
+    }
+}
+
+/// The line that tells what is wrong with the words.
+fn wrong_line(alloc: Global, fault: OptionFault) -> Result<Vec<u8>, AllocError>
+    ensures { IfOk result (λ line. line.items ≡ spec.wrong_line fault) }
 {
     let mut line = Vec::new(alloc);
     line.extend_from_slice(b"error: ")?;
-    line.extend_from_slice(words.as_bytes())?;
+    push_option_words(&mut line, fault)?;
     line.push(b'\n')?;
     Ok(line)
 }
 
-/// The line that tells what is wrong with the words.
-fn fault_words(alloc: Global, fault: OptionFault) -> Result<Vec<u8>, AllocError>
-    ensures { IfOk result (λ line. (words : List ℕ) × (line.items ≡ spec.wrong_line words)) }
+/// Tells people the line with which a router ends: the exit status.
+fn end_by_line<E: Write>(errors: &mut E, status: u8, line: &[u8]) -> Result<u8, Untold>
+    ensures told { IfOk result (λ ended. (ended ≡ status) × Appends (E.contents errors.old) (E.contents errors.new) line.now) }
+    ensures cut { IfErr result (λ untold. (untold.status ≡ status)
+        × IsCut (stream_fault untold.why) (E.contents errors.old) (E.contents errors.new) line.now) }
 {
-    let words = format!(in alloc; "{fault}")?;
-    wrong_line(alloc, words.as_str())
+    match write_line(errors, line) {
+        Ok(()) => Ok(status),
+        Err(why) => Err(Untold { status, why }),
+    }
 }
 
-/// Tells what is wrong with the words. Where standard error takes no text, or memory is refused, people are not told.
-fn tell_wrong<E: Write>(alloc: Global, errors: &mut E, fault: OptionFault)
-    ensures { spec.TellsWrong (E.contents errors.old) (E.contents errors.new) }
+/// Tells people what is wrong with the words: the exit status.
+fn end_by_words<E: Write>(alloc: Global, errors: &mut E, fault: OptionFault) -> Result<u8, Untold>
+    ensures told { IfOk result (λ ended. (ended ≡ 2) × Appends (E.contents errors.old) (E.contents errors.new) (spec.wrong_line fault)) }
+    ensures cut { IfErr result (λ untold. (untold.status ≡ 2)
+        × IsCut (stream_fault untold.why) (E.contents errors.old) (E.contents errors.new) (spec.wrong_line fault)) }
 {
-    if let Ok(line) = fault_words(alloc, fault) {
-        let _ = write_text(errors, line.as_slice());
+    match wrong_line(alloc, fault) {
+        Ok(line) => end_by_line(errors, WRONG_WORDS, line.as_slice()),
+        Err(_) => Err(Untold {
+            status: WRONG_WORDS,
+            why: ProgramFault::MEMORY,
+        }),
+    }
+}
+
+/// Tells people what kept a router from being set up: the exit status.
+fn end_unset<E: Write>(alloc: Global, errors: &mut E, fault: SetupFault) -> Result<u8, Untold>
+    ensures told { IfOk result (λ ended. (ended ≡ spec.setup_status fault)
+        × Appends (E.contents errors.old) (E.contents errors.new) (spec.setup_line fault)) }
+    ensures cut { IfErr result (λ untold. (untold.status ≡ spec.setup_status fault)
+        × IsCut (stream_fault untold.why) (E.contents errors.old) (E.contents errors.new) (spec.setup_line fault)) }
+{
+    match fault {
+        SetupFault::Words(fault) => end_by_words(alloc, errors, fault),
+        SetupFault::Program(fault) => end_by_line(errors, FAILED, fault_line(fault).as_bytes()),
     }
 }
 
@@ -71,11 +148,13 @@ fn router_line(fault: DaemonFault) -> &'static str
     }
 }
 
-/// Tells of the fault that ended a router.
-fn tell_fault<E: Write>(errors: &mut E, fault: DaemonFault)
-    ensures { AppendsFront (E.contents errors.old) (E.contents errors.new) (spec.router_line fault) }
+/// Tells people of the fault that ended a router: the exit status.
+fn end_by_fault<E: Write>(errors: &mut E, fault: DaemonFault) -> Result<u8, Untold>
+    ensures told { IfOk result (λ ended. (ended ≡ 1) × Appends (E.contents errors.old) (E.contents errors.new) (spec.router_line fault)) }
+    ensures cut { IfErr result (λ untold. (untold.status ≡ 1)
+        × IsCut (stream_fault untold.why) (E.contents errors.old) (E.contents errors.new) (spec.router_line fault)) }
 {
-    let _ = write_text(errors, router_line(fault).as_bytes());
+    end_by_line(errors, FAILED, router_line(fault).as_bytes())
 }
 
 /// Makes the file in which the history is saved, if one is named. There is none where it is not made, which people are told.
@@ -147,34 +226,31 @@ fn fit_out<F: Folder, R: Read, E: Write>(
     }
 }
 
-/// What a router is run with; or the exit status where people were told why there is nothing.
+/// What a router is run with. There is none where something of it is not there, which people were told.
 fn set_up<F: Folder, R: Read, E: Write>(
     files: &F,
     alloc: Global,
     words: &RouterWords,
     reader: &mut R,
     errors: &mut E,
-) -> Result<Result<Setting<F::New>, u8>, ProgramFault>
-    ensures finished { IfOk result (λ set. MatchResult set
+) -> Result<Option<Setting<F::New>>, SetupFault>
+    ensures finished { IfOk result (λ set. MatchOption set
+        (spec.LacksSetting (F.creates files.now) (F.opens files.now) words.now (R.remaining reader.old) (R.remaining reader.new)
+        (E.contents errors.old) (E.contents errors.new))
         (λ setting. spec.SetsUp (F.creates files.now) (F.opens files.now) words.now setting.plan setting.filters.entries
         (option_map (λ new. F.New.contents new) setting.save) (R.remaining reader.old) (R.remaining reader.new)
-        (E.contents errors.old) (E.contents errors.new))
-        (λ status. spec.TurnsAway (F.creates files.now) (F.opens files.now) words.now (R.remaining reader.old) (R.remaining reader.new)
-        (E.contents errors.old) (E.contents errors.new) status)) }
-    ensures stopped { IfErr result (λ fault. spec.StopsSettingUp (F.creates files.now) (F.opens files.now) (stream_fault fault) words.now
+        (E.contents errors.old) (E.contents errors.new))) }
+    ensures stopped { IfErr result (λ fault. spec.StopsSettingUp (F.creates files.now) (F.opens files.now) fault words.now
         (R.remaining reader.old) (R.remaining reader.new) (E.contents errors.old) (E.contents errors.new)) }
 {
     match plan_of(alloc, words) {
         Ok(plan) => match fit_out(files, alloc, words, plan, reader, errors) {
-            Ok(Some(setting)) => Ok(Ok(setting)),
-            Ok(None) => Ok(Err(FAILED)),
-            Err(fault) => Err(fault),
+            Ok(Some(setting)) => Ok(Some(setting)),
+            Ok(None) => Ok(None),
+            Err(fault) => Err(SetupFault::Program(fault)),
         },
-        Err(OptionFault::Memory) => Err(ProgramFault::MEMORY),
-        Err(fault) => {
-            tell_wrong(alloc, errors, fault);
-            Ok(Err(WRONG_WORDS))
-        }
+        Err(OptionFault::Memory) => Err(SetupFault::Program(ProgramFault::MEMORY)),
+        Err(fault) => Err(SetupFault::Words(fault)),
     }
 }
 
@@ -196,23 +272,23 @@ fn run_setting<
     writer: &mut W,
     errors: &mut E,
     voice: T,
-) -> u8
-    ensures { spec.RunsPlan setting.plan setting.filters.entries (option_map (λ file. V.contents file) setting.save)
+) -> Result<u8, Untold>
+    ensures finished { IfOk result (spec.RunsPlan setting.plan setting.filters.entries (option_map (λ file. V.contents file) setting.save)
         (record { reads = I.remaining reader.old; holds = W.contents writer.old; tells = E.contents errors.old })
-        (record { reads = I.remaining reader.new; holds = W.contents writer.new; tells = E.contents errors.new }) result }
+        (record { reads = I.remaining reader.new; holds = W.contents writer.new; tells = E.contents errors.new })) }
+    ensures untold { IfErr result (λ untold. spec.CutsPlan (stream_fault untold.why) setting.plan setting.filters.entries
+        (record { reads = I.remaining reader.old; holds = W.contents writer.old; tells = E.contents errors.old })
+        (record { reads = I.remaining reader.new; holds = W.contents writer.new; tells = E.contents errors.new }) untold.status) }
 {
     match run_router::<R, FI, FO, R, V, T, I, W>(rt, alloc, *rt, setting, voice, reader, writer) {
-        Ok(_) => 0,
-        Err(fault) => {
-            tell_fault(errors, fault);
-            FAILED
-        }
+        Ok(_) => Ok(0),
+        Err(fault) => end_by_fault(errors, fault),
     }
 }
 
 /// Runs the router that words ask for, and returns the exit status. Its filters are verified, and the file of its history is made,
 /// before any link is opened. `voice` is where people are told of links.
-#[tactic(auto, unfolding(crate::specs::Routing::ServesRouter))]
+#[tactic(auto, unfolding(crate::specs::Routing::ServesRouter, crate::specs::Routing::CutsRouter))]
 pub fn serve_router<
     R: Threads + Wait + Clock + Folder + LinkFolder<FI, FO> + Copy + Send + Sync + Drop + 'static,
     FI: Read + Send + Drop + 'static,
@@ -229,18 +305,21 @@ pub fn serve_router<
     writer: &mut W,
     errors: &mut E,
     voice: T,
-) -> u8
+) -> Result<u8, Untold>
 where
     R::New: Send + 'static,
-    ensures { spec.ServesRouter (R.opens rt.now) (R.creates rt.now) words.now
+    ensures served { IfOk result (spec.ServesRouter (R.opens rt.now) (R.creates rt.now) words.now
         (record { reads = I.remaining reader.old; holds = W.contents writer.old; tells = E.contents errors.old })
-        (record { reads = I.remaining reader.new; holds = W.contents writer.new; tells = E.contents errors.new }) result }
+        (record { reads = I.remaining reader.new; holds = W.contents writer.new; tells = E.contents errors.new })) }
+    ensures untold { IfErr result (λ untold. spec.CutsRouter (R.opens rt.now) (R.creates rt.now) (stream_fault untold.why) words.now
+        (record { reads = I.remaining reader.old; holds = W.contents writer.old; tells = E.contents errors.old })
+        (record { reads = I.remaining reader.new; holds = W.contents writer.new; tells = E.contents errors.new }) untold.status) }
 {
     match set_up(rt, alloc, words, reader, errors) {
-        Ok(Ok(setting)) => run_setting::<R, FI, FO, R::New, T, I, W, E>(
+        Ok(Some(setting)) => run_setting::<R, FI, FO, R::New, T, I, W, E>(
             rt, alloc, setting, reader, writer, errors, voice,
         ),
-        Ok(Err(status)) => status,
-        Err(fault) => end_by_fault(errors, fault),
+        Ok(None) => Ok(FAILED),
+        Err(fault) => end_unset(alloc, errors, fault),
     }
 }
