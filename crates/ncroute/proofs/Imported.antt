@@ -10,17 +10,19 @@ use Rattle.ncroute.specs.Places.{ConfigView}
 use Rattle.ncroute.specs.Streaming.{Streams}
 use Rattle.ncroute.specs.declared.importing.Made.{Made}
 
-pub of_made : {E : Type 0} (creates : List ℕ → Result (Option (List ℕ)) Error → Type 0) (how : Importing) (config : ConfigView) (draft : Draft)
+pub of_made : {E : Type 0} (creates : List ℕ → Result (Option (List ℕ)) Error → Type 0)
+    (leaves : List ℕ → Option (List ℕ) → Type 0) (how : Importing) (config : ConfigView) (draft : Draft)
     (made : Made) (before after : Streams) (r : Result Bool E) → IsMade config how.size draft made
-    → IfOk r (ImportsMade creates how.folder (text_in made) config draft.name.now made before after)
-    → IfOk r (ImportsDraft creates how config draft before after)
-of_made creates how config draft made before after (Ok left) is imported = record { made = made; is_made = is; imported = imported }
-of_made creates how config draft made before after (Err fault) is imported = tt
+    → IfOk r (ImportsMade creates leaves how.folder (text_in made) config draft.name.now made before after)
+    → IfOk r (ImportsDraft creates leaves how config draft before after)
+of_made creates leaves how config draft made before after (Ok left) is imported = record { made = made; is_made = is; imported = imported }
+of_made creates leaves how config draft made before after (Err fault) is imported = tt
 
 -- the text of a configuration was cut, and what it was cut into was imported
-pub of_cut : {E : Type 0} (creates : List ℕ → Result (Option (List ℕ)) Error → Type 0) (how : Importing) (config : ConfigView) (text : List ℕ)
+pub of_cut : {E : Type 0} (creates : List ℕ → Result (Option (List ℕ)) Error → Type 0)
+    (leaves : List ℕ → Option (List ℕ) → Type 0) (how : Importing) (config : ConfigView) (text : List ℕ)
     (cut : Cut) (before after : Streams) (r : Result Bool E) → text ≡ config.text → IsCutInto text cut
-    → IfOk r (ImportsCut creates how config cut.words.items cut.end before after) → IfOk r (ImportsConfig creates how config before after)
-of_cut creates how config text cut before after (Ok left) same is imported =
+    → IfOk r (ImportsCut creates leaves how config cut.words.items cut.end before after) → IfOk r (ImportsConfig creates leaves how config before after)
+of_cut creates leaves how config text cut before after (Ok left) same is imported =
     record { cut = cut; is = subst (λ (text : List ℕ). IsCutInto text cut) same is; imported = imported }
-of_cut creates how config text cut before after (Err fault) same is imported = tt
+of_cut creates leaves how config text cut before after (Err fault) same is imported = tt

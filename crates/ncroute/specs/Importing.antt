@@ -1,5 +1,5 @@
 -- What the program does with a configuration of BIRD whose filters are imported. (This project's own choice.)
-use Rattle.std.specs.Prelude.{◌≡◌, ◌⊎◌, ◌||◌, ◌&&◌, ◌==◌, ◌-◌, ◌++◌, ℕ, nat_lt, Bool, true, false, not, if◌then◌else◌, is_some, List, [], ◌∷◌, Option, Some, None, Result, Ok, Err, ⊤}
+use Rattle.std.specs.Prelude.{◌≡◌, ◌⊎◌, ◌||◌, ◌&&◌, ◌==◌, ◌-◌, ◌++◌, ℕ, nat_lt, Bool, true, false, not, if◌then◌else◌, is_some, List, [], ◌∷◌, Option, Some, None, Result, Ok, Err}
 use Rattle.std.specs.Prelude.{codes, length, map, slice_get, string_bytes, unwrap_or}
 use Rattle.std.specs.Option.{option_map}
 use Rattle.std.specs.Str.{is_utf8}
@@ -224,11 +224,13 @@ abbrev pub TellsEnd : ConfigView → Option TokenFault → Streams → Streams �
 TellsEnd config None before after is_cut = (after ≡ before) × (is_cut ≡ false)
 TellsEnd config (Some fault) before after is_cut = Writes (byte_line config (fault_place fault) end_words) before after × (is_cut ≡ true)
 
--- `creates name` says what may come of making a file of this name: what it holds at first, or why there is none.
-module _ (creates : List ℕ → Result (Option (List ℕ)) Error → Type 0) where
-  -- A text was written into a new file of this path, all of it.
+-- `creates name` says what may come of making a file of this name: what it holds at first, or why there is none. `leaves name` says what a
+-- new file of this name held when it was closed.
+module _ (creates : List ℕ → Result (Option (List ℕ)) Error → Type 0) (leaves : List ℕ → Option (List ℕ) → Type 0) where
+  -- A text was written into a new file of this path, all of it, and then that was closed.
   abbrev pub IsSaved : List ℕ → List ℕ → Type 0
   IsSaved path text = (held : Option (List ℕ)) × (holds : Option (List ℕ)) × creates path (Ok held) × Appends held holds text
+      × leaves path holds
 
   -- There is no new file of this path, which standard error was told.
   abbrev pub IsUnmade : List ℕ → Streams → Streams → Type 0

@@ -98,15 +98,16 @@ module _ (opens : List ℕ → Result (Option (List ℕ)) Error → Type 0) wher
       ⊎ ((text : List ℕ) × (mid : Streams) × Reads opens source_limit source text before mid
       × StopsList fault size is_code (name_of source) text mid after)
 
-  -- `creates name` says what may come of making a file of this name: what it holds at first, or why there is none.
-  module _ (creates : List ℕ → Result (Option (List ℕ)) Error → Type 0) where
+  -- `creates name` says what may come of making a file of this name: what it holds at first, or why there is none. `leaves name` says what a
+  -- new file of this name held when it was closed.
+  module _ (creates : List ℕ → Result (Option (List ℕ)) Error → Type 0) (leaves : List ℕ → Option (List ℕ) → Type 0) where
     -- What was asked for was done to its end, with this exit status.
     abbrev pub Answers : Request → Streams → Streams → ℕ → Type 0
     Answers (request.Check how sources) before after status = ChecksAll opens how sources.items before after status
     Answers (request.Diff how old new) before after status = ComparesSources opens how old new before after status
     Answers (request.Eval is_told) before after status = EvaluatesTold is_told before after status
     Answers (request.Explain page) before after status = Writes (string_bytes page) before after × (status ≡ 0)
-    Answers (request.Import how source) before after status = ImportsSource creates opens how source before after status
+    Answers (request.Import how source) before after status = ImportsSource creates leaves opens how source before after status
     Answers (request.List size is_code source is_explained) before after status =
         ListsSource size is_code is_explained source before after status
     Answers (request.Filter how source) before after status = TriesFilter opens how source before after status

@@ -13,14 +13,14 @@ use Rattle.ncroute.specs.Streaming.{Streams, TellsFront}
 
 -- What was asked for was served, with its status; where standard error did not take the whole line of a fault, the status is that of a fault.
 -- Words that were shown something have their status, and nothing else is done. `opens name` and `creates name` say what may come of opening
--- and of making a file of this name.
+-- and of making a file of this name, and `leaves name` what a new one held when it was closed.
 abbrev pub Responds : (List ℕ → Result (Option (List ℕ)) Error → Type 0) → (List ℕ → Result (Option (List ℕ)) Error → Type 0)
-    → Result Words StreamFault → Streams → Streams → ℕ → Type 0
-Responds opens creates (Ok (Asked what)) before after status = Serves opens creates what before after status
-    ⊎ (FailsToReport opens creates what before after × (status ≡ fault_status what))
-Responds opens creates (Ok Network) before after status = ServesNetwork before after status
+    → (List ℕ → Option (List ℕ) → Type 0) → Result Words StreamFault → Streams → Streams → ℕ → Type 0
+Responds opens creates leaves (Ok (Asked what)) before after status = Serves opens creates leaves what before after status
+    ⊎ (FailsToReport opens creates leaves what before after × (status ≡ fault_status what))
+Responds opens creates leaves (Ok Network) before after status = ServesNetwork before after status
     ⊎ (FailsToReportNetwork before after × (status ≡ 1))
-Responds opens creates (Ok (Router words)) before after status = ServesRouter opens creates words before after status
+Responds opens creates leaves (Ok (Router words)) before after status = ServesRouter opens creates words before after status
     ⊎ ((cut : StreamFault) × CutsRouter opens creates cut words before after status)
-Responds opens creates (Ok (Shown shown)) before after status = (status ≡ shown) × (after ≡ before)
-Responds opens creates (Err fault) before after status = (status ≡ 1) × TellsFront (fault_line (Stream fault)) before after
+Responds opens creates leaves (Ok (Shown shown)) before after status = (status ≡ shown) × (after ≡ before)
+Responds opens creates leaves (Err fault) before after status = (status ≡ 1) × TellsFront (fault_line (Stream fault)) before after

@@ -296,12 +296,13 @@ fn save<F: Folder, R: Read, W: Write, E: Write>(
     text: &[u8],
     console: &mut Console<R, W, E>,
 ) -> Result<bool, ProgramFault>
-    ensures { IfOk result (SavesText (F.creates files.now) path.now text.now console.old console.new) }
+    ensures { IfOk result (SavesText (F.creates files.now) (F.leaves files.now) path.now text.now console.old console.new) }
 {
     match files.create(path) {
         Ok(file) => {
             let mut file = file;
             write_text(&mut file, text)?;
+            files.close(path, file);
             Ok(true)
         }
         Err(error) => {
@@ -381,7 +382,7 @@ fn save_made<F: Folder, R: Read, W: Write, E: Write>(
     path: &str,
     console: &mut Console<R, W, E>,
 ) -> Result<bool, ProgramFault>
-    ensures { IfOk result (SavesFilter (F.creates files.now) (config_of whole.now) name.now made.now text.now path.now console.old console.new) }
+    ensures { IfOk result (SavesFilter (F.creates files.now) (F.leaves files.now) (config_of whole.now) name.now made.now text.now path.now console.old console.new) }
 {
     if !save(files, alloc, path, text, console)? {
         return Ok(true);
@@ -400,7 +401,7 @@ fn import_made<F: Folder, R: Read, W: Write, E: Write>(
     made: &Made,
     console: &mut Console<R, W, E>,
 ) -> Result<bool, ProgramFault>
-    ensures { IfOk result (ImportsMade (F.creates files.now) how.now.folder (text_in made.now) (config_of whole.now) name.now made.now
+    ensures { IfOk result (ImportsMade (F.creates files.now) (F.leaves files.now) how.now.folder (text_in made.now) (config_of whole.now) name.now made.now
         console.old console.new) }
 {
     match (&how.folder, &made.text) {
@@ -425,7 +426,7 @@ fn import_one<F: Folder, R: Read, W: Write, E: Write>(
     draft: &Draft<'_>,
     console: &mut Console<R, W, E>,
 ) -> Result<bool, ProgramFault>
-    ensures { IfOk result (ImportsDraft (F.creates files.now) how.now (config_of whole.now) draft.now console.old console.new) }
+    ensures { IfOk result (ImportsDraft (F.creates files.now) (F.leaves files.now) how.now (config_of whole.now) draft.now console.old console.new) }
 {
     let made = make(alloc, whole, how.size, draft)?;
     import_made(files, alloc, how, whole, draft.name, &made, console)
@@ -464,7 +465,7 @@ fn import_drafts<F: Folder, R: Read, W: Write, E: Write>(
     drafts: &[Draft<'_>],
     console: &mut Console<R, W, E>,
 ) -> Result<bool, ProgramFault>
-    ensures { IfOk result (DoesFirst (ImportsDraft (F.creates files.now) how.now (config_of whole.now)) drafts.now (length drafts.now)
+    ensures { IfOk result (DoesFirst (ImportsDraft (F.creates files.now) (F.leaves files.now) how.now (config_of whole.now)) drafts.now (length drafts.now)
         console.old console.new) }
 {
     let mut is_left = false;
@@ -484,7 +485,7 @@ fn import_parts<F: Folder, R: Read, W: Write, E: Write>(
     config: &Config<'_>,
     console: &mut Console<R, W, E>,
 ) -> Result<bool, ProgramFault>
-    ensures { IfOk result (ImportsParts (F.creates files.now) how.now (config_of whole.now) config.now console.old console.new) }
+    ensures { IfOk result (ImportsParts (F.creates files.now) (F.leaves files.now) how.now (config_of whole.now) config.now console.old console.new) }
 {
     let drafts = make_drafts(alloc, config)?;
     import_drafts(files, alloc, how, whole, drafts.as_slice(), console)
@@ -499,7 +500,7 @@ fn import_words<F: Folder, R: Read, W: Write, E: Write>(
     words: &[Word<'_>],
     console: &mut Console<R, W, E>,
 ) -> Result<bool, ProgramFault>
-    ensures { IfOk result (ImportsWords (F.creates files.now) how.now (config_of whole.now) words.now console.old console.new) }
+    ensures { IfOk result (ImportsWords (F.creates files.now) (F.leaves files.now) how.now (config_of whole.now) words.now console.old console.new) }
 {
     let definitions = find_definitions(alloc, words)?;
     let items = find_items(alloc, words)?;
@@ -589,7 +590,7 @@ fn import_cut<F: Folder, R: Read, W: Write, E: Write>(
     cut: &Cut<'_>,
     console: &mut Console<R, W, E>,
 ) -> Result<bool, ProgramFault>
-    ensures { IfOk result (ImportsCut (F.creates files.now) how.now (config_of whole.now) cut.now.words.items cut.now.end console.old console.new) }
+    ensures { IfOk result (ImportsCut (F.creates files.now) (F.leaves files.now) how.now (config_of whole.now) cut.now.words.items cut.now.end console.old console.new) }
 {
     let words = cut.words.as_slice();
     let is_filter_left = import_words(files, alloc, how, whole, words, console)?;
@@ -606,7 +607,7 @@ fn import_whole<F: Folder, R: Read, W: Write, E: Write>(
     whole: &Whole,
     console: &mut Console<R, W, E>,
 ) -> Result<bool, ProgramFault>
-    ensures { IfOk result (ImportsConfig (F.creates files.now) how.now (config_of whole.now) console.old console.new) }
+    ensures { IfOk result (ImportsConfig (F.creates files.now) (F.leaves files.now) how.now (config_of whole.now) console.old console.new) }
 {
     let cut = cut_words(alloc, whole.text.as_slice())?;
     import_cut(files, alloc, how, whole, &cut, console)
@@ -620,7 +621,7 @@ fn import_read<F: Folder, R: Read, W: Write, E: Write>(
     whole: &Whole,
     console: &mut Console<R, W, E>,
 ) -> Result<u8, ProgramFault>
-    ensures { IfOk result (ImportsRead (F.creates files.now) how.now (config_of whole.now) console.old console.new) }
+    ensures { IfOk result (ImportsRead (F.creates files.now) (F.leaves files.now) how.now (config_of whole.now) console.old console.new) }
 {
     let is_left = import_whole(files, alloc, how, whole, console)?;
     Ok(status_of_found(is_any(whole.is_partial, is_left)))
@@ -636,7 +637,7 @@ pub fn import_source<F: Folder, R: Read, W: Write, E: Write>(
     console: &mut Console<R, W, E>,
 ) -> Result<u8, ProgramFault>
     ensures status { IfOk result (λ status. status ≤ 1) }
-    ensures finished { IfOk result (ImportsSource (F.creates files.now) (F.opens files.now) how.now source.now console.old console.new) }
+    ensures finished { IfOk result (ImportsSource (F.creates files.now) (F.leaves files.now) (F.opens files.now) how.now source.now console.old console.new) }
 {
     match read_whole(files, alloc, source, console)? {
         Some(whole) => import_read(files, alloc, how, &whole, console),

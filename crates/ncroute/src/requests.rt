@@ -139,8 +139,8 @@ fn answer<F: Folder, R: Read, W: Write, E: Write>(
     request: &Request,
     console: &mut Console<R, W, E>,
 ) -> Result<u8, ProgramFault>
-    ensures finished { IfOk result (Answers (F.opens files.now) (F.creates files.now) request.now console.old console.new) }
-    ensures stopped { IfErr result (λ fault. StopsAnswer (F.opens files.now) (F.creates files.now) (stream_fault fault) request.now
+    ensures finished { IfOk result (Answers (F.opens files.now) (F.creates files.now) (F.leaves files.now) request.now console.old console.new) }
+    ensures stopped { IfErr result (λ fault. StopsAnswer (F.opens files.now) (F.creates files.now) (F.leaves files.now) (stream_fault fault) request.now
         console.old console.new) }
 {
     match request {
@@ -216,9 +216,9 @@ pub fn serve<F: Folder, R: Read, W: Write, E: Write>(
     request: &Request,
     console: &mut Console<R, W, E>,
 ) -> Result<u8, StreamFault>
-    ensures served { IfOk result (Serves (F.opens files.now) (F.creates files.now) request.now console.old console.new) }
+    ensures served { IfOk result (Serves (F.opens files.now) (F.creates files.now) (F.leaves files.now) request.now console.old console.new) }
     ensures not_reported { IfErr result (λ cut. (cut ≡ StreamFault.Write)
-        × FailsToReport (F.opens files.now) (F.creates files.now) request.now console.old console.new) }
+        × FailsToReport (F.opens files.now) (F.creates files.now) (F.leaves files.now) request.now console.old console.new) }
 {
     match answer(files, alloc, request, console) {
         Ok(status) => Ok(status),

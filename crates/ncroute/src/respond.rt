@@ -31,8 +31,8 @@ fn status_of_request<F: Folder, R: Read, W: Write, E: Write>(
     request: &Request,
     console: &mut Console<R, W, E>,
 ) -> u8
-    ensures { Serves (F.opens files.now) (F.creates files.now) request.now console.old console.new result
-        ⊎ (FailsToReport (F.opens files.now) (F.creates files.now) request.now console.old console.new × (result ≡ fault_status request.now)) }
+    ensures { Serves (F.opens files.now) (F.creates files.now) (F.leaves files.now) request.now console.old console.new result
+        ⊎ (FailsToReport (F.opens files.now) (F.creates files.now) (F.leaves files.now) request.now console.old console.new × (result ≡ fault_status request.now)) }
 {
     match serve(files, alloc, request, console) {
         Ok(status) => status,
@@ -112,7 +112,7 @@ pub fn respond<
 ) -> u8
 where
     R::New: Send + 'static,
-    ensures { Responds (R.opens rt.now) (R.creates rt.now) words console.old console.new result }
+    ensures { Responds (R.opens rt.now) (R.creates rt.now) (R.leaves rt.now) words console.old console.new result }
 {
     match words {
         Ok(Words::Asked(request)) => status_of_request(rt, alloc, &request, console),

@@ -30,6 +30,9 @@ pub trait Folder {
     // Making a file of a name may give this: a file that holds so much at first, or the reason why there is none.
     ghost creates: { Self → List ℕ → Result (Option (List ℕ)) TheError → Type 0 };
 
+    // A new file of a name was closed when it held so much.
+    ghost leaves: { Self → List ℕ → Option (List ℕ) → Type 0 };
+
     /// Opens the file of this name.
     fn open(&self, name: &str) -> io::Result<Self::File>
         ensures { MatchResult result (λ file. opens self.now name.now (Ok (Self.File.remaining file)))
@@ -39,6 +42,10 @@ pub trait Folder {
     fn create(&self, name: &str) -> io::Result<Self::New>
         ensures { MatchResult result (λ file. creates self.now name.now (Ok (Self.New.contents file)))
             (λ error. creates self.now name.now (Err error)) };
+
+    /// Closes a new file of this name, which is to stay as it is.
+    fn close(&self, name: &str, file: Self::New)
+        ensures { leaves self.now name.now (Self.New.contents file) };
 }
 
 impl<F: Files> Folder for F {
@@ -51,6 +58,8 @@ impl<F: Files> Folder for F {
 
     ghost creates = { λ _ _ _. ⊤ };
 
+    ghost leaves = { λ _ _ _. ⊤ };
+
     fn open(&self, name: &str) -> io::Result<F::File> {
         fs::open(self, name)
     }
@@ -58,6 +67,8 @@ impl<F: Files> Folder for F {
     fn create(&self, name: &str) -> io::Result<F::File> {
         fs::File::create_new(self, name)
     }
+
+    fn close(&self, _name: &str, _file: F::File) {}
 }
 
 /// Why a source was not read.
