@@ -57,31 +57,33 @@ StopsSaved fault how filters kept keeps before after =
 
 -- `creates name` says what may come of making a file of this name: what it holds at first, or why there is none.
 module _ (creates : List ℕ → Result (Option (List ℕ)) Error → Type 0) where
-  -- a saver holds this at first: the file of this name, where there is one
-  abbrev pub IsSaver : Option (String Global) → Option (List ℕ) → Type 0
-  IsSaver None kept = ⊤
-  IsSaver (Some name) kept = creates (string_bytes name) (Ok kept)
-
   -- there is no file of this name to save to, for which the reason has these words
   abbrev pub IsUnmade : Option (String Global) → List ℕ → List ℕ → Type 0
   IsUnmade None name words = ⊥
   IsUnmade (Some saved) name words = (name ≡ string_bytes saved) × ((error : Error) × creates name (Err error))
 
+-- `leaves name` says what a new file of this name held when it was closed.
+module _ (creates : List ℕ → Result (Option (List ℕ)) Error → Type 0) (leaves : List ℕ → Option (List ℕ) → Type 0) where
+  -- a saver holds this at first, and that at last: the file of this name, where there is one
+  abbrev pub IsSaver : Option (String Global) → Option (List ℕ) → Option (List ℕ) → Type 0
+  IsSaver None kept keeps = ⊤
+  IsSaver (Some name) kept keeps = creates (string_bytes name) (Ok kept) × leaves (string_bytes name) keeps
+
   -- A script was carried out, and its history saved; or the file of the history was not made, which standard error was told, and no line
   -- was answered.
   unfoldable pub GuidesScript : Running → List NamedFilter → Streams → Streams → ℕ → Type 0
   GuidesScript how filters before after status =
-      ((kept : Option (List ℕ)) × (keeps : Option (List ℕ)) × IsSaver how.save kept
+      ((kept : Option (List ℕ)) × (keeps : Option (List ℕ)) × IsSaver how.save kept keeps
       × RunsSaved how filters kept keeps before after status)
-      ⊎ ((name : List ℕ) × (words : List ℕ) × IsUnmade how.save name words × Appends before.tells after.tells (unmade_line name words)
+      ⊎ ((name : List ℕ) × (words : List ℕ) × IsUnmade creates how.save name words × Appends before.tells after.tells (unmade_line name words)
       × (after.reads ≡ before.reads) × (after.holds ≡ before.holds) × (status ≡ 1))
 
   -- A fault ended it.
   unfoldable pub StopsGuided : StreamFault → Running → List NamedFilter → Streams → Streams → Type 0
   StopsGuided fault how filters before after =
-      ((kept : Option (List ℕ)) × (keeps : Option (List ℕ)) × IsSaver how.save kept
+      ((kept : Option (List ℕ)) × (keeps : Option (List ℕ)) × IsSaver how.save kept keeps
       × StopsSaved fault how filters kept keeps before after)
-      ⊎ ((name : List ℕ) × (words : List ℕ) × IsUnmade how.save name words × IsCut fault before.tells after.tells (unmade_line name words)
+      ⊎ ((name : List ℕ) × (words : List ℕ) × IsUnmade creates how.save name words × IsCut fault before.tells after.tells (unmade_line name words)
       × (after.reads ≡ before.reads) × (after.holds ≡ before.holds))
 
   -- `opens name` says what may come of opening a file of this name.

@@ -66,13 +66,14 @@ module _ (opens : List ℕ → Result (Option (List ℕ)) Error → Type 0) wher
     pub first : JoinsFirst sources n earlier known mid
     pub leaves : LeavesNext source why mid left
 
--- `creates name` says what may come of making a file of this name.
-module _ (creates opens : List ℕ → Result (Option (List ℕ)) Error → Type 0) where
+-- `creates name` says what may come of making a file of this name, and `leaves name` what a new one held when it was closed.
+module _ (creates : List ℕ → Result (Option (List ℕ)) Error → Type 0) (leaves : List ℕ → Option (List ℕ) → Type 0)
+    (opens : List ℕ → Result (Option (List ℕ)) Error → Type 0) where
   -- The sources were read, and the script that they are was carried out; or one of them was not read, and no line was answered.
   unfoldable pub RunsTexts : Running → List NamedFilter → List Source → Streams → Streams → ℕ → Type 0
   RunsTexts how filters sources before after status =
       ((script : List ℕ) × (remains : Option (List ℕ)) × JoinsAll opens sources script before.reads after.reads
-      × GuidesScript creates how filters (record { reads = Some script; holds = before.holds; tells = before.tells })
+      × GuidesScript creates leaves how filters (record { reads = Some script; holds = before.holds; tells = before.tells })
       (record { reads = remains; holds = after.holds; tells = after.tells }) status)
       ⊎ ((source : Source) × (why : Unread) × StopsAtSource opens sources source why before.reads after.reads
       × TellsUnread source why before.tells after.tells × (after.holds ≡ before.holds) × (status ≡ 1))
@@ -81,7 +82,7 @@ module _ (creates opens : List ℕ → Result (Option (List ℕ)) Error → Type
   unfoldable pub StopsTexts : StreamFault → Running → List NamedFilter → List Source → Streams → Streams → Type 0
   StopsTexts fault how filters sources before after =
       ((script : List ℕ) × (remains : Option (List ℕ)) × JoinsAll opens sources script before.reads after.reads
-      × StopsGuided creates fault how filters (record { reads = Some script; holds = before.holds; tells = before.tells })
+      × StopsGuided creates leaves fault how filters (record { reads = Some script; holds = before.holds; tells = before.tells })
       (record { reads = remains; holds = after.holds; tells = after.tells }))
       ⊎ ((source : Source) × (why : Unread) × StopsAtSource opens sources source why before.reads after.reads
       × StopsTelling fault source why before.tells after.tells × (after.holds ≡ before.holds))

@@ -114,8 +114,8 @@ module _ (opens : List ℕ → Result (Option (List ℕ)) Error → Type 0) wher
     Answers (request.Lint how sources) before after status = LintsAll opens how sources.items before after status
     Answers (request.Replay source) before after status = ReplaysSource opens source before after status
     Answers (request.Rewrite is_old) before after status = RewritesInput is_old before after status
-    Answers (request.Run how source) before after status = RunsGuided creates opens how source before after status
-    Answers (request.RunJoined how sources) before after status = RunsJoined creates opens how sources.items before after status
+    Answers (request.Run how source) before after status = RunsGuided creates leaves opens how source before after status
+    Answers (request.RunJoined how sources) before after status = RunsJoined creates leaves opens how sources.items before after status
     Answers (request.Script engine source is_explained) before after status = RunsSource opens engine source is_explained before after status
     Answers (request.Test how sources) before after status = TestsSources opens how sources.items before after status
 
@@ -131,8 +131,8 @@ module _ (opens : List ℕ → Result (Option (List ℕ)) Error → Type 0) wher
     StopsAnswer fault (request.Lint how sources) before after = StopsLinting opens fault how sources.items before after
     StopsAnswer fault (request.Replay source) before after = StopsReplay opens fault source before after
     StopsAnswer fault (request.Rewrite is_old) before after = StopsRewriting fault is_old before after
-    StopsAnswer fault (request.Run how source) before after = StopsRun creates opens fault how source before after
-    StopsAnswer fault (request.RunJoined how sources) before after = StopsJoined creates opens fault how sources.items before after
+    StopsAnswer fault (request.Run how source) before after = StopsRun creates leaves opens fault how source before after
+    StopsAnswer fault (request.RunJoined how sources) before after = StopsJoined creates leaves opens fault how sources.items before after
     StopsAnswer fault (request.Script engine source is_explained) before after = StopsSource opens fault engine source is_explained before after
     StopsAnswer fault (request.Test how sources) before after = StopsSources opens fault how sources.items before after
 

@@ -20,7 +20,7 @@ Responds opens creates leaves (Ok (Asked what)) before after status = Serves ope
     ⊎ (FailsToReport opens creates leaves what before after × (status ≡ fault_status what))
 Responds opens creates leaves (Ok Network) before after status = ServesNetwork before after status
     ⊎ (FailsToReportNetwork before after × (status ≡ 1))
-Responds opens creates leaves (Ok (Router words)) before after status = ServesRouter opens creates words before after status
-    ⊎ ((cut : StreamFault) × CutsRouter opens creates cut words before after status)
+Responds opens creates leaves (Ok (Router words)) before after status = ServesRouter opens creates leaves words before after status
+    ⊎ ((cut : StreamFault) × CutsRouter opens creates leaves cut words before after status)
 Responds opens creates leaves (Ok (Shown shown)) before after status = (status ≡ shown) × (after ≡ before)
 Responds opens creates leaves (Err fault) before after status = (status ≡ 1) × TellsFront (fault_line (Stream fault)) before after

@@ -1,5 +1,5 @@
 -- What the program does for `router`, and its exit status. (This project's own choice.)
-use Rattle.std.specs.Prelude.{◌≡◌, ◌⊎◌, ℕ, List, [], ◌∷◌, ◌++◌, Option, Some, None, Result, Ok, IfSome, String, codes, decimal, map, string_bytes}
+use Rattle.std.specs.Prelude.{◌≡◌, ◌⊎◌, ℕ, List, [], ◌∷◌, ◌++◌, Option, Some, None, Result, Ok, IfSome, String, codes, decimal, map, string_bytes, ⊤}
 use Rattle.std.specs.Io.KnownBytes.{Appends}
 use Rattle.std.specs.declared.io.Error.{Error}
 use Rattle.std.proofs.Common.{Global}
@@ -118,12 +118,20 @@ abbrev pub Operated : PlanView → Names → Streams → Streams → Result ℕ 
 Operated plan names before after answered = IfSome before.reads (λ input.
     HasOperator plan.opening plan.limit names (map (λ link. link.node) plan.links) answered input after.reads before.holds after.holds)
 
--- A router of this plan was run to its end, and its history is saved, if it is to be.
-pub record RunsToEnd (plan : PlanView) (names : Names) (kept : Option (Option (List ℕ))) (before after : Streams) : Type 0 where
+-- The file of a name, in which a history was saved, was closed as it was saved. `leaves name` says what a new file of this name held when it
+-- was closed.
+abbrev pub LeavesSave : (List ℕ → Option (List ℕ) → Type 0) → Option (String Global) → Option SaverView → Type 0
+LeavesSave leaves (Some name) (Some s) = leaves (string_bytes name) s.held
+LeavesSave leaves _ _ = ⊤
+
+-- A router of this plan was run to its end, and its history is saved, if it is to be, in the file of that name.
+pub record RunsToEnd (leaves : List ℕ → Option (List ℕ) → Type 0) (save : Option (String Global)) (plan : PlanView) (names : Names)
+    (kept : Option (Option (List ℕ))) (before after : Streams) : Type 0 where
   pub refused : ℕ
   pub operated : Operated plan names before after (Ok refused)
   pub saver : Option SaverView
   pub saved : SavesTo plan.opening plan.limit kept saver
+  pub left : LeavesSave leaves save saver
   pub quiet : after.tells ≡ before.tells
 
 -- A fault ended it, and `TellsLine told tells line` says what standard error was told of the line of the fault.
@@ -134,16 +142,18 @@ pub record EndsInFault (TellsLine : Option (List ℕ) → Option (List ℕ) → 
   pub told : TellsLine before.tells after.tells (router_line why)
 
 -- The exit status tells which. The whole line of the fault was told.
-abbrev pub RunsPlan : PlanView → Names → Option (Option (List ℕ)) → Streams → Streams → ℕ → Type 0
-RunsPlan plan names kept before after status = (RunsToEnd plan names kept before after × (status ≡ 0))
+abbrev pub RunsPlan : (List ℕ → Option (List ℕ) → Type 0) → Option (String Global) → PlanView → Names → Option (Option (List ℕ))
+    → Streams → Streams → ℕ → Type 0
+RunsPlan leaves save plan names kept before after status = (RunsToEnd leaves save plan names kept before after × (status ≡ 0))
     ⊎ (EndsInFault Appends plan names before after × (status ≡ 1))
 
 -- A fault ended it, and another one cut what standard error was told of that.
 abbrev pub CutsPlan : StreamFault → PlanView → Names → Streams → Streams → ℕ → Type 0
 CutsPlan cut plan names before after status = EndsInFault (IsCut cut) plan names before after × (status ≡ 1)
 
--- `opens name` and `creates name` say what may come of opening and of making a file of this name.
-module _ (opens creates : List ℕ → Result (Option (List ℕ)) Error → Type 0) where
+-- `opens name` and `creates name` say what may come of opening and of making a file of this name, and `leaves name` what a new one held when
+-- it was closed.
+module _ (opens creates : List ℕ → Result (Option (List ℕ)) Error → Type 0) (leaves : List ℕ → Option (List ℕ) → Type 0) where
   -- It was set up as words say, all of it, and then ran so: `Ran plan names kept before after`.
   abbrev pub SetUpRan : (PlanView → Names → Option (Option (List ℕ)) → Streams → Streams → Type 0) → RouterWords → Streams → Streams → Type 0
   SetUpRan Ran words before after = (plan : PlanView) × (names : Names) × (kept : Option (Option (List ℕ))) × (left : Option (List ℕ))
@@ -164,7 +174,7 @@ module _ (opens creates : List ℕ → Result (Option (List ℕ)) Error → Type
   -- A router was run as words say: it was set up first, all of it, and then run; or it was not set up, and no line was answered. Standard
   -- error was told why, the whole line.
   unfoldable pub ServesRouter : RouterWords → Streams → Streams → ℕ → Type 0
-  ServesRouter words before after status = SetUpRan (λ plan names kept mid end. RunsPlan plan names kept mid end status) words before after
+  ServesRouter words before after status = SetUpRan (λ plan names kept mid end. RunsPlan leaves words.save plan names kept mid end status) words before after
       ⊎ (LacksRouter words before after status ⊎ StopsRouter Appends words before after status)
 
   -- It ended with a line, and a fault cut what standard error was told of that one.

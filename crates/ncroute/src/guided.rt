@@ -92,16 +92,22 @@ pub fn guide_script<F: Folder, R: Read, W: Write, E: Write>(
     writer: &mut W,
     errors: &mut E,
 ) -> Result<u8, ProgramFault>
-    ensures finished { IfOk result (GuidesScript (F.creates files.now) how.now filters.now
+    ensures finished { IfOk result (GuidesScript (F.creates files.now) (F.leaves files.now) how.now filters.now
         (record { reads = R.remaining reader.old; holds = W.contents writer.old; tells = E.contents errors.old })
         (record { reads = R.remaining reader.new; holds = W.contents writer.new; tells = E.contents errors.new })) }
-    ensures stopped { IfErr result (λ fault. StopsGuided (F.creates files.now) (stream_fault fault) how.now filters.now
+    ensures stopped { IfErr result (λ fault. StopsGuided (F.creates files.now) (F.leaves files.now) (stream_fault fault) how.now filters.now
         (record { reads = R.remaining reader.old; holds = W.contents writer.old; tells = E.contents errors.old })
         (record { reads = R.remaining reader.new; holds = W.contents writer.new; tells = E.contents errors.new })) }
 {
     match &how.save {
         Some(file) => match files.create(file.as_str()) {
-            Ok(saver) => save_to(alloc, how, parts, filters, saver, reader, writer, errors).0,
+            Ok(saver) => {
+                let (ended, saver) = save_to(
+                    alloc, how, parts, filters, saver, reader, writer, errors,
+                );
+                files.close(file.as_str(), saver);
+                ended
+            }
             Err(error) => {
                 tell_unmade(alloc, errors, file.as_str(), &error)?;
                 Ok(FAILED)
@@ -131,9 +137,9 @@ fn guide_named<F: Folder, R: Read, W: Write, E: Write>(
     source: &Source,
     console: &mut Console<R, W, E>,
 ) -> Result<u8, ProgramFault>
-    ensures finished { IfOk result (RunsNamed (F.creates files.now) (F.opens files.now) how.now filters.now source.now
+    ensures finished { IfOk result (RunsNamed (F.creates files.now) (F.leaves files.now) (F.opens files.now) how.now filters.now source.now
         console.old console.new) }
-    ensures stopped { IfErr result (λ fault. StopsNamed (F.creates files.now) (F.opens files.now) (stream_fault fault) how.now filters.now
+    ensures stopped { IfErr result (λ fault. StopsNamed (F.creates files.now) (F.leaves files.now) (F.opens files.now) (stream_fault fault) how.now filters.now
         source.now console.old console.new) }
 {
     let parts = [whole(name_of(source))];
@@ -173,8 +179,8 @@ pub fn guide_source<F: Folder, R: Read, W: Write, E: Write>(
     source: &Source,
     console: &mut Console<R, W, E>,
 ) -> Result<u8, ProgramFault>
-    ensures finished { IfOk result (RunsGuided (F.creates files.now) (F.opens files.now) how.now source.now console.old console.new) }
-    ensures stopped { IfErr result (λ fault. StopsRun (F.creates files.now) (F.opens files.now) (stream_fault fault) how.now source.now
+    ensures finished { IfOk result (RunsGuided (F.creates files.now) (F.leaves files.now) (F.opens files.now) how.now source.now console.old console.new) }
+    ensures stopped { IfErr result (λ fault. StopsRun (F.creates files.now) (F.leaves files.now) (F.opens files.now) (stream_fault fault) how.now source.now
         console.old console.new) }
 {
     match read_given(files, alloc, how.filters.as_slice(), console) {

@@ -136,10 +136,10 @@ fn guide_texts<F: Folder, R: Read, W: Write, E: Write>(
     writer: &mut W,
     errors: &mut E,
 ) -> Result<u8, ProgramFault>
-    ensures finished { IfOk result (RunsTexts (F.creates files.now) (F.opens files.now) how.now filters.now sources.now
+    ensures finished { IfOk result (RunsTexts (F.creates files.now) (F.leaves files.now) (F.opens files.now) how.now filters.now sources.now
         (record { reads = R.remaining reader.old; holds = W.contents writer.old; tells = E.contents errors.old })
         (record { reads = R.remaining reader.new; holds = W.contents writer.new; tells = E.contents errors.new })) }
-    ensures stopped { IfErr result (λ fault. StopsTexts (F.creates files.now) (F.opens files.now) (stream_fault fault) how.now filters.now
+    ensures stopped { IfErr result (λ fault. StopsTexts (F.creates files.now) (F.leaves files.now) (F.opens files.now) (stream_fault fault) how.now filters.now
         sources.now
         (record { reads = R.remaining reader.old; holds = W.contents writer.old; tells = E.contents errors.old })
         (record { reads = R.remaining reader.new; holds = W.contents writer.new; tells = E.contents errors.new })) }
@@ -175,8 +175,8 @@ pub fn guide_sources<F: Folder, R: Read, W: Write, E: Write>(
     sources: &[Source],
     console: &mut Console<R, W, E>,
 ) -> Result<u8, ProgramFault>
-    ensures finished { IfOk result (RunsJoined (F.creates files.now) (F.opens files.now) how.now sources.now console.old console.new) }
-    ensures stopped { IfErr result (λ fault. StopsJoined (F.creates files.now) (F.opens files.now) (stream_fault fault) how.now sources.now
+    ensures finished { IfOk result (RunsJoined (F.creates files.now) (F.leaves files.now) (F.opens files.now) how.now sources.now console.old console.new) }
+    ensures stopped { IfErr result (λ fault. StopsJoined (F.creates files.now) (F.leaves files.now) (F.opens files.now) (stream_fault fault) how.now sources.now
         console.old console.new) }
 {
     match read_given(files, alloc, how.filters.as_slice(), console) {

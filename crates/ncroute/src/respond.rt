@@ -66,8 +66,8 @@ fn status_of_router<
 >(rt: &R, alloc: Global, words: &RouterWords, console: &mut Console<I, W, E>, voice: T) -> u8
 where
     R::New: Send + 'static,
-    ensures { ServesRouter (R.opens rt.now) (R.creates rt.now) words.now console.old console.new result
-        ⊎ ((cut : StreamFault) × CutsRouter (R.opens rt.now) (R.creates rt.now) cut words.now console.old console.new result) }
+    ensures { ServesRouter (R.opens rt.now) (R.creates rt.now) (R.leaves rt.now) words.now console.old console.new result
+        ⊎ ((cut : StreamFault) × CutsRouter (R.opens rt.now) (R.creates rt.now) (R.leaves rt.now) cut words.now console.old console.new result) }
 {
     match serve_router::<R, FI, FO, T, I, W, E>(
         rt,

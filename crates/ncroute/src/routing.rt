@@ -12,7 +12,7 @@ use crate::planning::plan_of;
 use crate::texts::{Folder, tell_unmade, write_line};
 use command_line::RouterWords;
 use filter_commands::ProgramFault;
-use history_saver::SaveFault;
+use history_saver::{SaveFault, Saver};
 use line_protocol::push_decimal;
 use route_history::CallFault;
 use router_daemon::{DaemonFault, LinkFolder, Setting, run_router};
@@ -254,12 +254,20 @@ fn set_up<F: Folder, R: Read, E: Write>(
     }
 }
 
-/// Runs a router that is set up: the exit status.
+/// Closes the file of a name in which a history is saved, if one is named and there is one.
+fn close_save<F: Folder>(files: &F, save: &Option<String>, saver: Option<Saver<F::New>>)
+    ensures { spec.LeavesSave (F.leaves files.now) save.now saver }
+{
+    if let (Some(name), Some(saver)) = (save, saver) {
+        files.close_saver(name.as_str(), saver);
+    }
+}
+
+/// Runs a router that is set up: the exit status. The file of its history is closed at last.
 fn run_setting<
-    R: Threads + Wait + Clock + LinkFolder<FI, FO> + Copy + Send + Sync + Drop + 'static,
+    R: Threads + Wait + Clock + Folder + LinkFolder<FI, FO> + Copy + Send + Sync + Drop + 'static,
     FI: Read + Send + Drop + 'static,
     FO: Write + Send + Drop + 'static,
-    V: Write + Send + Drop + 'static,
     T: Write + Send + Drop + 'static,
     I: Read,
     W: Write,
@@ -267,21 +275,30 @@ fn run_setting<
 >(
     rt: &R,
     alloc: Global,
-    setting: Setting<V>,
+    save: &Option<String>,
+    setting: Setting<R::New>,
     reader: &mut I,
     writer: &mut W,
     errors: &mut E,
     voice: T,
 ) -> Result<u8, Untold>
-    ensures finished { IfOk result (spec.RunsPlan setting.plan setting.filters.entries (option_map (λ file. V.contents file) setting.save)
+where
+    R::New: Send + 'static,
+    ensures finished { IfOk result (spec.RunsPlan (R.leaves rt.now) save.now setting.plan setting.filters.entries
+        (option_map (λ file. R.New.contents file) setting.save)
         (record { reads = I.remaining reader.old; holds = W.contents writer.old; tells = E.contents errors.old })
         (record { reads = I.remaining reader.new; holds = W.contents writer.new; tells = E.contents errors.new })) }
     ensures untold { IfErr result (λ untold. spec.CutsPlan (stream_fault untold.why) setting.plan setting.filters.entries
         (record { reads = I.remaining reader.old; holds = W.contents writer.old; tells = E.contents errors.old })
         (record { reads = I.remaining reader.new; holds = W.contents writer.new; tells = E.contents errors.new }) untold.status) }
 {
-    match run_router::<R, FI, FO, R, V, T, I, W>(rt, alloc, *rt, setting, voice, reader, writer) {
-        Ok(_) => Ok(0),
+    match run_router::<R, FI, FO, R, R::New, T, I, W>(
+        rt, alloc, *rt, setting, voice, reader, writer,
+    ) {
+        Ok(end) => {
+            close_save(rt, save, end.saved);
+            Ok(0)
+        }
         Err(fault) => end_by_fault(errors, fault),
     }
 }
@@ -308,16 +325,23 @@ pub fn serve_router<
 ) -> Result<u8, Untold>
 where
     R::New: Send + 'static,
-    ensures served { IfOk result (spec.ServesRouter (R.opens rt.now) (R.creates rt.now) words.now
+    ensures served { IfOk result (spec.ServesRouter (R.opens rt.now) (R.creates rt.now) (R.leaves rt.now) words.now
         (record { reads = I.remaining reader.old; holds = W.contents writer.old; tells = E.contents errors.old })
         (record { reads = I.remaining reader.new; holds = W.contents writer.new; tells = E.contents errors.new })) }
-    ensures untold { IfErr result (λ untold. spec.CutsRouter (R.opens rt.now) (R.creates rt.now) (stream_fault untold.why) words.now
+    ensures untold { IfErr result (λ untold. spec.CutsRouter (R.opens rt.now) (R.creates rt.now) (R.leaves rt.now) (stream_fault untold.why) words.now
         (record { reads = I.remaining reader.old; holds = W.contents writer.old; tells = E.contents errors.old })
         (record { reads = I.remaining reader.new; holds = W.contents writer.new; tells = E.contents errors.new }) untold.status) }
 {
     match set_up(rt, alloc, words, reader, errors) {
-        Ok(Some(setting)) => run_setting::<R, FI, FO, R::New, T, I, W, E>(
-            rt, alloc, setting, reader, writer, errors, voice,
+        Ok(Some(setting)) => run_setting::<R, FI, FO, T, I, W, E>(
+            rt,
+            alloc,
+            &words.save,
+            setting,
+            reader,
+            writer,
+            errors,
+            voice,
         ),
         Ok(None) => Ok(FAILED),
         Err(fault) => end_unset(alloc, errors, fault),

@@ -5,5 +5,5 @@ use Rattle.ncroute.proofs.routing.serve_router.Goals as goal
 
 pub returns-in-Err-clause-served : goal.returns-in-Err-clause-served
 returns-in-Err-clause-served g c =
-    stopped (g.R.Folder.opens c.args.rt.now) (g.R.Folder.creates c.args.rt.now) c.args.words.now c.end_unset.result _ _ c.in-Err.fault _
+    stopped (g.R.Folder.opens c.args.rt.now) (g.R.Folder.creates c.args.rt.now) (g.R.Folder.leaves c.args.rt.now) c.args.words.now c.end_unset.result _ _ c.in-Err.fault _
     c.in-Err.ensures.stopped c.end_unset.ensures.told refl
