@@ -1,9 +1,10 @@
 -- The patterns of a leaf, compared under masks.
-use Rattle.std.proofs.Common.{◌≡◌, ℕ, ◌-◌, ◌*◌, ◌/◌, ◌^◌, ◌<◌, ◌≤◌, ◌==◌, min, bit_and, ◌||◌, Bool, true, false}
+use Rattle.std.proofs.Common.{◌≡◌, ℕ, zero, suc, ◌-◌, ◌*◌, ◌/◌, ◌^◌, ◌<◌, ◌≤◌, ◌==◌, min, bit_and, ◌||◌, Bool, false}
 use Rattle.std.proofs.Common.{Option, Some, None, List, [], ◌∷◌, ◌++◌, length, take, slice_get, get_or, refl, sym, ap, ◌∙◌, subst, arith, inl, inr}
 use Rattle.std.proofs.Common.{◌+◌, add-one, append-nil, append_assoc, drop, drop-cons}
 use Rattle.std.specs.Cmp.{booleans_Decides}
 use Rattle.std.specs.Cmp.Lexicographic.{pointwise_decides}
+use Rattle.std.proofs.Math.Bool.{or_assoc, or-false}
 use Rattle.std.proofs.lemmas.Bool.{cases_lt}
 use Rattle.std.proofs.lemmas.Bool.Decides.{Decides-eqb, Decides-like, same_from_decides}
 use Rattle.std.proofs.lemmas.List.{drop_all, length-drop, length-take-le, take-append-drop, take_all}
@@ -14,9 +15,8 @@ use Rattle.std.proofs.Math.Nat.{mul-div_cancel}
 use Rattle.prefix_patterns.specs.Bits.{address_of, number}
 use Rattle.prefix_patterns.specs.BitLists.{address_below, prefix_bits-address_of}
 use Rattle.prefix_patterns.specs.Matching.{PrefixPattern, has_same_bits, matches, matches_any, shared_length}
-use Rattle.prefix_patterns.specs.Trees.{AreLeavesOf, IsEntry, IsLeafOf, has_length, mask_of}
+use Rattle.prefix_patterns.specs.Trees.{AreLeavesOf, IsEntry, IsLeafOf, IsVacant, mask_of}
 use Rattle.prefix_patterns.specs.declared.leaf.Leaf.{Leaf}
-use Rattle.prefix_patterns.specs.declared.lengths.Lengths.{Lengths}
 use Rattle.prefix_patterns.proofs.BitsAt.{number-take-prefix_bits}
 use Rattle.prefix_patterns.proofs.Buckets.{same_number}
 use Rattle.prefix_patterns.proofs.Reached.{over_from_none}
@@ -74,50 +74,51 @@ found_in prefix (Some pattern) = matches prefix pattern
 -- what is found at a place of a leaf, by what is known of a pattern there and of none
 found_at : (leaf : Leaf) (prefix : List Bool) (part : List PrefixPattern) (at : ℕ) (found : Bool) (here : Option PrefixPattern) →
     ((pattern : PrefixPattern) → IsEntry leaf at pattern → found ≡ matches prefix pattern) →
-    (((d : Lengths) (len : ℕ) → has_length (get_or leaf.lengths at d) len ≡ false) → found ≡ false) →
-    IsLeafOf leaf part → at < 4 → slice_get part at ≡ here → found ≡ found_in prefix here
+    (IsVacant leaf at → found ≡ false) →
+    IsLeafOf leaf part → at < 8 → slice_get part at ≡ here → found ≡ found_in prefix here
 found_at leaf prefix part at found None filled empty h within is =
-    empty (λ d len. h.empty at d len (over_from_none part at is) within)
+    empty (h.vacant at (over_from_none part at is) within)
 found_at leaf prefix part at found (Some pattern) filled empty h within is = filled pattern (h.filled at pattern is)
 
 pub told_at : (leaf : Leaf) (prefix : List Bool) (part : List PrefixPattern) (at : ℕ) (found : Bool) →
     ((pattern : PrefixPattern) → IsEntry leaf at pattern → found ≡ matches prefix pattern) →
-    (((d : Lengths) (len : ℕ) → has_length (get_or leaf.lengths at d) len ≡ false) → found ≡ false) →
-    IsLeafOf leaf part → at < 4 → found ≡ found_in prefix (slice_get part at)
+    (IsVacant leaf at → found ≡ false) →
+    IsLeafOf leaf part → at < 8 → found ≡ found_in prefix (slice_get part at)
 told_at leaf prefix part at found filled empty h within =
     found_at leaf prefix part at found (slice_get part at) filled empty h within refl
 
--- of up to four tests, one after another and as a list
-none_of : (a : Bool) → (((a || false) || false) || false) ≡ (a || false)
-none_of true = refl
-none_of false = refl
+-- one more place of a list is tested, behind those before it
+found_more : (prefix : List Bool) (part : List PrefixPattern) (at : ℕ) →
+    (matches_any prefix (take at part) || found_in prefix (slice_get part at)) ≡ matches_any prefix (take (suc at) part)
+found_more prefix [] zero = refl
+found_more prefix [] (suc at) = refl
+found_more prefix (p ∷ part) zero = sym (or-false (matches prefix p))
+found_more prefix (p ∷ part) (suc at) =
+    or_assoc (matches prefix p) (matches_any prefix (take at part)) (found_in prefix (slice_get part at))
+    ∙ ap (λ b. matches prefix p || b) (found_more prefix part at)
 
-two_of : (a b : Bool) → (((a || b) || false) || false) ≡ (a || (b || false))
-two_of true b = refl
-two_of false true = refl
-two_of false false = refl
+told_more : (prefix : List Bool) (part : List PrefixPattern) (at : ℕ) (found : Bool) → found ≡ matches_any prefix (take at part) →
+    (found || found_in prefix (slice_get part at)) ≡ matches_any prefix (take (suc at) part)
+told_more prefix part at found e = ap (λ b. b || found_in prefix (slice_get part at)) e ∙ found_more prefix part at
 
-three_of : (a b c : Bool) → (((a || b) || c) || false) ≡ (a || (b || (c || false)))
-three_of true b c = refl
-three_of false true c = refl
-three_of false false c = refl
+-- eight tests, one after another
+module _ (prefix : List Bool) (part : List PrefixPattern) where
+  abbrev found_at_place : ℕ → Bool
+  found_at_place at = found_in prefix (slice_get part at)
 
-four_of : (a b c d : Bool) → (((a || b) || c) || d) ≡ (a || (b || (c || (d || false))))
-four_of true b c d = refl
-four_of false true c d = refl
-four_of false false true d = refl
-four_of false false false true = refl
-four_of false false false false = refl
-
-pub any_of_four : (prefix : List Bool) (part : List PrefixPattern) → length part ≤ 4 →
-    (((found_in prefix (slice_get part 0) || found_in prefix (slice_get part 1)) || found_in prefix (slice_get part 2))
-    || found_in prefix (slice_get part 3)) ≡ matches_any prefix part
-any_of_four prefix [] few = refl
-any_of_four prefix (p ∷ []) few = none_of (matches prefix p)
-any_of_four prefix (p ∷ q ∷ []) few = two_of (matches prefix p) (matches prefix q)
-any_of_four prefix (p ∷ q ∷ r ∷ []) few = three_of (matches prefix p) (matches prefix q) (matches prefix r)
-any_of_four prefix (p ∷ q ∷ r ∷ s ∷ []) few = four_of (matches prefix p) (matches prefix q) (matches prefix r) (matches prefix s)
-any_of_four prefix (p ∷ q ∷ r ∷ s ∷ t ∷ part) few = absurd (omega arith)
+  pub any_of_eight : length part ≤ 8 →
+      (((((((found_at_place 0 || found_at_place 1) || found_at_place 2) || found_at_place 3) || found_at_place 4) || found_at_place 5)
+      || found_at_place 6) || found_at_place 7) ≡ matches_any prefix part
+  any_of_eight few =
+      let one = found_more prefix part 0 in
+      let two = told_more prefix part 1 _ one in
+      let three = told_more prefix part 2 _ two in
+      let four = told_more prefix part 3 _ three in
+      let five = told_more prefix part 4 _ four in
+      let six = told_more prefix part 5 _ five in
+      let seven = told_more prefix part 6 _ six in
+      let eight = told_more prefix part 7 _ seven in
+      eight ∙ ap (matches_any prefix) (take_all 8 part few)
 
 -- one more leaf has the patterns that follow
 pub one_more_leaf : (leaves : List Leaf) (leaf : Leaf) (done few : List PrefixPattern) → AreLeavesOf leaves done → IsLeafOf leaf few →
@@ -143,25 +144,38 @@ first_and_rest patterns count =
     (take_all (length patterns - count) (drop count patterns) (omega (arith, length-drop count patterns)))
     ∙ take-append-drop count patterns
 
--- a scan of leaves, one more of them, and all
-module _ (leaves : List Leaf) (prefix : List Bool) (patterns done rest : List PrefixPattern) (index : ℕ) (found : Bool)
-    (split : patterns ≡ done ++ rest) (are : AreLeavesOf (drop index leaves) rest) (so_far : found ≡ matches_any prefix done) where
-  pub scanned_more : (d : Leaf) (hit : Bool) → index < length leaves →
-      ((part : List PrefixPattern) → IsLeafOf (get_or leaves index d) part → hit ≡ matches_any prefix part) →
-      (more : List PrefixPattern) × (left : List PrefixPattern) × (patterns ≡ more ++ left)
-      × AreLeavesOf (drop (index + 1) leaves) left × ((found || hit) ≡ matches_any prefix more)
-  scanned_more d hit within told =
-      let first : drop index leaves ≡ get_or leaves index d ∷ drop (index + 1) leaves = rw add-one (drop-cons leaves index d within) in
-      let (few, left, e, of, more) = subst (λ ls. AreLeavesOf ls rest) first are in (
-        done ++ few,
-        left,
-        split ∙ ap (λ xs. done ++ xs) e ∙ sym (append_assoc done few left),
-        more,
-        ap (λ b. b || hit) so_far ∙ ap (λ b. matches_any prefix done || b) (told few of)
-            ∙ sym (list_any-append (matches prefix) done few),
-      )
+-- a scan of leaves that found no match so far: the next of them, and all
+module _ (leaves : List Leaf) (prefix : List Bool) (patterns done rest : List PrefixPattern) (index : ℕ)
+    (split : patterns ≡ done ++ rest) (are : AreLeavesOf (drop index leaves) rest) (none_yet : matches_any prefix done ≡ false) where
+  -- the patterns of the next leaf, and those behind them
+  pub record IsNext (d : Leaf) : Type 0 where
+    pub few : List PrefixPattern
+    pub left : List PrefixPattern
+    pub split_more : patterns ≡ (done ++ few) ++ left
+    pub leaf : IsLeafOf (get_or leaves index d) few
+    pub are_left : AreLeavesOf (drop (index + 1) leaves) left
+    pub told : matches_any prefix (done ++ few) ≡ matches_any prefix few
+    pub all_told : matches_any prefix patterns ≡ (matches_any prefix few || matches_any prefix left)
 
-  pub scanned_all : length leaves ≤ index → found ≡ matches_any prefix patterns
+  pub next_leaf : (d : Leaf) → index < length leaves → IsNext d
+  next_leaf d within =
+      let first : drop index leaves ≡ get_or leaves index d ∷ drop (index + 1) leaves = rw add-one (drop-cons leaves index d within) in
+      let (few, left, e, of, more) = subst (λ ls. AreLeavesOf ls rest) first are in
+      let whole : patterns ≡ (done ++ few) ++ left = split ∙ ap (λ xs. done ++ xs) e ∙ sym (append_assoc done few left) in
+      let so_far : matches_any prefix (done ++ few) ≡ matches_any prefix few =
+      list_any-append (matches prefix) done few ∙ ap (λ b. b || matches_any prefix few) none_yet in
+      record {
+        few = few;
+        left = left;
+        split_more = whole;
+        leaf = of;
+        are_left = more;
+        told = so_far;
+        all_told = ap (matches_any prefix) whole ∙ list_any-append (matches prefix) (done ++ few) left
+            ∙ ap (λ b. b || matches_any prefix left) so_far;
+      }
+
+  pub scanned_all : length leaves ≤ index → matches_any prefix patterns ≡ false
   scanned_all over =
       let none : rest ≡ [] = subst (λ ls. AreLeavesOf ls rest) (drop_all index leaves over) are in
-      so_far ∙ ap (matches_any prefix) (sym (split ∙ ap (λ xs. done ++ xs) none ∙ append-nil done))
+      ap (matches_any prefix) (split ∙ ap (λ xs. done ++ xs) none ∙ append-nil done) ∙ none_yet

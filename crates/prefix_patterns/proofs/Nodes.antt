@@ -3,8 +3,10 @@ use Rattle.std.proofs.Common.{◌≡◌, ℕ, zero, suc, ◌+◌, ◌-◌, ◌<�
 use Rattle.std.proofs.Common.{refl, sym, ap, ◌∙◌, arith, slice_get, cond, get_or}
 use Rattle.std.proofs.lemmas.List.{get_or-drop, length-drop}
 use Rattle.std.proofs.lemmas.List.Elements.{filter_more}
+use Rattle.prefix_patterns.specs.Index.{BucketStandsFor}
 use Rattle.prefix_patterns.specs.Matching.{PrefixPattern}
 use Rattle.prefix_patterns.specs.Trees.{HasEmptyFirst, IsUnion, IsUnionOfEnds, StandsFor, side, turns, tree_levels}
+use Rattle.prefix_patterns.specs.declared.index.Place.{Place}
 use Rattle.prefix_patterns.specs.declared.leaf.Leaf.{Leaf}
 use Rattle.prefix_patterns.specs.declared.tree.Node.{Node}
 use Rattle.prefix_patterns.specs.declared.tree.Subtree.{Subtree}
@@ -46,6 +48,20 @@ pub stands_in_longer : (levels : ℕ) (nodes longer more : List Node) (leaves wi
     StandsFor levels longer wider depth subtree part
 stands_in_longer levels nodes longer more leaves wider others depth subtree part e f h =
     rw (e, f) (stands_longer levels nodes more leaves others depth subtree part h)
+
+-- and so does what the place of a bucket stands for
+pub bucket_in_longer : (nodes longer more : List Node) (leaves wider others bucket_leaves fuller filled : List Leaf)
+    (trees grown further : List Subtree) (place : Place) (part : List PrefixPattern) → longer ≡ nodes ++ more →
+    wider ≡ leaves ++ others → fuller ≡ bucket_leaves ++ filled → grown ≡ trees ++ further →
+    BucketStandsFor nodes leaves bucket_leaves trees place part → BucketStandsFor longer wider fuller grown place part
+bucket_in_longer nodes longer more leaves wider others bucket_leaves fuller filled trees grown further (Place.Few at) part e f g h
+    (leaf, there, of) = (leaf, rw g (slice_get-append bucket_leaves filled at leaf there), of)
+bucket_in_longer nodes longer more leaves wider others bucket_leaves fuller filled trees grown further (Place.Many at) part e f g h
+    (tree, there, stands) = (
+      tree,
+      rw h (slice_get-append trees further at tree there),
+      stands_in_longer 25 nodes longer more leaves wider others 8 tree part e f stands,
+    )
 
 -- the first leaf stays
 pub empty_first_longer : (leaves longer more : List Leaf) → longer ≡ leaves ++ more → HasEmptyFirst leaves → HasEmptyFirst longer

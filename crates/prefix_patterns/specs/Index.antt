@@ -1,10 +1,12 @@
--- The index of a set of patterns: buckets by the first 8 bits, and a tree for each. (This project's own choice.)
+-- The index of a set of patterns: buckets by the first 8 bits, and a leaf or a tree for each. (This project's own choice.)
 use Rattle.std.specs.Prelude.{◌≡◌, ℕ, ◌+◌, ◌<◌, ◌≤◌, ◌==◌, ◌&&◌, not, Bool, Some, None, Option, List, [], ◌∷◌, get_or, length, slice_get}
 use Rattle.std.specs.List.{list_any}
 use Rattle.prefix_patterns.specs.Matching.{PrefixPattern, pattern_limit}
-use Rattle.prefix_patterns.specs.Trees.{AreLeavesOf, StandsFor, bucket, hits, in_bucket, index_of, short_bucket, tree_levels}
+use Rattle.prefix_patterns.specs.Trees.{AreLeavesOf, IsLeafOf, StandsFor, bucket, hits, in_bucket, index_of, short_bucket, tree_levels}
 use Rattle.prefix_patterns.specs.declared.index.Chains.{Chains}
 use Rattle.prefix_patterns.specs.declared.index.PatternIndex.{PatternIndex}
+use Rattle.prefix_patterns.specs.declared.index.Place.{Place}
+use Rattle.prefix_patterns.specs.declared.index.Place.TheVariants.{Few, Many}
 use Rattle.prefix_patterns.specs.declared.leaf.Leaf.{Leaf}
 use Rattle.prefix_patterns.specs.declared.set.Search.{Search}
 use Rattle.prefix_patterns.specs.declared.set.Search.TheVariants.{Scan, Index}
@@ -38,13 +40,21 @@ abbrev pub ShortStandsFor : List Node → List Leaf → Option Subtree → List 
 ShortStandsFor nodes leaves None part = part ≡ []
 ShortStandsFor nodes leaves (Some subtree) part = (levels : ℕ) → levels ≡ tree_levels → StandsFor levels nodes leaves 0 subtree part
 
--- The index of a list of patterns: the patterns of fewer than 8 bits have a tree, and those of each other bucket have one,
--- which begins at depth 8. Prefixes of up to 8 bits have marks.
+-- What the place of a bucket stands for: the patterns of a leaf, or those of a tree, which begins at depth 8.
+abbrev pub BucketStandsFor : List Node → List Leaf → List Leaf → List Subtree → Place → List PrefixPattern → Type 0
+BucketStandsFor nodes leaves bucket_leaves trees (Few at) part =
+    (leaf : Leaf) × (slice_get bucket_leaves at ≡ Some leaf) × IsLeafOf leaf part
+BucketStandsFor nodes leaves bucket_leaves trees (Many at) part =
+    (tree : Subtree) × (slice_get trees at ≡ Some tree) × StandsFor 25 nodes leaves 8 tree part
+
+-- The index of a list of patterns: the patterns of fewer than 8 bits have a tree, and those of each other bucket have a leaf or
+-- a tree. Prefixes of up to 8 bits have marks.
 pub record IsIndexOf (index : PatternIndex) (patterns : List PrefixPattern) : Type 0 where
-  pub subtrees : length index.subtrees.items ≡ 256
+  pub places : length index.places.items ≡ 256
   pub short : ShortStandsFor index.nodes.items index.leaves.items index.short (in_bucket short_bucket patterns)
-  pub long : (bucket : ℕ) (d : Subtree) → bucket < 256 →
-      StandsFor 25 index.nodes.items index.leaves.items 8 (get_or index.subtrees.items bucket d) (in_bucket bucket patterns)
+  pub long : (bucket : ℕ) (d : Place) → bucket < 256 →
+      BucketStandsFor index.nodes.items index.leaves.items index.bucket_leaves.items index.trees.items
+      (get_or index.places.items bucket d) (in_bucket bucket patterns)
   pub marks : AreMarks index.marks.items patterns
 
 -- the greatest number of patterns in a set that has no index

@@ -52,23 +52,29 @@ mask_of len = 2 ^ 32 - 2 ^ (32 - len)
 
 -- the greatest number of patterns in a leaf
 abbrev pub leaf_limit : ℕ
-leaf_limit = 4
+leaf_limit = 8
 
 -- what a leaf has of a pattern at a place
 pub record IsEntry (leaf : Leaf) (at : ℕ) (pattern : PrefixPattern) : Type 0 where
   pub limit : length pattern.bits ≤ address_length
   pub address : get_or leaf.addresses at 0 ≡ address_of pattern.bits
   pub mask : get_or leaf.masks at 0 ≡ mask_of (length pattern.bits)
-  pub lengths : (d : Lengths) (len : ℕ) → has_length (get_or leaf.lengths at d) len ≡ allows len pattern
+  pub low : get_or leaf.lows at 0 ≡ pattern.low
+  pub high : get_or leaf.highs at 0 ≡ pattern.high
 
--- a leaf has these patterns, and at its other places no length
+-- a place of a leaf without a pattern allows no length: the least is above the greatest
+abbrev pub IsVacant : Leaf → ℕ → Type 0
+IsVacant leaf at = get_or leaf.highs at 0 < get_or leaf.lows at 0
+
+-- a leaf has these patterns, and its other places are vacant
 pub record IsLeafOf (leaf : Leaf) (part : List PrefixPattern) : Type 0 where
   pub addresses : length leaf.addresses ≡ leaf_limit
   pub masks : length leaf.masks ≡ leaf_limit
-  pub lengths : length leaf.lengths ≡ leaf_limit
+  pub lows : length leaf.lows ≡ leaf_limit
+  pub highs : length leaf.highs ≡ leaf_limit
   pub few : length part ≤ leaf_limit
   pub filled : (at : ℕ) (pattern : PrefixPattern) → slice_get part at ≡ Some pattern → IsEntry leaf at pattern
-  pub empty : (at : ℕ) (d : Lengths) (len : ℕ) → length part ≤ at → at < leaf_limit → has_length (get_or leaf.lengths at d) len ≡ false
+  pub vacant : (at : ℕ) → length part ≤ at → at < leaf_limit → IsVacant leaf at
 
 -- leaves have these patterns, in their order
 abbrev pub AreLeavesOf : List Leaf → List PrefixPattern → Type 0

@@ -1,11 +1,12 @@
-//! The index of a large set: patterns in buckets by their first 8 bits, and a tree for each bucket.
+//! The index of a large set: patterns in buckets by their first 8 bits, and a leaf or a tree for each bucket.
 
-ghost use Rattle.std.specs.Prelude.{◌≡◌, ℕ, ◌+◌, ◌<◌, ◌≤◌, ◌++◌, ◌||◌, Bool, List, IfOk, IfSome, OnOk, get_or, length};
+ghost use Rattle.std.specs.Prelude.{◌≡◌, ◌+◌, ◌<◌, ◌≤◌, ◌++◌, ◌||◌, Bool, IsTrue, List, [], IfOk, OnOk, get_or, length};
 ghost use Rattle.prefix_patterns.specs.Matching.{PrefixPattern, matches_any, pattern_limit};
-ghost use Rattle.prefix_patterns.specs.Trees.{HasEmptyFirst, IsLeafOf, StandsFor, hits, in_bucket, index_of, short_bucket, tree_levels};
-ghost use Rattle.prefix_patterns.specs.Index.{AreMarks, HasChains, IsIndexOf, ShortStandsFor};
+ghost use Rattle.prefix_patterns.specs.Trees.{HasEmptyFirst, IsLeafOf, hits, in_bucket, index_of, short_bucket};
+ghost use Rattle.prefix_patterns.specs.Index.{AreMarks, BucketStandsFor, HasChains, IsIndexOf, ShortStandsFor};
 ghost use Rattle.prefix_patterns.specs.declared.leaf.Leaf.{Leaf as LeafView};
 ghost use Rattle.prefix_patterns.specs.declared.tree.Node.{Node as NodeView};
+ghost use Rattle.prefix_patterns.specs.declared.tree.Subtree.{Subtree as SubtreeView};
 
 use crate::leaf::{FEW, Leaf};
 use crate::pattern::{BUCKET_BITS, Pattern, SHORT_BUCKET};
@@ -58,25 +59,25 @@ fn push_bucket(
     Ok(())
 }
 
-/// The leaf of the patterns of a bucket, if they are few.
-fn leaf_of_bucket(patterns: &[Pattern], chains: &Chains, bucket: usize) -> Option<Leaf>
+/// Puts the patterns of a bucket into a leaf, if they are few. False if they are not.
+fn fill_leaf(leaf: &mut Leaf, patterns: &[Pattern], chains: &Chains, bucket: usize) -> bool
+    requires empty { IsLeafOf leaf.old [] }
     requires chains { HasChains patterns.now chains.now }
     requires bucket { bucket < short_bucket }
-    ensures { IfSome result (λ leaf. IsLeafOf leaf (in_bucket bucket patterns.now)) }
+    ensures { IsTrue result → IsLeafOf leaf.new (in_bucket bucket patterns.now) }
 {
-    let mut leaf = Leaf::none();
     let mut count = 0;
     let mut at = chains.heads[bucket];
     while at > 0 {
         if count == FEW {
-            return None;
+            return false;
         }
         let index = usize::from(at - 1);
         leaf.put(count, &patterns[index]);
         count += 1;
         at = chains.next[index];
     }
-    Some(leaf)
+    true
 }
 
 /// Marks the prefixes of up to 8 bits that match a pattern of 8 bits or more.
@@ -105,9 +106,10 @@ fn marks_of(alloc: Global, patterns: &[Pattern]) -> Result<Vec<bool>, AllocError
     Ok(marks)
 }
 
-/// The leaf of no patterns, which all trees without patterns share, with room for other leaves.
+/// The leaf of no patterns, which all that have no patterns share, with room for other leaves.
 fn first_leaves(alloc: Global, room: usize) -> Result<Vec<Leaf>, AllocError>
-    ensures { IfOk result (λ leaves. HasEmptyFirst leaves.items) }
+    ensures first { IfOk result (λ leaves. HasEmptyFirst leaves.items) }
+    ensures count { IfOk result (λ leaves. length leaves.items ≡ 1) }
 {
     let mut leaves = Vec::with_capacity(alloc, room)?;
     leaves.push(Leaf::none())?;
@@ -132,46 +134,72 @@ fn grow_short(
     Ok(Some(subtree))
 }
 
-/// Makes the tree of a bucket. Most buckets of a set are empty, and most of the others have a few patterns: these go into a
-/// leaf at once.
+/// Where the patterns of a bucket are: a few of them in a leaf, or more in a tree, by its index. There are 256 buckets, so
+/// indices are small, and all places find room in the first cache of a processor.
+#[derive(Clone, Copy)]
+pub(crate) enum Place {
+    Few(u16),
+    Many(u16),
+}
+
+/// Makes the leaf or the tree of a bucket. Most buckets of a set are empty and share a leaf, and most of the others have a few
+/// patterns: these go into a leaf at once.
 #[inline(always)]
 fn grow_bucket(
+    bucket_leaves: &mut Vec<Leaf>,
+    trees: &mut Vec<Subtree>,
     nodes: &mut Vec<Node>,
     leaves: &mut Vec<Leaf>,
     part: &mut Vec<Pattern>,
     patterns: &[Pattern],
     chains: &Chains,
     bucket: usize,
-) -> Result<Subtree, AllocError>
+) -> Result<Place, AllocError>
     requires chains { HasChains patterns.now chains.now }
     requires bucket { bucket < short_bucket }
     requires first { HasEmptyFirst leaves.old.items }
+    requires bucket_first { HasEmptyFirst bucket_leaves.old.items }
+    requires leaf_count { length bucket_leaves.old.items ≤ bucket + 1 }
+    requires tree_count { length trees.old.items ≤ bucket }
+    ensures leaf_count { OnOk result (length bucket_leaves.new.items ≤ bucket + 2) }
+    ensures tree_count { OnOk result (length trees.new.items ≤ bucket + 1) }
+    ensures bucket_leaves { OnOk result ((more : List LeafView) × (bucket_leaves.new.items ≡ bucket_leaves.old.items ++ more)) }
+    ensures trees { OnOk result ((more : List SubtreeView) × (trees.new.items ≡ trees.old.items ++ more)) }
     ensures nodes { OnOk result ((more : List NodeView) × (nodes.new.items ≡ nodes.old.items ++ more)) }
     ensures leaves { OnOk result ((more : List LeafView) × (leaves.new.items ≡ leaves.old.items ++ more)) }
-    ensures stands { IfOk result (λ subtree. (levels : ℕ) → levels + 8 ≡ tree_levels →
-        StandsFor levels nodes.new.items leaves.new.items 8 subtree (in_bucket bucket patterns.now)) }
+    ensures stands { IfOk result (λ place. BucketStandsFor nodes.new.items leaves.new.items bucket_leaves.new.items trees.new.items
+        place (in_bucket bucket patterns.now)) }
 {
     if chains.heads[bucket] == 0 {
-        return Ok(Subtree::Few(0));
+        return Ok(Place::Few(0));
     }
-    if let Some(leaf) = leaf_of_bucket(patterns, chains, bucket) {
-        leaves.push(leaf)?;
-        return Ok(Subtree::Few(leaves.len() - 1));
+    // The leaf is filled where it stays: a copy of it takes longer than what is written. One with too few places is left unused.
+    let at = bucket_leaves.len();
+    bucket_leaves.push(Leaf::none())?;
+    if fill_leaf(&mut bucket_leaves[at], patterns, chains, bucket) {
+        return Ok(Place::Few(at as u16));
     }
     part.clear();
     push_bucket(part, patterns, chains, bucket)?;
-    grow(nodes, leaves, part, 0, BUCKET_BITS)
+    let tree = grow(nodes, leaves, part, 0, BUCKET_BITS)?;
+    trees.push(tree)?;
+    Ok(Place::Many((trees.len() - 1) as u16))
 }
 
 /// The index of a set of patterns.
 #[derive(Drop)]
 pub(crate) struct PatternIndex {
-    nodes: Vec<Node>,
-    leaves: Vec<Leaf>,
+    /// For each bucket the place of its patterns.
+    places: Vec<Place>,
+    /// The leaves of buckets. The first has no patterns.
+    bucket_leaves: Vec<Leaf>,
+    /// The trees of buckets. Each begins behind the 8 bits that its patterns share.
+    trees: Vec<Subtree>,
     /// The tree of the patterns of fewer than 8 bits, if there are some.
     short: Option<Subtree>,
-    /// The tree of each other bucket. It begins behind the 8 bits that its patterns share.
-    subtrees: Vec<Subtree>,
+    /// The nodes and the leaves of all trees.
+    nodes: Vec<Node>,
+    leaves: Vec<Leaf>,
     /// For each prefix of up to 8 bits, whether it matches one of the patterns of 8 bits or more. The index of a prefix is
     /// the number whose digits are a 1 and its bits.
     marks: Vec<bool>,
@@ -185,12 +213,16 @@ impl PatternIndex {
     {
         let marks = marks_of(alloc, patterns)?;
         let chains = chains_of(alloc, patterns)?;
+        let mut places = Vec::with_capacity(alloc, SHORT_BUCKET)?;
+        let mut bucket_leaves = first_leaves(alloc, patterns.len().min(SHORT_BUCKET))?;
+        let mut trees = Vec::new(alloc);
         let mut nodes = Vec::new(alloc);
-        let mut leaves = first_leaves(alloc, patterns.len().min(SHORT_BUCKET))?;
+        let mut leaves = first_leaves(alloc, 1)?;
         let mut part = Vec::new(alloc);
-        let mut subtrees = Vec::with_capacity(alloc, SHORT_BUCKET)?;
         for bucket in 0..SHORT_BUCKET {
-            let subtree = grow_bucket(
+            let place = grow_bucket(
+                &mut bucket_leaves,
+                &mut trees,
                 &mut nodes,
                 &mut leaves,
                 &mut part,
@@ -198,16 +230,18 @@ impl PatternIndex {
                 &chains,
                 bucket,
             )?;
-            subtrees.push(subtree)?;
+            places.push(place)?;
         }
         part.clear();
         push_bucket(&mut part, patterns, &chains, SHORT_BUCKET)?;
         let short = grow_short(&mut nodes, &mut leaves, &mut part)?;
         Ok(PatternIndex {
+            places,
+            bucket_leaves,
+            trees,
+            short,
             nodes,
             leaves,
-            short,
-            subtrees,
             marks,
         })
     }
@@ -225,6 +259,7 @@ impl PatternIndex {
     }
 
     /// Whether a prefix matches one of the patterns.
+    #[inline(always)]
     pub fn matches(&self, prefix: &Prefix) -> bool
         requires { (patterns : List PrefixPattern) × IsIndexOf self.now patterns }
         ensures { (patterns : List PrefixPattern) → IsIndexOf self.now patterns → result ≡ matches_any prefix.now patterns }
@@ -236,7 +271,12 @@ impl PatternIndex {
         if len <= BUCKET_BITS {
             return self.marks[prefix.heap_index(len)];
         }
-        let subtree = &self.subtrees[prefix.leading(BUCKET_BITS)];
-        walk(&self.nodes, &self.leaves, subtree, BUCKET_BITS, prefix)
+        match self.places[prefix.leading(BUCKET_BITS)] {
+            Place::Few(at) => self.bucket_leaves[usize::from(at)].matches(prefix),
+            Place::Many(at) => {
+                let tree = &self.trees[usize::from(at)];
+                walk(&self.nodes, &self.leaves, tree, BUCKET_BITS, prefix)
+            }
+        }
     }
 }

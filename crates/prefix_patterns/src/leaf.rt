@@ -1,25 +1,25 @@
-//! The leaves of a tree: up to four patterns each.
+//! The leaves of a tree: up to eight patterns each.
 
-ghost use Rattle.std.specs.Prelude.{◌≡◌, ℕ, ◌<◌, ◌≤◌, ◌++◌, false, List, [], ◌∷◌, IfOk, get_or, length};
+ghost use Rattle.std.specs.Prelude.{◌≡◌, ◌<◌, ◌≤◌, ◌++◌, false, List, [], ◌∷◌, IfOk, length};
 ghost use Rattle.prefix_patterns.specs.Matching.{PrefixPattern, matches, matches_any};
-ghost use Rattle.prefix_patterns.specs.Trees.{AreLeavesOf, IsEntry, IsLeafOf, has_length, leaf_limit};
-ghost use Rattle.prefix_patterns.specs.declared.lengths.Lengths.{Lengths as LengthsView};
+ghost use Rattle.prefix_patterns.specs.Trees.{AreLeavesOf, IsEntry, IsLeafOf, IsVacant, leaf_limit};
 
-use crate::lengths::Lengths;
 use crate::pattern::Pattern;
 use crate::prefix::Prefix;
 use std::alloc::{AllocError, Global};
 
 /// The greatest number of patterns in a leaf.
-pub(crate) const FEW: usize = 4;
+pub(crate) const FEW: usize = 8;
 
-/// Up to four patterns: of each its first address, the mask of its bits, and the lengths that it allows. A place without a
-/// pattern allows none. All four are compared at once, without a branch.
+/// Up to eight patterns: of each its first address, the mask of its bits, and the least and the greatest length that it allows.
+/// At a place without a pattern the least is above the greatest, so it allows none. All eight are compared at once, without a
+/// branch. Lengths are bytes: a leaf takes 80 bytes, and those of 256 buckets find room in the first cache of a processor.
 #[derive(Clone, Copy)]
 pub(crate) struct Leaf {
     addresses: [u32; FEW],
     masks: [u32; FEW],
-    lengths: [Lengths; FEW],
+    lows: [u8; FEW],
+    highs: [u8; FEW],
 }
 
 impl Leaf {
@@ -30,7 +30,8 @@ impl Leaf {
         Leaf {
             addresses: [0; FEW],
             masks: [0; FEW],
-            lengths: [Lengths::none(); FEW],
+            lows: [1; FEW],
+            highs: [0; FEW],
         }
     }
 
@@ -43,7 +44,8 @@ impl Leaf {
         let prefix = pattern.prefix();
         self.addresses[at] = prefix.address().0;
         self.masks[at] = prefix.mask();
-        self.lengths[at] = pattern.lengths();
+        self.lows[at] = pattern.low();
+        self.highs[at] = pattern.high();
     }
 
     /// The leaf of a few patterns.
@@ -67,6 +69,10 @@ impl Leaf {
             | self.matches_at(1, prefix)
             | self.matches_at(2, prefix)
             | self.matches_at(3, prefix)
+            | self.matches_at(4, prefix)
+            | self.matches_at(5, prefix)
+            | self.matches_at(6, prefix)
+            | self.matches_at(7, prefix)
     }
 
     /// Whether a prefix matches the pattern at a place.
@@ -74,11 +80,11 @@ impl Leaf {
     fn matches_at(&self, at: usize, prefix: &Prefix) -> bool
         requires { at < leaf_limit }
         ensures filled { (pattern : PrefixPattern) → IsEntry self.now at pattern → result ≡ matches prefix.now pattern }
-        ensures empty { ((d : LengthsView) (len : ℕ) → has_length (get_or self.now.lengths at d) len ≡ false) → result ≡ false }
+        ensures empty { IsVacant self.now at → result ≡ false }
     {
         let mask = self.masks[at] & prefix.mask();
         (self.addresses[at] & mask == prefix.address().0 & mask)
-            & self.lengths[at].has(prefix.len())
+            & ((self.lows[at] <= prefix.len()) & (prefix.len() <= self.highs[at]))
     }
 }
 
@@ -100,9 +106,11 @@ pub(crate) fn leaves_of(alloc: Global, patterns: &[Pattern]) -> Result<Vec<Leaf>
 pub(crate) fn any_leaf_matches(leaves: &[Leaf], prefix: &Prefix) -> bool
     ensures { (patterns : List PrefixPattern) → AreLeavesOf leaves.now patterns → result ≡ matches_any prefix.now patterns }
 {
-    let mut found = false;
+    // A match ends the loop: otherwise the compiler would take several leaves at a time, which takes longer where there are few.
     for leaf in leaves {
-        found |= leaf.matches(prefix);
+        if leaf.matches(prefix) {
+            return true;
+        }
     }
-    found
+    false
 }

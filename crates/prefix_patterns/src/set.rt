@@ -120,6 +120,7 @@ impl PatternSet {
     }
 
     /// Whether a prefix matches one of the patterns.
+    #[inline(always)]
     pub fn matches(&self, prefix: &Prefix) -> bool
         ensures any { IsTrue result ↔ MatchesAny prefix.now self.now }
         ensures exact { result ≡ matches_any prefix.now self.now }

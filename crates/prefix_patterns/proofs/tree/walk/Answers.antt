@@ -10,7 +10,7 @@ use Rattle.prefix_patterns.proofs.tree.walk.Goals as goal
 
 -- what a read would give where nothing is
 abbrev no_leaf : Leaf
-no_leaf = record { addresses = []; masks = []; lengths = [] }
+no_leaf = record { addresses = []; masks = []; lows = []; highs = [] }
 
 abbrev no_node : Node
 no_node = record { own = record { mask = 0 }; below = record { mask = 0 }; zero = Few 0; one = Few 0 }

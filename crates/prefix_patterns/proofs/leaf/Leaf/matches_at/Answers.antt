@@ -1,7 +1,9 @@
-use Rattle.std.proofs.Common.{◌≡◌, ◌==◌, ◌&&◌, bit_and, get_or, length, ap, ◌∙◌}
+use Rattle.std.proofs.Common.{◌≡◌, ℕ, ◌<◌, ◌==◌, ◌&&◌, false, nat_le, arith, refl, sym, bit_and, get_or, length, ap, ◌∙◌}
 use Rattle.prefix_patterns.specs.Bits.{address_of}
 use Rattle.prefix_patterns.specs.Matching.{has_same_bits}
-use Rattle.prefix_patterns.specs.Trees.{allows, mask_of}
+use Rattle.std.proofs.Math.Bool.{and-false}
+use Rattle.std.proofs.lemmas.Bool.Decides.{nat_tests}
+use Rattle.prefix_patterns.specs.Trees.{mask_of}
 use Rattle.prefix_patterns.proofs.Leaves.{same_under_masks}
 use Rattle.prefix_patterns.proofs.leaf.Leaf.matches_at.Goals as goal
 
@@ -17,6 +19,18 @@ returns-clause-filled c = λ pattern h.
     let same : (bit_and (get_or leaf.addresses at 0) mask == bit_and c.address.result.0 mask) ≡ has_same_bits prefix pattern.bits =
     ap (λ a. bit_and a mask == bit_and c.address.result.0 mask) h.address
     ∙ ap (λ a. bit_and (address_of pattern.bits) mask == bit_and a mask) c.address.ensures ∙ bits in
-    let allowed : c.has.result ≡ allows (length prefix) pattern =
-    c.has.ensures ∙ h.lengths _ c.len.result ∙ ap (λ n. allows n pattern) c.len.ensures.bits in
-    ap (λ b. b && c.has.result) same ∙ ap (λ b. has_same_bits prefix pattern.bits && b) allowed
+    let low : nat_le (get_or leaf.lows at 0) c.len.result ≡ nat_le pattern.low (length prefix) =
+    ap (λ n. nat_le n c.len.result) h.low ∙ ap (nat_le pattern.low) c.len.ensures.bits in
+    let high : nat_le c.len-2.result (get_or leaf.highs at 0) ≡ nat_le (length prefix) pattern.high =
+    ap (nat_le c.len-2.result) h.high ∙ ap (λ n. nat_le n pattern.high) c.len-2.ensures.bits in
+    rw (same, low, high) refl
+
+-- no length is at least the least and at most the greatest where the greatest is below the least
+none_between : (low high len : ℕ) → high < low → (nat_le low len && nat_le len high) ≡ false
+none_between low high len vacant = grind (arith, nat_tests)
+
+pub returns-clause-empty : goal.returns-clause-empty
+returns-clause-empty c = λ vacant.
+    let leaf = c.args.self.now in
+    let len : c.len-2.result ≡ c.len.result = c.len-2.ensures.bits ∙ sym c.len.ensures.bits in
+    rw (len, none_between (get_or leaf.lows c.args.at 0) (get_or leaf.highs c.args.at 0) c.len.result vacant) (and-false _)

@@ -3,33 +3,34 @@ use Rattle.std.proofs.lemmas.Bool.{cases_eq}
 use Rattle.std.proofs.lemmas.List.{get_or-set_same, get_or-set_other, length-append, length-set}
 use Rattle.prefix_patterns.specs.Bits.{address_of}
 use Rattle.prefix_patterns.specs.Matching.{PrefixPattern}
-use Rattle.prefix_patterns.specs.Trees.{IsEntry, allows, has_length, mask_of}
+use Rattle.prefix_patterns.specs.Trees.{IsEntry, mask_of}
 use Rattle.prefix_patterns.specs.declared.leaf.Leaf.{Leaf}
-use Rattle.prefix_patterns.specs.declared.lengths.Lengths.{Lengths}
 use Rattle.prefix_patterns.proofs.Nodes.{slice_get-last}
 use Rattle.prefix_patterns.proofs.leaf.Leaf.put.Goals as goal
 
 -- a place that is written, and the others
-module _ (addresses masks : List ℕ) (lengths : List Lengths) (at a m : ℕ) (l : Lengths) where
+module _ (addresses masks lows highs : List ℕ) (at a m l h : ℕ) where
   abbrev written : Leaf
-  written = record { addresses = set addresses at a; masks = set masks at m; lengths = set lengths at l }
+  written = record { addresses = set addresses at a; masks = set masks at m; lows = set lows at l; highs = set highs at h }
 
-  here : (p : PrefixPattern) → at < 4 → length addresses ≡ 4 → length masks ≡ 4 → length lengths ≡ 4 → length p.bits ≤ 32 →
-      a ≡ address_of p.bits → m ≡ mask_of (length p.bits) → ((len : ℕ) → has_length l len ≡ allows len p) → IsEntry written at p
-  here p within four fours fourth limit is_a is_m told = record {
+  here : (p : PrefixPattern) → at < 8 → length addresses ≡ 8 → length masks ≡ 8 → length lows ≡ 8 → length highs ≡ 8 →
+      length p.bits ≤ 32 → a ≡ address_of p.bits → m ≡ mask_of (length p.bits) → l ≡ p.low → h ≡ p.high → IsEntry written at p
+  here p within of_addresses of_masks of_lows of_highs limit is_a is_m is_l is_h = record {
     limit = limit;
     address = get_or-set_same addresses at a 0 (omega arith) ∙ is_a;
     mask = get_or-set_same masks at m 0 (omega arith) ∙ is_m;
-    lengths = λ d len. ap (λ x. has_length x len) (get_or-set_same lengths at l d (omega arith)) ∙ told len;
+    low = get_or-set_same lows at l 0 (omega arith) ∙ is_l;
+    high = get_or-set_same highs at h 0 (omega arith) ∙ is_h;
   }
 
   elsewhere : (i : ℕ) (p : PrefixPattern) → (i ≡ at → ⊥) →
-      IsEntry (record { addresses = addresses; masks = masks; lengths = lengths }) i p → IsEntry written i p
-  elsewhere i p other h = record {
-    limit = h.limit;
-    address = get_or-set_other addresses at i a 0 other ∙ h.address;
-    mask = get_or-set_other masks at i m 0 other ∙ h.mask;
-    lengths = λ d len. ap (λ x. has_length x len) (get_or-set_other lengths at i l d other) ∙ h.lengths d len;
+      IsEntry (record { addresses = addresses; masks = masks; lows = lows; highs = highs }) i p → IsEntry written i p
+  elsewhere i p other e = record {
+    limit = e.limit;
+    address = get_or-set_other addresses at i a 0 other ∙ e.address;
+    mask = get_or-set_other masks at i m 0 other ∙ e.mask;
+    low = get_or-set_other lows at i l 0 other ∙ e.low;
+    high = get_or-set_other highs at i h 0 other ∙ e.high;
   }
 
 -- the last of the patterns, and those before it
@@ -50,15 +51,18 @@ returns c = λ part e h.
     let p = c.args.pattern.now in
     let a = c.address.result.0 in
     let m = c.mask.result in
-    let l = c.lengths.result in
+    let low = c.low.result in
+    let high = c.high.result in
     let bits = c.prefix-prefix.ensures in
-    let placed = here leaf.addresses leaf.masks leaf.lengths at a m l p c.requires h.addresses h.masks h.lengths
+    let placed = here leaf.addresses leaf.masks leaf.lows leaf.highs at a m low high p c.requires h.addresses h.masks h.lows h.highs
     (subst (λ b. length b ≤ 32) bits c.mask.ensures.limit)
-    (c.address.ensures ∙ ap address_of bits) (c.mask.ensures.value ∙ ap (λ b. mask_of (length b)) bits) c.lengths.ensures in
+    (c.address.ensures ∙ ap address_of bits) (c.mask.ensures.value ∙ ap (λ b. mask_of (length b)) bits) c.low.ensures
+    c.high.ensures.high in
     record {
       addresses = length-set leaf.addresses at a ∙ h.addresses;
       masks = length-set leaf.masks at m ∙ h.masks;
-      lengths = length-set leaf.lengths at l ∙ h.lengths;
+      lows = length-set leaf.lows at low ∙ h.lows;
+      highs = length-set leaf.highs at high ∙ h.highs;
       few = omega (arith, length-append part (p ∷ []));
       filled = λ i pattern is.
           elim (cases_eq i at) [
@@ -67,10 +71,11 @@ returns c = λ part e h.
                 let q : p ≡ pattern = cc in
                 rw (same, ← q) placed
             | inr other ↦
-                elsewhere leaf.addresses leaf.masks leaf.lengths at a m l i pattern other
+                elsewhere leaf.addresses leaf.masks leaf.lows leaf.highs at a m low high i pattern other
                 (h.filled i pattern (before part p i pattern (λ same. other (same ∙ e)) is))
           ];
-      empty = λ i d len past below.
-          ap (λ x. has_length x len) (get_or-set_other leaf.lengths at i l d (λ same. omega (arith, length-append part (p ∷ []))))
-          ∙ h.empty i d len (omega (arith, length-append part (p ∷ []))) below;
+      vacant = λ i over below.
+          let other : i ≡ at → ⊥ = λ same. omega (arith, length-append part (p ∷ [])) in
+          rw (get_or-set_other leaf.lows at i low 0 other, get_or-set_other leaf.highs at i high 0 other)
+          (h.vacant i (omega (arith, length-append part (p ∷ []))) below);
     }

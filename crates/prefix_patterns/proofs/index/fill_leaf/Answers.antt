@@ -5,7 +5,7 @@ use Rattle.std.proofs.lemmas.Option.{slice_get_read}
 use Rattle.prefix_patterns.specs.Index.{IsChain}
 use Rattle.prefix_patterns.specs.Trees.{IsLeafOf}
 use Rattle.prefix_patterns.proofs.Chains.{over, read_link, step_at}
-use Rattle.prefix_patterns.proofs.index.leaf_of_bucket.Goals as goal
+use Rattle.prefix_patterns.proofs.index.fill_leaf.Goals as goal
 
 pub bounds-patterns-index : goal.bounds-patterns-index
 bounds-patterns-index c =
@@ -55,7 +55,7 @@ loop-at-preserved c =
     )
 
 pub returns : goal.returns
-returns c =
+returns c = λ yes.
     let (done, rest, chain, items, count, is) = c.loop-at.invariant in
     let none = over c.args.patterns.now c.args.chains.now.next.items c.loop-at.at rest (omega arith) chain in
     subst (IsLeafOf c.loop-at.leaf) (sym (append-nil done) ∙ ap (λ xs. done ++ xs) (sym none) ∙ items) is

@@ -2,7 +2,7 @@ use Rattle.std.proofs.Common.{◌≡◌, ◌++◌, List, length}
 use Rattle.prefix_patterns.specs.Index.{IsChain}
 use Rattle.prefix_patterns.specs.Matching.{PrefixPattern}
 use Rattle.prefix_patterns.specs.Trees.{IsLeafOf, in_bucket}
-use Rattle.prefix_patterns.proofs.index.leaf_of_bucket.Given as goal
+use Rattle.prefix_patterns.proofs.index.fill_leaf.Given as goal
 
 -- the patterns so far are in the leaf, and those of the rest of the chain are left
 abbrev pub invariant-loop-at : goal.invariant-loop-at
