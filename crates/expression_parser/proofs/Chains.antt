@@ -1,16 +1,17 @@
 -- The loops of the parser, turn by turn.
-use Rattle.std.proofs.Common.{◌≡◌, ℕ, suc, Result, refl, sym, ap, ◌∙◌, ◌<◌, List, [], ◌∷◌, ◌++◌, length, map, Option, Some, None}
+use Rattle.std.proofs.Common.{◌≡◌, ℕ, suc, Result, refl, sym, ap, subst, ◌∙◌, ◌<◌, ◌≤◌, List, [], ◌∷◌, ◌++◌, length, map, Option, Some, None}
 use Rattle.filter_tokens.specs.Lexemes.{Lexeme}
 use Rattle.filter_tokens.specs.declared.symbol.Symbol.TheVariants as symbols
 use Rattle.expression_parser.specs.declared.expr_level.Level.{Level}
 use Rattle.expression_parser.specs.declared.tree.expr.Expr.{Expr}
 use Rattle.expression_parser.specs.declared.tree.op.Op.{Op}
 use Rattle.expression_parser.specs.declared.tree.op.Suffix.{Suffix}
-use Rattle.expression_parser.specs.Reading.{set_opening, member_of, right_operand_with, group_end, primary_with, inner_at, expr_at, read_of}
-use Rattle.expression_parser.specs.Reading.{chain_from, chain_with, comparison_with, expr_with, join_from, level_by, level_of, unmixed}
+use Rattle.expression_parser.specs.Reading.{set_opening, member_of, right_operand_with, group_with, primary_with, inner_at, expr_at, read_of}
+use Rattle.expression_parser.specs.Reading.{chain_from, chain_with, comparison_with, join_from, level_by, level_of, unmixed}
 use Rattle.expression_parser.specs.declared.fault.ParseFault.{ParseFault}
 use Rattle.expression_parser.specs.declared.input.Input.{Input}
-use Rattle.expression_parser.specs.Readers.{Reader, with_some, symbol}
+use Rattle.expression_parser.specs.Levels.{join_with}
+use Rattle.expression_parser.specs.Readers.{Reader, Turn, turns, with_some, symbol}
 use Rattle.expression_parser.specs.Reading.{a_set_pattern, adds_set_pattern, set_after_first, set_patterns_from, joins, an_operator, suffix_of, suffixes}
 use Rattle.prefix_patterns.specs.Reading.{◌>>=◌}
 use Rattle.expression_parser.specs.Steps.{ReadsAs}
@@ -94,15 +95,9 @@ right_none sum left op ws b s =
     ∙ ap (λ r. r >>= λ right. Some (ExprView.binary op left right.0, right.1)) s
 
 -- an expression in parentheses
-pub group_read : (r : Result (Expr × Input) ParseFault) (depth n : ℕ) (ws after : List Lexeme) (x : ExprView × List Lexeme) → depth ≡ suc n
-    → symbol symbols.LeftParen ws ≡ Some after → expr_at n after ≡ Some x → ReadsAs read_of r (group_end x.0 x.1)
-    → ReadsAs read_of r (primary_with (inner_at depth) ws)
-group_read r depth n ws after x e found inner h = rw (e, found, inner) h
-
--- parentheses about no expression
-pub group_none : (depth n : ℕ) (ws after : List Lexeme) → depth ≡ suc n → symbol symbols.LeftParen ws ≡ Some after → expr_at n after ≡ None
-    → primary_with (inner_at depth) ws ≡ None
-group_none depth n ws after e found none = rw (e, found, none) refl
+pub group_read : (r : Result (Expr × Input) ParseFault) (depth n : ℕ) (ws after : List Lexeme) → depth ≡ suc n
+    → symbol symbols.LeftParen ws ≡ Some after → ReadsAs read_of r (group_with (expr_at n) after) → ReadsAs read_of r (primary_with (inner_at depth) ws)
+group_read r depth n ws after e found h = rw (e, found) h
 
 -- a chain of `&&` or of `||` has comparisons as its operands
 join_is : (unary : Reader ExprView) (first : ExprView) (ws : List Lexeme)
@@ -113,8 +108,12 @@ join_is unary first ws = go (symbol symbols.Or ws)
     go None = refl
     go (Some rest) = refl
 
--- an expression, by its first operand and the chain after that
-pub expr_read : (unary : Reader ExprView) (level : Level) (ws : List Lexeme) (first : ExprView × List Lexeme) → level ≡ level_of first.1
-    → comparison_with unary ws ≡ Some first
-    → expr_with unary ws ≡ (chain_with unary level first.0 first.1 >>= λ x. unmixed x.0 x.1)
-expr_read unary level ws first e found = rw (e, found, sym (join_is unary first.0 first.1)) refl
+-- a chain of `&&` or of `||`, by the kind that its first operator tells
+pub join_read : (unary : Reader ExprView) (level : Level) (first : ExprView) (ws : List Lexeme) → level ≡ level_of ws
+    → join_with unary first ws ≡ (chain_with unary level first ws >>= λ x. unmixed x.0 x.1)
+join_read unary level first ws e = rw (e, sym (join_is unary first ws)) refl
+
+-- the operators of a level after the first one, in any number of turns that is enough
+pub more_read : (r : Result (Expr × Input) ParseFault) (turn : Turn ExprView) (x : ExprView) (ws : List Lexeme) (answer : Option (ExprView × List Lexeme))
+    → Goes turn x ws answer → ((count : ℕ) → length ws ≤ count → ReadsAs read_of r (turns turn count x ws)) → ReadsAs read_of r answer
+more_read r turn x ws answer g h = subst (λ (a : Option (ExprView × List Lexeme)). ReadsAs read_of r a) g.same (h g.count g.enough)

@@ -4,6 +4,7 @@ pub mod CompleteChains
 pub mod CompleteComparisons
 pub mod CompleteOperands
 pub mod CompleteWords
+pub mod Levels
 pub mod Operators
 pub mod Placing
 pub mod Ranges

@@ -5,6 +5,7 @@ pub mod Placed
 pub mod Places
 pub mod Syntax
 -- What the bodies of this crate and of `filter_parser` are proved against.
+pub mod Levels
 pub mod Readers
 pub mod Reading
 pub mod Steps

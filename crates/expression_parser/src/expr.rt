@@ -1,15 +1,17 @@
-ghost use Rattle.std.specs.Prelude.{◌≡◌, ◌∷◌, ◌++◌, ℕ, ◌<◌, [], Some, None, IfOk, IfSome, length};
+ghost use Rattle.std.specs.Prelude.{◌≡◌, ◌∷◌, ◌++◌, ℕ, ◌<◌, ◌≤◌, [], Some, None, IfOk, IfSome, length};
 ghost use Rattle.expression_parser.specs.Codes.{LiesWithin};
+ghost use Rattle.expression_parser.specs.Levels as levels;
 ghost use Rattle.expression_parser.specs.Placed.{expr_kept};
+ghost use Rattle.expression_parser.specs.Readers.{turns};
 ghost use Rattle.expression_parser.specs.Reading as spec;
-ghost use Rattle.expression_parser.specs.Steps.{Reads, ReadsOn, Finds, Follows, ReadsAs, Spans, StaysWithin, first_place, remaining};
-ghost use Rattle.expression_parser.specs.Syntax.{view};
+ghost use Rattle.expression_parser.specs.Steps.{Continues, Reads, ReadsOn, Finds, Follows, ReadsAs, Spans, StaysWithin, first_place, remaining};
+ghost use Rattle.expression_parser.specs.Syntax.{ExprView, view};
 ghost use Rattle.expression_parser.specs.declared.fault.ParseFault.TheVariants.{Memory};
 ghost use Rattle.expression_parser.specs.declared.input.Input.{Input as TheInput};
 
 use crate::expected::Expected;
 use crate::expr_atom::{parse_atom, parse_suffixes};
-use crate::expr_level::{Level, eat_operator, join_level};
+use crate::expr_level::{Level, eat_operator, join_level, next_level};
 use crate::expr_make::{binary, chain, group, member, negation};
 use crate::fault::ParseFault;
 use crate::input::Input;
@@ -99,7 +101,6 @@ fn parse_group_end<'a>(
 }
 
 /// An expression, where `depth` more levels may nest.
-#[cycle(expr)]
 pub fn parse_expr<'a>(
     alloc: Global,
     depth: usize,
@@ -107,96 +108,100 @@ pub fn parse_expr<'a>(
 ) -> Result<(Expr, Input<'a>), ParseFault>
     ensures { Reads view expr_kept (spec.expr_at depth) input.entry result }
 {
-    let (first, rest) = parse_comparison(alloc, depth, input)?;
-    let (whole, rest) = parse_chain(alloc, depth, join_level(rest), first, rest)?;
-    unmixed(whole, rest)
+    parse_operand(alloc, depth, None, input)
 }
 
-/// The operators of a level after their first operand, if any follow.
-#[cycle(expr)]
-#[inline(always)]
-fn parse_chain<'a>(
-    alloc: Global,
-    depth: usize,
-    level: Level,
-    first: Expr,
-    input: Input<'a>,
-) -> Result<(Expr, Input<'a>), ParseFault>
-    ensures { ReadsOn 0 (expr_kept first) view expr_kept (spec.chain_with (spec.unary_at depth) level (view first)) input.entry result }
-{
-    // Most operands stand alone: then nothing is called, and no list made.
-    if eat_operator(level, input).is_none() {
-        return Ok((first, input));
-    }
-    parse_operators(alloc, depth, level, first, input)
-}
-
-/// The operators of a level after their first operand, as long as they follow.
-#[cycle(expr)]
-fn parse_operators<'a>(
-    alloc: Global,
-    depth: usize,
-    level: Level,
-    first: Expr,
-    input: Input<'a>,
-) -> Result<(Expr, Input<'a>), ParseFault>
-    ensures { ReadsOn 0 (expr_kept first) view expr_kept (spec.chain_with (spec.unary_at depth) level (view first)) input.entry result }
-{
-    let Some((op, after)) = eat_operator(level, input) else {
-        return Ok((first, input));
-    };
-    let (right, next) = parse_operand(alloc, depth, level, after)?;
-    // Most have one operator: then no list is made.
-    if eat_operator(level, next).is_none() {
-        return Ok((binary(alloc, input.at(), op, first, right)?, next));
-    }
-    let mut more = Vec::with_capacity(alloc, 2)?;
-    more.push((input.at(), op, right))?;
-    let mut rest = next;
-    while let Some((op, after)) = eat_operator(level, rest) {
-        match parse_operand(alloc, depth, level, after) {
-            Ok((right, next)) => {
-                more.push((rest.at(), op, right))?;
-                rest = next;
-            }
-            Err(fault) => return Err(fault),
-        }
-    }
-    Ok((chain(alloc, first, more)?, rest))
-}
-
-/// An operand of a level's operators.
+/// An operand of operators of the level `outer`, or a whole expression where there is no such level.
 #[cycle(expr)]
 fn parse_operand<'a>(
     alloc: Global,
     depth: usize,
-    level: Level,
+    outer: Option<Level>,
     input: Input<'a>,
 ) -> Result<(Expr, Input<'a>), ParseFault>
-    ensures { Reads view expr_kept (spec.next_with (spec.unary_at depth) level) input.entry result }
+    ensures { Reads view expr_kept (levels.operand_with (spec.unary_at depth) outer) input.entry result }
+{
+    let (first, rest) = parse_unary(alloc, depth, input)?;
+    parse_rest(alloc, depth, outer, first, rest)
+}
+
+/// What follows the first part of an operand: the operators that bind more strongly than those of `outer`, level by level.
+#[cycle(expr)]
+#[inline(always)]
+fn parse_rest<'a>(
+    alloc: Global,
+    depth: usize,
+    outer: Option<Level>,
+    first: Expr,
+    input: Input<'a>,
+) -> Result<(Expr, Input<'a>), ParseFault>
+    ensures { ReadsOn 0 (expr_kept first) view expr_kept (levels.rest_with (spec.unary_at depth) outer None (view first)) input.entry result }
+{
+    let mut whole = first;
+    let mut rest = input;
+    // The level that was read last. What follows in the same operand binds less strongly.
+    let mut inner = None;
+    while let Some(level) = next_level(outer, inner, rest) {
+        match parse_level(alloc, depth, level, whole, rest) {
+            Ok((more, next)) => {
+                whole = more;
+                rest = next;
+                inner = Some(level);
+            }
+            Err(fault) => return Err(fault),
+        }
+    }
+    Ok((whole, rest))
+}
+
+/// The operators of a level after their first operand.
+#[cycle(expr)]
+#[inline(always)]
+fn parse_level<'a>(
+    alloc: Global,
+    depth: usize,
+    level: Level,
+    first: Expr,
+    input: Input<'a>,
+) -> Result<(Expr, Input<'a>), ParseFault>
+    ensures { ReadsOn 0 (expr_kept first) view expr_kept (levels.level_with (spec.unary_at depth) level (view first)) input.entry result }
 {
     match level {
-        Level::Or => parse_comparison(alloc, depth, input),
-        Level::And => parse_comparison(alloc, depth, input),
-        Level::Comparison => parse_sum(alloc, depth, input),
-        Level::Sum => parse_product(alloc, depth, input),
-        Level::Product => parse_unary(alloc, depth, input),
+        Level::Or | Level::And => parse_join(alloc, depth, first, input),
+        Level::Comparison => parse_comparison(alloc, depth, first, input),
+        Level::Sum | Level::Product => parse_operators(alloc, depth, level, first, input),
     }
 }
 
-/// A sum, or a comparison of two.
+/// A chain of `&&` or of `||` after its first operand.
 #[cycle(expr)]
+#[inline(always)]
+fn parse_join<'a>(
+    alloc: Global,
+    depth: usize,
+    first: Expr,
+    input: Input<'a>,
+) -> Result<(Expr, Input<'a>), ParseFault>
+    ensures { ReadsOn 0 (expr_kept first) view expr_kept (levels.join_with (spec.unary_at depth) (view first)) input.entry result }
+{
+    let (whole, rest) = parse_operators(alloc, depth, join_level(input), first, input)?;
+    unmixed(whole, rest)
+}
+
+/// A comparison after its left operand.
+#[cycle(expr)]
+#[inline(always)]
 fn parse_comparison<'a>(
     alloc: Global,
     depth: usize,
+    left: Expr,
     input: Input<'a>,
 ) -> Result<(Expr, Input<'a>), ParseFault>
-    ensures { Reads view expr_kept (spec.comparison_with (spec.unary_at depth)) input.entry result }
+    ensures { ReadsOn 0 (expr_kept left) view expr_kept (levels.compared_with (spec.unary_at depth) (view left)) input.entry result }
 {
-    let (left, rest) = parse_sum(alloc, depth, input)?;
-    match eat_operator(Level::Comparison, rest) {
-        Some((op, after)) => parse_right_operand(alloc, depth, rest.at(), op, left, after),
-        None => Ok((left, rest)),
+    match eat_operator(Level::Comparison, input) {
+        Some((op, after)) => parse_right_operand(alloc, depth, input.at(), op, left, after),
+        None => Ok((left, input)),
     }
 }
 
@@ -217,41 +222,74 @@ fn parse_right_operand<'a>(
     if let Some((found, after)) = eat_set_opening(op, input) {
         return parse_member(alloc, input.at(), found, left, after);
     }
-    match parse_sum(alloc, depth, input) {
+    match parse_operand(alloc, depth, Some(Level::Comparison), input) {
         Ok((other, rest)) => Ok((binary(alloc, at, op, left, other)?, rest)),
         Err(fault) => Err(right_operand_fault(op, input.at(), fault)),
     }
 }
 
-/// A sum.
+/// The operators of a level after their first operand, as long as they follow.
 #[cycle(expr)]
-fn parse_sum<'a>(
+#[inline(always)]
+fn parse_operators<'a>(
     alloc: Global,
     depth: usize,
+    level: Level,
+    first: Expr,
     input: Input<'a>,
 ) -> Result<(Expr, Input<'a>), ParseFault>
-    ensures { Reads view expr_kept (spec.sum_with (spec.unary_at depth)) input.entry result }
+    ensures { ReadsOn 0 (expr_kept first) view expr_kept (spec.chain_with (spec.unary_at depth) level (view first)) input.entry result }
 {
-    let (first, rest) = parse_product(alloc, depth, input)?;
-    parse_chain(alloc, depth, Level::Sum, first, rest)
+    let Some((op, after)) = eat_operator(level, input) else {
+        return Ok((first, input));
+    };
+    let (right, rest) = parse_operand(alloc, depth, Some(level), after)?;
+    let parts = Box::new(alloc, (first, input.at(), op, right))?;
+    // Most have one operator: then no list is made.
+    if eat_operator(level, rest).is_none() {
+        return Ok((Expr::Binary(parts), rest));
+    }
+    parse_more_operators(alloc, depth, level, parts, rest)
 }
 
-/// A product.
+/// The operators of a level after the first one and its two operands.
 #[cycle(expr)]
-fn parse_product<'a>(
+#[inline(never)]
+fn parse_more_operators<'a>(
     alloc: Global,
     depth: usize,
+    level: Level,
+    parts: Box<(Expr, usize, Op, Expr)>,
     input: Input<'a>,
 ) -> Result<(Expr, Input<'a>), ParseFault>
-    ensures { Reads view expr_kept (spec.product_with (spec.unary_at depth)) input.entry result }
+    ensures reads { (count : ℕ) → length (remaining input.entry) ≤ count → ReadsAs spec.read_of result
+        (turns (spec.joins (spec.next_with (spec.unary_at depth) level) level) count
+        (ExprView.binary parts.value.2 (view parts.value.0) (view parts.value.3)) (remaining input.entry)) }
+    ensures shorter { IfOk result (λ x. length (remaining x.1) ≤ length (remaining input.entry)) }
+    ensures placed { IfOk result (λ x. Continues (expr_kept parts.value.0 ++ Some parts.value.1 ∷ expr_kept parts.value.3)
+        (expr_kept x.0) input.entry x.1) }
+    ensures within { StaysWithin input.entry result }
 {
-    let (first, rest) = parse_unary(alloc, depth, input)?;
-    parse_chain(alloc, depth, Level::Product, first, rest)
+    let (first, at, op, right) = Box::into_inner(parts);
+    let mut more = Vec::with_capacity(alloc, 2)?;
+    more.push((at, op, right))?;
+    let mut rest = input;
+    while let Some((op, after)) = eat_operator(level, rest) {
+        match parse_operand(alloc, depth, Some(level), after) {
+            Ok((right, next)) => {
+                more.push((rest.at(), op, right))?;
+                rest = next;
+            }
+            Err(fault) => return Err(fault),
+        }
+    }
+    Ok((chain(alloc, first, more)?, rest))
 }
 
-/// An operand, with any `!` before it.
+/// An operand without operators around it, with any `!` before it.
 #[cycle(expr)]
 #[tactic(auto, unfolding(crate::specs::Reading::unary_at))]
+#[inline(always)]
 fn parse_unary<'a>(
     alloc: Global,
     depth: usize,
@@ -265,12 +303,27 @@ fn parse_unary<'a>(
     if depth == 0 {
         return Err(ParseFault::TooDeep(input.at()));
     }
-    let (inner, rest) = parse_unary(alloc, depth - 1, rest)?;
-    Ok((negation(alloc, input.at(), inner)?, rest))
+    parse_negation(alloc, depth - 1, input.at(), rest)
+}
+
+/// The operand of a `!`, which has the place `at`.
+#[cycle(expr)]
+#[inline(always)]
+fn parse_negation<'a>(
+    alloc: Global,
+    depth: usize,
+    at: usize,
+    input: Input<'a>,
+) -> Result<(Expr, Input<'a>), ParseFault>
+    ensures { ReadsOn 1 (Some at ∷ []) view expr_kept (spec.not_with (spec.unary_at depth)) input.entry result }
+{
+    let (inner, rest) = parse_operand(alloc, depth, Some(Level::Product), input)?;
+    Ok((negation(alloc, at, inner)?, rest))
 }
 
 /// An operand and its suffixes.
 #[cycle(expr)]
+#[inline(always)]
 fn parse_postfix<'a>(
     alloc: Global,
     depth: usize,
@@ -284,6 +337,7 @@ fn parse_postfix<'a>(
 
 /// An operand without suffixes.
 #[cycle(expr)]
+#[inline(always)]
 fn parse_primary<'a>(
     alloc: Global,
     depth: usize,
@@ -297,6 +351,20 @@ fn parse_primary<'a>(
     if depth == 0 {
         return Err(ParseFault::TooDeep(input.at()));
     }
-    let (inner, rest) = parse_expr(alloc, depth - 1, after)?;
-    parse_group_end(alloc, input.at(), inner, rest)
+    parse_group(alloc, depth - 1, input.at(), after)
+}
+
+/// An expression in parentheses, the first of which has the place `at`.
+#[cycle(expr)]
+#[inline(always)]
+fn parse_group<'a>(
+    alloc: Global,
+    depth: usize,
+    at: usize,
+    input: Input<'a>,
+) -> Result<(Expr, Input<'a>), ParseFault>
+    ensures { ReadsOn 1 (Some at ∷ []) view expr_kept (spec.group_with (spec.expr_at depth)) input.entry result }
+{
+    let (inner, rest) = parse_operand(alloc, depth, None, input)?;
+    parse_group_end(alloc, at, inner, rest)
 }

@@ -1,4 +1,5 @@
-ghost use Rattle.std.specs.Prelude.{◌≡◌, ◌∷◌, ◌<◌, [], Some, None, IfSome, length};
+ghost use Rattle.std.specs.Prelude.{◌≡◌, ◌≢◌, ◌∷◌, ◌<◌, ◌≤◌, [], Some, None, IfSome, MatchBool, MatchOption, length};
+ghost use Rattle.expression_parser.specs.Levels as levels;
 ghost use Rattle.expression_parser.specs.Reading as spec;
 ghost use Rattle.expression_parser.specs.Steps.{Finds, Follows, Spans, first_place, remaining};
 
@@ -21,44 +22,50 @@ pub enum Level {
     Product,
 }
 
-/// The operator of a level that a symbol stands for.
-fn op_of(level: Level, symbol: Symbol) -> Option<Op>
-    ensures { result ≡ spec.op_of level symbol }
-{
-    match level {
-        Level::Or => or_op(symbol),
-        Level::And => and_op(symbol),
-        Level::Comparison => comparison_op(symbol),
-        Level::Sum => sum_op(symbol),
-        Level::Product => product_op(symbol),
+impl Level {
+    /// How strongly the operators of the level bind. `&&` and `||` do not mix, so neither binds more strongly.
+    #[inline(always)]
+    fn strength(self) -> u8
+        ensures { result ≡ levels.strength self }
+    {
+        match self {
+            Level::Or | Level::And => 1,
+            Level::Comparison => 2,
+            Level::Sum => 3,
+            Level::Product => 4,
+        }
+    }
+
+    /// Whether the operators of the level bind more strongly than those of `outer`, where that is a level.
+    #[inline(always)]
+    fn is_inside(self, outer: Option<Level>) -> bool
+        ensures { MatchBool result (levels.least outer < levels.strength self) (levels.strength self ≤ levels.least outer) }
+    {
+        match outer {
+            Some(outer) => self.strength() > outer.strength(),
+            None => true,
+        }
+    }
+
+    /// Whether the operators of the level bind less strongly than those of `inner`, where that is a level.
+    #[inline(always)]
+    fn is_around(self, inner: Option<Level>) -> bool
+        ensures { MatchBool result (levels.strength self ≤ levels.most inner) (levels.most inner < levels.strength self) }
+    {
+        match inner {
+            Some(inner) => self.strength() < inner.strength(),
+            None => true,
+        }
     }
 }
 
-/// `||`.
-fn or_op(symbol: Symbol) -> Option<Op>
-    ensures { result ≡ spec.op_of Level.Or symbol }
+/// The operator that a symbol stands for.
+fn operator_of(symbol: Symbol) -> Option<Op>
+    ensures { result ≡ levels.operator_of symbol }
 {
     match symbol {
         Symbol::Or => Some(Op::Or),
-        _ => None,
-    }
-}
-
-/// `&&`.
-fn and_op(symbol: Symbol) -> Option<Op>
-    ensures { result ≡ spec.op_of Level.And symbol }
-{
-    match symbol {
         Symbol::And => Some(Op::And),
-        _ => None,
-    }
-}
-
-/// `=`, `<`, `~` or one of their kin.
-fn comparison_op(symbol: Symbol) -> Option<Op>
-    ensures { result ≡ spec.op_of Level.Comparison symbol }
-{
-    match symbol {
         Symbol::Equal => Some(Op::Equal),
         Symbol::NotEqual => Some(Op::NotEqual),
         Symbol::Less => Some(Op::Less),
@@ -67,29 +74,39 @@ fn comparison_op(symbol: Symbol) -> Option<Op>
         Symbol::GreaterEqual => Some(Op::GreaterEqual),
         Symbol::Match => Some(Op::Match),
         Symbol::NotMatch => Some(Op::NotMatch),
-        _ => None,
-    }
-}
-
-/// `+` or `-`.
-fn sum_op(symbol: Symbol) -> Option<Op>
-    ensures { result ≡ spec.op_of Level.Sum symbol }
-{
-    match symbol {
         Symbol::Plus => Some(Op::Add),
         Symbol::Minus => Some(Op::Sub),
-        _ => None,
-    }
-}
-
-/// `*` or `/`.
-fn product_op(symbol: Symbol) -> Option<Op>
-    ensures { result ≡ spec.op_of Level.Product symbol }
-{
-    match symbol {
         Symbol::Times => Some(Op::Mul),
         Symbol::Divide => Some(Op::Div),
         _ => None,
+    }
+}
+
+/// The level of an operator.
+#[inline(always)]
+fn level_of(op: Op) -> Level
+    ensures { result ≡ levels.level_of_op op }
+{
+    match op {
+        Op::Or => Level::Or,
+        Op::And => Level::And,
+        Op::Equal | Op::NotEqual | Op::Less | Op::Greater => Level::Comparison,
+        Op::LessEqual | Op::GreaterEqual | Op::Match | Op::NotMatch => Level::Comparison,
+        Op::Add | Op::Sub => Level::Sum,
+        Op::Mul | Op::Div => Level::Product,
+    }
+}
+
+/// The operator of a level that a symbol stands for.
+#[inline(always)]
+fn op_of(level: Level, symbol: Symbol) -> Option<Op>
+    ensures { result ≡ spec.op_of level symbol }
+{
+    let op = operator_of(symbol)?;
+    if level_of(op) == level {
+        Some(op)
+    } else {
+        None
     }
 }
 
@@ -108,6 +125,36 @@ pub fn eat_operator<'a>(level: Level, input: Input<'a>) -> Option<(Op, Input<'a>
             None => None,
         },
         _ => None,
+    }
+}
+
+/// The level of the operator that comes first, if one does.
+#[inline(always)]
+fn first_level(input: Input) -> Option<Level>
+    ensures { (level : Level) → result ≢ Some level → spec.an_operator level (remaining input.entry) ≡ None }
+{
+    let (first, _) = input.next()?;
+    match &first.kind {
+        TokenKind::Symbol(symbol) => match operator_of(*symbol) {
+            Some(op) => Some(level_of(op)),
+            None => None,
+        },
+        _ => None,
+    }
+}
+
+/// The level of the operator that comes first, if that binds more strongly than those of `outer` and less than those of `inner`.
+#[inline(always)]
+pub fn next_level(outer: Option<Level>, inner: Option<Level>, input: Input) -> Option<Level>
+    ensures { MatchOption result
+        ((level : Level) → levels.IsBetween outer inner level → spec.an_operator level (remaining input.entry) ≡ None)
+        (λ found. levels.IsBetween outer inner found × ((level : Level) → level ≢ found → spec.an_operator level (remaining input.entry) ≡ None)) }
+{
+    let level = first_level(input)?;
+    if level.is_inside(outer) && level.is_around(inner) {
+        Some(level)
+    } else {
+        None
     }
 }
 
