@@ -66,18 +66,25 @@ fn unset_in(variables: &[Decl], expr: &Expr, known: u32) -> Option<Unset>
         Expr::Not(_, inner) => unset_in(variables, inner, known),
         Expr::Member(_, left, _) => unset_in(variables, left, known),
         Expr::Suffixed(inner, _) => unset_in(variables, inner, known),
-        Expr::Binary(parts) => {
-            let (left, _, _, right) = &**parts;
-            match unset_in(variables, left, known) {
-                Some(unset) => Some(unset),
-                None => unset_in(variables, right, known),
-            }
-        }
+        Expr::Binary(parts) => unset_in_binary(variables, parts, known),
+        Expr::GroupedBinary(_, parts) => unset_in_binary(variables, parts, known),
         Expr::Chain(left, others) => match unset_in(variables, left, known) {
             Some(unset) => Some(unset),
             None => unset_among(variables, others.as_slice(), known),
         },
         _ => None,
+    }
+}
+
+/// The same of two operands.
+#[cycle(reading)]
+fn unset_in_binary(variables: &[Decl], parts: &(Expr, usize, Op, Expr), known: u32) -> Option<Unset>
+    ensures { IfSome result (λ unset. unset.variable < length variables.now) }
+{
+    let (left, _, _, right) = parts;
+    match unset_in(variables, left, known) {
+        Some(unset) => Some(unset),
+        None => unset_in(variables, right, known),
     }
 }
 

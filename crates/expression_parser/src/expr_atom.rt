@@ -5,7 +5,7 @@ ghost use Rattle.expression_parser.specs.Steps.{Reads, ReadsOn, Finds, first_pla
 ghost use Rattle.expression_parser.specs.Syntax.{view};
 
 use crate::expected::Expected;
-use crate::expr_make::suffixed;
+use crate::expr_make::{suffixed, suffixed_once};
 use crate::fault::ParseFault;
 use crate::input::Input;
 use crate::tree::{Attribute, Expr, MaskLength, Suffix};
@@ -134,7 +134,8 @@ fn parse_suffix<'a>(input: Input<'a>) -> Result<(Suffix, Input<'a>), ParseFault>
     }
 }
 
-/// An operand's suffixes, as long as dots follow.
+/// An operand's suffixes, if any follow.
+#[inline(always)]
 pub fn parse_suffixes<'a>(
     alloc: Global,
     inner: Expr,
@@ -142,8 +143,36 @@ pub fn parse_suffixes<'a>(
 ) -> Result<(Expr, Input<'a>), ParseFault>
     ensures { ReadsOn 0 (expr_kept inner) view expr_kept (spec.suffixes_from (view inner)) input.entry result }
 {
-    let mut all = Vec::new(alloc);
-    let mut rest = input;
+    // Most operands stand alone: then nothing is called.
+    if input.eat(Symbol::Dot).is_none() {
+        return Ok((inner, input));
+    }
+    parse_dotted(alloc, inner, input)
+}
+
+/// An operand's suffixes, as long as dots follow.
+#[inline(never)]
+fn parse_dotted<'a>(
+    alloc: Global,
+    inner: Expr,
+    input: Input<'a>,
+) -> Result<(Expr, Input<'a>), ParseFault>
+    ensures { ReadsOn 0 (expr_kept inner) view expr_kept (spec.suffixes_from (view inner)) input.entry result }
+{
+    let Some(after) = input.eat(Symbol::Dot) else {
+        return Ok((inner, input));
+    };
+    let (first, next) = match parse_suffix(after) {
+        Ok(read) => read,
+        Err(fault) => return Err(fault),
+    };
+    // Most have one suffix: then no list is made.
+    if next.eat(Symbol::Dot).is_none() {
+        return Ok((suffixed_once(alloc, inner, first)?, next));
+    }
+    let mut all = Vec::with_capacity(alloc, 2)?;
+    all.push(first)?;
+    let mut rest = next;
     while let Some(after) = rest.eat(Symbol::Dot) {
         match parse_suffix(after) {
             Ok((found, next)) => {

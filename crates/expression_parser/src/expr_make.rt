@@ -10,7 +10,10 @@ pub fn group(alloc: Global, at: usize, inner: Expr) -> Result<Expr, AllocError>
     ensures is { IfOk result (λ t. view t ≡ ExprView.group (view inner)) }
     ensures placed { IfOk result (λ t. expr_kept t ≡ Some at ∷ (expr_kept inner ++ None ∷ [])) }
 {
-    Ok(Expr::Group(at, Box::new(alloc, inner)?))
+    match inner {
+        Expr::Binary(parts) => Ok(Expr::GroupedBinary(at, parts)),
+        _ => Ok(Expr::Group(at, Box::new(alloc, inner)?)),
+    }
 }
 
 /// `!`, which has the place `at`, and its operand.
@@ -46,13 +49,25 @@ pub fn member(alloc: Global, op: Membership, left: Expr, set: Set) -> Result<Exp
     Ok(Expr::Member(op, Box::new(alloc, left)?, set))
 }
 
-/// An operand and its suffixes, if there are any.
+/// An operand and its suffixes.
 pub fn suffixed(alloc: Global, inner: Expr, suffixes: Vec<Suffix>) -> Result<Expr, AllocError>
     ensures is { IfOk result (λ t. view t ≡ suffixes_of (view inner) suffixes.items) }
     ensures placed { IfOk result (λ t. expr_kept t ≡ expr_kept inner ++ joined (map suffix_kept suffixes.items)) }
 {
-    if suffixes.is_empty() {
-        return Ok(inner);
-    }
     Ok(Expr::Suffixed(Box::new(alloc, inner)?, suffixes))
+}
+
+/// An operand and one suffix.
+pub fn suffixed_once(alloc: Global, inner: Expr, suffix: Suffix) -> Result<Expr, AllocError>
+    ensures is { IfOk result (λ t. view t ≡ ExprView.suffixed (view inner) suffix) }
+    ensures placed { IfOk result (λ t. expr_kept t ≡ expr_kept inner ++ suffix_kept suffix) }
+{
+    match inner {
+        Expr::Attribute(at, attribute) => Ok(Expr::AttributePart(at, attribute, suffix)),
+        _ => {
+            let mut suffixes = Vec::with_capacity(alloc, 1)?;
+            suffixes.push(suffix)?;
+            suffixed(alloc, inner, suffixes)
+        }
+    }
 }

@@ -3,6 +3,7 @@ use Rattle.std.proofs.Common.{◌≡◌, ℕ, Box, Global, List, Vec, [], ◌∷
 use Rattle.std.specs.Prelude.{flat_map, replicate}
 use Rattle.std.proofs.lemmas.List.Folds.{flat_map-map}
 use Rattle.filter_code.specs.declared.instruction.Instr.TheVariants as instr
+use Rattle.expression_parser.specs.declared.tree.expr.Attribute.{Attribute}
 use Rattle.expression_parser.specs.declared.tree.expr.Expr.{Expr}
 use Rattle.expression_parser.specs.declared.tree.expr.Expr.TheFolds.{fold-roll-Expr, ind-Expr, map-Expr}
 use Rattle.expression_parser.specs.declared.tree.expr.Expr.TheOpen.{Expr-F}
@@ -50,6 +51,8 @@ begins_step (Expr-F.Truth at b) = refl
 begins_step (Expr-F.Name at text) = refl
 begins_step (Expr-F.Attribute at a) = refl
 begins_step (Expr-F.Defined at a) = refl
+begins_step (Expr-F.AttributePart at a s) = refl
+begins_step (Expr-F.GroupedBinary at parts) = refl
 begins_step (Expr-F.Group at inner) = refl
 begins_step (Expr-F.Not at inner) = refl
 begins_step (Expr-F.Binary parts) = parts.value.0.1
@@ -85,6 +88,18 @@ pub binary_at : (x : Expr) (parts : Box (Expr × ℕ × Op × Expr) Global) (y :
 binary_at x parts y is are =
     ap expression_places (is ∙ sym (e.rolls-Binary parts))
     ∙ (ap (λ (o : Origins). o.places) (fold-roll-Expr Origins origins_step (Expr-F.Binary parts))
+    ∙ ap (λ (z : Expr × ℕ × Op × Expr). expression_places z.0 ++ right_places z.1 z.2 (expression_places z.3)) (sym are))
+
+pub part_at : (x : Expr) (at : ℕ) (a : Attribute) (s : Suffix) → x ≡ e.AttributePart at a s → expression_places x ≡ at ∷ at ∷ []
+part_at x at a s is =
+    ap expression_places (is ∙ sym (e.rolls-AttributePart at a s))
+    ∙ ap (λ (o : Origins). o.places) (fold-roll-Expr Origins origins_step (Expr-F.AttributePart at a s))
+
+pub grouped_at : (x : Expr) (at : ℕ) (parts : Box (Expr × ℕ × Op × Expr) Global) (y : Expr × ℕ × Op × Expr) → x ≡ e.GroupedBinary at parts
+    → y ≡ parts.value → expression_places x ≡ expression_places y.0 ++ right_places y.1 y.2 (expression_places y.3)
+grouped_at x at parts y is are =
+    ap expression_places (is ∙ sym (e.rolls-GroupedBinary at parts))
+    ∙ (ap (λ (o : Origins). o.places) (fold-roll-Expr Origins origins_step (Expr-F.GroupedBinary at parts))
     ∙ ap (λ (z : Expr × ℕ × Op × Expr). expression_places z.0 ++ right_places z.1 z.2 (expression_places z.3)) (sym are))
 
 pub not_at : (x : Expr) (at : ℕ) (inner : Box Expr Global) (y : Expr) → x ≡ e.Not at inner → y ≡ inner.value

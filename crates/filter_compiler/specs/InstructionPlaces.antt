@@ -61,7 +61,12 @@ origins_step (Expr-F.Truth at b) = alone at
 origins_step (Expr-F.Name at text) = alone at
 origins_step (Expr-F.Attribute at a) = alone at
 origins_step (Expr-F.Defined at a) = alone at
+origins_step (Expr-F.AttributePart at a s) = record { start = at; places = at ∷ at ∷ [] }
 origins_step (Expr-F.Group at inner) = record { start = at; places = inner.value.places }
+origins_step (Expr-F.GroupedBinary at parts) = record {
+  start = at;
+  places = parts.value.0.places ++ right_places parts.value.1 parts.value.2 parts.value.3.places;
+}
 origins_step (Expr-F.Not at inner) = record { start = at; places = inner.value.places ++ at ∷ [] }
 origins_step (Expr-F.Binary parts) = record {
   start = parts.value.0.start;

@@ -235,6 +235,24 @@ fn emit_chain(
     next
 }
 
+/// Writes two operands and the operator between them.
+#[cycle(expressions)]
+fn emit_binary(
+    typed: &Typed,
+    parts: &(Expr, usize, Op, Expr),
+    sets: SetNumbers,
+    out: &mut Output,
+) -> SetNumbers
+    ensures code { Emits out.old out.new sets result
+        (expression_part (view_filter typed.now).decls (ExprView.binary parts.now.2 (view parts.now.0) (view parts.now.3))) }
+    ensures places { Notes out.old out.new
+        (expression_places parts.now.0 ++ right_places parts.now.1 parts.now.2 (expression_places parts.now.3)) }
+{
+    let (left, at, op, right) = parts;
+    let next = emit(typed, left, sets, out);
+    emit_right(typed, *at, *op, right, next, out)
+}
+
 /// Writes an expression, where the next sets have these numbers. What is answered are the numbers after those of the expression.
 #[cycle(expressions)]
 pub(crate) fn emit(typed: &Typed, expr: &Expr, sets: SetNumbers, out: &mut Output) -> SetNumbers
@@ -254,17 +272,18 @@ pub(crate) fn emit(typed: &Typed, expr: &Expr, sets: SetNumbers, out: &mut Outpu
         ),
         Expr::Attribute(at, attribute) => emit_one(*at, attribute_instr(*attribute), sets, out),
         Expr::Defined(at, _) => emit_one(*at, Instr::Bool(true), sets, out),
+        Expr::AttributePart(at, attribute, suffix) => {
+            out.put(*at, attribute_instr(*attribute));
+            emit_one(*at, suffix_instr(*suffix), sets, out)
+        }
         Expr::Group(_, inner) => emit(typed, inner, sets, out),
         Expr::Not(at, inner) => {
             let next = emit(typed, inner, sets, out);
             out.put(*at, Instr::Not);
             next
         }
-        Expr::Binary(parts) => {
-            let (left, at, op, right) = &**parts;
-            let next = emit(typed, left, sets, out);
-            emit_right(typed, *at, *op, right, next, out)
-        }
+        Expr::Binary(parts) => emit_binary(typed, parts, sets, out),
+        Expr::GroupedBinary(_, parts) => emit_binary(typed, parts, sets, out),
         Expr::Chain(first, more) => {
             let next = emit(typed, first, sets, out);
             emit_chain(typed, more, next, out)

@@ -216,6 +216,16 @@ fn gather_chain(more: &[(usize, Op, Expr)], lists: &mut SetLists)
     }
 }
 
+/// Puts the sets of two operands.
+#[cycle(gathering)]
+fn gather_binary(parts: &(Expr, usize, Op, Expr), lists: &mut SetLists)
+    ensures { Gathers lists.old lists.new (sets_of (ExprView.binary parts.now.2 (view parts.now.0) (view parts.now.3))) }
+{
+    let (left, _, _, right) = parts;
+    gather(left, lists);
+    gather(right, lists);
+}
+
 /// Puts the sets of an expression.
 #[cycle(gathering)]
 fn gather(expr: &Expr, lists: &mut SetLists)
@@ -224,11 +234,8 @@ fn gather(expr: &Expr, lists: &mut SetLists)
     match expr {
         Expr::Group(_, inner) => gather(inner, lists),
         Expr::Not(_, inner) => gather(inner, lists),
-        Expr::Binary(parts) => {
-            let (left, _, _, right) = &**parts;
-            gather(left, lists);
-            gather(right, lists);
-        }
+        Expr::Binary(parts) => gather_binary(parts, lists),
+        Expr::GroupedBinary(_, parts) => gather_binary(parts, lists),
         Expr::Chain(first, more) => {
             gather(first, lists);
             gather_chain(more, lists);

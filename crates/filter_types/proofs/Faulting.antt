@@ -1,11 +1,13 @@
 -- The fault of an expression, from what its judgement found of its parts.
-use Rattle.std.proofs.Common.{◌≡◌, ◌⊎◌, inl, inr, ℕ, Some, None, List, [], ◌∷◌, Box, Vec, Global, map, refl, sym, ap, subst, ◌∙◌}
+use Rattle.std.proofs.Common.{◌≡◌, inl, inr, ℕ, Some, None, List, [], ◌∷◌, Box, Vec, Global, refl, sym, ap, subst, ◌∙◌}
 use Rattle.std.specs.Prelude.{Contains}
-use Rattle.expression_parser.specs.Places.{expr_place}
-use Rattle.expression_parser.specs.Syntax.{view, view_members, view_more}
+use Rattle.expression_parser.specs.Places.{expr_place, expr_place_step}
+use Rattle.expression_parser.specs.Syntax.{view, view_members}
 use Rattle.filter_parser.specs.SyntaxCommands.{DeclView}
 use Rattle.filter_parser.specs.declared.tree.decl.Kind.{Kind}
+use Rattle.expression_parser.specs.declared.tree.expr.Attribute.{Attribute}
 use Rattle.expression_parser.specs.declared.tree.expr.Expr.{Expr}
+use Rattle.expression_parser.specs.declared.tree.expr.Expr.TheFolds.{fold-roll-Expr}
 use Rattle.expression_parser.specs.declared.tree.expr.Expr.TheOpen.{Expr-F}
 use Rattle.expression_parser.specs.declared.tree.expr.Expr.TheVariants as e
 use Rattle.expression_parser.specs.declared.tree.expr.Expr.TheViews.{roll-Expr}
@@ -13,11 +15,11 @@ use Rattle.expression_parser.specs.declared.tree.op.Membership.{Membership}
 use Rattle.expression_parser.specs.declared.tree.op.Op.{Op}
 use Rattle.expression_parser.specs.declared.tree.op.Suffix.{Suffix}
 use Rattle.expression_parser.specs.declared.tree.set.Set.{Set}
-use Rattle.filter_types.specs.Faults.{HasFault, IsRefusedOperator, operands}
+use Rattle.filter_types.specs.Faults.{HasFault, HasOwnFault, IsRefusedOperator, operands}
 use Rattle.filter_types.specs.Kinds.{kind_in, kind_named}
-use Rattle.filter_types.specs.Refusals.{OperandView, member_refusal, operator_refusal, wrong_kind}
-use Rattle.filter_types.specs.Table.{in_set, negated, operator}
-use Rattle.filter_types.specs.Turns.{ChainHasFault, OperatorRefuses, SuffixRefuses}
+use Rattle.filter_types.specs.Refusals.{OperandView, member_refusal, operator_refusal, suffix_refusal, wrong_kind}
+use Rattle.filter_types.specs.Table.{attribute_kind, in_set, negated, operator, suffixed_by}
+use Rattle.filter_types.specs.Turns.{BinaryHasFault, ChainHasFault, SuffixRefuses}
 use Rattle.filter_types.specs.declared.fault.ExpectedKind.TheVariants as expected
 use Rattle.filter_types.specs.declared.fault.TypeFault.{TypeFault}
 use Rattle.filter_types.specs.declared.fault.TypeFault.TheVariants as fault
@@ -26,6 +28,18 @@ use Rattle.filter_types.proofs.Blaming.{contains_first, contains_later, contains
 -- an operand with its kind
 abbrev pub with_kind : Expr → Kind → OperandView
 with_kind x k = record { at = expr_place x; kind = k }
+
+-- an operator does not take its two operands
+pub operator_fault : (vs : List DeclView) (why : TypeFault) (y : Expr × ℕ × Op × Expr) (a b : Kind) → kind_in vs (view y.0) ≡ Some a → kind_in vs (view y.3) ≡ Some b
+    → operator y.2 a b ≡ None → why ≡ operator_refusal y.2 (with_kind y.0 a) (with_kind y.3 b) → BinaryHasFault vs y why
+operator_fault vs why y a b left right none said = inr (inr (record {
+  index = 0;
+  next = (y.1, y.2, y.3);
+  is = refl;
+  right = b;
+  found = right;
+  left = record { kind = a; found = left; refused = none; is_said = said };
+}))
 
 module _ (vs : List DeclView) (x : Expr) (why : TypeFault) where
   of_one_operand : (form : Expr-F Expr) (z y : Expr) → x ≡ roll-Expr form → Contains (operands form) z → y ≡ z → HasFault vs y why → HasFault vs x why
@@ -55,31 +69,41 @@ module _ (vs : List DeclView) (x : Expr) (why : TypeFault) where
         is_said = said ∙ ap (λ (z : Expr). wrong_kind (with_kind z k) expected.Bool) same;
       })
 
-  pub binary_left : (parts : Box (Expr × ℕ × Op × Expr) Global) (y : Expr × ℕ × Op × Expr) → x ≡ e.Binary parts → y ≡ parts.value
-      → HasFault vs y.0 why → HasFault vs x why
-  binary_left parts y is same h =
-      of_one_operand (Expr-F.Binary parts) parts.value.0 y.0 (is ∙ sym (e.rolls-Binary parts)) (contains_first parts.value.0 (parts.value.3 ∷ []))
-      (ap (λ (z : Expr × ℕ × Op × Expr). z.0) same) h
+  -- an attribute does not take the suffix after it
+  pub attribute_part_fault : (at : ℕ) (a : Attribute) (s : Suffix) (k : Kind) → x ≡ e.AttributePart at a s → k ≡ attribute_kind a
+      → suffixed_by s k ≡ None → why ≡ suffix_refusal s (with_kind x k) → HasFault vs x why
+  attribute_part_fault at a s k is found refused said =
+      let form : Expr-F Expr = Expr-F.AttributePart at a s in
+      let rolled : x ≡ roll-Expr form = is ∙ sym (e.rolls-AttributePart at a s) in
+      let begins : expr_place x ≡ at = ap expr_place rolled ∙ fold-roll-Expr ℕ expr_place_step form in
+      HasFault.own form rolled (record {
+        kind = k;
+        found = ap (λ (j : Kind). Some j) (sym found);
+        refused = refused;
+        is_said = said ∙ ap (λ (n : ℕ). suffix_refusal s (record { at = n; kind = k })) begins;
+      })
 
-  pub binary_right : (parts : Box (Expr × ℕ × Op × Expr) Global) (y : Expr × ℕ × Op × Expr) → x ≡ e.Binary parts → y ≡ parts.value
-      → HasFault vs y.3 why → HasFault vs x why
-  binary_right parts y is same h =
-      of_one_operand (Expr-F.Binary parts) parts.value.3 y.3 (is ∙ sym (e.rolls-Binary parts))
-      (contains_later parts.value.0 (parts.value.3 ∷ []) parts.value.3 (contains_first parts.value.3 [])) (ap (λ (z : Expr × ℕ × Op × Expr). z.3) same) h
+  -- the fault of two operands with the operator between them is that of what holds them
+  of_binary : (form : Expr-F Expr) (z y : Expr × ℕ × Op × Expr) → x ≡ roll-Expr form → operands form ≡ z.0 ∷ z.3 ∷ []
+      → (IsRefusedOperator vs z.0 ((z.1, z.2, z.3) ∷ []) why → HasOwnFault vs form why) → y ≡ z → BinaryHasFault vs y why → HasFault vs x why
+  of_binary form z y is are own same h = by_case (subst (λ (w : Expr × ℕ × Op × Expr). BinaryHasFault vs w why) same h) where
+    by_case : BinaryHasFault vs z why → HasFault vs x why
+    by_case (inl left) =
+        HasFault.of_operand form z.0 is (subst (λ (xs : List Expr). Contains xs z.0) (sym are) (contains_first z.0 (z.3 ∷ []))) left
+    by_case (inr (inl right)) =
+        HasFault.of_operand form z.3 is (subst (λ (xs : List Expr). Contains xs z.3) (sym are)
+        (contains_later z.0 (z.3 ∷ []) z.3 (contains_first z.3 []))) right
+    by_case (inr (inr refused)) = HasFault.own form is (own refused)
 
-  pub binary_fault : (parts : Box (Expr × ℕ × Op × Expr) Global) (y : Expr × ℕ × Op × Expr) (a b : Kind) → x ≡ e.Binary parts → y ≡ parts.value
-      → kind_in vs (view y.0) ≡ Some a → kind_in vs (view y.3) ≡ Some b → operator y.2 a b ≡ None
-      → why ≡ operator_refusal y.2 (with_kind y.0 a) (with_kind y.3 b) → HasFault vs x why
-  binary_fault parts y a b is same left right none said =
-      HasFault.own (Expr-F.Binary parts) (is ∙ sym (e.rolls-Binary parts))
-      (subst (λ (z : Expr × ℕ × Op × Expr). IsRefusedOperator vs z.0 ((z.1, z.2, z.3) ∷ []) why) same (record {
-        index = 0;
-        next = (y.1, y.2, y.3);
-        is = refl;
-        right = b;
-        found = right;
-        left = record { kind = a; found = left; refused = none; is_said = said };
-      }))
+  pub binary_fault : (parts : Box (Expr × ℕ × Op × Expr) Global) (y : Expr × ℕ × Op × Expr) → x ≡ e.Binary parts → y ≡ parts.value
+      → BinaryHasFault vs y why → HasFault vs x why
+  binary_fault parts y is same h =
+      of_binary (Expr-F.Binary parts) parts.value y (is ∙ sym (e.rolls-Binary parts)) refl (λ r. r) same h
+
+  pub grouped_fault : (at : ℕ) (parts : Box (Expr × ℕ × Op × Expr) Global) (y : Expr × ℕ × Op × Expr) → x ≡ e.GroupedBinary at parts
+      → y ≡ parts.value → BinaryHasFault vs y why → HasFault vs x why
+  grouped_fault at parts y is same h =
+      of_binary (Expr-F.GroupedBinary at parts) parts.value y (is ∙ sym (e.rolls-GroupedBinary at parts)) refl (λ r. r) same h
 
   pub chain_operand : (first : Box Expr Global) (more : Vec (ℕ × Op × Expr) Global) (y : Expr) → x ≡ e.Chain first more → y ≡ first.value
       → HasFault vs y why → HasFault vs x why

@@ -1,12 +1,12 @@
 -- A fault of a filter is at a place that its tree keeps.
-use Rattle.std.proofs.Common.{◌≡◌, ◌⊎◌, inl, inr, ℕ, zero, suc, ◌+◌, ◌<◌, ◌≤◌, Some, None, Option, List, [], ◌∷◌, ◌++◌, Box, Vec, Global}
+use Rattle.std.proofs.Common.{◌≡◌, ◌⊎◌, inl, inr, ℕ, zero, suc, ◌+◌, ◌<◌, Some, None, Option, List, [], ◌∷◌, ◌++◌, Box, Vec, Global}
 use Rattle.std.proofs.Common.{length, map, take, get_or, refl, sym, ap, subst, ◌∙◌, arith}
 use Rattle.std.specs.Prelude.{Contains, flat_map, slice_get}
 use Rattle.std.proofs.lemmas.List.Quantifiers.{all_pairs_push}
 use Rattle.std.proofs.lemmas.Option.{get_or_from_slice_get, slice_get_within}
 use Rattle.int_sets.specs.Holding.{NumberRange, HoldsAny}
 use Rattle.std.proofs.lemmas.List.Elements.{Contains-append_cases, Contains-append_left, Contains-append_right}
-use Rattle.expression_parser.specs.Placed.{Kept, expr_kept, expr_kept_step, joined, operand_kept, range_kept, ranges_kept}
+use Rattle.expression_parser.specs.Placed.{Kept, expr_kept, expr_kept_step, joined, operand_kept, range_kept, ranges_kept, suffix_kept}
 use Rattle.filter_parser.specs.Placed.{command_kept, command_kept_step, decl_kept, label_kept, part_kept}
 use Rattle.expression_parser.specs.Places.{expr_place, expr_place_step, range_place}
 use Rattle.filter_parser.specs.Places.{body_of, decls_of}
@@ -58,6 +58,8 @@ begins_step (Expr-F.Truth at b) = (0, omega arith, refl)
 begins_step (Expr-F.Name at text) = (0, omega arith, refl)
 begins_step (Expr-F.Attribute at a) = (0, omega arith, refl)
 begins_step (Expr-F.Defined at a) = (0, omega arith, refl)
+begins_step (Expr-F.AttributePart at a s) = (0, omega arith, refl)
+begins_step (Expr-F.GroupedBinary at parts) = (0, omega arith, refl)
 begins_step (Expr-F.Group at inner) = (0, omega arith, refl)
 begins_step (Expr-F.Not at inner) = (0, omega arith, refl)
 begins_step (Expr-F.Binary parts) = Contains-append_left _ _ _ parts.value.0.1
@@ -111,6 +113,10 @@ operand_step (Expr-F.Truth at b) z o h k = absurd (omega (arith, h.1))
 operand_step (Expr-F.Name at text) z o h k = absurd (omega (arith, h.1))
 operand_step (Expr-F.Attribute at a) z o h k = absurd (omega (arith, h.1))
 operand_step (Expr-F.Defined at a) z o h k = absurd (omega (arith, h.1))
+operand_step (Expr-F.AttributePart at a s) z o h k = absurd (omega (arith, h.1))
+operand_step (Expr-F.GroupedBinary at parts) z o h k =
+    contains_later (Some at) _ o (Contains-append_left (expr_kept parts.value.0 ++ Some parts.value.1 ∷ expr_kept parts.value.3) _ o
+    (binary_kept parts.value.0 parts.value.3 parts.value.1 z o (first_or_later parts.value.0 (parts.value.3 ∷ []) z h) k))
 operand_step (Expr-F.Group at inner) z o h k = contains_later (Some at) _ o (Contains-append_left (expr_kept inner.value) _ o (same_kept inner.value z o h k))
 operand_step (Expr-F.Not at inner) z o h k = contains_later (Some at) _ o (same_kept inner.value z o h k)
 operand_step (Expr-F.Binary parts) z o h k =
@@ -140,20 +146,27 @@ chain_fault vs first more why r (inl right) =
     (contains_later first.value (map (λ x. x.2) more.items) r.next.2 (contains_map (λ x. x.2) more.items r.next (contains_got more.items r.index r.next r.is))) right
 chain_fault vs first more why r (inr left) = at_operand (Expr-F.Chain first more) first.value why (contains_first first.value (map (λ x. x.2) more.items)) left
 
-binary_fault : (vs : List DeclView) (parts : Box (Expr × ℕ × Op × Expr) Global) (why : TypeFault)
-    → (r : IsRefusedOperator vs parts.value.0 ((parts.value.1, parts.value.2, parts.value.3) ∷ []) why)
-    → (fault_place why ≡ expr_place r.next.2) ⊎ (fault_place why ≡ expr_place parts.value.0)
-    → Contains (expr_kept_step (map-Expr Expr Kept expr_kept (Expr-F.Binary parts))) (Some (fault_place why))
-binary_fault vs parts why r (inl right) =
-    let one : List (ℕ × Op × Expr) = (parts.value.1, parts.value.2, parts.value.3) ∷ [] in
-    at_operand (Expr-F.Binary parts) r.next.2 why
-    (contains_later parts.value.0 (map (λ (x : ℕ × Op × Expr). x.2) one) r.next.2
-    (contains_map (λ (x : ℕ × Op × Expr). x.2) one r.next (contains_got one r.index r.next r.is))) right
-binary_fault vs parts why r (inr left) = at_operand (Expr-F.Binary parts) parts.value.0 why (contains_first parts.value.0 (parts.value.3 ∷ [])) left
-
 along : {a b x y : ℕ} → a ≡ b → (b ≡ x) ⊎ (b ≡ y) → (a ≡ x) ⊎ (a ≡ y)
 along e (inl f) = inl (e ∙ f)
 along e (inr f) = inr (e ∙ f)
+
+-- an operator that does not take its two operands is blamed at one of them
+binary_fault : (vs : List DeclView) (form : Expr-F Expr) (y : Expr × ℕ × Op × Expr) (why : TypeFault) → operands form ≡ y.0 ∷ y.3 ∷ []
+    → IsRefusedOperator vs y.0 ((y.1, y.2, y.3) ∷ []) why → Contains (expr_kept_step (map-Expr Expr Kept expr_kept form)) (Some (fault_place why))
+binary_fault vs form y why are r =
+    let place = ap fault_place r.left.is_said in
+    let blamed = (operator_blames r.next.1 (record { at = expr_place y.0; kind = r.left.kind })
+    (record { at = expr_place r.next.2; kind = r.right })).1 in
+    by_case (along place blamed) where
+      by_case : (fault_place why ≡ expr_place r.next.2) ⊎ (fault_place why ≡ expr_place y.0)
+          → Contains (expr_kept_step (map-Expr Expr Kept expr_kept form)) (Some (fault_place why))
+      by_case (inl right) =
+          let one : List (ℕ × Op × Expr) = (y.1, y.2, y.3) ∷ [] in
+          at_operand form r.next.2 why (subst (λ (xs : List Expr). Contains xs r.next.2) (sym are)
+          (contains_later y.0 (map (λ (x : ℕ × Op × Expr). x.2) one) r.next.2
+          (contains_map (λ (x : ℕ × Op × Expr). x.2) one r.next (contains_got one r.index r.next r.is)))) right
+      by_case (inr left) =
+          at_operand form y.0 why (subst (λ (xs : List Expr). Contains xs y.0) (sym are) (contains_first y.0 (y.3 ∷ []))) left
 
 own_step : (vs : List DeclView) (form : Expr-F Expr) (why : TypeFault) → HasOwnFault vs form why
     → Contains (expr_kept_step (map-Expr Expr Kept expr_kept form)) (Some (fault_place why))
@@ -165,14 +178,14 @@ own_step vs (Expr-F.Name at text) why h =
     subst (λ (w : TypeFault). Contains (Some at ∷ []) (Some (fault_place w))) (sym h.1) (contains_first (Some at) [])
 own_step vs (Expr-F.Attribute at a) why h = absurd h
 own_step vs (Expr-F.Defined at a) why h = absurd h
+own_step vs (Expr-F.AttributePart at a s) why h =
+    subst (λ (n : ℕ). Contains (Some at ∷ suffix_kept s) (Some n))
+    (sym (ap fault_place h.is_said ∙ (suffix_blames s (record { at = at; kind = h.kind })).1)) (contains_first (Some at) (suffix_kept s))
+own_step vs (Expr-F.GroupedBinary at parts) why r = binary_fault vs (Expr-F.GroupedBinary at parts) parts.value why refl r
 own_step vs (Expr-F.Group at inner) why h = absurd h
 own_step vs (Expr-F.Not at inner) why h =
     at_operand (Expr-F.Not at inner) inner.value why (contains_first inner.value []) (ap fault_place h.is_said)
-own_step vs (Expr-F.Binary parts) why r =
-    let place = ap fault_place r.left.is_said in
-    let blamed = (operator_blames r.next.1 (record { at = expr_place parts.value.0; kind = r.left.kind })
-    (record { at = expr_place r.next.2; kind = r.right })).1 in
-    binary_fault vs parts why r (along place blamed)
+own_step vs (Expr-F.Binary parts) why r = binary_fault vs (Expr-F.Binary parts) parts.value why refl r
 own_step vs (Expr-F.Chain first more) why r =
     let place = ap fault_place r.left.is_said in
     let blamed = (operator_blames r.next.1 (record { at = expr_place first.value; kind = r.left.kind })

@@ -21,6 +21,13 @@ view_binary x parts y is are =
     ∙ fold-roll-Expr ExprView view_expr_step (Expr-F.Binary parts)
     ∙ ap (λ (z : Expr × ℕ × Op × Expr). ExprView.binary z.2 (view z.0) (view z.3)) (sym are)
 
+pub view_grouped : (x : Expr) (at : ℕ) (parts : Box (Expr × ℕ × Op × Expr) Global) (y : Expr × ℕ × Op × Expr) → x ≡ e.GroupedBinary at parts
+    → y ≡ parts.value → view x ≡ ExprView.group (ExprView.binary y.2 (view y.0) (view y.3))
+view_grouped x at parts y is are =
+    ap view (is ∙ sym (e.rolls-GroupedBinary at parts))
+    ∙ fold-roll-Expr ExprView view_expr_step (Expr-F.GroupedBinary at parts)
+    ∙ ap (λ (z : Expr × ℕ × Op × Expr). ExprView.group (ExprView.binary z.2 (view z.0) (view z.3))) (sym are)
+
 pub view_chain : (x : Expr) (first : Box Expr Global) (more : Vec (ℕ × Op × Expr) Global) (y : Expr) (ys : List (ℕ × Op × Expr))
     → x ≡ e.Chain first more → y ≡ first.value → ys ≡ more.items
     → view x ≡ chain_of (view y) (view_more ys)

@@ -61,6 +61,7 @@ pub record IsRefusedSuffix (variables : List DeclView) (inner : Expr) (suffixes 
 -- the operands of an expression
 abbrev pub operands : Expr-F Expr → List Expr
 operands (Expr-F.Group at inner) = inner.value ∷ []
+operands (Expr-F.GroupedBinary at parts) = parts.value.0 ∷ parts.value.3 ∷ []
 operands (Expr-F.Not at inner) = inner.value ∷ []
 operands (Expr-F.Binary parts) = parts.value.0 ∷ parts.value.3 ∷ []
 operands (Expr-F.Chain first more) = first.value ∷ map (λ x. x.2) more.items
@@ -71,6 +72,10 @@ operands _ = []
 -- an expression has this fault of its own
 abbrev pub HasOwnFault : List DeclView → Expr-F Expr → TypeFault → Type 0
 HasOwnFault variables (Expr-F.Name at text) why = (kind_named variables text ≡ None) × (why ≡ fault.UnknownName at)
+HasOwnFault variables (Expr-F.AttributePart at a s) why =
+    IsUnfit variables (ExprView.attribute a) at (λ k. suffixed_by s k ≡ None) (suffix_refusal s) why
+HasOwnFault variables (Expr-F.GroupedBinary at parts) why =
+    IsRefusedOperator variables parts.value.0 ((parts.value.1, parts.value.2, parts.value.3) ∷ []) why
 HasOwnFault variables (Expr-F.Not at inner) why =
     IsUnfit variables (view inner.value) (expr_place inner.value) (λ k. negated k ≡ None) (λ left. wrong_kind left expected.Bool) why
 HasOwnFault variables (Expr-F.Binary parts) why =

@@ -7,7 +7,7 @@ use Rattle.filter_parser.specs.declared.tree.decl.Kind.{Kind}
 use Rattle.expression_parser.specs.declared.tree.expr.Expr.{Expr}
 use Rattle.expression_parser.specs.declared.tree.op.Op.{Op}
 use Rattle.expression_parser.specs.declared.tree.op.Suffix.{Suffix}
-use Rattle.filter_types.specs.Faults.{HasFault}
+use Rattle.filter_types.specs.Faults.{HasFault, IsRefusedOperator}
 use Rattle.filter_types.specs.Kinds.{kind_in, of_one}
 use Rattle.filter_types.specs.Refusals.{OperandView, operator_refusal, suffix_refusal}
 use Rattle.filter_types.specs.Table.{operator, suffixed_by}
@@ -35,6 +35,12 @@ pub record OperatorRefuses (variables : List DeclView) (first : OperandView) (mo
   pub found : kind_in variables (view next.2) ≡ Some right
   pub refused : operator next.1 left right ≡ None
   pub is_said : why ≡ operator_refusal next.1 (record { at = first.at; kind = left }) (record { at = expr_place next.2; kind = right })
+
+-- two operands with the operator between them have this fault, of an operand or of the operator
+abbrev pub BinaryHasFault : List DeclView → Expr × ℕ × Op × Expr → TypeFault → Type 0
+BinaryHasFault variables parts why =
+    HasFault variables parts.0 why ⊎ HasFault variables parts.3 why
+    ⊎ IsRefusedOperator variables parts.0 ((parts.1, parts.2, parts.3) ∷ []) why
 
 -- what follows a first operand has this fault
 abbrev pub ChainHasFault : List DeclView → OperandView → List (ℕ × Op × Expr) → TypeFault → Type 0

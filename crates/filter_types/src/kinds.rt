@@ -1,13 +1,13 @@
 //! The kinds of expressions.
 
 ghost use Rattle.std.specs.Prelude.{IfErr, map};
-ghost use Rattle.expression_parser.specs.Syntax.{view, view_more};
+ghost use Rattle.expression_parser.specs.Syntax.{binary, view, view_more};
 ghost use Rattle.filter_parser.specs.SyntaxCommands.{view_decl};
 ghost use Rattle.filter_types.specs.Answers.{AnswersKind};
 ghost use Rattle.filter_types.specs.Faults.{HasFault};
 ghost use Rattle.filter_types.specs.Kinds.{kind_in};
 ghost use Rattle.filter_types.specs.Refusals.{view_operand};
-ghost use Rattle.filter_types.specs.Turns.{ChainHasFault, SuffixRefuses, kind_after, kind_with};
+ghost use Rattle.filter_types.specs.Turns.{BinaryHasFault, ChainHasFault, SuffixRefuses, kind_after, kind_with};
 
 use crate::fault::TypeFault;
 use crate::table::{Operand, attribute_kind, in_set, negated, operator, suffixed_by};
@@ -55,6 +55,28 @@ fn kind_of_chain(
     Ok(kind)
 }
 
+/// The kind of two operands and the operator between them.
+#[cycle(kinds)]
+fn kind_of_binary(parts: &(Expr, usize, Op, Expr), variables: &[Decl]) -> Result<Kind, TypeFault>
+    ensures kind { AnswersKind result (kind_in (map view_decl variables.now) (binary parts.now.2 (view parts.now.0) (view parts.now.3))) }
+    ensures fault { IfErr result (BinaryHasFault (map view_decl variables.now) parts.now) }
+{
+    let (left, _, op, right) = parts;
+    let left_kind = kind_of(left, variables)?;
+    let right_kind = kind_of(right, variables)?;
+    operator(
+        *op,
+        Operand {
+            expr: left,
+            kind: left_kind,
+        },
+        Operand {
+            expr: right,
+            kind: right_kind,
+        },
+    )
+}
+
 /// The kind of an expression.
 #[cycle(kinds)]
 pub(crate) fn kind_of(expr: &Expr, variables: &[Decl]) -> Result<Kind, TypeFault>
@@ -68,27 +90,20 @@ pub(crate) fn kind_of(expr: &Expr, variables: &[Decl]) -> Result<Kind, TypeFault
         Expr::Truth(_, _) | Expr::Defined(_, _) => Ok(Kind::Bool),
         Expr::Name(at, name) => resolve(*at, name.as_slice(), variables),
         Expr::Attribute(_, attribute) => Ok(attribute_kind(*attribute)),
+        Expr::AttributePart(_, attribute, suffix) => suffixed_by(
+            *suffix,
+            Operand {
+                expr,
+                kind: attribute_kind(*attribute),
+            },
+        ),
         Expr::Group(_, inner) => kind_of(inner, variables),
+        Expr::Binary(parts) => kind_of_binary(parts, variables),
         Expr::Not(_, inner) => {
             let kind = kind_of(inner, variables)?;
             negated(Operand { expr: inner, kind })
         }
-        Expr::Binary(parts) => {
-            let (left, _, op, right) = &**parts;
-            let left_kind = kind_of(left, variables)?;
-            let right_kind = kind_of(right, variables)?;
-            operator(
-                *op,
-                Operand {
-                    expr: left,
-                    kind: left_kind,
-                },
-                Operand {
-                    expr: right,
-                    kind: right_kind,
-                },
-            )
-        }
+        Expr::GroupedBinary(_, parts) => kind_of_binary(parts, variables),
         Expr::Chain(first, more) => {
             let kind = kind_of(first, variables)?;
             kind_of_chain(more, Operand { expr: first, kind }, variables)

@@ -36,7 +36,11 @@ pub enum Expr {
     Attribute(usize, Attribute),
     /// `defined(net)` or `defined(rip_metric)`.
     Defined(usize, Attribute),
-    /// An expression in parentheses. The place is that of its `(`.
+    /// An attribute with one suffix, as `net.len`.
+    AttributePart(usize, Attribute, Suffix),
+    /// Two operands and the one operator between them, in parentheses. The place in front is that of the `(`.
+    GroupedBinary(usize, Box<(Expr, usize, Op, Expr)>),
+    /// Any other expression in parentheses. The place is that of its `(`.
     Group(usize, Box<Expr>),
     /// `!` and its operand. The place is that of its `!`.
     Not(usize, Box<Expr>),
@@ -47,7 +51,7 @@ pub enum Expr {
     Chain(Box<Expr>, Vec<(usize, Op, Expr)>),
     /// Whether an operand matches a set.
     Member(Membership, Box<Expr>, Set),
-    /// An operand with one or more suffixes, as `net.ip.mask(8)`.
+    /// Any other operand with one or more suffixes, as `net.ip.mask(8)`.
     Suffixed(Box<Expr>, Vec<Suffix>),
 }
 
@@ -66,7 +70,9 @@ impl Expr {
                 Expr::Name(at, _) => return *at,
                 Expr::Attribute(at, _) => return *at,
                 Expr::Defined(at, _) => return *at,
+                Expr::AttributePart(at, _, _) => return *at,
                 Expr::Group(at, _) => return *at,
+                Expr::GroupedBinary(at, _) => return *at,
                 Expr::Not(at, _) => return *at,
                 Expr::Binary(parts) => first = &parts.0,
                 Expr::Chain(left, _) => first = left,

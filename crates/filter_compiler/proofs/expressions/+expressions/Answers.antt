@@ -1,34 +1,62 @@
-use Rattle.std.proofs.Common.{ℕ, ◌+◌, refl, sym, subst}
+use Rattle.std.proofs.Common.{ℕ, ◌+◌, [], ◌∷◌, refl, sym, subst}
 use Rattle.std.proofs.lemmas.List.{append-nil}
+use Rattle.filter_code.specs.declared.instruction.Instr.{Instr}
 use Rattle.filter_code.specs.declared.instruction.Instr.TheVariants as instr
 use Rattle.expression_parser.specs.Syntax.{ExprView, view}
 use Rattle.filter_parser.specs.SyntaxText.{view_filter}
-use Rattle.filter_types.proofs.Views.{view_binary, view_chain}
+use Rattle.filter_types.proofs.Views.{view_binary, view_chain, view_grouped}
 use Rattle.filter_compiler.specs.InstructionPlaces.{expression_places}
 use Rattle.filter_compiler.specs.Translation.{expression_code, operator_code}
-use Rattle.filter_compiler.specs.Written.{Emits, expression_part, right_part}
-use Rattle.filter_compiler.proofs.InstructionPlaces.{binary_at, chain_at, member_at, not_at, one_right, places_of_both, suffixed_at}
+use Rattle.filter_compiler.specs.Written.{Emits, Puts, code_alone, expression_part, right_part}
+use Rattle.filter_compiler.proofs.InstructionPlaces.{binary_at, chain_at, grouped_at, member_at, not_at, one_right, part_at, places_of_both, suffixed_at}
 use Rattle.filter_compiler.proofs.Jumps.{over}
 use Rattle.filter_compiler.proofs.Notes.{as_noted, next_notes, patch_notes, then_notes, times_notes}
 use Rattle.filter_compiler.proofs.Puts.{as_part, code_then, puts_then, then, then_code, with_code}
 use Rattle.filter_compiler.proofs.Trees.{chain_next, right_next, suffix_next, takes_both}
-use Rattle.filter_compiler.proofs.Views.{view_member, view_not}
+use Rattle.filter_compiler.proofs.Views.{view_member, view_not, view_part}
 use Rattle.filter_compiler.proofs.expressions.+expressions.Goals as goal
+
+pub emit-returns-in-AttributePart-clause-code : goal.emit-returns-in-AttributePart-clause-code
+emit-returns-in-AttributePart-clause-code t c =
+    let d = (view_filter c.args.typed.now).decls in
+    let out = c.emit_one-in-AttributePart.new.out in
+    let after = c.emit_one-in-AttributePart.result in
+    subst (λ (x : ExprView). Emits c.args.out.now out c.args.sets after (expression_part d x))
+    (sym (view_part c.args.expr.now c.in-AttributePart.at c.in-AttributePart.attribute c.in-AttributePart.suffix c.in-AttributePart.is))
+    (code_then
+    (subst (λ (i : Instr). Puts c.args.out.now c.put.new.self (i ∷ [])) c.attribute_instr-in-AttributePart.ensures.code c.put.ensures.code)
+    (subst (λ (i : Instr). Emits c.put.new.self out c.args.sets after (code_alone (i ∷ []))) c.suffix_instr.ensures.code
+    c.emit_one-in-AttributePart.ensures.code))
 
 pub emit-returns-in-Not-clause-code : goal.emit-returns-in-Not-clause-code
 emit-returns-in-Not-clause-code t c =
     let d = (view_filter c.args.typed.now).decls in
     let is = view_not c.args.expr.now c.in-Not.at c.in-Not.inner c.deref-in-Not.result.now c.in-Not.is c.deref-in-Not.ensures in
-    subst (λ (x : ExprView). Emits c.args.out.now c.put.new.self c.args.sets c.emit-next.result (expression_part d x)) (sym is)
-    (then_code c.emit-next.ensures.code c.put.ensures.code)
+    subst (λ (x : ExprView). Emits c.args.out.now c.put-in-Not.new.self c.args.sets c.emit-next.result (expression_part d x)) (sym is)
+    (then_code c.emit-next.ensures.code c.put-in-Not.ensures.code)
 
 pub emit-returns-in-Binary-clause-code : goal.emit-returns-in-Binary-clause-code
 emit-returns-in-Binary-clause-code t c =
     let d = (view_filter c.args.typed.now).decls in
     let y = c.deref-in-Binary.result.now in
-    subst (λ (x : ExprView). Emits c.args.out.now c.emit_right.new.out c.args.sets c.emit_right.result (expression_part d x))
+    subst (λ (x : ExprView). Emits c.args.out.now c.emit_binary.new.out c.args.sets c.emit_binary.result (expression_part d x))
     (sym (view_binary c.args.expr.now c.in-Binary.parts y c.in-Binary.is c.deref-in-Binary.ensures))
-    (right_next d c.args.out.now c.emit-next-in-Binary.new.out c.emit_right.new.out c.args.sets c.emit-next-in-Binary.result c.emit_right.result (view y.0) y.2 (view y.3) c.emit-next-in-Binary.ensures.code c.emit_right.ensures.code)
+    c.emit_binary.ensures.code
+
+pub emit-returns-in-GroupedBinary-clause-code : goal.emit-returns-in-GroupedBinary-clause-code
+emit-returns-in-GroupedBinary-clause-code t c =
+    let d = (view_filter c.args.typed.now).decls in
+    let y = c.deref-in-GroupedBinary.result.now in
+    subst (λ (x : ExprView). Emits c.args.out.now c.emit_binary-in-GroupedBinary.new.out c.args.sets c.emit_binary-in-GroupedBinary.result (expression_part d x))
+    (sym (view_grouped c.args.expr.now c.in-GroupedBinary.field-0 c.in-GroupedBinary.parts y c.in-GroupedBinary.is c.deref-in-GroupedBinary.ensures))
+    c.emit_binary-in-GroupedBinary.ensures.code
+
+pub emit_binary-returns-clause-code : goal.emit_binary-returns-clause-code
+emit_binary-returns-clause-code t c =
+    let d = (view_filter c.args.typed.now).decls in
+    let y = c.args.parts.now in
+    right_next d c.args.out.now c.emit-next.new.out c.emit_right.new.out c.args.sets c.emit-next.result c.emit_right.result (view y.0) y.2 (view y.3)
+    c.emit-next.ensures.code c.emit_right.ensures.code
 
 pub emit-returns-in-Chain-clause-code : goal.emit-returns-in-Chain-clause-code
 emit-returns-in-Chain-clause-code t c =
@@ -85,17 +113,33 @@ pub emit_suffixed-loop-suffix-init : goal.emit_suffixed-loop-suffix-init
 emit_suffixed-loop-suffix-init t c =
     (c.emit-next.ensures.code, as_noted (sym (append-nil (expression_places c.args.operand.now))) c.emit-next.ensures.places)
 
+pub emit-returns-in-AttributePart-clause-places : goal.emit-returns-in-AttributePart-clause-places
+emit-returns-in-AttributePart-clause-places t c =
+    as_noted
+    (sym (part_at c.args.expr.now c.in-AttributePart.at c.in-AttributePart.attribute c.in-AttributePart.suffix c.in-AttributePart.is))
+    (then_notes c.put.ensures.places c.emit_one-in-AttributePart.ensures.places)
+
 pub emit-returns-in-Not-clause-places : goal.emit-returns-in-Not-clause-places
 emit-returns-in-Not-clause-places t c =
     as_noted
     (sym (not_at c.args.expr.now c.in-Not.at c.in-Not.inner c.deref-in-Not.result.now c.in-Not.is c.deref-in-Not.ensures))
-    (then_notes c.emit-next.ensures.places c.put.ensures.places)
+    (then_notes c.emit-next.ensures.places c.put-in-Not.ensures.places)
 
 pub emit-returns-in-Binary-clause-places : goal.emit-returns-in-Binary-clause-places
 emit-returns-in-Binary-clause-places t c =
     as_noted
     (sym (binary_at c.args.expr.now c.in-Binary.parts c.deref-in-Binary.result.now c.in-Binary.is c.deref-in-Binary.ensures))
-    (then_notes c.emit-next-in-Binary.ensures.places c.emit_right.ensures.places)
+    c.emit_binary.ensures.places
+
+pub emit-returns-in-GroupedBinary-clause-places : goal.emit-returns-in-GroupedBinary-clause-places
+emit-returns-in-GroupedBinary-clause-places t c =
+    as_noted
+    (sym (grouped_at c.args.expr.now c.in-GroupedBinary.field-0 c.in-GroupedBinary.parts c.deref-in-GroupedBinary.result.now c.in-GroupedBinary.is
+    c.deref-in-GroupedBinary.ensures))
+    c.emit_binary-in-GroupedBinary.ensures.places
+
+pub emit_binary-returns-clause-places : goal.emit_binary-returns-clause-places
+emit_binary-returns-clause-places t c = then_notes c.emit-next.ensures.places c.emit_right.ensures.places
 
 pub emit-returns-in-Chain-clause-places : goal.emit-returns-in-Chain-clause-places
 emit-returns-in-Chain-clause-places t c =

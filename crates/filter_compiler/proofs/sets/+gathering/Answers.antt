@@ -1,6 +1,6 @@
 use Rattle.std.proofs.Common.{refl, ap, sym, ◌∙◌}
 use Rattle.expression_parser.specs.Syntax.{view}
-use Rattle.filter_types.proofs.Views.{view_binary, view_chain, view_suffixed}
+use Rattle.filter_types.proofs.Views.{view_binary, view_chain, view_grouped, view_suffixed}
 use Rattle.filter_compiler.specs.Translation.{sets_of}
 use Rattle.filter_compiler.proofs.Gathering.{as_sets, chain_gathers, gathers_then, suffixes_sets}
 use Rattle.filter_compiler.proofs.Views.{view_member}
@@ -9,7 +9,16 @@ use Rattle.filter_compiler.proofs.sets.+gathering.Goals as goal
 pub gather-returns-in-Binary : goal.gather-returns-in-Binary
 gather-returns-in-Binary t c =
     as_sets (ap sets_of (sym (view_binary c.args.expr.now c.in-Binary.parts c.deref-in-Binary.result.now c.in-Binary.is c.deref-in-Binary.ensures)))
-    (gathers_then c.gather-in-Binary.ensures c.gather-in-Binary-2.ensures)
+    c.gather_binary.ensures
+
+pub gather-returns-in-GroupedBinary : goal.gather-returns-in-GroupedBinary
+gather-returns-in-GroupedBinary t c =
+    as_sets (ap sets_of (sym (view_grouped c.args.expr.now c.in-GroupedBinary.field-0 c.in-GroupedBinary.parts c.deref-in-GroupedBinary.result.now
+    c.in-GroupedBinary.is c.deref-in-GroupedBinary.ensures)))
+    c.gather_binary-in-GroupedBinary.ensures
+
+pub gather_binary-returns : goal.gather_binary-returns
+gather_binary-returns t c = gathers_then c.gather.ensures c.gather-2.ensures
 
 pub gather-returns-in-Chain : goal.gather-returns-in-Chain
 gather-returns-in-Chain t c =

@@ -5,14 +5,15 @@ use Rattle.filter_parser.specs.SyntaxCommands.{view_decl}
 use Rattle.expression_parser.specs.Syntax.{view_members}
 use Rattle.filter_types.specs.Faults.{HasFault}
 use Rattle.filter_types.specs.Kinds.{kind_in}
-use Rattle.filter_types.specs.Refusals.{member_refusal, operator_refusal, wrong_kind}
-use Rattle.filter_types.specs.Table.{in_set, negated, operator}
+use Rattle.filter_types.specs.Refusals.{member_refusal, operator_refusal, suffix_refusal, wrong_kind}
+use Rattle.filter_types.specs.Table.{in_set, negated, operator, suffixed_by}
+use Rattle.filter_types.specs.Turns.{BinaryHasFault}
 use Rattle.filter_types.specs.declared.fault.ExpectedKind.TheVariants as expected
 use Rattle.filter_types.specs.Refusals.{view_operand}
-use Rattle.filter_types.proofs.Blaming.{contains_at, operator_blames, operator_left, operator_taken, refuses_here}
+use Rattle.filter_types.proofs.Blaming.{contains_at, operator_blames, operator_left, operator_taken, refuses_here, suffix_blames}
 use Rattle.filter_types.proofs.Erring.{err_map, refused}
-use Rattle.filter_types.proofs.Faulting.{binary_fault, binary_left, binary_right, chain_fault, chain_operand, group_operand, member_fault, member_operand, name_fault, not_fault}
-use Rattle.filter_types.proofs.Faulting.{not_operand, suffixed_fault, suffixed_operand, with_kind}
+use Rattle.filter_types.proofs.Faulting.{attribute_part_fault, binary_fault, chain_fault, chain_operand, group_operand, grouped_fault, member_fault, member_operand, name_fault, not_fault}
+use Rattle.filter_types.proofs.Faulting.{not_operand, operator_fault, suffixed_fault, suffixed_operand, with_kind}
 use Rattle.filter_types.proofs.Turns.{chain_gives, chain_none, suffixes_give, suffixes_none}
 use Rattle.filter_types.proofs.Views.{view_chain, view_suffixed}
 use Rattle.filter_types.proofs.kinds.+kinds.Goals as goal
@@ -97,29 +98,50 @@ kind_of-returns-in_err-kind-in-Suffixed-clause-fault t c =
     rw (p.1, p.2) (suffixed_operand (map view_decl c.args.variables.now) c.args.expr.now _ c.in-Suffixed.inner c.in-Suffixed.suffixes c.deref-in-Suffixed.result.now
     c.in-Suffixed.is c.deref-in-Suffixed.ensures c.in_err-kind-in-Suffixed.ensures.fault)
 
-pub kind_of-returns-in_err-left_kind-in-Binary-clause-fault : goal.kind_of-returns-in_err-left_kind-in-Binary-clause-fault
-kind_of-returns-in_err-left_kind-in-Binary-clause-fault t c =
-    let p = err_from_is_err_and c.from_residual-in_err-left_kind-in-Binary.result c.from_residual-in_err-left_kind-in-Binary.ensures.1 in
-    rw (p.1, p.2) (binary_left (map view_decl c.args.variables.now) c.args.expr.now _ c.in-Binary.parts c.deref-in-Binary.result.now
-    c.in-Binary.is c.deref-in-Binary.ensures c.in_err-left_kind-in-Binary.ensures.fault)
-
-pub kind_of-returns-in_err-right_kind-in-Binary-clause-fault : goal.kind_of-returns-in_err-right_kind-in-Binary-clause-fault
-kind_of-returns-in_err-right_kind-in-Binary-clause-fault t c =
-    let p = err_from_is_err_and c.from_residual-in_err-right_kind-in-Binary.result c.from_residual-in_err-right_kind-in-Binary.ensures.1 in
-    rw (p.1, p.2) (binary_right (map view_decl c.args.variables.now) c.args.expr.now _ c.in-Binary.parts c.deref-in-Binary.result.now
-    c.in-Binary.is c.deref-in-Binary.ensures c.in_err-right_kind-in-Binary.ensures.fault)
-
-pub kind_of-returns-in_ok-right_kind-in-Binary-clause-fault : goal.kind_of-returns-in_ok-right_kind-in-Binary-clause-fault
-kind_of-returns-in_ok-right_kind-in-Binary-clause-fault t c =
+pub kind_of-returns-in-AttributePart-clause-fault : goal.kind_of-returns-in-AttributePart-clause-fault
+kind_of-returns-in-AttributePart-clause-fault t c =
     let vs = map view_decl c.args.variables.now in
     let x = c.args.expr.now in
-    let y = c.deref-in-Binary.result.now in
-    let a = c.in_ok-left_kind-in-Binary.left_kind in
-    let b = c.in_ok-right_kind-in-Binary.right_kind in
-    refused c.operator.result (operator y.2 a b) (operator_refusal y.2 (with_kind y.0 a) (with_kind y.3 b)) (HasFault vs x)
+    let s = c.in-AttributePart.suffix in
+    let k = c.attribute_kind-in-AttributePart.result in
+    refused c.suffixed_by.result (suffixed_by s k) (suffix_refusal s (with_kind x k)) (HasFault vs x) (suffix_blames s (with_kind x k)).0
+    c.suffixed_by.ensures.kind c.suffixed_by.ensures.refusal
+    (λ none. attribute_part_fault vs x _ c.in-AttributePart.field-0 c.in-AttributePart.attribute s k c.in-AttributePart.is c.attribute_kind-in-AttributePart.ensures none refl)
+
+pub kind_of-returns-in-Binary-clause-fault : goal.kind_of-returns-in-Binary-clause-fault
+kind_of-returns-in-Binary-clause-fault t c =
+    let vs = map view_decl c.args.variables.now in
+    err_map c.kind_of_binary.result _ (HasFault vs c.args.expr.now)
+    (λ why h. binary_fault vs c.args.expr.now why c.in-Binary.parts c.deref-in-Binary.result.now c.in-Binary.is c.deref-in-Binary.ensures h)
+    c.kind_of_binary.ensures.fault
+
+pub kind_of-returns-in-GroupedBinary-clause-fault : goal.kind_of-returns-in-GroupedBinary-clause-fault
+kind_of-returns-in-GroupedBinary-clause-fault t c =
+    let vs = map view_decl c.args.variables.now in
+    err_map c.kind_of_binary-in-GroupedBinary.result _ (HasFault vs c.args.expr.now)
+    (λ why h. grouped_fault vs c.args.expr.now why c.in-GroupedBinary.field-0 c.in-GroupedBinary.parts c.deref-in-GroupedBinary.result.now
+    c.in-GroupedBinary.is c.deref-in-GroupedBinary.ensures h)
+    c.kind_of_binary-in-GroupedBinary.ensures.fault
+
+pub kind_of_binary-returns-in_err-left_kind-clause-fault : goal.kind_of_binary-returns-in_err-left_kind-clause-fault
+kind_of_binary-returns-in_err-left_kind-clause-fault t c =
+    let p = err_from_is_err_and c.from_residual.result c.from_residual.ensures.1 in
+    rw (p.1, p.2) (inl c.in_err-left_kind.ensures.fault)
+
+pub kind_of_binary-returns-in_err-right_kind-clause-fault : goal.kind_of_binary-returns-in_err-right_kind-clause-fault
+kind_of_binary-returns-in_err-right_kind-clause-fault t c =
+    let p = err_from_is_err_and c.from_residual-in_err-right_kind.result c.from_residual-in_err-right_kind.ensures.1 in
+    rw (p.1, p.2) (inr (inl c.in_err-right_kind.ensures.fault))
+
+pub kind_of_binary-returns-clause-fault : goal.kind_of_binary-returns-clause-fault
+kind_of_binary-returns-clause-fault t c =
+    let vs = map view_decl c.args.variables.now in
+    let y = c.args.parts.now in
+    let a = c.in_ok-left_kind.left_kind in
+    let b = c.in_ok-right_kind.right_kind in
+    refused c.operator.result (operator y.2 a b) (operator_refusal y.2 (with_kind y.0 a) (with_kind y.3 b)) (BinaryHasFault vs y)
     (operator_blames y.2 (with_kind y.0 a) (with_kind y.3 b)).0 c.operator.ensures.kind c.operator.ensures.refusal
-    (λ none. binary_fault vs x _ c.in-Binary.parts y a b c.in-Binary.is c.deref-in-Binary.ensures c.in_ok-left_kind-in-Binary.ensures.kind
-    c.in_ok-right_kind-in-Binary.ensures.kind none refl)
+    (λ none. operator_fault vs _ y a b c.in_ok-left_kind.ensures.kind c.in_ok-right_kind.ensures.kind none refl)
 
 pub kind_of-returns-in_ok-kind-in-Not-clause-fault : goal.kind_of-returns-in_ok-kind-in-Not-clause-fault
 kind_of-returns-in_ok-kind-in-Not-clause-fault t c =

@@ -5,7 +5,7 @@ use Rattle.expression_parser.specs.Placed.{suffix_kept}
 use Rattle.expression_parser.specs.Steps.{Follows, Grown, remaining}
 use Rattle.expression_parser.specs.Syntax.{suffixes_of, view}
 use Rattle.expression_parser.proofs.Turns.{Goes}
-use Rattle.expression_parser.proofs.expr_atom.parse_suffixes.Given as goal
+use Rattle.expression_parser.proofs.expr_atom.parse_dotted.Given as goal
 
 abbrev pub invariant-loop-after : goal.invariant-loop-after
 invariant-loop-after l = record {
