@@ -138,3 +138,11 @@ module _ (r : RouterView) (old new : PassView) (s : SaverView) (h : HasSaved s (
         HasSaved (record { first = s.first; held = now; saved = s.saved; fault = Some fault.Write }) (seen_by r new)
     saved_cut more =
         cut_by (seen_by r old) new.part.seen b s.saved now_saved text s.first s.held now h.fit got_before reads_next more
+
+  -- what is saved of a history is saved of what it grew to
+  pub saved_still : HasSaved s (seen_by r new)
+  saved_still = record {
+    fit = fit_longer (seen_by r old) new.part.seen b s.saved h.fit;
+    got = subst (λ f. Got f (seen_by r new) s.saved s.first s.held) (sym goes_on)
+        (got_same (seen_by r old) new.part.seen b s.saved s.first s.held h.fit got_before);
+  }

@@ -1,8 +1,9 @@
 //! Who saves a history.
-ghost use Rattle.std.specs.Prelude.{◌≡◌, None, Some, Err, IfErr, IfOk, IfSome, length, unwrap_or};
+ghost use Rattle.std.specs.Prelude.{◌≡◌, None, Some, Err, IfErr, IfOk, IfSome, OnOk, length, unwrap_or};
 ghost use Rattle.history_saver.specs.Adding.{next_count};
 ghost use Rattle.history_saver.specs.Looking.{Looks};
 ghost use Rattle.history_saver.specs.Saved.{HasSaved, seen_by};
+ghost use Rattle.route_history.specs.History.{IsLegal};
 ghost use Rattle.route_history.specs.JournalView.{JournalView};
 ghost use Rattle.slot_lock.specs.Held.{IsPassOf};
 
@@ -75,6 +76,7 @@ impl<V: Write> Saver<V> {
         requires goes_on { self.old.fault ≡ None }
         requires saved { HasSaved self.old (seen_by router.now pass.old) }
         ensures pass { Looks router.now pass.old pass.new }
+        ensures legal { IsLegal router.now.opening pass.new.part.seen }
         ensures saved { HasSaved self.new (seen_by router.now pass.new) }
         ensures first { self.new.first ≡ self.old.first }
         ensures ok { IfOk result (λ n. (self.new.saved ≡ Some n) × (self.new.fault ≡ None)) }
@@ -121,6 +123,7 @@ impl<V: Write> Saver<V> {
         ensures pass { Looks router.now pass.old pass.new }
         ensures saved { HasSaved self.new (seen_by router.now pass.new) }
         ensures first { self.new.first ≡ self.old.first }
+        ensures legal { OnOk result (IsLegal router.now.opening pass.new.part.seen) }
         ensures all { IfOk result (λ n. (n ≡ length pass.new.part.seen) × (self.new.saved ≡ Some n) × (self.new.fault ≡ None)) }
         ensures err { IfErr result (λ fault. self.new.fault ≡ Some fault) }
         ensures over { IfSome self.old.fault (λ fault. (result ≡ Err fault) × (self.new ≡ self.old) × (pass.new ≡ pass.old)) }
