@@ -9,7 +9,8 @@ use Rattle.history_saver.specs.Saved.{SaverView}
 use Rattle.line_protocol.specs.declared.faults.StreamFault.{StreamFault}
 use Rattle.line_protocol.specs.declared.faults.StreamFault.TheVariants.{Memory}
 use Rattle.router_daemon.specs.Codes.{fault_code}
-use Rattle.router_daemon.specs.Running.{Fails, HasOperator, SavesTo}
+use Rattle.router_daemon.specs.Running as daemon
+use Rattle.router_daemon.specs.Running.{Fails, RunsAsOne, Saves}
 use Rattle.router_daemon.specs.declared.fault.DaemonFault.{DaemonFault}
 use Rattle.router_operator.specs.OperatorView.{Names}
 use Rattle.router_options.specs.PlanView.{PlanView}
@@ -116,7 +117,7 @@ module _ (creates : List ℕ → Result (Option (List ℕ)) Error → Type 0) wh
 -- The operator's lines ended so, at a router of this plan.
 abbrev pub Operated : PlanView → Names → Streams → Streams → Result ℕ StreamFault → Type 0
 Operated plan names before after answered = IfSome before.reads (λ input.
-    HasOperator plan.opening plan.limit names (map (λ link. link.node) plan.links) answered input after.reads before.holds after.holds)
+    daemon.Operated plan names answered input after.reads before.holds after.holds)
 
 -- The file of a name, in which a history was saved, was closed as it was saved. `leaves name` says what a new file of this name held when it
 -- was closed.
@@ -124,13 +125,14 @@ abbrev pub LeavesSave : (List ℕ → Option (List ℕ) → Type 0) → Option (
 LeavesSave leaves (Some name) (Some s) = leaves (string_bytes name) s.held
 LeavesSave leaves _ _ = ⊤
 
--- A router of this plan was run to its end, and its history is saved, if it is to be, in the file of that name.
+-- A router of this plan was run to its end, and its history is saved, if it is to be, in the file of that name: all of it, and with it
+-- each call of the operator, with the reply that was answered.
 pub record RunsToEnd (leaves : List ℕ → Option (List ℕ) → Type 0) (save : Option (String Global)) (plan : PlanView) (names : Names)
     (kept : Option (Option (List ℕ))) (before after : Streams) : Type 0 where
   pub refused : ℕ
-  pub operated : Operated plan names before after (Ok refused)
   pub saver : Option SaverView
-  pub saved : SavesTo plan.opening plan.limit kept saver
+  pub operated : IfSome before.reads (λ input. RunsAsOne plan names kept saver refused input after.reads before.holds after.holds)
+  pub saved : Saves plan kept saver
   pub left : LeavesSave leaves save saver
   pub quiet : after.tells ≡ before.tells
 

@@ -1,47 +1,44 @@
 -- How the parts of a run make the whole.
-use Rattle.std.proofs.Common.{◌≡◌, subst, refl, ℕ, List, Option, Some, None, Result, Ok, Err}
-use Rattle.std.specs.Prelude.{IfErr, IfOk, IfSome, OnErr}
+use Rattle.std.proofs.Common.{◌≡◌, ◌∙◌, sym, ap, subst, refl, ℕ, List, [], map, Option, Some, None, Result, Ok, Err}
+use Rattle.std.specs.Prelude.{IfErr, IfOk, IfSome, IsOkAnd, MatchResult, OnErr}
 use Rattle.std.specs.declared.alloc.AllocError.{AllocError}
 use Rattle.history_saver.specs.Saved.{SaverView}
-use Rattle.history_saver.specs.declared.fault.SaveFault.{SaveFault}
 use Rattle.line_protocol.specs.declared.faults.StreamFault.{StreamFault}
-use Rattle.netchange_core.specs.OpeningView.{OpeningView}
+use Rattle.route_history.specs.declared.entry.Entry.{Entry}
 use Rattle.router_operator.specs.OperatorView.{Names, OperatorView}
 use Rattle.router_operator.specs.Running.{IsBrokenOff, IsServed}
+use Rattle.router_options.specs.PlanView.{PlanView}
 use Rattle.slot_lock.specs.Held.{PassView, RouterView}
 use Rattle.router_daemon.specs.Passes.{IsLegalPass}
-use Rattle.router_daemon.specs.Running.{Fails, HasOperator, HasWhole, IsEarly, IsWhy, Operates, SavesTo, operator_of}
-use Rattle.router_daemon.specs.Saves.{IsSaved}
+use Rattle.router_daemon.specs.Running.{Fails, HasOperator, IsEarly, IsOpened, IsWhy, Operated, Operates, RunsAsOne, RunsOperator, Saves, SavesTo, operator_of}
+use Rattle.router_daemon.specs.Uses.{BeginsWithFilters}
 use Rattle.router_daemon.specs.declared.fault.DaemonFault.{DaemonFault}
 use Rattle.router_daemon.specs.declared.fault.DaemonFault.TheVariants as fault
 
--- the operator's lines ended, in one way or the other
-pub operated : (before after : OperatorView) (answered : Result ℕ StreamFault) (known left held holds : Option (List ℕ)) →
+-- the operator's lines ended, in one way or the other, and left the operator with this pass
+pub operated : (before after : OperatorView) (now : PassView) (answered : Result ℕ StreamFault) (known left held holds : Option (List ℕ)) →
+    now ≡ after.pass →
     IfOk answered (λ refused. IfSome known (λ input. IsServed before after input left held holds refused)) →
     IfErr answered (λ why. IfSome known (λ input. IsBrokenOff why before after input left held holds)) →
-    IfSome known (λ input. Operates before answered input left held holds)
-operated before after answered None left held holds served broken_off = tt
-operated before after (Ok refused) (Some input) left held holds served broken_off = (after, served)
-operated before after (Err why) (Some input) left held holds served broken_off = (after, broken_off)
+    IfSome known (λ input. (end : OperatorView) × (end.pass ≡ now) × Operates before end answered input left held holds)
+operated before after now answered None left held holds is served broken_off = tt
+operated before after now (Ok refused) (Some input) left held holds is served broken_off = (after, sym is, served)
+operated before after now (Err why) (Some input) left held holds is served broken_off = (after, sym is, broken_off)
 
--- the operator is one of the router
-pub has_operator : (r : RouterView) (p : PassView) (names : Names) (links : List ℕ) (answered : Result ℕ StreamFault)
-    (known left held holds : Option (List ℕ)) → IsLegalPass r p →
-    IfSome known (λ input. Operates (operator_of r p names links) answered input left held holds) →
-    IfSome known (λ input. HasOperator r.opening r.limit names links answered input left held holds)
-has_operator r p names links answered None left held holds legal h = tt
-has_operator r p names links answered (Some input) left held holds legal h =
-    record { router = r; opened = refl; limited = refl; pass = p; legal = legal; operates = h }
-
--- without a fault, the file got the whole text of the history that the pass has seen
-pub has_whole : (r : RouterView) (s : SaverView) (p : PassView) → IsSaved r s p → s.fault ≡ None → HasWhole r.opening r.limit s.first s
-has_whole r s p h well = record {
-  log = p.part.seen;
-  legal = h.legal.legal;
-  first_is = refl;
-  well = well;
-  whole = h.all well;
-  has = h.has;
+-- the operator has a pass that was handed on
+pub has_operator : (r : RouterView) (given p : PassView) (names : Names) (links : List ℕ) (answered : Result ℕ StreamFault)
+    (known left held holds : Option (List ℕ)) (now : PassView) → p ≡ given → given.part.mine ≡ [] → IsLegalPass r p →
+    IfSome known (λ input. (end : OperatorView) × (end.pass ≡ now) × Operates (operator_of r p names links) end answered input left held holds) →
+    IfSome known (λ input. HasOperator r given.part.seen names links answered input left held holds now)
+has_operator r given p names links answered None left held holds now same no_calls legal h = tt
+has_operator r given p names links answered (Some input) left held holds now same no_calls legal (end, now_is, operates) = record {
+  pass = p;
+  legal = legal;
+  seen = ap (λ (v : PassView). v.part.seen) same;
+  no_calls = ap (λ (v : PassView). v.part.mine) same ∙ no_calls;
+  after = end;
+  operates = operates;
+  now_is = now_is;
 }
 
 -- a fault that comes before a line is read leaves the streams as they were
@@ -55,35 +52,96 @@ early_fails operates untouched fault.NotStarted early left = left
 early_fails operates untouched fault.Memory early left = left
 
 -- how a run that began fails
-pub run_fails : {S : Type 0} (operates : Result ℕ StreamFault → Type 0) (untouched : Type 0) (ran : Result (Result ℕ StreamFault) AllocError)
-    (saved : Result S SaveFault) (why : DaemonFault) → IfOk ran operates → OnErr ran untouched → IsWhy ran saved why →
-    Fails operates untouched why
-run_fails operates untouched ran saved (fault.Stream why) served left is =
-    subst (λ (x : Result (Result ℕ StreamFault) AllocError). IfOk x operates) is served
-run_fails operates untouched ran saved (fault.Call why) served left is = absurd is
-run_fails operates untouched ran saved (fault.Lock why) served left is = absurd is
-run_fails operates untouched ran saved (fault.Save why) served left is =
-    (Ok is.0.0, subst (λ (x : Result (Result ℕ StreamFault) AllocError). IfOk x operates) is.0.1 served)
-run_fails operates untouched ran saved fault.NotStarted served left is = absurd is
-run_fails operates untouched ran saved fault.Memory served left is =
-    subst (λ (x : Result (Result ℕ StreamFault) AllocError). OnErr x untouched) is.1 left
+ran_fails : (operates : Result ℕ StreamFault → Type 0) (untouched : Type 0) (answered : Result ℕ StreamFault) (why : DaemonFault) →
+    operates answered → IsWhy answered why → Fails operates untouched why
+ran_fails operates untouched answered (fault.Stream why) served is = subst operates is served
+ran_fails operates untouched answered (fault.Call why) served is = absurd is
+ran_fails operates untouched answered (fault.Lock why) served is = absurd is
+ran_fails operates untouched answered (fault.Save why) served is = (Ok is.0, subst operates is.1 served)
+ran_fails operates untouched answered fault.NotStarted served is = absurd is
+ran_fails operates untouched answered fault.Memory served is = absurd is
 
--- the operator of a router, said of what it was opened with
-pub same_operator : (r : RouterView) (opening : OpeningView) (limit : ℕ) (names : Names) (nodes links : List ℕ) (answered : Result ℕ StreamFault)
-    (known left held holds : Option (List ℕ)) → r.opening ≡ opening → r.limit ≡ limit → nodes ≡ links →
-    IfSome known (λ input. HasOperator r.opening r.limit names nodes answered input left held holds) →
-    IfSome known (λ input. HasOperator opening limit names links answered input left held holds)
-same_operator r opening limit names nodes links answered known left held holds opened limited are h =
-    subst (λ (o : OpeningView). IfSome known (λ input. HasOperator o limit names links answered input left held holds)) opened
-    (subst (λ (n : ℕ). IfSome known (λ input. HasOperator r.opening n names links answered input left held holds)) limited
-    (subst (λ (l : List ℕ). IfSome known (λ input. HasOperator r.opening r.limit names l answered input left held holds)) are h))
+-- a history that begins with some entries begins with none
+from_none : (r : RouterView) (entries : List Entry) (first : Option (Option (List ℕ))) (saved : Option SaverView) → SavesTo r entries first saved →
+    SavesTo r [] first saved
+from_none r entries None None h = tt
+from_none r entries (Some first) (Some s) h = record {
+  log = h.log;
+  legal = h.legal;
+  begins = record { rest = h.log; is = refl };
+  first_is = h.first_is;
+  well = h.well;
+  whole = h.whole;
+  has = h.has;
+}
+from_none r entries None (Some s) h = absurd h
+from_none r entries (Some first) None h = absurd h
 
--- where the history is saved, said of what the router was opened with
-pub run_saves : (r : RouterView) (opening : OpeningView) (limit : ℕ) (begun given : Option (Option (List ℕ)))
-    (saved : Result (Option SaverView) SaveFault) (s : Option SaverView) → r.opening ≡ opening → r.limit ≡ limit → begun ≡ given →
-    IfOk saved (SavesTo r.opening r.limit begun) → saved ≡ Ok s → SavesTo opening limit given s
-run_saves r opening limit begun given saved s opened limited are h is =
-    subst (λ (o : OpeningView). SavesTo o limit given s) opened
-    (subst (λ (n : ℕ). SavesTo r.opening n given s) limited
-    (subst (λ (f : Option (Option (List ℕ))). SavesTo r.opening r.limit f s) are
-    (subst (λ (x : Result (Option SaverView) SaveFault). IfOk x (SavesTo r.opening r.limit begun)) is h)))
+-- The router is opened as the plan says, and the pass of who opened it has set the filters.
+module _ (plan : PlanView) (names : Names) (r : RouterView) (first : PassView) (nodes : List ℕ) (known left held holds : Option (List ℕ))
+    (is_opened : IsOpened plan r) (sets : BeginsWithFilters r plan names first) (entries : List Entry) (seen : entries ≡ first.part.seen)
+    (are : nodes ≡ map (λ link. link.node) plan.links) where
+  -- its operator, said of the plan
+  runs_operator : (answered : Result ℕ StreamFault) (input : List ℕ) (now : PassView) → HasOperator r entries names nodes answered input left held holds now
+      → RunsOperator plan names answered input left held holds r now
+  runs_operator answered input now h = record {
+    is_opened = is_opened;
+    first = first;
+    sets = sets;
+    operator = subst (λ (l : List ℕ). HasOperator r first.part.seen names l answered input left held holds now) are
+        (subst (λ (l : List Entry). HasOperator r l names nodes answered input left held holds now) seen h);
+  }
+
+  abbrev Kept : Result ℕ StreamFault → PassView → Type 0
+  Kept answered now = IfSome known (λ input. HasOperator r entries names nodes answered input left held holds now)
+
+  was_operated : (answered : Result ℕ StreamFault) (now : PassView) → Kept answered now →
+      IfSome known (λ input. Operated plan names answered input left held holds)
+  was_operated answered now h = split known h
+    where
+      split : (k : Option (List ℕ)) → IfSome k (λ input. HasOperator r entries names nodes answered input left held holds now) →
+          IfSome k (λ input. Operated plan names answered input left held holds)
+      split None g = tt
+      split (Some input) g = (r, now, runs_operator answered input now g)
+
+  as_one : (answered : Result ℕ StreamFault) (refused : ℕ) (now : PassView) (given : Option (Option (List ℕ))) (saved : Option SaverView) →
+      answered ≡ Ok refused → SavesTo r now.part.seen given saved → Kept answered now →
+      IfSome known (λ input. RunsAsOne plan names given saved refused input left held holds)
+  as_one answered refused now given saved is saves h = split known h
+    where
+      split : (k : Option (List ℕ)) → IfSome k (λ input. HasOperator r entries names nodes answered input left held holds now) →
+          IfSome k (λ input. RunsAsOne plan names given saved refused input left held holds)
+      split None g = tt
+      split (Some input) g =
+          (r, now, subst (λ (a : Result ℕ StreamFault). RunsOperator plan names a input left held holds r now) is (runs_operator answered input now g), saves)
+
+  -- How the operator's lines ended is an end `o`, which has an answer and a pass.
+  module _ {O : Type 0} (answered_of : O → Result ℕ StreamFault) (pass_of : O → PassView) where
+    pub run_is_one : (ran : Result O AllocError) (refused : ℕ) (begun given : Option (Option (List ℕ))) (saved : Option SaverView) → begun ≡ given →
+        IfOk ran (λ o. Kept (answered_of o) (pass_of o)) →
+        IsOkAnd ran (λ o. (answered_of o ≡ Ok refused) × SavesTo r (pass_of o).part.seen begun saved) →
+        IfSome known (λ input. RunsAsOne plan names given saved refused input left held holds)
+    run_is_one (Ok o) refused begun given saved same h (is, saves) =
+        as_one (answered_of o) refused (pass_of o) given saved is
+        (subst (λ (f : Option (Option (List ℕ))). SavesTo r (pass_of o).part.seen f saved) same saves) h
+    run_is_one (Err why) refused begun given saved same h ends = absurd ends
+
+    pub run_saves : (ran : Result O AllocError) (refused : ℕ) (begun given : Option (Option (List ℕ))) (saved : Option SaverView) → begun ≡ given →
+        IsOkAnd ran (λ o. (answered_of o ≡ Ok refused) × SavesTo r (pass_of o).part.seen begun saved) → Saves plan given saved
+    run_saves (Ok o) refused begun given saved same (is, saves) = (
+      r,
+      is_opened,
+      from_none r (pass_of o).part.seen given saved
+          (subst (λ (f : Option (Option (List ℕ))). SavesTo r (pass_of o).part.seen f saved) same saves),
+    )
+    run_saves (Err why) refused begun given saved same ends = absurd ends
+
+    pub run_fails : (untouched : Type 0) (ran : Result O AllocError) (why : DaemonFault) → IfOk ran (λ o. Kept (answered_of o) (pass_of o)) →
+        OnErr ran untouched → MatchResult ran (λ o. IsWhy (answered_of o) why) (λ _. why ≡ fault.Memory) →
+        Fails (λ answered. IfSome known (λ input. Operated plan names answered input left held holds)) untouched why
+    run_fails untouched (Ok o) why h left_so ends =
+        ran_fails (λ answered. IfSome known (λ input. Operated plan names answered input left held holds)) untouched (answered_of o) why
+        (was_operated (answered_of o) (pass_of o) h) ends
+    run_fails untouched (Err failed) why h left_so ends =
+        subst (λ (f : DaemonFault). Fails (λ answered. IfSome known (λ input. Operated plan names answered input left held holds)) untouched f)
+        (sym ends) left_so

@@ -4,7 +4,6 @@ pub mod Running
 pub mod Told
 -- what only bodies are proved against
 pub mod Links
-pub mod Names
 pub mod Passes
 pub mod Saves
 pub mod Sets

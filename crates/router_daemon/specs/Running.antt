@@ -1,16 +1,16 @@
 -- How a router is run. (This project's own choice.)
-use Rattle.std.specs.Prelude.{◌≡◌, ℕ, List, length, Option, Some, None, Result, Ok, Err, false, ⊤}
-use Rattle.std.specs.declared.alloc.AllocError.{AllocError}
+use Rattle.std.specs.Prelude.{◌≡◌, ℕ, false, List, [], length, map, Option, Some, None, Result, Ok, Err, ⊤}
 use Rattle.history_saver.specs.Saved.{HasSaved, SaverView}
-use Rattle.history_saver.specs.declared.fault.SaveFault.{SaveFault}
 use Rattle.line_protocol.specs.declared.faults.StreamFault.{StreamFault}
-use Rattle.netchange_core.specs.OpeningView.{OpeningView}
+use Rattle.route_history.specs.Beginning.{Begins}
 use Rattle.route_history.specs.History.{IsLegal}
 use Rattle.route_history.specs.declared.entry.Entry.{Entry}
 use Rattle.router_operator.specs.OperatorView.{Names, OperatorView}
 use Rattle.router_operator.specs.Running.{IsBrokenOff, IsServed}
+use Rattle.router_options.specs.PlanView.{PlanView}
 use Rattle.slot_lock.specs.Held.{PassView, RouterView}
 use Rattle.router_daemon.specs.Passes.{IsLegalPass}
+use Rattle.router_daemon.specs.Uses.{BeginsWithFilters}
 use Rattle.router_daemon.specs.declared.fault.DaemonFault.{DaemonFault}
 use Rattle.router_daemon.specs.declared.fault.DaemonFault.TheVariants as fault
 
@@ -20,34 +20,66 @@ operator_of r p names links = record { router = r; pass = p; names = names; link
 
 -- How an operator's lines ended: all were answered, and so many refused; or a fault broke them off. `input` is all that the reader had,
 -- `left` what it has now; `held` and `holds` are what the writer held before and holds now.
-abbrev pub Operates : OperatorView → Result ℕ StreamFault → List ℕ → Option (List ℕ) → Option (List ℕ) → Option (List ℕ) → Type 0
-Operates before (Ok refused) input left held holds = (after : OperatorView) × IsServed before after input left held holds refused
-Operates before (Err why) input left held holds = (after : OperatorView) × IsBrokenOff why before after input left held holds
+abbrev pub Operates : OperatorView → OperatorView → Result ℕ StreamFault → List ℕ → Option (List ℕ) → Option (List ℕ) → Option (List ℕ) → Type 0
+Operates before after (Ok refused) input left held holds = IsServed before after input left held holds refused
+Operates before after (Err why) input left held holds = IsBrokenOff why before after input left held holds
 
--- the operator of a router that was opened so, with these filters and links, which has seen a legal history
-pub record HasOperator (opening : OpeningView) (limit : ℕ) (names : Names) (links : List ℕ) (answered : Result ℕ StreamFault)
-    (input : List ℕ) (left held holds : Option (List ℕ)) : Type 0 where
-  pub router : RouterView
-  pub opened : router.opening ≡ opening
-  pub limited : router.limit ≡ limit
+-- The operator of a router, with these filters and links, had seen these entries, and made no call, before their first line; their pass is
+-- `now` at the end.
+pub record HasOperator (r : RouterView) (entries : List Entry) (names : Names) (links : List ℕ) (answered : Result ℕ StreamFault)
+    (input : List ℕ) (left held holds : Option (List ℕ)) (now : PassView) : Type 0 where
   pub pass : PassView
-  pub legal : IsLegalPass router pass
-  pub operates : Operates (operator_of router pass names links) answered input left held holds
+  pub legal : IsLegalPass r pass
+  pub seen : pass.part.seen ≡ entries
+  pub no_calls : pass.part.mine ≡ []
+  pub after : OperatorView
+  pub operates : Operates (operator_of r pass names links) after answered input left held holds
+  pub now_is : after.pass ≡ now
 
--- A file that held `first` got the whole text of a legal history of a router that was opened so.
-pub record HasWhole (opening : OpeningView) (limit : ℕ) (first : Option (List ℕ)) (s : SaverView) : Type 0 where
+-- a router was opened as a plan says
+pub record IsOpened (plan : PlanView) (r : RouterView) : Type 0 where
+  pub opened : r.opening ≡ plan.opening
+  pub limited : r.limit ≡ plan.limit
+
+-- It was opened as a plan says, the filters that the plan uses were set first, and its operator's lines ended so.
+pub record RunsOperator (plan : PlanView) (names : Names) (answered : Result ℕ StreamFault) (input : List ℕ) (left held holds : Option (List ℕ))
+    (r : RouterView) (now : PassView) : Type 0 where
+  pub is_opened : IsOpened plan r
+  pub first : PassView
+  pub sets : BeginsWithFilters r plan names first
+  pub operator : HasOperator r first.part.seen names (map (λ link. link.node) plan.links) answered input left held holds now
+
+-- there was such a router, and such an operator of it
+abbrev pub Operated : PlanView → Names → Result ℕ StreamFault → List ℕ → Option (List ℕ) → Option (List ℕ) → Option (List ℕ) → Type 0
+Operated plan names answered input left held holds =
+    (r : RouterView) × (now : PassView) × RunsOperator plan names answered input left held holds r now
+
+-- A file that held `first` got the whole text of a legal history of the router, which begins with these entries.
+pub record HasWhole (r : RouterView) (entries : List Entry) (first : Option (List ℕ)) (s : SaverView) : Type 0 where
   pub log : List Entry
-  pub legal : IsLegal opening log
+  pub legal : IsLegal r.opening log
+  pub begins : Begins entries log
   pub first_is : s.first ≡ first
   pub well : s.fault ≡ None
   pub whole : s.saved ≡ Some (length log)
-  pub has : HasSaved s (record { opening = opening; limit = limit; entries = log })
+  pub has : HasSaved s (record { opening = r.opening; limit = r.limit; entries = log })
 
 -- a history is saved if and only if a file is given
-abbrev pub SavesTo : OpeningView → ℕ → Option (Option (List ℕ)) → Option SaverView → Type 0
-SavesTo opening limit None None = ⊤
-SavesTo opening limit (Some first) (Some s) = HasWhole opening limit first s
-SavesTo opening limit _ _ = ⊥
+abbrev pub SavesTo : RouterView → List Entry → Option (Option (List ℕ)) → Option SaverView → Type 0
+SavesTo r entries None None = ⊤
+SavesTo r entries (Some first) (Some s) = HasWhole r entries first s
+SavesTo r entries _ _ = ⊥
+
+-- the history that is saved is of a router that was opened as a plan says
+abbrev pub Saves : PlanView → Option (Option (List ℕ)) → Option SaverView → Type 0
+Saves plan first saved = (r : RouterView) × IsOpened plan r × SavesTo r [] first saved
+
+-- One router ran: its operator's lines were answered to their end, and the history that is saved of it begins with all that the operator
+-- had seen of it, so that each call of theirs stands in it, with the reply that was answered.
+abbrev pub RunsAsOne : PlanView → Names → Option (Option (List ℕ)) → Option SaverView → ℕ → List ℕ → Option (List ℕ) → Option (List ℕ)
+    → Option (List ℕ) → Type 0
+RunsAsOne plan names first saved refused input left held holds = (r : RouterView) × (now : PassView)
+    × RunsOperator plan names (Ok refused) input left held holds r now × SavesTo r now.part.seen first saved
 
 -- Why a router was not run to its end: a fault broke the operator's lines off, or the history is not saved whole; or no line was read.
 abbrev pub Fails : (Result ℕ StreamFault → Type 0) → Type 0 → DaemonFault → Type 0
@@ -61,9 +93,8 @@ IsEarly (fault.Stream why) = ⊥
 IsEarly (fault.Save why) = ⊥
 IsEarly _ = ⊤
 
--- it comes of how the operator's lines ended, and of what became of the history, in this order
-abbrev pub IsWhy : {S : Type 0} → Result (Result ℕ StreamFault) AllocError → Result S SaveFault → DaemonFault → Type 0
-IsWhy ran saved (fault.Stream why) = ran ≡ Ok (Err why)
-IsWhy ran saved (fault.Save why) = ((refused : ℕ) × (ran ≡ Ok (Ok refused))) × (saved ≡ Err why)
-IsWhy ran saved fault.Memory = (why : AllocError) × (ran ≡ Err why)
-IsWhy ran saved _ = ⊥
+-- it comes of how the operator's lines ended
+abbrev pub IsWhy : Result ℕ StreamFault → DaemonFault → Type 0
+IsWhy answered (fault.Stream why) = answered ≡ Err why
+IsWhy answered (fault.Save why) = (refused : ℕ) × (answered ≡ Ok refused)
+IsWhy answered _ = ⊥

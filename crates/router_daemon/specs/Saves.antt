@@ -4,12 +4,13 @@ use Rattle.history_saver.specs.Saved.{HasSaved, SaverView, seen_by}
 use Rattle.slot_lock.specs.Held.{PassView, RouterView}
 use Rattle.router_daemon.specs.Passes.{IsLegalPass}
 
+-- who saves a history, and the pass by which it is read
+pub record SavedView : Type 0 where
+  pub saver : SaverView
+  pub pass : PassView
+
 -- the file has a front of the text of the legal history that the pass has seen; without a fault, all of it
 pub record IsSaved (r : RouterView) (s : SaverView) (p : PassView) : Type 0 where
   pub legal : IsLegalPass r p
   pub has : HasSaved s (seen_by r p)
   pub all : s.fault ≡ None → s.saved ≡ Some (length p.part.seen)
-
--- by some pass of the router
-abbrev pub HasSeen : RouterView → SaverView → Type 0
-HasSeen r s = (p : PassView) × IsSaved r s p

@@ -1,9 +1,9 @@
 //! A router is closed.
 ghost use Rattle.router_daemon.specs.Passes.{IsLegalPass};
 
-use crate::naming::Naming;
 use crate::shared::Shared;
 use neighbour_session::enter_down;
+use router_operator::Naming;
 use slot_lock::Pass;
 use std::io::Write;
 use std::sync::{Condvar, Wait};

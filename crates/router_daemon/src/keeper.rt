@@ -6,12 +6,13 @@ ghost use Rattle.neighbour_session.specs.Reading.{Hears};
 
 use crate::crew::LinkCrew;
 use crate::folder::LinkFolder;
-use crate::naming::{Naming, Ticket};
+use crate::naming::Ticket;
 use crate::room::{Order, Room};
 use crate::shared::Shared;
 use crate::telling::{tell_end, tell_unopened};
 use message_streams::{MessageReader, MessageWriter};
 use neighbour_session::{Domain, SessionEnd, abandon_session, enter_up, greet, serve_reader};
+use router_operator::Naming;
 use router_options::LinkFiles;
 use slot_lock::{Answer, Pass};
 use std::alloc::Global;

@@ -1,24 +1,12 @@
-//! The one router that all threads of a program call.
+//! Passes of the one router that all threads of a program call.
 ghost use Rattle.std.specs.Prelude.{◌≡◌};
 ghost use Rattle.slot_lock.specs.Held.{IsPassOf};
 ghost use Rattle.router_daemon.specs.Passes.{IsLegalPass};
 ghost use Rattle.router_daemon.specs.Sets.{IsPassOf-prop};
 
+use router_operator::Naming;
 use slot_lock::Pass;
-use std::marker::{Brand, Model, PhantomData};
-
-/// Which router it is that threads call. What one thread hands another is of that router, as its type says.
-pub(crate) trait Naming {
-    ghost use Rattle.slot_lock.specs.Held.{RouterView};
-
-    ghost router: { RouterView };
-}
-
-impl Naming for Brand {
-    ghost use Rattle.router_daemon.specs.Names.{nobodys};
-
-    ghost router = { nobodys };
-}
+use std::marker::{Model, PhantomData};
 
 /// A pass of the router, as threads hand it on.
 #[derive(Drop)]

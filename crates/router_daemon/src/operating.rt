@@ -1,15 +1,15 @@
 //! The operator of a router that runs.
-ghost use Rattle.std.specs.Prelude.{◌≡◌};
-ghost use Rattle.std.specs.Prelude.{IfSome};
-ghost use Rattle.router_operator.specs.OperatorView.{IsAt};
+ghost use Rattle.std.specs.Prelude.{◌≡◌, [], IfSome};
+ghost use Rattle.router_operator.specs.OperatorView.{IsAt, OperatorView};
 ghost use Rattle.router_daemon.specs.Running.{HasOperator, Operates, operator_of};
 
 use crate::closing::stay;
-use crate::naming::{LegalTicket, Naming};
+use crate::naming::{LegalTicket, Ticket};
 use crate::setting::Filters;
 use crate::shared::Shared;
+use crate::signals::Signals;
 use line_protocol::StreamFault;
-use router_operator::Operator;
+use router_operator::{Naming, Operator};
 use slot_lock::Pass;
 use std::alloc::Global;
 use std::io::{Read, Write};
@@ -27,7 +27,16 @@ pub(crate) struct Figures {
     pub(crate) stays: bool,
 }
 
-/// Answers the operator's lines, to their end or to `quit`. The number of those that were refused.
+/// How an operator's lines ended.
+#[derive(Drop)]
+pub(crate) struct OperatorEnd<J: Naming> {
+    /// How many were refused, or what broke them off.
+    pub(crate) answered: Result<u32, StreamFault>,
+    /// The operator's pass, at the end.
+    pub(crate) ticket: Ticket<J>,
+}
+
+/// Answers the operator's lines, to their end or to `quit`.
 pub(crate) fn serve_operator<'a, R: Wait + Clock, I: Read, W: Write, J: Naming, E: Write>(
     rt: &'a R,
     alloc: Global,
@@ -37,13 +46,13 @@ pub(crate) fn serve_operator<'a, R: Wait + Clock, I: Read, W: Write, J: Naming, 
     filters: Filters,
     reader: &mut I,
     writer: &mut W,
-) -> Result<u32, StreamFault>
+) -> OperatorEnd<J>
     requires { IsAt J.router pass figures.size figures.limit }
-    ensures { IfSome (I.remaining reader.old) (λ input.
-        Operates (operator_of J.router pass filters.entries shared.now.nodes.items) result input (I.remaining reader.new)
+    ensures { IfSome (I.remaining reader.old) (λ input. (after : OperatorView) × (after.pass ≡ result.ticket.pass)
+        × Operates (operator_of J.router pass filters.entries shared.now.nodes.items) after result.answered input (I.remaining reader.new)
         (W.contents writer.old) (W.contents writer.new)) }
 {
-    let mut operator = Operator::new(
+    let mut operator: Operator<'_, R, Signals, J> = Operator::new(
         rt,
         &shared.router,
         pass,
@@ -57,7 +66,10 @@ pub(crate) fn serve_operator<'a, R: Wait + Clock, I: Read, W: Write, J: Naming, 
     if figures.stays && !operator.has_quit() {
         stay(rt, shared);
     }
-    answered
+    OperatorEnd {
+        answered,
+        ticket: Ticket::new(operator.pass()),
+    }
 }
 
 /// Answers the operator's lines by a pass that has seen a legal history.
@@ -70,12 +82,13 @@ pub(crate) fn serve_lines<R: Wait + Clock, I: Read, W: Write, J: Naming, E: Writ
     filters: Filters,
     reader: &mut I,
     writer: &mut W,
-) -> Result<u32, StreamFault>
+) -> OperatorEnd<J>
     requires size { figures.size ≡ J.router.opening.size }
     requires limit { figures.limit ≡ J.router.limit }
+    requires no_calls { ticket.part.mine ≡ [] }
     ensures { IfSome (I.remaining reader.old) (λ input.
-        HasOperator J.router.opening J.router.limit filters.entries shared.now.nodes.items result input (I.remaining reader.new)
-        (W.contents writer.old) (W.contents writer.new)) }
+        HasOperator J.router ticket.part.seen filters.entries shared.now.nodes.items result.answered input (I.remaining reader.new)
+        (W.contents writer.old) (W.contents writer.new) result.ticket.pass) }
 {
     let pass = ticket.pass();
     serve_operator(rt, alloc, shared, pass, figures, filters, reader, writer)

@@ -1,9 +1,10 @@
 //! Where who reads a link and who writes to it meet.
 ghost use Rattle.std.specs.Prelude.{◌≡◌};
 
-use crate::naming::{Naming, Ticket};
+use crate::naming::Ticket;
 use message_streams::MessageWriter;
 use neighbour_session::SessionEnd;
+use router_operator::Naming;
 use std::io::Write;
 use std::sync::{Condvar, Mutex, Wait};
 

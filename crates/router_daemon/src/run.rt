@@ -1,15 +1,18 @@
 //! A router is run.
-ghost use Rattle.std.specs.Prelude.{◌≡◌, IfErr, IfOk, IfSome, Ok, OnErr, map};
+ghost use Rattle.std.specs.Prelude.{◌≡◌, [], IfErr, IfOk, IfSome, IsOkAnd, MatchResult, Ok, OnErr};
 ghost use Rattle.std.specs.Option.{option_map};
 ghost use Rattle.router_daemon.specs.Passes.{IsLegalPass};
-ghost use Rattle.router_daemon.specs.Running.{Fails, HasOperator, IsEarly, IsWhy, SavesTo};
+ghost use Rattle.router_daemon.specs.Running as spec;
+ghost use Rattle.router_daemon.specs.Running.{HasOperator, IsEarly, IsOpened, SavesTo};
+ghost use Rattle.router_daemon.specs.Uses.{BeginsWithFilters};
+ghost use Rattle.router_daemon.specs.declared.fault.DaemonFault.TheVariants as fault;
 
 use crate::closing::close_links;
 use crate::fault::DaemonFault;
 use crate::folder::LinkFolder;
-use crate::naming::{LegalTicket, Naming};
+use crate::naming::{LegalTicket, Ticket};
 use crate::opening::open_router;
-use crate::operating::{Figures, serve_lines};
+use crate::operating::{Figures, OperatorEnd, serve_lines};
 use crate::saving::{IsIn, Saved};
 use crate::setting::{Filters, RouterEnd, Setting};
 use crate::shared::{Shared, shared_of};
@@ -17,6 +20,7 @@ use crate::starting::{Links, start_links, start_saver};
 use history_saver::{SaveFault, Saver};
 use line_protocol::StreamFault;
 use neighbour_session::Domain;
+use router_operator::Naming;
 use router_options::{LinkFiles, RouterPlan};
 use slot_lock::{Pass, Router};
 use std::alloc::{AllocError, Global};
@@ -44,6 +48,7 @@ fn begin_saving<
 ) -> Result<Option<Saving<V, J>>, DaemonFault>
     requires { IsLegalPass J.router pass.old }
     ensures legal { IsLegalPass J.router pass.new }
+    ensures same { (pass.new.part.seen ≡ pass.old.part.seen) × (pass.new.part.mine ≡ pass.old.part.mine) }
     ensures file { IfOk result (λ saving. option_map (λ thread. V.contents thread.promise.0.value) saving ≡ option_map (λ file. V.contents file) save) }
     ensures early { IfErr result IsEarly }
 {
@@ -57,24 +62,26 @@ fn begin_saving<
     Ok(Some(start_saver(rt, alloc, shared, file, ticket)?))
 }
 
-/// Waits until the history is saved, if it is.
-fn end_saving<R: Threads, V: Write + Drop, J: Naming>(
+/// Waits until the history is saved, if it is, at least as far as a pass has seen it.
+fn end_saving<R: Threads + Wait, V: Write + Drop, J: Naming, E: Write>(
     rt: &R,
+    alloc: Global,
+    shared: &Shared<J, E>,
     saving: Option<Saving<V, J>>,
+    ticket: Ticket<J>,
 ) -> Result<Option<Saver<V>>, SaveFault>
-    ensures { IfOk result (SavesTo J.router.opening J.router.limit (option_map (λ thread. V.contents thread.promise.0.value) saving)) }
+    ensures { IfOk result (SavesTo J.router ticket.pass.part.seen (option_map (λ thread. V.contents thread.promise.0.value) saving)) }
 {
     let Some(saving) = saving else {
         return Ok(None);
     };
-    let saver = saving.join(rt).saver();
-    match saver.fault() {
-        Some(fault) => Err(fault),
-        None => Ok(Some(saver)),
+    match saving.join(rt).finish(rt, alloc, shared, ticket) {
+        Ok(saver) => Ok(Some(saver)),
+        Err(fault) => Err(fault),
     }
 }
 
-/// Serves the links of a router and its operator, until the operator quits or their lines end: how their lines ended.
+/// Serves the links of a router and its operator, until the operator quits or their lines end.
 fn serve_all<
     R: Threads + Wait + Clock + Copy + Send + Drop + 'static,
     FI: Read + Send + Drop + 'static,
@@ -96,14 +103,14 @@ fn serve_all<
     filters: Filters,
     reader: &mut I,
     writer: &mut W,
-) -> Result<Result<u32, StreamFault>, AllocError>
+) -> Result<OperatorEnd<J>, AllocError>
     requires legal { IsLegalPass J.router pass.old }
     requires size { figures.size ≡ J.router.opening.size }
     requires limit { figures.limit ≡ J.router.limit }
     ensures legal { IsLegalPass J.router pass.new }
-    ensures operated { IfOk result (λ answered. IfSome (I.remaining reader.old) (λ input.
-        HasOperator J.router.opening J.router.limit filters.entries shared.now.value.nodes.items answered input (I.remaining reader.new)
-        (W.contents writer.old) (W.contents writer.new))) }
+    ensures operated { IfOk result (λ operated. IfSome (I.remaining reader.old) (λ input.
+        HasOperator J.router pass.old.part.seen filters.entries shared.now.value.nodes.items operated.answered input (I.remaining reader.new)
+        (W.contents writer.old) (W.contents writer.new) operated.ticket.pass)) }
     ensures untouched { OnErr result ((reader.new ≡ reader.old) × (writer.new ≡ writer.old)) }
 {
     if pass.shares() < 2 {
@@ -119,17 +126,42 @@ fn serve_all<
 
 /// What a router came to, by how its operator's lines ended and what became of its history.
 fn end_of<V: Write + Drop>(
-    ran: Result<Result<u32, StreamFault>, AllocError>,
+    answered: Result<u32, StreamFault>,
     saved: Result<Option<Saver<V>>, SaveFault>,
 ) -> Result<RouterEnd<V>, DaemonFault>
-    ensures ok { IfOk result (λ end. (ran ≡ Ok (Ok end.refused)) × (saved ≡ Ok end.saved)) }
-    ensures err { IfErr result (IsWhy ran saved) }
+    ensures ok { IfOk result (λ end. (answered ≡ Ok end.refused) × (saved ≡ Ok end.saved)) }
+    ensures err { IfErr result (spec.IsWhy answered) }
 {
-    match (ran, saved) {
-        (Ok(Ok(refused)), Ok(saved)) => Ok(RouterEnd { refused, saved }),
-        (Ok(Ok(_)), Err(fault)) => Err(DaemonFault::Save(fault)),
-        (Ok(Err(fault)), _) => Err(DaemonFault::Stream(fault)),
-        (Err(_), _) => Err(DaemonFault::Memory),
+    match (answered, saved) {
+        (Ok(refused), Ok(saved)) => Ok(RouterEnd { refused, saved }),
+        (Ok(_), Err(fault)) => Err(DaemonFault::Save(fault)),
+        (Err(fault), _) => Err(DaemonFault::Stream(fault)),
+    }
+}
+
+/// What a router came to that ran, once its history is saved.
+fn end_run<R: Threads + Wait, V: Write + Drop, J: Naming, E: Write>(
+    rt: &R,
+    alloc: Global,
+    shared: &Shared<J, E>,
+    saving: Option<Saving<V, J>>,
+    ran: Result<OperatorEnd<J>, AllocError>,
+) -> Result<RouterEnd<V>, DaemonFault>
+    ensures ok { IfOk result (λ end. IsOkAnd ran (λ operated. (operated.answered ≡ Ok end.refused)
+        × SavesTo J.router operated.ticket.pass.part.seen (option_map (λ thread. V.contents thread.promise.0.value) saving) end.saved)) }
+    ensures err { IfErr result (λ why. MatchResult ran (λ operated. spec.IsWhy operated.answered why) (λ _. why ≡ fault.Memory)) }
+{
+    match ran {
+        Ok(OperatorEnd { answered, ticket }) => {
+            let saved = end_saving(rt, alloc, shared, saving, ticket);
+            end_of(answered, saved)
+        }
+        Err(_) => {
+            if let Some(saving) = saving {
+                saving.join(rt);
+            }
+            Err(DaemonFault::Memory)
+        }
     }
 }
 
@@ -157,15 +189,14 @@ fn run_named<
 ) -> Result<RouterEnd<V>, DaemonFault>
     requires named { router ≡ J.router }
     requires legal { IsLegalPass J.router pass }
-    requires opening { J.router.opening ≡ setting.plan.opening }
-    requires limit { J.router.limit ≡ setting.plan.limit }
-    ensures operated { IfOk result (λ end. IfSome (I.remaining reader.old) (λ input.
-        HasOperator setting.plan.opening setting.plan.limit setting.filters.entries (map (λ link. link.node) setting.plan.links)
-        (Ok end.refused) input (I.remaining reader.new) (W.contents writer.old) (W.contents writer.new))) }
-    ensures saved { IfOk result (λ end. SavesTo setting.plan.opening setting.plan.limit (option_map (λ file. V.contents file) setting.save) end.saved) }
-    ensures failed { IfErr result (Fails (λ answered. IfSome (I.remaining reader.old) (λ input.
-        HasOperator setting.plan.opening setting.plan.limit setting.filters.entries (map (λ link. link.node) setting.plan.links)
-        answered input (I.remaining reader.new) (W.contents writer.old) (W.contents writer.new)))
+    requires is_opened { IsOpened setting.plan J.router }
+    requires set { BeginsWithFilters J.router setting.plan setting.filters.entries pass }
+    ensures operated { IfOk result (λ end. IfSome (I.remaining reader.old) (λ input. spec.RunsAsOne setting.plan setting.filters.entries
+        (option_map (λ file. V.contents file) setting.save) end.saved end.refused input (I.remaining reader.new) (W.contents writer.old)
+        (W.contents writer.new))) }
+    ensures saved { IfOk result (λ end. spec.Saves setting.plan (option_map (λ file. V.contents file) setting.save) end.saved) }
+    ensures failed { IfErr result (spec.Fails (λ answered. IfSome (I.remaining reader.old) (λ input. spec.Operated setting.plan
+        setting.filters.entries answered input (I.remaining reader.new) (W.contents writer.old) (W.contents writer.new)))
         ((reader.new ≡ reader.old) × (writer.new ≡ writer.old))) }
 {
     let Setting {
@@ -202,7 +233,7 @@ fn run_named<
         rt, alloc, folder, &shared, &mut pass, links, common, figures, filters, reader, writer,
     );
     close_links(rt, &shared, &mut pass);
-    end_of(ran, end_saving(rt, saving))
+    end_run(rt, alloc, &shared, saving, ran)
 }
 
 /// Runs a router: its links, its operator and its history, until the operator quits or their lines end.
@@ -224,13 +255,12 @@ pub fn run_router<
     reader: &mut I,
     writer: &mut W,
 ) -> Result<RouterEnd<V>, DaemonFault>
-    ensures operated { IfOk result (λ end. IfSome (I.remaining reader.old) (λ input.
-        HasOperator setting.plan.opening setting.plan.limit setting.filters.entries (map (λ link. link.node) setting.plan.links)
-        (Ok end.refused) input (I.remaining reader.new) (W.contents writer.old) (W.contents writer.new))) }
-    ensures saved { IfOk result (λ end. SavesTo setting.plan.opening setting.plan.limit (option_map (λ file. V.contents file) setting.save) end.saved) }
-    ensures failed { IfErr result (Fails (λ answered. IfSome (I.remaining reader.old) (λ input.
-        HasOperator setting.plan.opening setting.plan.limit setting.filters.entries (map (λ link. link.node) setting.plan.links)
-        answered input (I.remaining reader.new) (W.contents writer.old) (W.contents writer.new)))
+    ensures operated { IfOk result (λ end. IfSome (I.remaining reader.old) (λ input. spec.RunsAsOne setting.plan setting.filters.entries
+        (option_map (λ file. V.contents file) setting.save) end.saved end.refused input (I.remaining reader.new) (W.contents writer.old)
+        (W.contents writer.new))) }
+    ensures saved { IfOk result (λ end. spec.Saves setting.plan (option_map (λ file. V.contents file) setting.save) end.saved) }
+    ensures failed { IfErr result (spec.Fails (λ answered. IfSome (I.remaining reader.old) (λ input. spec.Operated setting.plan
+        setting.filters.entries answered input (I.remaining reader.new) (W.contents writer.old) (W.contents writer.new)))
         ((reader.new ≡ reader.old) × (writer.new ≡ writer.old))) }
 {
     let (router, pass) = open_router(rt, alloc, &setting.plan, &setting.filters)?;

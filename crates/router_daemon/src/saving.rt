@@ -4,14 +4,15 @@ ghost use Rattle.history_saver.specs.Saved.{HasSaved, seen_by};
 ghost use Rattle.router_daemon.specs.Passes.{IsLegalPass};
 ghost use Rattle.router_daemon.specs.Running.{HasWhole};
 
-use crate::naming::{LegalTicket, Naming};
+use crate::naming::{LegalTicket, Ticket};
 use crate::shared::Shared;
 use crate::telling::tell_unsaved;
 use history_saver::{SaveFault, Saver};
+use router_operator::Naming;
 use slot_lock::Pass;
 use std::alloc::Global;
 use std::io::Write;
-use std::marker::{Model, PhantomData};
+use std::marker::Model;
 use std::rt::Clock;
 use std::snapshot::Snapshot;
 use std::sync::{Arc, Wait};
@@ -22,33 +23,47 @@ use std::time::Duration;
 /// For how many milliseconds the history grows before it is saved again.
 const REST: u64 = 50;
 
-/// What was saved, of the legal history that a pass of the router has seen: where no fault ended the saving, all of it. A contract sees it
-/// as its saver.
+/// What was saved, of the legal history that a pass of the router has seen: where no fault ended the saving, all of it.
 #[derive(Drop)]
 pub(crate) struct Saved<V: Write, J: Naming> {
     saver: Saver<V>,
-    of: PhantomData<J>,
+    ticket: LegalTicket<J>,
 }
 
 impl<V: Write, J: Naming> Model for Saved<V, J> {
-    ghost use Rattle.history_saver.specs.Saved.{SaverView};
-    ghost use Rattle.router_daemon.specs.Saves.{HasSeen};
+    ghost use Rattle.router_daemon.specs.Saves.{IsSaved, SavedView};
 
-    ghost Value = { SaverView };
+    ghost Value = { SavedView };
 
-    ghost view = { λ s. s.saver };
+    ghost view = { λ s. record { saver = s.saver; pass = s.ticket } };
 
-    ghost invariant = { λ s. HasSeen J.router s.saver };
+    ghost invariant = { λ s. IsSaved J.router s.saver s.ticket };
 }
 
-impl<V: Write, J: Naming> Saved<V, J> {
-    /// The saver.
-    pub(crate) fn saver(self) -> Saver<V>
-        ensures same { result ≡ self }
-        ensures whole { result.fault ≡ None → HasWhole J.router.opening J.router.limit result.first result }
+impl<V: Write + Drop, J: Naming> Saved<V, J> {
+    /// Saves the rest of the history, at least as far as another pass has seen it: the saver.
+    pub(crate) fn finish<R: Wait, E: Write>(
+        self,
+        rt: &R,
+        alloc: Global,
+        shared: &Shared<J, E>,
+        other: Ticket<J>,
+    ) -> Result<Saver<V>, SaveFault>
+        ensures { IfOk result (HasWhole J.router other.pass.part.seen self.saver.first) }
     {
-        let Saved { saver, .. } = self;
-        saver
+        let Saved { mut saver, ticket } = self;
+        let mut pass = ticket.pass();
+        if let Some(fault) = saver.fault() {
+            return Err(fault);
+        }
+        shared.router.join(&mut pass, other.pass());
+        match saver.save(rt, alloc, &shared.router, &mut pass) {
+            Ok(_) => Ok(saver),
+            Err(fault) => {
+                tell(rt, alloc, shared, fault);
+                Err(fault)
+            }
+        }
     }
 }
 
@@ -59,7 +74,7 @@ pub(crate) struct IsIn<V: Write>(pub(crate) Snapshot<V>);
 impl<V: Write, J: Naming> Promise<Saved<V, J>> for IsIn<V> {
     ghost use Rattle.std.specs.Prelude.{◌≡◌};
 
-    ghost kept_by = { λ p s. s.first ≡ V.contents p.0.value };
+    ghost kept_by = { λ p s. s.saver.first ≡ V.contents p.0.value };
 }
 
 /// Sleeps until the history has more entries than are saved, or the router is being closed: whether it is.
@@ -128,13 +143,13 @@ pub(crate) fn save_history<R: Wait + Clock + Drop, V: Write + Drop, J: Naming, E
     file: V,
     ticket: LegalTicket<J>,
 ) -> Saved<V, J>
-    ensures { result.first ≡ V.contents file }
+    ensures { result.saver.first ≡ V.contents file }
 {
     let mut saver = Saver::new(file);
     let mut pass = ticket.pass();
     save_all(&rt, alloc, &shared, &mut saver, &mut pass);
     Saved {
         saver,
-        of: PhantomData,
+        ticket: LegalTicket::new(pass),
     }
 }

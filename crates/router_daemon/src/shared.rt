@@ -2,8 +2,8 @@
 ghost use Rattle.std.specs.Prelude.{◌≡◌, IfOk, map};
 ghost use Rattle.router_daemon.specs.Sets.{RouterView-set};
 
-use crate::naming::Naming;
 use crate::signals::Signals;
+use router_operator::Naming;
 use router_options::LinkFiles;
 use slot_lock::Router;
 use std::alloc::{AllocError, Global};

@@ -3,11 +3,12 @@ ghost use Rattle.neighbour_session.specs.Writing.{Serves};
 ghost use Rattle.std.specs.Prelude.{⊤};
 
 use crate::crew::LinkCrew;
-use crate::naming::{Naming, Ticket};
+use crate::naming::Ticket;
 use crate::room::{Done, Order, Room};
 use crate::shared::Shared;
 use message_streams::MessageWriter;
 use neighbour_session::serve_writer;
+use router_operator::Naming;
 use std::alloc::Global;
 use std::io::Write;
 use std::rt::Clock;

@@ -1,6 +1,6 @@
 mod Answering
 mod Entering
 mod Seeing
-mod Naming
+mod NamingFilters
 mod Staying
 mod Ending

@@ -4,3 +4,4 @@ pub mod Operators
 pub mod Running
 -- what only bodies are proved against
 pub mod Looking
+pub mod Names

@@ -5,8 +5,10 @@
 mod calls;
 mod listener;
 mod looking;
+mod naming;
 mod operator;
 mod questions;
 
 pub use listener::Listener;
+pub use naming::Naming;
 pub use operator::{INPUT_LIMIT, Operator};

@@ -9,10 +9,12 @@ ghost use Rattle.router_operator.specs.Looking.{told};
 ghost use Rattle.router_operator.specs.OperatorView.{IsAt, filter_of};
 ghost use Rattle.router_operator.specs.Operators as spec;
 ghost use Rattle.router_operator.specs.Running.{IsBrokenOff, IsServed};
+ghost use Rattle.slot_lock.specs.Held.{IsPassOf};
 
 use crate::calls::{answer_call, exported_by};
 use crate::listener::Listener;
 use crate::looking::{Asked, FindingSession, Looking};
+use crate::naming::Naming;
 use crate::questions::{has_link, is_quit};
 use filter_verifier::Verified;
 use line_protocol::{Reply, Service, StreamFault, answer_lines_within};
@@ -24,7 +26,7 @@ use slot_lock::{Pass, Router};
 use std::alloc::{AllocError, Global};
 use std::collections::BTreeMap;
 use std::io::{Read, Write};
-use std::marker::Model;
+use std::marker::{Model, PhantomData};
 use std::mem::replace;
 use std::rt::Clock;
 use std::sync::{Arc, Wait};
@@ -43,7 +45,7 @@ const LINK_DOES_IT: &str = "O9";
 
 /// The operator of a router that others call too. A contract sees it as an `OperatorView`.
 #[derive(Drop)]
-pub struct Operator<'a, R, L> {
+pub struct Operator<'a, R, L, J: Naming> {
     rt: &'a R,
     router: &'a Router,
     /// What the operator has seen of the router's history.
@@ -59,19 +61,21 @@ pub struct Operator<'a, R, L> {
     filters: BTreeMap<Vec<u8>, Arc<Verified>>,
     /// The operator said `quit`.
     has_quit: bool,
+    of: PhantomData<J>,
 }
 
-impl<'a, R, L> Model for Operator<'a, R, L> {
+impl<'a, R, L, J: Naming> Model for Operator<'a, R, L, J> {
+    ghost use Rattle.std.specs.Prelude.{◌≡◌};
     ghost use Rattle.router_operator.specs.OperatorView.{OperatorView, IsAt};
 
     ghost Value = { OperatorView };
 
     ghost view = { λ o. record { router = o.router.now; pass = o.pass; names = o.filters.entries; links = o.links.now; has_quit = o.has_quit } };
 
-    ghost invariant = { λ o. IsAt o.router.now o.pass o.size o.limit };
+    ghost invariant = { λ o. IsAt o.router.now o.pass o.size o.limit × (o.router.now ≡ J.router) };
 }
 
-impl<'a, R: Wait + Clock, L: Listener> Service for Operator<'a, R, L> {
+impl<'a, R: Wait + Clock, L: Listener, J: Naming> Service for Operator<'a, R, L, J> {
     ghost answers = { spec.AnswersLine };
 
     ghost refuses = { spec.BreaksOff };
@@ -94,8 +98,8 @@ impl<'a, R: Wait + Clock, L: Listener> Service for Operator<'a, R, L> {
     }
 }
 
-impl<'a, R: Wait + Clock, L: Listener> Operator<'a, R, L> {
-    /// The operator of a router, with a pass of it: `links` are the nodes that have links, and `filters` the filters that have names. The
+impl<'a, R: Wait + Clock, L: Listener, J: Naming> Operator<'a, R, L, J> {
+    /// The operator of the router of this name, with a pass of it: `links` are the nodes that have links, and `filters` the filters that have names. The
     /// router's domain has `size` nodes, and its history at most `limit` entries.
     pub fn new(
         rt: &'a R,
@@ -106,8 +110,9 @@ impl<'a, R: Wait + Clock, L: Listener> Operator<'a, R, L> {
         limit: u32,
         links: &'a [u16],
         filters: BTreeMap<Vec<u8>, Arc<Verified>>,
-    ) -> Operator<'a, R, L>
-        requires { IsAt router.now pass size limit }
+    ) -> Operator<'a, R, L, J>
+        requires named { router.now ≡ J.router }
+        requires at { IsAt J.router pass size limit }
         ensures { result ≡ record { router = router.now; pass = pass; names = filters.entries; links = links.now; has_quit = false } }
     {
         Operator {
@@ -120,7 +125,17 @@ impl<'a, R: Wait + Clock, L: Listener> Operator<'a, R, L> {
             links,
             filters,
             has_quit: false,
+            of: PhantomData,
         }
+    }
+
+    /// The pass by which the operator called the router.
+    pub fn pass(self) -> Pass
+        ensures same { result ≡ self.entry.pass }
+        ensures of { IsPassOf J.router result }
+    {
+        let Operator { pass, .. } = self;
+        pass
     }
 
     /// Whether the operator said `quit`.

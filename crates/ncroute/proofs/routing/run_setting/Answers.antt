@@ -6,8 +6,8 @@ pub returns-in-Ok-clause-finished : goal.returns-in-Ok-clause-finished
 returns-in-Ok-clause-finished g c = inl (
   record {
     refused = c.in-Ok.end.refused;
-    operated = c.in-Ok.ensures.operated;
     saver = c.in-Ok.end.saved;
+    operated = c.in-Ok.ensures.operated;
     saved = c.in-Ok.ensures.saved;
     left = c.close_save.ensures;
     quiet = refl;

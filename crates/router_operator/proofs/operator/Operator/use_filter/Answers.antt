@@ -5,7 +5,7 @@ use Rattle.std.specs.declared.sync.Arc.{Arc}
 use Rattle.filter_verifier.specs.VerifiedView.{VerifiedView}
 use Rattle.operator_cmds.specs.Script.{setting}
 use Rattle.router_operator.specs.OperatorView.{OperatorView, filter_of}
-use Rattle.router_operator.proofs.Naming.{uses}
+use Rattle.router_operator.proofs.NamingFilters.{uses}
 use Rattle.router_operator.proofs.operator.Operator.use_filter.Goals as goal
 
 pub returns-clause-ok : goal.returns-clause-ok
