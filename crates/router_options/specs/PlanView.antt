@@ -8,10 +8,12 @@ use Rattle.operator_cmds.specs.Limits.{largest_limit}
 use Rattle.router_options.specs.declared.parts.FilterUse.{FilterUse}
 use Rattle.router_options.specs.declared.parts.LinkFiles.{LinkFiles}
 
--- the domain, the router's node and the prefixes; the most entries of the history; the names of the filters; the import and the export
--- filters; the links; where the history is saved; how long a closed link waits; whether the router goes on where its standard input ends
+-- the domain, the router's node and the prefixes; the nodes whose prefix was given, in order; the most entries of the history; the names of
+-- the filters; the import and the export filters; the links; where the history is saved; how long a closed link waits; whether the router
+-- goes on where its standard input ends
 pub record PlanView : Type 0 where
   pub opening : OpeningView
+  pub placed : List ℕ
   pub limit : ℕ
   pub filters : List (String Global)
   pub imports : List FilterUse
@@ -21,15 +23,31 @@ pub record PlanView : Type 0 where
   pub retry : Option ℕ
   pub stays : Bool
 
+-- a node of the domain
+abbrev pub is_member : OpeningView → ℕ → Bool
+is_member opening node = nat_lt node opening.size
+
 -- a neighbour is a node of the domain, but not the router itself
 abbrev pub is_neighbour : OpeningView → ℕ → Bool
-is_neighbour opening node = nat_lt node opening.size && not (node == opening.me)
+is_neighbour opening node = is_member opening node && not (node == opening.me)
 
--- a link leads to the node
+-- a node whose prefix was given is the node; a use is at the node; a link leads to the node
+abbrev pub is_node : ℕ → ℕ → Bool
+is_node node other = other == node
+
+abbrev pub is_at : ℕ → FilterUse → Bool
+is_at node used = used.node == node
+
 abbrev pub leads_to : ℕ → LinkFiles → Bool
 leads_to node link = link.node == node
 
--- a node has a link; a filter has a name
+-- the prefix of a node was given; a filter is used at a node; a node has a link; a filter has a name
+abbrev pub has_prefix : List ℕ → ℕ → Bool
+has_prefix placed node = list_any (is_node node) placed
+
+abbrev pub has_use : List FilterUse → ℕ → Bool
+has_use uses node = list_any (is_at node) uses
+
 abbrev pub has_link : List LinkFiles → ℕ → Bool
 has_link links node = list_any (leads_to node) links
 
@@ -41,10 +59,15 @@ pub record IsUsed (opening : OpeningView) (filters : List (String Global)) (used
   pub neighbour : is_neighbour opening used.node ≡ true
   pub given : has_filter filters (string_bytes used.name) ≡ true
 
--- each link leads to a neighbour, no node has two links, and each use is of a filter that has a name, at a neighbour
+-- Each prefix that was given is that of a node of the domain, each link leads to a neighbour, and each use is of a filter that has a name, at
+-- a neighbour. No node has two prefixes that were given, two import filters, two export filters or two links.
 pub record IsPlan (plan : PlanView) : Type 0 where
   pub limit : (1 ≤ plan.limit) × (plan.limit ≤ largest_limit)
+  pub members : All (λ node. is_member plan.opening node ≡ true) plan.placed
   pub neighbours : All (λ link. is_neighbour plan.opening link.node ≡ true) plan.links
-  pub one_link : (node : ℕ) → count_by (leads_to node) plan.links ≤ 1
   pub imports : All (IsUsed plan.opening plan.filters) plan.imports
   pub exports : All (IsUsed plan.opening plan.filters) plan.exports
+  pub one_prefix : (node : ℕ) → count_by (is_node node) plan.placed ≤ 1
+  pub one_import : (node : ℕ) → count_by (is_at node) plan.imports ≤ 1
+  pub one_export : (node : ℕ) → count_by (is_at node) plan.exports ≤ 1
+  pub one_link : (node : ℕ) → count_by (leads_to node) plan.links ≤ 1

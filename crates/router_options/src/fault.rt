@@ -2,27 +2,79 @@
 use std::alloc::{AllocError, AllocFailed};
 use thiserror::Error;
 
-/// Why the options of a router are refused.
+/// Why the numbers of a router are refused: the first that is wrong.
 #[derive(Clone, Copy, Debug, Error)]
-pub enum OptionFault {
-    /// The domain has too few or too many nodes, the router is none of them, or the history has no such limit.
-    #[error("--size is 2 to 250, --node is below it, and --limit is 1 to 1000000")]
-    Numbers,
-    /// An option is not of its form.
-    #[error("the form is --link W=IN,OUT, --import W=NAME, --export W=NAME or --prefix V=PREFIX")]
-    Form,
-    /// A node is not in the domain, or is the router itself where a neighbour is wanted.
-    #[error("{0} is no neighbour's number")]
-    Node(u16),
-    /// A node has two links.
-    #[error("node {0} has two links")]
-    TwoLinks(u16),
-    /// A name is that of no filter.
-    #[error("--import and --export name a filter that --filter gives")]
-    UnknownFilter,
+pub enum NumberFault {
+    /// A domain has too few or too many nodes: it has this many.
+    #[error("a domain has 2 to 250 nodes, and not {0}")]
+    Size(u32),
+    /// The router's node is not in the domain.
+    #[error("node {node} is not in the domain, whose nodes are 0 to {last}")]
+    Node {
+        /// The router's node.
+        node: u32,
+        /// The last node of the domain.
+        last: u32,
+    },
+    /// A history has no such limit.
+    #[error("a history's limit is 1 to 1000000, and not {0}")]
+    Limit(u32),
+    /// A link that was closed would be opened again at once, and over and over where its files open without waiting.
+    #[error("a link is opened again after 1 second or more")]
+    Retry,
     /// Memory was refused.
     #[error("out of memory")]
     Memory,
+}
+
+/// Why a node is refused.
+#[derive(Clone, Copy, Debug, Error)]
+pub enum NodeFault {
+    /// It is not in the domain.
+    #[error("is not in the domain, whose nodes are 0 to {last}")]
+    Outside {
+        /// The last node of the domain.
+        last: u16,
+    },
+    /// It is the router itself, where a neighbour is wanted.
+    #[error("is the router itself")]
+    Itself,
+}
+
+/// Why an option with a node is refused: a prefix, the use of a filter, or a link.
+#[derive(Clone, Copy, Debug, Error)]
+pub enum OptionFault {
+    /// It is not of its form.
+    #[error("the form is W=IN,OUT of a link, W=NAME of a filter's use, and V=PREFIX of a prefix")]
+    Form,
+    /// Its node is refused.
+    #[error("node {node} {why}")]
+    Node {
+        /// The node.
+        node: u16,
+        /// Why.
+        why: NodeFault,
+    },
+    /// Its name is that of no filter.
+    #[error("no filter has this name")]
+    UnknownFilter,
+    /// An earlier option of its kind is of the same node.
+    #[error("an earlier option of this kind names node {0} too")]
+    Twice(u16),
+    /// Memory was refused.
+    #[error("out of memory")]
+    Memory,
+}
+
+impl From<AllocError> for NumberFault {
+    ghost use Rattle.std.specs.Prelude.{◌≡◌};
+    ghost use Rattle.router_options.specs.declared.fault.NumberFault.TheVariants.{Memory};
+
+    ghost from_gives = { λ _ fault. fault ≡ Memory };
+
+    fn from(_: AllocError) -> NumberFault {
+        NumberFault::Memory
+    }
 }
 
 impl From<AllocError> for OptionFault {

@@ -5,6 +5,6 @@ mod fault;
 mod parts;
 mod plan;
 
-pub use fault::OptionFault;
+pub use fault::{NodeFault, NumberFault, OptionFault};
 pub use parts::{FilterUse, LinkFiles, NodePrefix};
 pub use plan::{Numbers, RouterPlan};

@@ -1,10 +1,10 @@
 //! All that a running router is told.
-ghost use Rattle.std.specs.Prelude.{◌≡◌, ◌≤◌, IfErr, IfOk, OnErr, OnOk, MatchResult, true, false, string_bytes};
+ghost use Rattle.std.specs.Prelude.{◌≡◌, IfErr, IfOk, OnErr, OnOk, MatchOption, true};
 ghost use Rattle.router_options.specs.PlanView as view;
 ghost use Rattle.router_options.specs.Plans as spec;
 ghost use Rattle.router_options.specs.declared.fault.OptionFault.TheVariants as fault;
 
-use crate::fault::OptionFault;
+use crate::fault::{NodeFault, NumberFault, OptionFault};
 use crate::parts::{FilterUse, LinkFiles, NodePrefix};
 use netchange_core::Opening;
 use operator_cmds::default_prefixes;
@@ -26,16 +26,18 @@ pub struct Numbers {
     pub me: u32,
     /// The most entries of its history.
     pub limit: Option<u32>,
-    /// How long a link that is closed waits before it is opened again, in seconds; for ever where none is said.
+    /// How long a link that is closed waits before it is opened again, in seconds, 1 at least; for ever where none is said.
     pub retry: Option<u32>,
 }
 
-/// What a router is told before it begins. A node has at most one link, and each filter that is used has a name. A contract sees it as a
-/// `PlanView`.
+/// What a router is told before it begins. A node has at most one prefix that was given, one import filter, one export filter and one link,
+/// and each filter that is used has a name. A contract sees it as a `PlanView`.
 #[derive(Drop)]
 pub struct RouterPlan {
     /// The domain, the router's node and the prefixes.
     pub opening: Opening,
+    /// The nodes whose prefix was given.
+    pub placed: Vec<u16>,
     /// The most entries of the history.
     pub limit: u32,
     /// The names of the filters.
@@ -59,25 +61,96 @@ impl Model for RouterPlan {
 
     ghost Value = { PlanView };
 
-    ghost view = { λ p. record { opening = p.opening; limit = p.limit; filters = p.filters.items; imports = p.imports.items; exports = p.exports.items; links = p.links.items; save = p.save; retry = p.retry; stays = p.stays } };
+    ghost view = { λ p. record { opening = p.opening; placed = p.placed.items; limit = p.limit; filters = p.filters.items; imports = p.imports.items; exports = p.exports.items; links = p.links.items; save = p.save; retry = p.retry; stays = p.stays } };
 
-    ghost invariant = { λ p. IsPlan (record { opening = p.opening; limit = p.limit; filters = p.filters.items; imports = p.imports.items; exports = p.exports.items; links = p.links.items; save = p.save; retry = p.retry; stays = p.stays }) };
+    ghost invariant = { λ p. IsPlan (record { opening = p.opening; placed = p.placed.items; limit = p.limit; filters = p.filters.items; imports = p.imports.items; exports = p.exports.items; links = p.links.items; save = p.save; retry = p.retry; stays = p.stays }) };
 }
 
-/// Whether a domain, the router's node and the limit of its history fit.
-fn are_numbers(numbers: Numbers) -> bool
-    ensures { result ≡ spec.are_numbers numbers }
+/// Whether a domain has so many nodes.
+fn is_size(size: u32) -> bool
+    ensures { result ≡ spec.is_size size }
 {
-    let limit = numbers.limit.unwrap_or(LARGEST_LIMIT);
-    let is_size = SMALLEST_SIZE <= numbers.size && numbers.size <= LARGEST_SIZE;
-    is_size && numbers.me < numbers.size && 1 <= limit && limit <= LARGEST_LIMIT
+    SMALLEST_SIZE <= size && size <= LARGEST_SIZE
 }
 
-/// Whether a node can be a neighbour.
-fn is_neighbour(opening: &Opening, node: u16) -> bool
-    ensures { result ≡ view.is_neighbour opening.now node }
+/// Whether a history has such a limit.
+fn is_limit(limit: u32) -> bool
+    ensures { result ≡ spec.is_limit limit }
 {
-    node < opening.size() && node != opening.me()
+    1 <= limit && limit <= LARGEST_LIMIT
+}
+
+/// Looks at the numbers of a router, in order, up to the first that does not fit.
+fn check_numbers(numbers: Numbers) -> Result<(), NumberFault>
+    ensures fit { OnOk result (spec.are_numbers numbers ≡ true) }
+    ensures refused { IfErr result (spec.RefusesNumbers numbers) }
+{
+    let Numbers { size, me, .. } = numbers;
+    if !is_size(size) {
+        return Err(NumberFault::Size(size));
+    }
+    if me >= size {
+        let last = size - 1;
+        return Err(NumberFault::Node { node: me, last });
+    }
+    if let Some(limit) = numbers.limit {
+        if !is_limit(limit) {
+            return Err(NumberFault::Limit(limit));
+        }
+    }
+    if numbers.retry == Some(0) {
+        return Err(NumberFault::Retry);
+    }
+    Ok(())
+}
+
+/// Why a node is no node of a domain, if it is none.
+fn no_member(opening: &Opening, node: u16) -> Option<NodeFault>
+    ensures { MatchOption result (view.is_member opening.now node ≡ true) (spec.IsNoMember opening.now node) }
+{
+    let size = opening.size();
+    if node >= size {
+        let last = size - 1;
+        return Some(NodeFault::Outside { last });
+    }
+    None
+}
+
+/// Why a node is no neighbour, if it is none.
+fn no_neighbour(opening: &Opening, node: u16) -> Option<NodeFault>
+    ensures { MatchOption result (view.is_neighbour opening.now node ≡ true) (spec.IsNoNeighbour opening.now node) }
+{
+    if let Some(why) = no_member(opening, node) {
+        return Some(why);
+    }
+    if node == opening.me() {
+        return Some(NodeFault::Itself);
+    }
+    None
+}
+
+/// Whether the prefix of a node is among those that were given.
+fn has_prefix(placed: &[u16], node: u16) -> bool
+    ensures { result ≡ view.has_prefix placed.now node }
+{
+    for other in placed {
+        if *other == node {
+            return true;
+        }
+    }
+    false
+}
+
+/// Whether a filter is used at a node.
+fn has_use(uses: &[FilterUse], node: u16) -> bool
+    ensures { result ≡ view.has_use uses.now node }
+{
+    for used in uses {
+        if used.node == node {
+            return true;
+        }
+    }
+    false
 }
 
 /// Whether a node has one of these links.
@@ -111,18 +184,17 @@ impl RouterPlan {
         numbers: Numbers,
         save: Option<String>,
         stays: bool,
-    ) -> Result<RouterPlan, OptionFault>
+    ) -> Result<RouterPlan, NumberFault>
         ensures made { IfOk result (λ plan. plan ≡ spec.new_plan numbers save stays) }
         ensures fit { OnOk result (spec.are_numbers numbers ≡ true) }
         ensures refused { IfErr result (spec.RefusesNumbers numbers) }
     {
-        if !are_numbers(numbers) {
-            return Err(OptionFault::Numbers);
-        }
+        check_numbers(numbers)?;
         let (size, me) = (numbers.size as u16, numbers.me as u16);
         let prefixes = default_prefixes(alloc, size)?;
         Ok(RouterPlan {
             opening: Opening::new(size, me, prefixes).unwrap(),
+            placed: Vec::new(alloc),
             limit: numbers.limit.unwrap_or(LARGEST_LIMIT),
             filters: Vec::new(alloc),
             imports: Vec::new(alloc),
@@ -134,16 +206,30 @@ impl RouterPlan {
         })
     }
 
-    /// Adds a prefix, `V=PREFIX`. The last one of a node counts.
+    /// Reads a prefix, `V=PREFIX`, of a node that was given none.
+    fn read_prefix(&self, text: &str) -> Result<NodePrefix, OptionFault>
+        ensures may { IfOk result (spec.MayPlace self.now text.now) }
+        ensures refused { IfErr result (spec.RefusesPrefix self.now text.now) }
+    {
+        let given = NodePrefix::read(text)?;
+        if let Some(why) = no_member(&self.opening, given.node) {
+            let node = given.node;
+            return Err(OptionFault::Node { node, why });
+        }
+        if has_prefix(self.placed.as_slice(), given.node) {
+            return Err(OptionFault::Twice(given.node));
+        }
+        Ok(given)
+    }
+
+    /// Adds a prefix, `V=PREFIX`.
     pub fn add_prefix(&mut self, text: &str) -> Result<(), OptionFault>
         ensures added { OnOk result (spec.AddsPrefix self.old text.now self.new) }
         ensures refused { IfErr result (spec.RefusesPrefix self.old text.now) }
         ensures unchanged { OnErr result (self.new ≡ self.old) }
     {
-        let NodePrefix { node, prefix } = NodePrefix::read(text)?;
-        if node >= self.opening.size() {
-            return Err(OptionFault::Node(node));
-        }
+        let NodePrefix { node, prefix } = self.read_prefix(text)?;
+        self.placed.push(node)?;
         self.opening.set_prefix(node, prefix);
         Ok(())
     }
@@ -159,17 +245,26 @@ impl RouterPlan {
         Ok(())
     }
 
-    /// Reads the use of a filter, `W=NAME`, at a neighbour.
-    fn read_use(&self, alloc: Global, text: &str) -> Result<FilterUse, OptionFault>
-        ensures may { IfOk result (spec.MayUse self.now text.now) }
-        ensures refused { IfErr result (spec.RefusesUse self.now text.now) }
+    /// Reads the use of a filter, `W=NAME`, at a neighbour at which none of these is.
+    fn read_use(
+        &self,
+        alloc: Global,
+        uses: &[FilterUse],
+        text: &str,
+    ) -> Result<FilterUse, OptionFault>
+        ensures may { IfOk result (spec.MayUse self.now uses.now text.now) }
+        ensures refused { IfErr result (spec.RefusesUse self.now uses.now text.now) }
     {
         let used = FilterUse::read(alloc, text)?;
-        if !is_neighbour(&self.opening, used.node) {
-            return Err(OptionFault::Node(used.node));
+        if let Some(why) = no_neighbour(&self.opening, used.node) {
+            let node = used.node;
+            return Err(OptionFault::Node { node, why });
         }
         if !has_filter(self.filters.as_slice(), used.name.as_str()) {
             return Err(OptionFault::UnknownFilter);
+        }
+        if has_use(uses, used.node) {
+            return Err(OptionFault::Twice(used.node));
         }
         Ok(used)
     }
@@ -177,10 +272,10 @@ impl RouterPlan {
     /// Adds the use of an import filter, `W=NAME`. The filters are added first.
     pub fn add_import(&mut self, alloc: Global, text: &str) -> Result<(), OptionFault>
         ensures added { OnOk result (spec.AddsImport self.old text.now self.new) }
-        ensures refused { IfErr result (spec.RefusesUse self.old text.now) }
+        ensures refused { IfErr result (spec.RefusesImport self.old text.now) }
         ensures unchanged { OnErr result (self.new ≡ self.old) }
     {
-        let used = self.read_use(alloc, text)?;
+        let used = self.read_use(alloc, self.imports.as_slice(), text)?;
         self.imports.push(used)?;
         Ok(())
     }
@@ -188,10 +283,10 @@ impl RouterPlan {
     /// Adds the use of an export filter, `W=NAME`. The filters are added first.
     pub fn add_export(&mut self, alloc: Global, text: &str) -> Result<(), OptionFault>
         ensures added { OnOk result (spec.AddsExport self.old text.now self.new) }
-        ensures refused { IfErr result (spec.RefusesUse self.old text.now) }
+        ensures refused { IfErr result (spec.RefusesExport self.old text.now) }
         ensures unchanged { OnErr result (self.new ≡ self.old) }
     {
-        let used = self.read_use(alloc, text)?;
+        let used = self.read_use(alloc, self.exports.as_slice(), text)?;
         self.exports.push(used)?;
         Ok(())
     }
@@ -202,11 +297,12 @@ impl RouterPlan {
         ensures refused { IfErr result (spec.RefusesLink self.now text.now) }
     {
         let link = LinkFiles::read(alloc, text)?;
-        if !is_neighbour(&self.opening, link.node) {
-            return Err(OptionFault::Node(link.node));
+        if let Some(why) = no_neighbour(&self.opening, link.node) {
+            let node = link.node;
+            return Err(OptionFault::Node { node, why });
         }
         if has_link(self.links.as_slice(), link.node) {
-            return Err(OptionFault::TwoLinks(link.node));
+            return Err(OptionFault::Twice(link.node));
         }
         Ok(link)
     }

@@ -1,5 +1,4 @@
 -- A domain whose numbers fit is an opening.
-use Rattle.std.proofs.Common.{sym, ◌∙◌}
 use Rattle.operator_cmds.proofs.Openings.{is_opening, is_there}
 use Rattle.router_options.proofs.Growing.{fit_network}
 use Rattle.router_options.proofs.plan.RouterPlan.new.Goals as goal
@@ -7,5 +6,4 @@ use Rattle.router_options.proofs.plan.RouterPlan.new.Goals as goal
 pub unwrap-requires : goal.unwrap-requires
 unwrap-requires c =
     is_there c.new.result _ _ c.new.ensures
-    (is_opening _ _ c.in_ok-prefixes.prefixes.items (fit_network _ _ _ (sym c.are_numbers.ensures ∙ c.if-not-are_numbers.false))
-    c.in_ok-prefixes.ensures)
+    (is_opening _ _ c.in_ok-prefixes.prefixes.items (fit_network _ _ _ c.in_ok-check_numbers.ensures.fit) c.in_ok-prefixes.ensures)
