@@ -2,9 +2,9 @@
 use Rattle.std.proofs.Common.{◌≡◌, ℕ, ◌+◌, ◌<◌, List, length, get_or, refl, subst, add-one}
 use Rattle.std.proofs.lemmas.Option.{slice_get_read}
 use Rattle.router_options.specs.PlanView.{PlanView}
-use Rattle.router_options.specs.declared.fault.OptionFault.{OptionFault}
-use Rattle.ncroute.specs.Planning.{Adds, AddsFirst, Refuses, StopsAdding}
+use Rattle.ncroute.specs.Planning.{Adds, AddsFirst, Refuses, StopsAdding, TellsOption}
 use Rattle.ncroute.specs.declared.planning.OptionKind.{OptionKind}
+use Rattle.ncroute.specs.declared.planning.PlanFault.{PlanFault}
 
 module _ {A : Type 0} (k : OptionKind) (text_of : A → List ℕ) (options : List A) where
   pub none_added : (plan : PlanView) → AddsFirst k text_of options 0 plan plan
@@ -18,15 +18,15 @@ module _ {A : Type 0} (k : OptionKind) (text_of : A → List ℕ) (options : Lis
   one_more_added n option text plan mid after inside is said first adds =
       rw add-one (option, mid, slice_get_read options _ n option refl inside is, first, subst (λ (t : List ℕ). Adds k mid t after) said adds)
 
-  -- an option is refused behind others
-  pub not_added : (n : ℕ) (option : A) (text : List ℕ) (why : OptionFault) (plan mid : PlanView) → n < length options
-      → option ≡ get_or options n option → text ≡ text_of option → AddsFirst k text_of options n plan mid → Refuses k mid text why
-      → StopsAdding k text_of options plan why
+  -- an option is refused behind others, and told
+  pub not_added : (n : ℕ) (option : A) (text : List ℕ) (why : PlanFault) (plan mid : PlanView) → n < length options
+      → option ≡ get_or options n option → text ≡ text_of option → AddsFirst k text_of options n plan mid
+      → TellsOption k text (Refuses k mid text) why → StopsAdding k text_of options plan why
   not_added n option text why plan mid inside is said first refused = record {
     n = n;
     option = option;
     is_option = slice_get_read options _ n option refl inside is;
     mid = mid;
     first = first;
-    refused = subst (λ (t : List ℕ). Refuses k mid t why) said refused;
+    refused = subst (λ (t : List ℕ). TellsOption k t (Refuses k mid t) why) said refused;
   }

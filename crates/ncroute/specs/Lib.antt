@@ -24,3 +24,4 @@ pub mod Streaming
 pub mod Testing
 pub mod Trying
 pub mod Watching
+pub mod WrongWords

@@ -1,16 +1,27 @@
 -- What the words of `router` come to: the plan of a router. (This project's own choice.)
-use Rattle.std.specs.Prelude.{◌≡◌, ◌⊎◌, ℕ, zero, suc, true, List, Option, Some, String, length, slice_get, string_bytes}
+use Rattle.std.specs.Prelude.{◌≡◌, ◌⊎◌, ℕ, zero, suc, Bool, true, false, List, Option, Some, String, length, slice_get, string_bytes}
 use Rattle.std.specs.Option.{option_map}
 use Rattle.std.proofs.Common.{Global}
 use Rattle.command_line.specs.declared.filter_words.NamedFile.{NamedFile}
 use Rattle.command_line.specs.declared.router_words.RouterWords.{RouterWords}
 use Rattle.router_options.specs.PlanView.{PlanView}
-use Rattle.router_options.specs.Plans.{AddsExport, AddsFilter, AddsImport, AddsLink, AddsPrefix, RefusesLink, RefusesNumbers, RefusesPrefix, RefusesUse, are_numbers, new_plan}
+use Rattle.router_options.specs.Plans.{AddsExport, AddsFilter, AddsImport, AddsLink, AddsPrefix, RefusesExport, RefusesImport, RefusesLink}
+use Rattle.router_options.specs.Plans.{RefusesNumbers, RefusesPrefix, are_numbers, new_plan}
+use Rattle.router_options.specs.declared.fault.NumberFault.TheVariants as number
 use Rattle.router_options.specs.declared.fault.OptionFault.{OptionFault}
 use Rattle.router_options.specs.declared.fault.OptionFault.TheVariants as fault
 use Rattle.router_options.specs.declared.plan.Numbers.{Numbers}
 use Rattle.ncroute.specs.declared.planning.OptionKind.{OptionKind}
 use Rattle.ncroute.specs.declared.planning.OptionKind.TheVariants as kind
+use Rattle.ncroute.specs.declared.planning.PlanFault.{PlanFault}
+use Rattle.ncroute.specs.declared.planning.PlanFault.TheVariants.{WrongNumber, WrongOption}
+
+-- memory was refused
+abbrev pub is_memory : PlanFault → Bool
+is_memory (WrongNumber number.Memory) = true
+is_memory (WrongNumber why) = false
+is_memory (WrongOption k text fault.Memory) = true
+is_memory (WrongOption k text why) = false
 
 -- an option of this kind is added to a plan
 abbrev pub Adds : OptionKind → PlanView → List ℕ → PlanView → Type 0
@@ -24,8 +35,8 @@ Adds kind.Link plan text after = AddsLink plan text after
 abbrev pub Refuses : OptionKind → PlanView → List ℕ → OptionFault → Type 0
 Refuses kind.Prefix plan text why = RefusesPrefix plan text why
 Refuses kind.Filter plan text why = why ≡ fault.Memory
-Refuses kind.Import plan text why = RefusesUse plan text why
-Refuses kind.Export plan text why = RefusesUse plan text why
+Refuses kind.Import plan text why = RefusesImport plan text why
+Refuses kind.Export plan text why = RefusesExport plan text why
 Refuses kind.Link plan text why = RefusesLink plan text why
 
 -- The first n of some options of a kind were added to a plan, in order. `text_of option` is what an option says.
@@ -38,14 +49,19 @@ AddsFirst {A} k text_of options (suc n) plan after = (option : A) × (mid : Plan
 abbrev pub AddsAll : {A : Type 0} → OptionKind → (A → List ℕ) → List A → PlanView → PlanView → Type 0
 AddsAll k text_of options plan after = AddsFirst k text_of options (length options) plan after
 
--- The first that is refused is refused so.
-pub record StopsAdding {A : Type 0} (k : OptionKind) (text_of : A → List ℕ) (options : List A) (plan : PlanView) (why : OptionFault) : Type 0 where
+-- a fault tells an option of this kind, with this text, and why it is refused
+abbrev pub TellsOption : OptionKind → List ℕ → (OptionFault → Type 0) → PlanFault → Type 0
+TellsOption k said Why (WrongNumber why) = ⊥
+TellsOption k said Why (WrongOption of text why) = (of ≡ k) × (text.now ≡ said) × Why why
+
+-- The first that is refused is told, and why it is refused.
+pub record StopsAdding {A : Type 0} (k : OptionKind) (text_of : A → List ℕ) (options : List A) (plan : PlanView) (why : PlanFault) : Type 0 where
   pub n : ℕ
   pub option : A
   pub is_option : slice_get options n ≡ Some option
   pub mid : PlanView
   pub first : AddsFirst k text_of options n plan mid
-  pub refused : Refuses k mid (text_of option) why
+  pub refused : TellsOption k (text_of option) (Refuses k mid (text_of option)) why
 
 -- the numbers that words say
 abbrev pub numbers_of : RouterWords → Numbers
@@ -69,15 +85,16 @@ pub record IsBegun (words : RouterWords) (plan : PlanView) : Type 0 where
   pub saves : text_in save ≡ text_in words.save
   pub is : plan ≡ new_plan (numbers_of words) save words.stays
 
--- the numbers do not fit; memory may be refused before they are judged
-abbrev pub LacksBegun : RouterWords → OptionFault → Type 0
-LacksBegun words why = RefusesNumbers (numbers_of words) why
+-- the first of the numbers that does not fit is told; memory may be refused before they are judged
+abbrev pub LacksBegun : RouterWords → PlanFault → Type 0
+LacksBegun words (WrongNumber why) = RefusesNumbers (numbers_of words) why
+LacksBegun words (WrongOption k text why) = ⊥
 
 -- to a plan that has come as far, all of some options were added; or it did not come as far, or one of them is refused
 abbrev pub ThenAdds : {A : Type 0} → (PlanView → Type 0) → OptionKind → (A → List ℕ) → List A → PlanView → Type 0
 ThenAdds Before k said options plan = (mid : PlanView) × Before mid × AddsAll k said options mid plan
 
-abbrev pub OrStops : {A : Type 0} → (PlanView → Type 0) → (OptionFault → Type 0) → OptionKind → (A → List ℕ) → List A → OptionFault → Type 0
+abbrev pub OrStops : {A : Type 0} → (PlanView → Type 0) → (PlanFault → Type 0) → OptionKind → (A → List ℕ) → List A → PlanFault → Type 0
 OrStops Before Lacks k said options why = Lacks why ⊎ ((mid : PlanView) × Before mid × StopsAdding k said options mid why)
 
 -- ---- how far a plan has come: its prefixes are added first, then the names of filters, then their uses, and the links at last
@@ -85,30 +102,30 @@ OrStops Before Lacks k said options why = Lacks why ⊎ ((mid : PlanView) × Bef
 abbrev pub IsPlaced : RouterWords → PlanView → Type 0
 IsPlaced words = ThenAdds (IsBegun words) kind.Prefix text_of words.prefixes.items
 
-abbrev pub LacksPlaced : RouterWords → OptionFault → Type 0
+abbrev pub LacksPlaced : RouterWords → PlanFault → Type 0
 LacksPlaced words = OrStops (IsBegun words) (LacksBegun words) kind.Prefix text_of words.prefixes.items
 
 abbrev pub IsNaming : RouterWords → PlanView → Type 0
 IsNaming words = ThenAdds (IsPlaced words) kind.Filter name_of words.filters.items
 
-abbrev pub LacksNaming : RouterWords → OptionFault → Type 0
+abbrev pub LacksNaming : RouterWords → PlanFault → Type 0
 LacksNaming words = OrStops (IsPlaced words) (LacksPlaced words) kind.Filter name_of words.filters.items
 
 abbrev pub IsImporting : RouterWords → PlanView → Type 0
 IsImporting words = ThenAdds (IsNaming words) kind.Import text_of words.imports.items
 
-abbrev pub LacksImporting : RouterWords → OptionFault → Type 0
+abbrev pub LacksImporting : RouterWords → PlanFault → Type 0
 LacksImporting words = OrStops (IsNaming words) (LacksNaming words) kind.Import text_of words.imports.items
 
 abbrev pub IsExporting : RouterWords → PlanView → Type 0
 IsExporting words = ThenAdds (IsImporting words) kind.Export text_of words.exports.items
 
-abbrev pub LacksExporting : RouterWords → OptionFault → Type 0
+abbrev pub LacksExporting : RouterWords → PlanFault → Type 0
 LacksExporting words = OrStops (IsImporting words) (LacksImporting words) kind.Export text_of words.exports.items
 
 -- the plan that words tell, and the first fault of words that tell none
 abbrev pub IsPlanOf : RouterWords → PlanView → Type 0
 IsPlanOf words = ThenAdds (IsExporting words) kind.Link text_of words.links.items
 
-abbrev pub LacksPlan : RouterWords → OptionFault → Type 0
+abbrev pub LacksPlan : RouterWords → PlanFault → Type 0
 LacksPlan words = OrStops (IsExporting words) (LacksExporting words) kind.Link text_of words.links.items

@@ -1,5 +1,5 @@
 -- What the program does for `router`, and its exit status. (This project's own choice.)
-use Rattle.std.specs.Prelude.{◌≡◌, ◌⊎◌, ℕ, List, [], ◌∷◌, ◌++◌, Option, Some, None, Result, Ok, IfSome, String, codes, decimal, map, string_bytes, ⊤}
+use Rattle.std.specs.Prelude.{◌≡◌, ◌⊎◌, ℕ, true, false, List, [], ◌∷◌, ◌++◌, Option, Some, None, Result, Ok, IfSome, String, codes, map, string_bytes, ⊤}
 use Rattle.std.specs.Io.KnownBytes.{Appends}
 use Rattle.std.specs.declared.io.Error.{Error}
 use Rattle.std.proofs.Common.{Global}
@@ -14,34 +14,17 @@ use Rattle.router_daemon.specs.Running.{Fails, RunsAsOne, Saves}
 use Rattle.router_daemon.specs.declared.fault.DaemonFault.{DaemonFault}
 use Rattle.router_operator.specs.OperatorView.{Names}
 use Rattle.router_options.specs.PlanView.{PlanView}
-use Rattle.router_options.specs.declared.fault.OptionFault.{OptionFault}
-use Rattle.router_options.specs.declared.fault.OptionFault.TheVariants as option_fault
 use Rattle.command_line.specs.declared.router_words.RouterWords.{RouterWords}
 use Rattle.ncroute.specs.Guiding.{IsUnmade}
 use Rattle.ncroute.specs.Loading.{LacksFilters, LoadsFilters, StopsLoading}
-use Rattle.ncroute.specs.Planning.{IsPlanOf, LacksPlan}
+use Rattle.ncroute.specs.Planning.{IsPlanOf, LacksPlan, is_memory}
 use Rattle.ncroute.specs.Reading.{unmade_line}
 use Rattle.ncroute.specs.Ending.{fault_line}
 use Rattle.ncroute.specs.Streaming.{Streams}
+use Rattle.ncroute.specs.WrongWords.{wrong_line}
+use Rattle.ncroute.specs.declared.planning.PlanFault.{PlanFault}
 use Rattle.ncroute.specs.declared.routing.SetupFault.{SetupFault}
 use Rattle.ncroute.specs.declared.routing.SetupFault.TheVariants.{Program, Words}
-
--- what is said of a node, with these words before its number and behind it
-abbrev pub words_of_node : List ℕ → ℕ → List ℕ → List ℕ
-words_of_node before node behind = before ++ decimal node ++ behind
-
--- what is said of an option that is refused
-abbrev pub option_words : OptionFault → List ℕ
-option_words option_fault.Numbers = codes "--size is 2 to 250, --node is below it, and --limit is 1 to 1000000"
-option_words option_fault.Form = codes "the form is --link W=IN,OUT, --import W=NAME, --export W=NAME or --prefix V=PREFIX"
-option_words (option_fault.Node node) = words_of_node [] node (codes " is no neighbour's number")
-option_words (option_fault.TwoLinks node) = words_of_node (codes "node ") node (codes " has two links")
-option_words option_fault.UnknownFilter = codes "--import and --export name a filter that --filter gives"
-option_words option_fault.Memory = codes "out of memory"
-
--- the line that tells what is wrong with the words
-abbrev pub wrong_line : OptionFault → List ℕ
-wrong_line why = codes "error: " ++ option_words why ++ 10 ∷ []
 
 -- the line that tells of a fault of a router
 abbrev pub router_line : DaemonFault → List ℕ
@@ -105,13 +88,13 @@ module _ (creates : List ℕ → Result (Option (List ℕ)) Error → Type 0) wh
     -- A fault of the program ended it.
     abbrev pub StopsProgram : StreamFault → RouterWords → Option (List ℕ) → Option (List ℕ) → Option (List ℕ) → Option (List ℕ) → Type 0
     StopsProgram fault words known left told tells =
-        (LacksPlan words option_fault.Memory × (fault ≡ Memory) × (left ≡ known) × (tells ≡ told))
+        ((why : PlanFault) × LacksPlan words why × (is_memory why ≡ true) × (fault ≡ Memory) × (left ≡ known) × (tells ≡ told))
         ⊎ ((plan : PlanView) × IsPlanOf words plan × StopsParts fault words plan known left told tells)
 
     -- The words tell no plan, and memory is not why: nothing was read, and nothing told yet. Or a fault of the program ended it.
     abbrev pub StopsSettingUp : SetupFault → RouterWords → Option (List ℕ) → Option (List ℕ) → Option (List ℕ) → Option (List ℕ) → Type 0
     StopsSettingUp (Words why) words known left told tells =
-        LacksPlan words why × (why ≡ option_fault.Memory → ⊥) × (left ≡ known) × (tells ≡ told)
+        LacksPlan words why × (is_memory why ≡ false) × (left ≡ known) × (tells ≡ told)
     StopsSettingUp (Program fault) words known left told tells = StopsProgram (stream_fault fault) words known left told tells
 
 -- The operator's lines ended so, at a router of this plan.

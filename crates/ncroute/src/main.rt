@@ -25,6 +25,7 @@ mod testing;
 mod texts;
 mod trying;
 mod watcher;
+mod wrong_words;
 
 use command_line::{Terminals, Words, tell_that_input_is_read, waits_for_people};
 use console::Console;

@@ -1,9 +1,10 @@
 //! What the words of `router` come to: the plan of a router.
 ghost use Rattle.std.specs.Prelude.{◌≡◌, IfErr, IfOk, OnOk};
+ghost use Rattle.router_options.specs.Plans.{RefusesNumbers};
 ghost use Rattle.ncroute.specs.Planning as spec;
 
 use command_line::{NamedFile, RouterWords};
-use router_options::{Numbers, OptionFault, RouterPlan};
+use router_options::{NumberFault, Numbers, OptionFault, RouterPlan};
 use std::alloc::{AllocError, Global};
 
 /// What an option adds to a plan.
@@ -19,6 +20,32 @@ pub enum OptionKind {
     Export,
     /// A link.
     Link,
+}
+
+/// What is wrong with the words of `router`.
+#[derive(Clone, Copy)]
+pub enum PlanFault<'a> {
+    /// A number is refused.
+    WrongNumber(NumberFault),
+    /// An option is refused.
+    WrongOption {
+        /// What it adds.
+        kind: OptionKind,
+        /// What it says.
+        text: &'a str,
+        /// Why it is refused.
+        why: OptionFault,
+    },
+}
+
+/// Whether memory was refused.
+pub fn is_memory(fault: PlanFault<'_>) -> bool
+    ensures { result ≡ spec.is_memory fault.entry }
+{
+    match fault {
+        PlanFault::WrongNumber(why) => matches!(why, NumberFault::Memory),
+        PlanFault::WrongOption { why, .. } => matches!(why, OptionFault::Memory),
+    }
 }
 
 /// A copy of a text, if there is one.
@@ -51,46 +78,54 @@ fn add(
 }
 
 /// Adds options of one kind, in order, up to the first that is refused.
-fn add_options(
+fn add_options<'a>(
     alloc: Global,
     plan: &mut RouterPlan,
     kind: OptionKind,
-    texts: &[String],
-) -> Result<(), OptionFault>
+    texts: &'a [String],
+) -> Result<(), PlanFault<'a>>
     ensures added { OnOk result (spec.AddsAll kind spec.text_of texts.now plan.old plan.new) }
     ensures refused { IfErr result (spec.StopsAdding kind spec.text_of texts.now plan.old) }
 {
     for text in texts {
-        match add(alloc, plan, kind, text.as_str()) {
+        let text = text.as_str();
+        match add(alloc, plan, kind, text) {
             Ok(()) => {}
-            Err(why) => return Err(why),
+            Err(why) => return Err(PlanFault::WrongOption { kind, text, why }),
         }
     }
     Ok(())
 }
 
 /// Adds the names of filters, likewise.
-fn add_filters(
+fn add_filters<'a>(
     alloc: Global,
     plan: &mut RouterPlan,
-    filters: &[NamedFile],
-) -> Result<(), OptionFault>
+    filters: &'a [NamedFile],
+) -> Result<(), PlanFault<'a>>
     ensures added { OnOk result (spec.AddsAll OptionKind.Filter spec.name_of filters.now plan.old plan.new) }
     ensures refused { IfErr result (spec.StopsAdding OptionKind.Filter spec.name_of filters.now plan.old) }
 {
     for filter in filters {
-        match add(alloc, plan, OptionKind::Filter, filter.name.as_str()) {
+        let name = filter.name.as_str();
+        match add(alloc, plan, OptionKind::Filter, name) {
             Ok(()) => {}
-            Err(why) => return Err(why),
+            Err(why) => {
+                return Err(PlanFault::WrongOption {
+                    kind: OptionKind::Filter,
+                    text: name,
+                    why,
+                });
+            }
         }
     }
     Ok(())
 }
 
 /// The plan of the numbers of these words, without prefixes, filters and links.
-fn begun_plan(alloc: Global, words: &RouterWords) -> Result<RouterPlan, OptionFault>
+fn begun_plan(alloc: Global, words: &RouterWords) -> Result<RouterPlan, NumberFault>
     ensures made { IfOk result (spec.IsBegun words.now) }
-    ensures refused { IfErr result (spec.LacksBegun words.now) }
+    ensures refused { IfErr result (RefusesNumbers (spec.numbers_of words.now)) }
 {
     let numbers = Numbers {
         size: words.size,
@@ -103,18 +138,21 @@ fn begun_plan(alloc: Global, words: &RouterWords) -> Result<RouterPlan, OptionFa
 }
 
 /// The same with the prefixes.
-fn placed_plan(alloc: Global, words: &RouterWords) -> Result<RouterPlan, OptionFault>
+fn placed_plan<'a>(alloc: Global, words: &'a RouterWords) -> Result<RouterPlan, PlanFault<'a>>
     ensures made { IfOk result (spec.IsPlaced words.now) }
     ensures refused { IfErr result (spec.LacksPlaced words.now) }
 {
-    let mut plan = begun_plan(alloc, words)?;
+    let mut plan = match begun_plan(alloc, words) {
+        Ok(plan) => plan,
+        Err(why) => return Err(PlanFault::WrongNumber(why)),
+    };
     let texts = words.prefixes.as_slice();
     add_options(alloc, &mut plan, OptionKind::Prefix, texts)?;
     Ok(plan)
 }
 
 /// The same with the names of filters.
-fn naming_plan(alloc: Global, words: &RouterWords) -> Result<RouterPlan, OptionFault>
+fn naming_plan<'a>(alloc: Global, words: &'a RouterWords) -> Result<RouterPlan, PlanFault<'a>>
     ensures made { IfOk result (spec.IsNaming words.now) }
     ensures refused { IfErr result (spec.LacksNaming words.now) }
 {
@@ -125,7 +163,7 @@ fn naming_plan(alloc: Global, words: &RouterWords) -> Result<RouterPlan, OptionF
 }
 
 /// The same with the uses of import filters.
-fn importing_plan(alloc: Global, words: &RouterWords) -> Result<RouterPlan, OptionFault>
+fn importing_plan<'a>(alloc: Global, words: &'a RouterWords) -> Result<RouterPlan, PlanFault<'a>>
     ensures made { IfOk result (spec.IsImporting words.now) }
     ensures refused { IfErr result (spec.LacksImporting words.now) }
 {
@@ -136,7 +174,7 @@ fn importing_plan(alloc: Global, words: &RouterWords) -> Result<RouterPlan, Opti
 }
 
 /// The same with the uses of export filters.
-fn exporting_plan(alloc: Global, words: &RouterWords) -> Result<RouterPlan, OptionFault>
+fn exporting_plan<'a>(alloc: Global, words: &'a RouterWords) -> Result<RouterPlan, PlanFault<'a>>
     ensures made { IfOk result (spec.IsExporting words.now) }
     ensures refused { IfErr result (spec.LacksExporting words.now) }
 {
@@ -147,7 +185,7 @@ fn exporting_plan(alloc: Global, words: &RouterWords) -> Result<RouterPlan, Opti
 }
 
 /// The plan that words tell; or the first that is wrong with them.
-pub fn plan_of(alloc: Global, words: &RouterWords) -> Result<RouterPlan, OptionFault>
+pub fn plan_of<'a>(alloc: Global, words: &'a RouterWords) -> Result<RouterPlan, PlanFault<'a>>
     ensures made { IfOk result (spec.IsPlanOf words.now) }
     ensures refused { IfErr result (spec.LacksPlan words.now) }
 {

@@ -5,20 +5,21 @@ ghost use Rattle.std.specs.Io.KnownBytes.{Appends};
 ghost use Rattle.filter_commands.specs.Evaluation.{IsCut};
 ghost use Rattle.filter_commands.specs.Faults.{stream_fault};
 ghost use Rattle.ncroute.specs.Routing as spec;
+ghost use Rattle.ncroute.specs.WrongWords.{wrong_line};
 
 use crate::ending::{FAILED, fault_line};
 use crate::loading::load_filters;
-use crate::planning::plan_of;
+use crate::planning::{PlanFault, is_memory, plan_of};
 use crate::texts::{Folder, tell_unmade, write_line};
+use crate::wrong_words::wrong_line;
 use command_line::RouterWords;
 use filter_commands::ProgramFault;
 use history_saver::{SaveFault, Saver};
-use line_protocol::push_decimal;
 use route_history::CallFault;
 use router_daemon::{DaemonFault, LinkFolder, Setting, run_router};
-use router_options::{OptionFault, RouterPlan};
+use router_options::RouterPlan;
 use slot_lock::LockFault;
-use std::alloc::{AllocError, Global};
+use std::alloc::Global;
 use std::io::{Read, Write};
 use std::rt::Clock;
 use std::sync::Wait;
@@ -29,9 +30,9 @@ const WRONG_WORDS: u8 = 2;
 
 /// What kept a router from being set up.
 #[derive(Clone, Copy)]
-enum SetupFault {
+enum SetupFault<'a> {
     /// The words are wrong.
-    Words(OptionFault),
+    Words(PlanFault<'a>),
     /// A fault of the program.
     Program(ProgramFault),
 }
@@ -43,52 +44,6 @@ pub struct Untold {
     pub status: u8,
     /// Why the line was not told: memory was refused, or standard error did not take it.
     pub why: ProgramFault,
-}
-
-/// Adds what is said of a node, with these words before its number and behind it.
-fn push_of_node(
-    line: &mut Vec<u8>,
-    before: &[u8],
-    node: u16,
-    behind: &[u8],
-) -> Result<(), AllocError>
-    ensures { OnOk result (line.new.items ≡ line.old.items ++ spec.words_of_node before.now node behind.now) }
-{
-    line.extend_from_slice(before)?;
-    push_decimal(line, u64::from(node))?;
-    line.extend_from_slice(behind)?;
-    Ok(())
-}
-
-/// Adds what is said of an option that is refused.
-fn push_option_words(line: &mut Vec<u8>, fault: OptionFault) -> Result<(), AllocError>
-    ensures { OnOk result (line.new.items ≡ line.old.items ++ spec.option_words fault) }
-{
-    match fault {
-        OptionFault::Numbers => line.extend_from_slice(
-            b"--size is 2 to 250, --node is below it, and --limit is 1 to 1000000",
-        ),
-        OptionFault::Form => line.extend_from_slice(
-            b"the form is --link W=IN,OUT, --import W=NAME, --export W=NAME or --prefix V=PREFIX",
-        ),
-        OptionFault::Node(node) => push_of_node(line, b"", node, b" is no neighbour's number"),
-        OptionFault::TwoLinks(node) => push_of_node(line, b"node ", node, b" has two links"),
-        OptionFault::UnknownFilter => {
-            line.extend_from_slice(b"--import and --export name a filter that --filter gives")
-        }
-        OptionFault::Memory => line.extend_from_slice(b"out of memory"),
-    }
-}
-
-/// The line that tells what is wrong with the words.
-fn wrong_line(alloc: Global, fault: OptionFault) -> Result<Vec<u8>, AllocError>
-    ensures { IfOk result (λ line. line.items ≡ spec.wrong_line fault) }
-{
-    let mut line = Vec::new(alloc);
-    line.extend_from_slice(b"error: ")?;
-    push_option_words(&mut line, fault)?;
-    line.push(b'\n')?;
-    Ok(line)
 }
 
 /// Tells people the line with which a router ends: the exit status.
@@ -104,10 +59,11 @@ fn end_by_line<E: Write>(errors: &mut E, status: u8, line: &[u8]) -> Result<u8, 
 }
 
 /// Tells people what is wrong with the words: the exit status.
-fn end_by_words<E: Write>(alloc: Global, errors: &mut E, fault: OptionFault) -> Result<u8, Untold>
-    ensures told { IfOk result (λ ended. (ended ≡ 2) × Appends (E.contents errors.old) (E.contents errors.new) (spec.wrong_line fault)) }
+fn end_by_words<E: Write>(alloc: Global, errors: &mut E, fault: PlanFault<'_>) -> Result<u8, Untold>
+    ensures told { IfOk result (λ ended. (ended ≡ 2)
+        × Appends (E.contents errors.old) (E.contents errors.new) (wrong_line fault.entry)) }
     ensures cut { IfErr result (λ untold. (untold.status ≡ 2)
-        × IsCut (stream_fault untold.why) (E.contents errors.old) (E.contents errors.new) (spec.wrong_line fault)) }
+        × IsCut (stream_fault untold.why) (E.contents errors.old) (E.contents errors.new) (wrong_line fault.entry)) }
 {
     match wrong_line(alloc, fault) {
         Ok(line) => end_by_line(errors, WRONG_WORDS, line.as_slice()),
@@ -119,11 +75,11 @@ fn end_by_words<E: Write>(alloc: Global, errors: &mut E, fault: OptionFault) -> 
 }
 
 /// Tells people what kept a router from being set up: the exit status.
-fn end_unset<E: Write>(alloc: Global, errors: &mut E, fault: SetupFault) -> Result<u8, Untold>
-    ensures told { IfOk result (λ ended. (ended ≡ spec.setup_status fault)
-        × Appends (E.contents errors.old) (E.contents errors.new) (spec.setup_line fault)) }
-    ensures cut { IfErr result (λ untold. (untold.status ≡ spec.setup_status fault)
-        × IsCut (stream_fault untold.why) (E.contents errors.old) (E.contents errors.new) (spec.setup_line fault)) }
+fn end_unset<E: Write>(alloc: Global, errors: &mut E, fault: SetupFault<'_>) -> Result<u8, Untold>
+    ensures told { IfOk result (λ ended. (ended ≡ spec.setup_status fault.entry)
+        × Appends (E.contents errors.old) (E.contents errors.new) (spec.setup_line fault.entry)) }
+    ensures cut { IfErr result (λ untold. (untold.status ≡ spec.setup_status fault.entry)
+        × IsCut (stream_fault untold.why) (E.contents errors.old) (E.contents errors.new) (spec.setup_line fault.entry)) }
 {
     match fault {
         SetupFault::Words(fault) => end_by_words(alloc, errors, fault),
@@ -227,13 +183,13 @@ fn fit_out<F: Folder, R: Read, E: Write>(
 }
 
 /// What a router is run with. There is none where something of it is not there, which people were told.
-fn set_up<F: Folder, R: Read, E: Write>(
+fn set_up<'a, F: Folder, R: Read, E: Write>(
     files: &F,
     alloc: Global,
-    words: &RouterWords,
+    words: &'a RouterWords,
     reader: &mut R,
     errors: &mut E,
-) -> Result<Option<Setting<F::New>>, SetupFault>
+) -> Result<Option<Setting<F::New>>, SetupFault<'a>>
     ensures finished { IfOk result (λ set. MatchOption set
         (spec.LacksSetting (F.creates files.now) (F.opens files.now) words.now (R.remaining reader.old) (R.remaining reader.new)
         (E.contents errors.old) (E.contents errors.new))
@@ -249,7 +205,7 @@ fn set_up<F: Folder, R: Read, E: Write>(
             Ok(None) => Ok(None),
             Err(fault) => Err(SetupFault::Program(fault)),
         },
-        Err(OptionFault::Memory) => Err(SetupFault::Program(ProgramFault::MEMORY)),
+        Err(fault) if is_memory(fault) => Err(SetupFault::Program(ProgramFault::MEMORY)),
         Err(fault) => Err(SetupFault::Words(fault)),
     }
 }

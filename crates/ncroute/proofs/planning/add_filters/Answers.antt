@@ -1,4 +1,5 @@
 -- The options so far were added, and the next one is added too, or it is refused.
+use Rattle.std.proofs.Common.{refl}
 use Rattle.ncroute.specs.Planning.{name_of}
 use Rattle.ncroute.specs.declared.planning.OptionKind.TheVariants.{Filter}
 use Rattle.ncroute.proofs.PlanAdded.{none_added, not_added, one_more_added}
@@ -9,10 +10,10 @@ loop-filter-init c = none_added Filter name_of c.args.filters.now c.args.plan.no
 
 pub loop-filter-preserved : goal.loop-filter-preserved
 loop-filter-preserved c =
-    one_more_added Filter name_of c.args.filters.now c.loop-filter.filter-index c.filter-item.result c.as_str.result.now c.args.plan.now
-    c.loop-filter.plan c.add.new.plan c.loop-filter-test.true c.filter-item.is c.as_str.ensures.value c.loop-filter.invariant c.in-Ok.ensures.added
+    one_more_added Filter name_of c.args.filters.now c.loop-filter.filter-index c.filter-item.result c.as_str-name.result.now c.args.plan.now
+    c.loop-filter.plan c.add.new.plan c.loop-filter-test.true c.filter-item.is c.as_str-name.ensures.value c.loop-filter.invariant c.in-Ok.ensures.added
 
 pub returns-in-Err-clause-refused : goal.returns-in-Err-clause-refused
 returns-in-Err-clause-refused c =
-    not_added Filter name_of c.args.filters.now c.loop-filter.filter-index c.filter-item.result c.as_str.result.now c.in-Err.why c.args.plan.now
-    c.loop-filter.plan c.loop-filter-test.true c.filter-item.is c.as_str.ensures.value c.loop-filter.invariant c.in-Err.ensures.refused
+    not_added Filter name_of c.args.filters.now c.loop-filter.filter-index c.filter-item.result c.as_str-name.result.now _ c.args.plan.now
+    c.loop-filter.plan c.loop-filter-test.true c.filter-item.is c.as_str-name.ensures.value c.loop-filter.invariant (refl, refl, c.in-Err.ensures.refused)

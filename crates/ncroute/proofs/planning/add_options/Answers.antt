@@ -1,4 +1,5 @@
 -- The options so far were added, and the next one is added too, or it is refused.
+use Rattle.std.proofs.Common.{refl}
 use Rattle.ncroute.specs.Planning.{text_of}
 use Rattle.ncroute.proofs.PlanAdded.{none_added, not_added, one_more_added}
 use Rattle.ncroute.proofs.planning.add_options.Goals as goal
@@ -8,10 +9,10 @@ loop-text-init c = none_added c.args.kind text_of c.args.texts.now c.args.plan.n
 
 pub loop-text-preserved : goal.loop-text-preserved
 loop-text-preserved c =
-    one_more_added c.args.kind text_of c.args.texts.now c.loop-text.text-index c.text-item.result c.as_str.result.now c.args.plan.now
-    c.loop-text.plan c.add.new.plan c.loop-text-test.true c.text-item.is c.as_str.ensures.value c.loop-text.invariant c.in-Ok.ensures.added
+    one_more_added c.args.kind text_of c.args.texts.now c.loop-text.text-index c.text-item.result c.as_str-text.result.now c.args.plan.now
+    c.loop-text.plan c.add.new.plan c.loop-text-test.true c.text-item.is c.as_str-text.ensures.value c.loop-text.invariant c.in-Ok.ensures.added
 
 pub returns-in-Err-clause-refused : goal.returns-in-Err-clause-refused
 returns-in-Err-clause-refused c =
-    not_added c.args.kind text_of c.args.texts.now c.loop-text.text-index c.text-item.result c.as_str.result.now c.in-Err.why c.args.plan.now
-    c.loop-text.plan c.loop-text-test.true c.text-item.is c.as_str.ensures.value c.loop-text.invariant c.in-Err.ensures.refused
+    not_added c.args.kind text_of c.args.texts.now c.loop-text.text-index c.text-item.result c.as_str-text.result.now _ c.args.plan.now
+    c.loop-text.plan c.loop-text-test.true c.text-item.is c.as_str-text.ensures.value c.loop-text.invariant (refl, refl, c.in-Err.ensures.refused)
