@@ -11,3 +11,4 @@ mod Loaded
 mod MadeTexts
 mod PlanAdded
 mod Routed
+mod WrongRows

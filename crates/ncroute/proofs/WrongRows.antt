@@ -1,0 +1,36 @@
+-- Worked rows: what people are told of wrong words of `router`.
+use Rattle.std.proofs.Common.{◌≡◌, [], ◌∷◌, ◌++◌, refl}
+use Rattle.std.specs.Fmt.{digits}
+use Rattle.std.specs.Prelude.{codes}
+use Rattle.router_options.specs.declared.fault.NodeFault.TheVariants.{Outside, Itself}
+use Rattle.router_options.specs.declared.fault.NumberFault.TheVariants as number
+use Rattle.router_options.specs.declared.fault.OptionFault.TheVariants as option
+use Rattle.ncroute.specs.WrongWords.{option_fault_words, wrong_line}
+use Rattle.ncroute.specs.declared.planning.OptionKind.TheVariants as kind
+use Rattle.ncroute.specs.declared.planning.PlanFault.TheVariants.{WrongNumber}
+
+size : wrong_line (WrongNumber (number.Size 251)) ≡ codes "error: invalid value '251' for '--size': a domain has 2 to 250 nodes" ++ 10 ∷ []
+unfolding digits
+size = refl
+
+node : wrong_line (WrongNumber (number.Node 9 3))
+    ≡ codes "error: invalid value '9' for '--node': node 9 is not in the domain, whose nodes are 0 to 3" ++ 10 ∷ []
+unfolding digits
+node = refl
+
+wait : wrong_line (WrongNumber number.Retry)
+    ≡ codes "error: invalid value '0' for '--retry': a link is opened again after 1 second or more" ++ 10 ∷ []
+unfolding digits
+wait = refl
+
+outside : option_fault_words kind.Link (option.Node 9 (Outside 3)) ≡ codes "node 9 is not in the domain, whose nodes are 0 to 3"
+unfolding digits
+outside = refl
+
+itself : option_fault_words kind.Import (option.Node 3 Itself) ≡ codes "node 3 is this router itself"
+unfolding digits
+itself = refl
+
+twice : option_fault_words kind.Prefix (option.Twice 17) ≡ codes "an earlier --prefix names node 17 too"
+unfolding digits
+twice = refl
