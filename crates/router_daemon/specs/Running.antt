@@ -1,6 +1,7 @@
 -- How a router is run. (This project's own choice.)
 use Rattle.std.specs.Prelude.{◌≡◌, ℕ, false, List, [], length, map, Option, Some, None, Result, Ok, Err, ⊤}
 use Rattle.history_saver.specs.Saved.{HasSaved, SaverView}
+use Rattle.history_saver.specs.declared.fault.SaveFault.{SaveFault}
 use Rattle.line_protocol.specs.declared.faults.StreamFault.{StreamFault}
 use Rattle.route_history.specs.Beginning.{Begins}
 use Rattle.route_history.specs.History.{IsLegal}
@@ -98,3 +99,8 @@ abbrev pub IsWhy : Result ℕ StreamFault → DaemonFault → Type 0
 IsWhy answered (fault.Stream why) = answered ≡ Err why
 IsWhy answered (fault.Save why) = (refused : ℕ) × (answered ≡ Ok refused)
 IsWhy answered _ = ⊥
+
+-- where it is a fault of saving, it is the one that saving ended in
+abbrev pub IsOfSaving : {S : Type 0} → Result S SaveFault → DaemonFault → Type 0
+IsOfSaving saved (fault.Save why) = saved ≡ Err why
+IsOfSaving saved _ = ⊤

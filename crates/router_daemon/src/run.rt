@@ -131,6 +131,7 @@ fn end_of<V: Write + Drop>(
 ) -> Result<RouterEnd<V>, DaemonFault>
     ensures ok { IfOk result (λ end. (answered ≡ Ok end.refused) × (saved ≡ Ok end.saved)) }
     ensures err { IfErr result (spec.IsWhy answered) }
+    ensures cause { IfErr result (spec.IsOfSaving saved) }
 {
     match (answered, saved) {
         (Ok(refused), Ok(saved)) => Ok(RouterEnd { refused, saved }),
