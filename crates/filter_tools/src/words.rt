@@ -24,6 +24,9 @@ const HEADS: [&str; 8] = [
 /// What a name may mean that is no variable's.
 const VALUES: [&str; 4] = ["net", "rip_metric", "true", "false"];
 
+/// What some editors write before a text.
+const BYTE_ORDER_MARK: &[u8] = b"\xef\xbb\xbf";
+
 /// What is wrong with a source.
 pub(crate) fn words_of(alloc: Global, text: &[u8], told: &Diagnosis) -> Result<String, AllocError> {
     match told.refusal {
@@ -103,6 +106,12 @@ fn character_words(alloc: Global, text: &[u8], at: usize) -> Result<String, Allo
         return String::from_str(alloc, IPV6);
     }
     let (_, rest) = text.split_at(at.min(text.len()));
+    if rest.starts_with(BYTE_ORDER_MARK) {
+        return String::from_str(
+            alloc,
+            "unexpected byte order mark: save the text as UTF-8 without one",
+        );
+    }
     match (character_at(text, at), in_place_of_character(rest)) {
         (Some(character), Some(remedy)) => {
             format!(in alloc; "unexpected character `{character}`: {remedy}")
@@ -227,6 +236,19 @@ fn prefix_words(
     None
 }
 
+/// Whether a name that is none of the variables would be a word of the language in lower case.
+fn is_in_capitals(alloc: Global, name: &str, variables: &[&str]) -> Result<bool, AllocError> {
+    if is_among(name, variables) {
+        return Ok(false);
+    }
+    let lower = name.to_ascii_lowercase(alloc)?;
+    let lexed = lex(alloc, lower.as_bytes())?;
+    match lexed.tokens.first() {
+        Some(token) => Ok(token.kind != TokenKind::Name),
+        None => Ok(false),
+    }
+}
+
 /// What was expected in place of the token at a byte.
 fn unexpected(
     alloc: Global,
@@ -241,6 +263,11 @@ fn unexpected(
     }
     let found = found_words(alloc, text, around.found)?;
     let variables = declared(alloc, text, tokens)?;
+    if let Some(name) = name_of(text, around.found) {
+        if is_in_capitals(alloc, name, variables.as_slice())? {
+            return format!(in alloc; "expected {expected}{found}: write it in lower case");
+        }
+    }
     match remedy_for(text, expected, around, variables.as_slice()) {
         Some(remedy) => format!(in alloc; "expected {expected}{found}: {remedy}"),
         None => format!(in alloc; "expected {expected}{found}"),
@@ -263,12 +290,26 @@ fn head_words(alloc: Global, text: &[u8], at: usize, name: usize) -> Result<Stri
     }
 }
 
+/// The known word that somebody may have meant: one that differs in the case of its letters alone, or else the nearest.
+fn meant_word<'a>(
+    alloc: Global,
+    word: &str,
+    known: &[&'a str],
+) -> Result<Option<&'a str>, AllocError> {
+    for other in known {
+        if other.eq_ignore_ascii_case(word) {
+            return Ok(Some(*other));
+        }
+    }
+    nearest_word(alloc, word, known)
+}
+
 /// What is wrong with a command that begins with a name which is no variable's.
 fn no_command(alloc: Global, name: &str, plain: &str) -> Result<String, AllocError> {
     if let Some(remedy) = in_place_of_name(name) {
         return format!(in alloc; "`{name}` is no command: {remedy}");
     }
-    match nearest_word(alloc, name, HEADS.as_slice())? {
+    match meant_word(alloc, name, HEADS.as_slice())? {
         Some(near) => format!(in alloc; "`{name}` is no command; did you mean `{near}`?"),
         None => format!(in alloc; "`{name}` is no command: {plain}"),
     }
@@ -309,7 +350,7 @@ fn name_words(alloc: Global, text: &[u8], name: &str) -> Result<String, AllocErr
     let lexed = lex(alloc, text)?;
     let mut known = declared(alloc, text, lexed.tokens.as_slice())?;
     known.extend_from_slice(VALUES.as_slice())?;
-    match nearest_word(alloc, name, known.as_slice())? {
+    match meant_word(alloc, name, known.as_slice())? {
         Some(near) => {
             format!(in alloc; "`{name}` is no variable and no attribute; did you mean `{near}`?")
         }
