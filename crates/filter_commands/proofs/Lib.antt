@@ -1,8 +1,10 @@
+pub mod Clipped
 pub mod Evaluated
 pub mod Evaluations
 pub mod Endings
 pub mod PlainLines
 pub mod Printed
+pub mod Reading
 pub mod Reports
 pub mod Rewritten
 pub mod RouteLines

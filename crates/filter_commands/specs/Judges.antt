@@ -7,5 +7,7 @@ use Rattle.filter_commands.specs.declared.judge.Stage.TheVariants as stage
 -- the code, once it has come
 abbrev pub code_at : Stage → Option CodeView
 code_at stage.Awaited = None
+code_at (stage.Untried code) = Some code
 code_at (stage.Checked code) = Some code
-code_at (stage.Verified verified) = Some verified.program
+code_at (stage.OneSize verified) = Some verified.program
+code_at (stage.AllSizes program) = Some program

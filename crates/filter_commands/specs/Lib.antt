@@ -11,3 +11,4 @@ pub mod Saying
 -- What only the bodies of this crate are proved against.
 pub mod Steps
 pub mod Judges
+pub mod Sizes

@@ -1,5 +1,5 @@
 //! `ncroute eval`: routes through a code file.
-ghost use Rattle.std.specs.Prelude.{◌≡◌, ◌++◌, Ok, Err, OnOk, IfOk, IfErr, IfSome, MatchResult, OnErr};
+ghost use Rattle.std.specs.Prelude.{◌≡◌, ◌++◌, ℕ, List, None, Ok, Err, OnOk, IfOk, IfErr, IfSome, MatchResult, OnErr};
 ghost use Rattle.std.specs.Io.{StartsWith};
 ghost use Rattle.std.specs.Io.KnownBytes.{Appends};
 ghost use Rattle.filter_source.specs.Failures.{OnRefusal};
@@ -10,7 +10,7 @@ ghost use Rattle.filter_commands.specs.Faults.{stream_fault};
 use crate::fault::ProgramFault;
 use crate::judge::Judge;
 use crate::line_fault::LineFault;
-use crate::route_line::read_route;
+use crate::route_line::{read_usual, read_words};
 use crate::watch::{Nobody, RefusedRoute, WatchRoutes, WhyRefused};
 use filter_code::Code;
 use filter_source::{Failure, check_length, read_hexadecimal};
@@ -42,9 +42,31 @@ impl<S: WatchRoutes + Drop> Service for Evaluator<S> {
         line: &[u8],
         out: &mut Vec<u8>,
     ) -> Result<Reply, AllocError> {
-        if !self.code.is_awaiting() {
-            return answer_route(alloc, &mut self.code, &mut self.watcher, number, line, out);
+        if self.code.is_awaiting() {
+            return self.take_code(alloc, number, line, out);
         }
+        answer_route(alloc, &mut self.code, &mut self.watcher, number, line, out)
+    }
+}
+
+impl<S: WatchRoutes + Drop> Evaluator<S> {
+    ghost use Rattle.filter_commands.specs.Steps.{TakesCode};
+
+    /// Answers the line that is to give the code.
+    #[cold]
+    #[inline(never)]
+    fn take_code(
+        &mut self,
+        alloc: Global,
+        number: u32,
+        line: &[u8],
+        out: &mut Vec<u8>,
+    ) -> Result<Reply, AllocError>
+        requires { self.old.code ≡ None }
+        ensures ok { IfOk result (λ reply. (text : List ℕ) × (out.new.items ≡ out.old.items ++ text)
+            × TakesCode number (code_in line.now) (record { text = text; reply = reply }) self.new.code) }
+        ensures err { OnErr result (StartsWith out.new.items out.old.items) }
+    {
         match read_code_line(alloc, line) {
             Ok(code) => {
                 self.code = Judge::of(code);
@@ -103,9 +125,33 @@ fn answer_route<S: WatchRoutes>(
     ensures kept { code.new ≡ code.old }
     ensures err { OnErr result (StartsWith out.new.items out.old.items) }
 {
-    match read_route(line, None) {
+    let Some(route) = read_usual(line, None) else {
+        return answer_unusual(alloc, code, watcher, number, line, out);
+    };
+    code.answer(alloc, &route, out)?;
+    Ok(Reply::Answered)
+}
+
+/// Does what `answer_route` does with a line that is not in the usual spelling.
+#[cold]
+#[inline(never)]
+fn answer_unusual<S: WatchRoutes>(
+    alloc: Global,
+    code: &mut Judge,
+    watcher: &mut S,
+    number: u32,
+    line: &[u8],
+    out: &mut Vec<u8>,
+) -> Result<Reply, AllocError>
+    ensures ok { IfSome code.old (λ program. IfOk result (λ reply.
+        (out.new.items ≡ out.old.items ++ (route_answer program (number, line.now)).text)
+        × (reply ≡ (route_answer program (number, line.now)).reply))) }
+    ensures kept { code.new ≡ code.old }
+    ensures err { OnErr result (StartsWith out.new.items out.old.items) }
+{
+    match read_words(line, None) {
         Ok(route) => {
-            code.answer(alloc, &route, out)?;
+            code.answer_rarely(alloc, &route, out)?;
             Ok(Reply::Answered)
         }
         Err(fault) => {

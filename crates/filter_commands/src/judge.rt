@@ -1,11 +1,14 @@
 //! The code that the routes of `eval` go through.
 ghost use Rattle.std.specs.Prelude.{◌≡◌, ◌≤◌, ◌++◌, IfSome, MatchOption, OnErr, OnOk, is_some, not, None, Some};
 ghost use Rattle.std.specs.Io.{StartsWith};
+ghost use Rattle.filter_code.specs.Limits.{largest_size};
 ghost use Rattle.filter_code.specs.Machine.{outcome_of};
 ghost use Rattle.filter_machine.specs.Verdicts.{announced, outcome_said};
 ghost use Rattle.filter_commands.specs.Eval.{verdict};
 ghost use Rattle.filter_commands.specs.Judges.{code_at};
+ghost use Rattle.filter_commands.specs.Sizes.{Serves, clipped};
 
+use crate::all_sizes::ForAllSizes;
 use crate::verdict_line::{push_accept, push_verdict};
 use filter_code::{Code, Route, run_checked};
 use filter_machine::{Verdict, run};
@@ -20,22 +23,24 @@ use std::mem::replace;
 enum Stage {
     /// It has not come.
     Awaited,
+    /// It is to be verified when the first route comes.
+    Untried(Code),
     /// It is not verified.
     Checked(Code),
     /// It is verified for the size of the first route.
-    Verified(Verified),
+    OneSize(Verified),
+    /// It is verified for all sizes.
+    AllSizes(ForAllSizes),
 }
 
 /// The code that judges the routes, once it has come.
 ///
-/// At the first route it is verified for the size of that one. Where the verifier accepts it, routes of this size go through the
-/// machine that tests nothing; all others go through the one that tests each step. A contract sees the code alone, since both
-/// machines say the same of a route.
+/// At the first route it is verified for all sizes, or else for the size of that one. Where the verifier accepts it, routes of these
+/// sizes go through the machine that tests nothing; all others go through the one that tests each step. A contract sees the code
+/// alone, since both machines say the same of a route.
 #[derive(Drop)]
 pub(crate) struct Judge {
     stage: Stage,
-    /// Whether the code is to be verified when the first route comes.
-    unsettled: bool,
 }
 
 impl Model for Judge {
@@ -55,7 +60,6 @@ impl Judge {
     {
         Judge {
             stage: Stage::Awaited,
-            unsettled: false,
         }
     }
 
@@ -64,14 +68,16 @@ impl Judge {
         ensures { result ≡ Some code }
     {
         // One instruction ends before a call of the other machine would have begun.
-        let unsettled = code.instrs().len() > 1;
-        Judge {
-            stage: Stage::Checked(code),
-            unsettled,
-        }
+        let stage = if code.instrs().len() > 1 {
+            Stage::Untried(code)
+        } else {
+            Stage::Checked(code)
+        };
+        Judge { stage }
     }
 
     /// Whether the code has not come.
+    #[inline(always)]
     pub(crate) fn is_awaiting(&self) -> bool
         ensures { is_some self.now ≡ not result }
     {
@@ -80,7 +86,7 @@ impl Judge {
 
     /// Puts the line of what the code says of a route at the end of `out`; nothing if the code has not come.
     ///
-    /// What verified code says is put there apart, so that nothing is between the other machine and its line.
+    /// What most codes come to is done here, and all else apart, since a function clears the room for its values whenever it is called.
     #[inline(always)]
     pub(crate) fn answer(
         &mut self,
@@ -92,24 +98,56 @@ impl Judge {
         ensures err { OnErr result (StartsWith out.new.items out.old.items) }
         ensures kept { self.new ≡ self.old }
     {
-        self.settle(alloc, route.size());
+        if let Stage::AllSizes(all) = &self.stage {
+            return push_verified(
+                out,
+                all.verified(),
+                route.net(),
+                route.metric(),
+                route.size(),
+            );
+        }
+        // Who takes a route by its address is given a copy, so that the route above is never written to memory.
+        let copy = *route;
+        if let Stage::Checked(code) = &self.stage {
+            return push_checked(out, code, &copy);
+        }
+        self.answer_rarely(alloc, &copy, out)
+    }
+
+    /// Does what `answer` does, also where the code is still to be verified or was verified for one size.
+    #[inline(never)]
+    pub(crate) fn answer_rarely(
+        &mut self,
+        alloc: Global,
+        route: &Route,
+        out: &mut Vec<u8>,
+    ) -> Result<(), AllocError>
+        ensures ok { OnOk result (IfSome self.old (λ program. out.new.items ≡ out.old.items ++ verdict (outcome_of program route.now))) }
+        ensures err { OnErr result (StartsWith out.new.items out.old.items) }
+        ensures kept { self.new ≡ self.old }
+    {
+        if matches!(&self.stage, Stage::Untried(_)) {
+            self.settle(alloc, route.size());
+        }
         if let Some(verified) = self.verified_for(route.size()) {
-            return push_verified(out, verified, route.net(), route.metric());
+            return push_verified(out, verified, route.net(), route.metric(), route.size());
         }
         match self.code() {
-            Some(code) => push_verdict(out, run_checked(code, route)),
+            Some(code) => push_checked(out, code, route),
             None => Ok(()),
         }
     }
 
-    /// The code, where it is verified for domains of a size.
-    #[inline(always)]
+    /// The code, where it is verified so that it serves in domains of a size.
     fn verified_for(&self, size: u32) -> Option<&Verified>
+        requires { size ≤ largest_size }
         ensures code { IfSome result (λ verified. self.now ≡ Some verified.now.program) }
-        ensures size { IfSome result (λ verified. verified.now.size ≡ size) }
+        ensures serves { IfSome result (λ verified. Serves verified.now.program verified.now.size size) }
     {
         match &self.stage {
-            Stage::Verified(verified) => {
+            Stage::AllSizes(all) => Some(all.verified()),
+            Stage::OneSize(verified) => {
                 if verified.size() != size {
                     return None;
                 }
@@ -120,69 +158,84 @@ impl Judge {
     }
 
     /// The code, once it has come.
-    #[inline(always)]
     fn code(&self) -> Option<&Code>
         ensures { MatchOption result (self.now ≡ None) (λ code. self.now ≡ Some code.now) }
     {
         match &self.stage {
             Stage::Awaited => None,
-            Stage::Checked(code) => Some(code),
-            Stage::Verified(verified) => Some(verified.code()),
+            Stage::Untried(code) | Stage::Checked(code) => Some(code),
+            Stage::OneSize(verified) => Some(verified.code()),
+            Stage::AllSizes(all) => Some(all.verified().code()),
         }
     }
 
-    /// Verifies the code for domains of a size, if that is still to be tried.
-    #[inline(always)]
+    /// Verifies the code, if that is still to be tried.
+    #[cold]
+    #[inline(never)]
     fn settle(&mut self, alloc: Global, size: u32)
         ensures { self.new ≡ self.old }
     {
-        if self.unsettled {
-            self.unsettled = false;
-            self.stage = settled(alloc, replace(&mut self.stage, Stage::Awaited), size);
-        }
+        self.stage = settled(alloc, replace(&mut self.stage, Stage::Awaited), size);
     }
 }
 
-/// The same code, verified for domains of a size if the verifier accepts it.
-#[cold]
-#[inline(never)]
+/// The same code, verified for domains of all sizes if it is accepted so, and otherwise for those of the given size if the verifier
+/// accepts that.
 fn settled(alloc: Global, stage: Stage, size: u32) -> Stage
     ensures { code_at result ≡ code_at stage }
 {
     match stage {
-        Stage::Checked(code) => match verify(alloc, code, size) {
-            Ok(verified) => Stage::Verified(verified),
-            Err((code, _)) => Stage::Checked(code),
+        Stage::Untried(code) => match ForAllSizes::verify(alloc, code) {
+            Ok(all) => Stage::AllSizes(all),
+            Err(code) => match verify(alloc, code, size) {
+                Ok(verified) => Stage::OneSize(verified),
+                Err((code, _)) => Stage::Checked(code),
+            },
         },
         other => other,
     }
 }
 
-/// Puts the line of what verified code says of a route of the size that it was verified for at the end of `out`.
+/// Puts the line of what code that is not verified says of a route at the end of `out`.
+///
+/// It stands apart, so that what puts a line is in line here: in a function as long as the one that reads a line, the compiler calls it.
+#[inline(never)]
+fn push_checked(out: &mut Vec<u8>, code: &Code, route: &Route) -> Result<(), AllocError>
+    ensures ok { OnOk result (out.new.items ≡ out.old.items ++ verdict (outcome_of code.now route.now)) }
+    ensures err { OnErr result (StartsWith out.new.items out.old.items) }
+{
+    push_verdict(out, run_checked(code, route))
+}
+
+/// Puts the line of what verified code says of a route, in whose domain it serves, at the end of `out`.
+///
+/// It stands apart, so that nothing is between the machine and its line.
 #[inline(never)]
 fn push_verified(
     out: &mut Vec<u8>,
     verified: &Verified,
     net: Prefix,
     metric: u32,
+    size: u32,
 ) -> Result<(), AllocError>
-    requires { metric ≤ verified.now.size }
+    requires reachable { metric ≤ size }
+    requires serves { Serves verified.now.program verified.now.size size }
     ensures ok { OnOk result (out.new.items ≡ out.old.items
-        ++ verdict (outcome_of verified.now.program (announced net metric verified.now.size))) }
+        ++ verdict (outcome_of verified.now.program (announced net metric size))) }
     ensures err { OnErr result (StartsWith out.new.items out.old.items) }
 {
     let ran = run(verified, &net, metric);
-    push_said(out, ran.verdict)
+    push_said(out, ran.verdict, size)
 }
 
-/// Puts the line of the verdict of verified code at the end of `out`.
+/// Puts the line of the verdict of verified code at the end of `out`, in a domain of a size.
 #[inline(always)]
-fn push_said(out: &mut Vec<u8>, said: Verdict) -> Result<(), AllocError>
-    ensures ok { OnOk result (out.new.items ≡ out.old.items ++ verdict (outcome_said said)) }
+fn push_said(out: &mut Vec<u8>, said: Verdict, size: u32) -> Result<(), AllocError>
+    ensures ok { OnOk result (out.new.items ≡ out.old.items ++ verdict (clipped size (outcome_said said))) }
     ensures err { OnErr result (StartsWith out.new.items out.old.items) }
 {
     match said {
-        Verdict::Accept(metric) => push_accept(out, metric),
+        Verdict::Accept(metric) => push_accept(out, metric.min(size)),
         Verdict::Reject => out.extend_from_slice(b"reject\n"),
     }
 }

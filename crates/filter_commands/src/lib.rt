@@ -1,6 +1,7 @@
 //! What the commands of `ncroute` do: each is generic over its reader and writer, and its contract says what it reads and writes.
 #![tactic(auto)]
 
+mod all_sizes;
 mod check;
 mod eval;
 mod fault;

@@ -86,13 +86,27 @@ fn read_plain(line: &[u8], given: Option<u32>) -> Option<Route>
     Some(route)
 }
 
+/// The route of a line in the usual spelling, which is read in one pass.
+#[inline(always)]
+pub(crate) fn read_usual(line: &[u8], given: Option<u32>) -> Option<Route>
+    ensures route { IfSome result (λ route. route_in given line.now ≡ Ok route) }
+    ensures usual { length line.now ≤ line_limit → IsUsualLine given line.now → IsSome result }
+{
+    if line.len() > LINE_LIMIT {
+        return None;
+    }
+    read_plain(line, given)
+}
+
 /// Reads a route line word by word.
 #[cold]
 #[inline(never)]
-fn read_words(line: &[u8], given: Option<u32>) -> Result<Route, LineFault>
-    requires { length line.now ≤ line_limit }
+pub(crate) fn read_words(line: &[u8], given: Option<u32>) -> Result<Route, LineFault>
     ensures { result ≡ route_in given line.now }
 {
+    if line.len() > LINE_LIMIT {
+        return Err(LineFault::TooLong);
+    }
     match parts_of(line, given) {
         None => Err(LineFault::Words),
         Some((prefix, metric, size)) => read_parts(prefix, metric, size),
@@ -104,10 +118,7 @@ fn read_words(line: &[u8], given: Option<u32>) -> Result<Route, LineFault>
 pub fn read_route(line: &[u8], given: Option<u32>) -> Result<Route, LineFault>
     ensures { result ≡ route_in given line.now }
 {
-    if line.len() > LINE_LIMIT {
-        return Err(LineFault::TooLong);
-    }
-    match read_plain(line, given) {
+    match read_usual(line, given) {
         Some(route) => Ok(route),
         None => read_words(line, given),
     }
