@@ -1,7 +1,6 @@
 //! The code that the routes of `eval` go through.
-ghost use Rattle.std.specs.Prelude.{◌≡◌, ◌≤◌, ◌++◌, IfSome, MatchOption, OnErr, OnOk, is_some, not, None, Some};
+ghost use Rattle.std.specs.Prelude.{◌≡◌, ◌≤◌, ◌++◌, IfSome, OnErr, OnOk, is_some, not, None, Some};
 ghost use Rattle.std.specs.Io.{StartsWith};
-ghost use Rattle.filter_code.specs.Limits.{largest_size};
 ghost use Rattle.filter_code.specs.Machine.{outcome_of};
 ghost use Rattle.filter_machine.specs.Verdicts.{announced, outcome_said};
 ghost use Rattle.filter_commands.specs.Eval.{verdict};
@@ -99,23 +98,18 @@ impl Judge {
         ensures kept { self.new ≡ self.old }
     {
         if let Stage::AllSizes(all) = &self.stage {
-            return push_verified(
-                out,
-                all.verified(),
-                route.net(),
-                route.metric(),
-                route.size(),
-            );
+            return push_for_all_sizes(out, all, route);
         }
         // Who takes a route by its address is given a copy, so that the route above is never written to memory.
         let copy = *route;
-        if let Stage::Checked(code) = &self.stage {
-            return push_checked(out, code, &copy);
+        match &self.stage {
+            Stage::Checked(code) => push_checked(out, code, &copy),
+            Stage::OneSize(verified) => push_for_one_size(out, verified, &copy),
+            _ => self.answer_rarely(alloc, &copy, out),
         }
-        self.answer_rarely(alloc, &copy, out)
     }
 
-    /// Does what `answer` does, also where the code is still to be verified or was verified for one size.
+    /// Does what `answer` does, also where the code is still to be verified.
     #[inline(never)]
     pub(crate) fn answer_rarely(
         &mut self,
@@ -130,42 +124,11 @@ impl Judge {
         if matches!(&self.stage, Stage::Untried(_)) {
             self.settle(alloc, route.size());
         }
-        if let Some(verified) = self.verified_for(route.size()) {
-            return push_verified(out, verified, route.net(), route.metric(), route.size());
-        }
-        match self.code() {
-            Some(code) => push_checked(out, code, route),
-            None => Ok(()),
-        }
-    }
-
-    /// The code, where it is verified so that it serves in domains of a size.
-    fn verified_for(&self, size: u32) -> Option<&Verified>
-        requires { size ≤ largest_size }
-        ensures code { IfSome result (λ verified. self.now ≡ Some verified.now.program) }
-        ensures serves { IfSome result (λ verified. Serves verified.now.program verified.now.size size) }
-    {
         match &self.stage {
-            Stage::AllSizes(all) => Some(all.verified()),
-            Stage::OneSize(verified) => {
-                if verified.size() != size {
-                    return None;
-                }
-                Some(verified)
-            }
-            _ => None,
-        }
-    }
-
-    /// The code, once it has come.
-    fn code(&self) -> Option<&Code>
-        ensures { MatchOption result (self.now ≡ None) (λ code. self.now ≡ Some code.now) }
-    {
-        match &self.stage {
-            Stage::Awaited => None,
-            Stage::Untried(code) | Stage::Checked(code) => Some(code),
-            Stage::OneSize(verified) => Some(verified.code()),
-            Stage::AllSizes(all) => Some(all.verified().code()),
+            Stage::Awaited => Ok(()),
+            Stage::Untried(code) | Stage::Checked(code) => push_checked(out, code, route),
+            Stage::OneSize(verified) => push_for_one_size(out, verified, route),
+            Stage::AllSizes(all) => push_for_all_sizes(out, all, route),
         }
     }
 
@@ -194,6 +157,37 @@ fn settled(alloc: Global, stage: Stage, size: u32) -> Stage
         },
         other => other,
     }
+}
+
+/// Puts the line of what code that is verified for one size says of a route at the end of `out`.
+#[inline(always)]
+fn push_for_one_size(
+    out: &mut Vec<u8>,
+    verified: &Verified,
+    route: &Route,
+) -> Result<(), AllocError>
+    ensures ok { OnOk result (out.new.items ≡ out.old.items ++ verdict (outcome_of verified.now.program route.now)) }
+    ensures err { OnErr result (StartsWith out.new.items out.old.items) }
+{
+    if verified.size() != route.size() {
+        return push_checked(out, verified.code(), route);
+    }
+    push_verified(out, verified, route.net(), route.metric(), route.size())
+}
+
+/// Puts the line of what code that is verified for all sizes says of a route at the end of `out`.
+#[inline(always)]
+fn push_for_all_sizes(out: &mut Vec<u8>, all: &ForAllSizes, route: &Route) -> Result<(), AllocError>
+    ensures ok { OnOk result (out.new.items ≡ out.old.items ++ verdict (outcome_of all.now route.now)) }
+    ensures err { OnErr result (StartsWith out.new.items out.old.items) }
+{
+    push_verified(
+        out,
+        all.verified(),
+        route.net(),
+        route.metric(),
+        route.size(),
+    )
 }
 
 /// Puts the line of what code that is not verified says of a route at the end of `out`.

@@ -1,5 +1,5 @@
 use Rattle.std.proofs.Common.{arith}
-use Rattle.filter_commands.proofs.judge.Judge.answer.Goals as goal
+use Rattle.filter_commands.proofs.judge.push_for_all_sizes.Goals as goal
 
 pub push_verified-requires-clause-serves : goal.push_verified-requires-clause-serves
 push_verified-requires-clause-serves c =
