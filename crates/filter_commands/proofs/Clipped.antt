@@ -21,7 +21,7 @@ use Rattle.filter_code.specs.declared.value.Value.{Value}
 use Rattle.filter_code.specs.declared.value.Value.TheVariants as value
 use Rattle.filter_code.proofs.Metrics.{accepted_in_range}
 use Rattle.filter_code.proofs.Runs.{Moves, outcome_exists, step_moves}
-use Rattle.filter_commands.specs.Sizes.{ReadsFirst, Serves, clipped}
+use Rattle.filter_commands.specs.Sizes.{ReadsFirst, clipped}
 use Rattle.filter_machine.specs.Verdicts.{announced}
 
 -- a configuration, and a state, with the metric clipped
@@ -183,12 +183,13 @@ outcome_within program net received size reachable =
     clipped_low size (outcome_of program route)
     (λ metric accepts. (accepted_in_range program route exists.steps (outcome_of program route) reachable exists.ends metric accepts).1)
 
--- where code serves, its outcome is that of the size that it is verified for, clipped
-pub outcome_served : (program : CodeView) (net : List Bool) (received verified size : ℕ) → Serves program verified size → received ≤ size →
-    outcome_of program (announced net received size) ≡ clipped size (outcome_of program (announced net received verified))
-outcome_served program net received verified size serves reachable =
-    elim (eq-or-lt_of_le serves.within) [
+-- the outcome is that in a larger domain, clipped, where the code reads the metric before it sets it
+pub outcome_served : (program : CodeView) (net : List Bool) (received larger size : ℕ) → size ≤ larger →
+    (size < larger → ReadsFirst program.instrs) → received ≤ size →
+    outcome_of program (announced net received size) ≡ clipped size (outcome_of program (announced net received larger))
+outcome_served program net received larger size within first reachable =
+    elim (eq-or-lt_of_le within) [
       | inl same ↦ subst (λ n. outcome_of program (announced net received size) ≡ clipped size (outcome_of program (announced net received n)))
           same (outcome_within program net received size reachable)
-      | inr less ↦ outcome_clipped program net received size verified serves.within (serves.reads_first less) reachable
+      | inr less ↦ outcome_clipped program net received size larger within (first less) reachable
     ]

@@ -1,19 +1,13 @@
--- In which domains verified code serves, beside those of the size that it is verified for. (This project's own choice.)
-use Rattle.std.specs.Prelude.{◌≡◌, ℕ, ◌<◌, ◌≤◌, List, Some, min, slice_get}
+-- How runs of one code differ in domains of different sizes. (This project's own choice.)
+use Rattle.std.specs.Prelude.{◌≡◌, ℕ, ◌<◌, List, Some, min, slice_get}
 use Rattle.filter_code.specs.declared.instruction.Instr.{Instr}
 use Rattle.filter_code.specs.declared.instruction.Instr.TheVariants as instr
 use Rattle.filter_code.specs.declared.outcome.Outcome.{Outcome}
 use Rattle.filter_code.specs.declared.outcome.Outcome.TheVariants as outcome
-use Rattle.filter_code.specs.CodeView.{CodeView}
 
 -- no instruction reads the metric behind one that sets it; jumps go forward alone, so a run reads no metric that it set
 abbrev pub ReadsFirst : List Instr → Type 0
 ReadsFirst instrs = (set read : ℕ) → slice_get instrs set ≡ Some instr.SetMetric → slice_get instrs read ≡ Some instr.Metric → read < set
-
--- code that is verified for a size serves in domains of another: of that size, or of a smaller one where it reads first
-pub record Serves (program : CodeView) (verified size : ℕ) : Type 0 where
-  pub within : size ≤ verified
-  pub reads_first : size < verified → ReadsFirst program.instrs
 
 -- the outcome in a domain of a size: a metric above it becomes the size, which is that of what cannot be reached
 abbrev pub clipped : ℕ → Outcome → Outcome

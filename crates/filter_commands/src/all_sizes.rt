@@ -1,7 +1,7 @@
 //! Code that is verified for domains of all sizes at once.
-ghost use Rattle.std.specs.Prelude.{◌≡◌, ◌≤◌, ℕ, IsTrue, MatchResult};
+ghost use Rattle.std.specs.Prelude.{◌≡◌, IsTrue, MatchResult};
 ghost use Rattle.filter_code.specs.Limits.{largest_size};
-ghost use Rattle.filter_commands.specs.Sizes.{ReadsFirst, Serves};
+ghost use Rattle.filter_commands.specs.Sizes.{ReadsFirst};
 
 use filter_code::{Code, Instr, LARGEST_SIZE};
 use filter_verifier::{Verified, verify};
@@ -42,11 +42,12 @@ impl ForAllSizes {
         }
     }
 
-    /// The verified code, which serves in domains of each size.
+    /// The verified code.
     #[inline(always)]
     pub(crate) fn verified(&self) -> &Verified
         ensures code { result.now.program ≡ self.now }
-        ensures serves { (size : ℕ) → size ≤ largest_size → Serves result.now.program result.now.size size }
+        ensures size { result.now.size ≡ largest_size }
+        ensures first { ReadsFirst result.now.program.instrs }
     {
         &self.verified
     }

@@ -1,11 +1,11 @@
 //! The code that the routes of `eval` go through.
-ghost use Rattle.std.specs.Prelude.{◌≡◌, ◌≤◌, ◌++◌, IfSome, OnErr, OnOk, is_some, not, None, Some};
+ghost use Rattle.std.specs.Prelude.{◌≡◌, ◌<◌, ◌≤◌, ◌++◌, IfSome, OnErr, OnOk, is_some, not, None, Some};
 ghost use Rattle.std.specs.Io.{StartsWith};
 ghost use Rattle.filter_code.specs.Machine.{outcome_of};
 ghost use Rattle.filter_machine.specs.Verdicts.{announced, outcome_said};
 ghost use Rattle.filter_commands.specs.Eval.{verdict};
 ghost use Rattle.filter_commands.specs.Judges.{code_at};
-ghost use Rattle.filter_commands.specs.Sizes.{Serves, clipped};
+ghost use Rattle.filter_commands.specs.Sizes.{ReadsFirst, clipped};
 
 use crate::all_sizes::ForAllSizes;
 use crate::verdict_line::{push_accept, push_verdict};
@@ -201,7 +201,8 @@ fn push_checked(out: &mut Vec<u8>, code: &Code, route: &Route) -> Result<(), All
     push_verdict(out, run_checked(code, route))
 }
 
-/// Puts the line of what verified code says of a route, in whose domain it serves, at the end of `out`.
+/// Puts the line of what verified code says of a route at the end of `out`: in a domain of the size that it is verified for, or in a
+/// smaller one where it reads the metric before it sets it.
 ///
 /// It stands apart, so that nothing is between the machine and its line.
 #[inline(never)]
@@ -213,7 +214,8 @@ fn push_verified(
     size: u32,
 ) -> Result<(), AllocError>
     requires reachable { metric ≤ size }
-    requires serves { Serves verified.now.program verified.now.size size }
+    requires within { size ≤ verified.now.size }
+    requires smaller { size < verified.now.size → ReadsFirst verified.now.program.instrs }
     ensures ok { OnOk result (out.new.items ≡ out.old.items
         ++ verdict (outcome_of verified.now.program (announced net metric size))) }
     ensures err { OnErr result (StartsWith out.new.items out.old.items) }
