@@ -8,7 +8,7 @@ pub mod Check
 pub mod Checking
 pub mod Rewriting
 pub mod Saying
+pub mod Sizes
 -- What only the bodies of this crate are proved against.
 pub mod Steps
 pub mod Judges
-pub mod Sizes

@@ -5,17 +5,19 @@ ghost use Rattle.filter_code.specs.Machine.{outcome_of};
 ghost use Rattle.filter_code.specs.RouteView.{RouteView};
 ghost use Rattle.filter_compiler.specs.Same.{MeansTheSame};
 ghost use Rattle.filter_compiler.specs.Verdicts.{meaning};
+ghost use Rattle.filter_machine.specs.Verdicts.{announced};
 ghost use Rattle.filter_parser.specs.SyntaxText.{FilterView};
 ghost use Rattle.filter_verifier.specs.Safe.{IsSafe};
 ghost use Rattle.hex.specs.Hex.{encode_lower};
 ghost use Rattle.line_protocol.specs.Lines.{answerable_from};
 ghost use Rattle.line_protocol.specs.declared.answers.Reply.TheVariants as reply;
 ghost use Rattle.std.specs.Str.Lines.{lines};
-ghost use Rattle.std.specs.Prelude.{◌≡◌, ◌↔◌, ◌++◌, ℕ, true, List, None, Ok, Err, map};
+ghost use Rattle.std.specs.Prelude.{◌≡◌, ◌≤◌, ◌↔◌, ◌++◌, ℕ, Bool, true, List, None, Ok, Err, map};
 ghost use Rattle.filter_commands.specs.Check.{FitsLine, IsCodeReport, IsReport, ReportView, printed};
 ghost use Rattle.filter_commands.specs.Eval.{code_in, eval_answers, route_answer, verdict};
 ghost use Rattle.filter_commands.specs.RouteLine.{IsLineFault, IsRouteLine, route_in};
 ghost use Rattle.filter_commands.specs.Saying.{Says, SaysTheSame};
+ghost use Rattle.filter_commands.specs.Sizes.{ReadsFirst, clipped};
 ghost use Rattle.filter_commands.specs.declared.line_fault.LineFault.{LineFault as TheFault};
 
 /// The code that `check` prints is read by `check --code` as the same code, with the same lines: code that is written and read
@@ -52,4 +54,12 @@ pub fn verified_code_says_the_same()
 pub fn route_lines()
     ensures found { (line : List ℕ) (route : RouteView) → (route_in None line ≡ Ok route) ↔ IsRouteLine line route }
     ensures refused { (line : List ℕ) (why : TheFault) → (route_in None line ≡ Err why) ↔ IsLineFault line why }
+{}
+
+/// Code in which no instruction reads the metric behind one that sets it says of a route in a domain what it says of the same route in
+/// a larger one, but that a metric over the size of the smaller one becomes that size. So code that is verified for the largest size
+/// can be run in its place in each.
+pub fn smaller_domains_clip_the_metric()
+    ensures { (program : CodeView) (net : List Bool) (received larger size : ℕ) → ReadsFirst program.instrs → size ≤ larger → received ≤ size
+        → outcome_of program (announced net received size) ≡ clipped size (outcome_of program (announced net received larger)) }
 {}
