@@ -461,7 +461,7 @@ const HISTORY_LIMIT: Parameter = Parameter {
 const RETRY: Parameter = Parameter {
     name: "retry",
     value: "SECONDS",
-    help: "Open a link that was closed again after so many seconds",
+    help: "Open a link that was closed again after so many seconds (1 or more)",
     kind: Kind::Number,
     is_required: false,
 };

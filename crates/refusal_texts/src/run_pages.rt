@@ -76,7 +76,7 @@ Place: the number of the line
     ok
     refused O6 2
 
-Name the filter first, by `load` or `code`; one that was refused has no name.
+Name the filter first, by `load`, by `code` or by the option `--filter`; one that was refused has no name.
 ",
     },
     Page {

@@ -57,7 +57,7 @@ ran_fails : (operates : Result ℕ StreamFault → Type 0) (untouched : Type 0) 
 ran_fails operates untouched answered (fault.Stream why) served is = subst operates is served
 ran_fails operates untouched answered (fault.Call why) served is = absurd is
 ran_fails operates untouched answered (fault.Lock why) served is = absurd is
-ran_fails operates untouched answered (fault.Save why) served is = (Ok is.0, subst operates is.1 served)
+ran_fails operates untouched answered (fault.Save why) served is = (is.0, subst operates is.1 served)
 ran_fails operates untouched answered fault.NotStarted served is = absurd is
 ran_fails operates untouched answered fault.Memory served is = absurd is
 

@@ -82,10 +82,11 @@ abbrev pub RunsAsOne : PlanView → Names → Option (Option (List ℕ)) → Opt
 RunsAsOne plan names first saved refused input left held holds = (r : RouterView) × (now : PassView)
     × RunsOperator plan names (Ok refused) input left held holds r now × SavesTo r now.part.seen first saved
 
--- Why a router was not run to its end: a fault broke the operator's lines off, or the history is not saved whole; or no line was read.
+-- Why a router was not run to its end: a fault broke the operator's lines off; or they were answered to their end, and the history is not
+-- saved whole; or no line was read.
 abbrev pub Fails : (Result ℕ StreamFault → Type 0) → Type 0 → DaemonFault → Type 0
 Fails operated untouched (fault.Stream why) = operated (Err why)
-Fails operated untouched (fault.Save why) = (answered : Result ℕ StreamFault) × operated answered
+Fails operated untouched (fault.Save why) = (refused : ℕ) × operated (Ok refused)
 Fails operated untouched _ = untouched
 
 -- a fault that comes before a line is read
