@@ -4,10 +4,12 @@
 usage: bird.py BENCH_PARTS NCROUTE RUNS [ROUTES]
 
 Needs BIRD 2.0 (`bird`, `birdc`); as a daemon of its own it is given ROUTES static routes (20,000), each with a metric, and
-the filters below. For each filter it is asked RUNS times to show the number of routes that the filter accepts, and the least
-processor time of the daemon for an answer counts. The text of each filter is compiled by `ncroute check` and the code taken
-through `bench_parts verified`, with the same routes. From both times that for a filter that only accepts is subtracted: the
-walk over the routes, and the question. Where the two accept different numbers of routes, that is said and the status is 1.
+the filters below. For each filter it is asked to show the number of routes that the filter accepts, and the daemon's processor
+time for the answer is taken. The text of each filter is compiled by `ncroute check` and the code taken through
+`bench_parts verified`, with the same routes. This is done RUNS times with all filters by turns, and of each the least time
+counts. From both times that for a filter that only accepts is subtracted: the walk over the routes, and the question. In BIRD
+that walk takes as long as a match, and its time varies by itself; so its least time wants many turns. Where the two accept
+different numbers of routes, that is said and the status is 1.
 """
 import os
 import subprocess
@@ -101,10 +103,6 @@ class Daemon:
         with open(f"/proc/{self.process.pid}/schedstat") as spent:
             return int(spent.read().split()[0]) / 1e9
 
-    def least(self, question, runs):
-        asked = [self.ask(question) for _ in range(runs)]
-        return asked[0][0], min(took for _, took in asked)
-
     def end(self):
         self.process.terminate()
         self.process.wait()
@@ -115,15 +113,11 @@ def code_of(ncroute, text):
     return said.stdout.split()[1]
 
 
-def ours(bench_parts, path, runs, count):
-    """How many routes are accepted, the steps of a run, and the seconds of a round."""
-
-    def spent(rounds):
-        return min(seconds([bench_parts, "verified", str(rounds)], path) for _ in range(runs))
-
+def round_of(bench_parts, path, count):
+    """How many routes are accepted, and the steps of a run."""
     with open(path, "rb") as given:
         said = subprocess.run([bench_parts, "verified", "1"], stdin=given, stdout=subprocess.PIPE, check=True).stdout.split()
-    return int(said[1]), int(said[7]) / count, (spent(ROUNDS) - spent(0)) / ROUNDS
+    return int(said[1]), int(said[7]) / count
 
 
 def write_input(path, code, routes):
@@ -132,15 +126,23 @@ def write_input(path, code, routes):
         out.writelines(f"{net} {metric} {SIZE}\n" for net, metric in routes.items())
 
 
+def a_turn(bench_parts, daemon, name, path):
+    """The seconds of ROUNDS rounds and of none here, how many routes BIRD accepts, and its seconds."""
+    here = (seconds([bench_parts, "verified", str(rounds)], path) for rounds in (ROUNDS, 0))
+    return *here, *daemon.ask(f"show route filter {name} count")
+
+
 def measured(programs, daemon, runs, texts, routes, folder):
     """For each filter: what both accept, the steps of a run, the seconds here and in BIRD."""
     bench_parts, ncroute = programs
+    paths = {name: os.path.join(folder, name) for name in texts}
     for name, text in texts.items():
-        path = os.path.join(folder, name)
-        write_input(path, code_of(ncroute, text), routes)
-        accepted, steps, here = ours(bench_parts, path, runs, len(routes))
-        by_bird, there = daemon.least(f"show route filter {name} count", runs)
-        yield name, (accepted, by_bird), steps, here, there
+        write_input(paths[name], code_of(ncroute, text), routes)
+    turns = [{name: a_turn(bench_parts, daemon, name, path) for name, path in paths.items()} for _ in range(runs)]
+    for name, path in paths.items():
+        accepted, steps = round_of(bench_parts, path, len(routes))
+        whole, none, by_bird, there = zip(*(turn[name] for turn in turns))
+        yield name, (accepted, by_bird[0]), steps, (min(whole) - min(none)) / ROUNDS, min(there)
 
 
 def report(rows, count):

@@ -8,6 +8,8 @@ usage: NCROUTE=PATH scripts/check_import.py     (PATH: the program as it is buil
 import os
 import random
 import re
+import resource
+import signal
 import subprocess
 import sys
 import tempfile
@@ -312,6 +314,26 @@ def comments(trial):
     trial.check("comments", all(word in written["f"] for word in ("# above", "# head", "/* one */", "# two", "# three")), written)
 
 
+def full(trial):
+    """A file that takes 200 bytes and no more: it is named, it has the beginning of the filter, and the next filter is imported."""
+    here = os.path.join(trial.folder, "full")
+    os.makedirs(os.path.join(here, "out"))
+    members = ", ".join(f"10.{n}.0.0/16" for n in range(40))
+    with open(os.path.join(here, "bird.conf"), "w") as it:
+        it.write(f"filter f {{ if net ~ [{members}] then accept; reject; }}\nfilter g {{ accept; }}\n")
+
+    def limit():
+        signal.signal(signal.SIGXFSZ, signal.SIG_IGN)
+        resource.setrlimit(resource.RLIMIT_FSIZE, (200, 200))
+
+    ran = subprocess.run([trial.ncroute, "import", "--size", SIZE, "--out", "out", "bird.conf"], cwd=here, capture_output=True, text=True, preexec_fn=limit)
+    told = ran.stderr == "out/f.filter: could not be written to its end (E2)\n"
+    with open(os.path.join(here, "out", "f.filter")) as it:
+        held = it.read()
+    is_next = ran.stdout.startswith("bird.conf:2:1 filter g -> out/g.filter verified ")
+    trial.check("a file that is not written to its end", told and is_next and ran.returncode == 1 and len(held) == 200, f"{ran} {held}")
+
+
 def constants(text, dice):
     """A configuration with definitions for some constants of a filter."""
     defined, written = [], []
@@ -373,6 +395,7 @@ def main():
         shown(trial)
         includes(trial)
         comments(trial)
+        full(trial)
         randoms(trial, seed, 300)
         verdicts(trial)
     finish(trial.passed, trial.failed)

@@ -38,11 +38,12 @@ use Rattle.filter_tools.specs.Explanations.{AreRefusalWords}
 use Rattle.filter_tools.specs.Filtering.{IsVerifiedOf}
 use Rattle.filter_tools.specs.Shown.{shown}
 use Rattle.filter_verifier.specs.VerifiedView.{VerifiedView}
+use Rattle.line_protocol.specs.Runs.{AppendsFront}
 use Rattle.ncroute.specs.Ending.{status_of_found}
 use Rattle.ncroute.specs.Following.{DoesFirst}
 use Rattle.ncroute.specs.Including.{ReadsConfig, SkipsText}
 use Rattle.ncroute.specs.Places.{ConfigView, place_of}
-use Rattle.ncroute.specs.Reading.{unmade_line}
+use Rattle.ncroute.specs.Reading.{unmade_line, unwritten_line}
 use Rattle.ncroute.specs.Streaming.{Streams, Tells, Writes}
 use Rattle.ncroute.specs.declared.importing.Made.{Made}
 
@@ -236,16 +237,24 @@ module _ (creates : List ℕ → Result (Option (List ℕ)) Error → Type 0) (l
   abbrev pub IsUnmade : List ℕ → Streams → Streams → Type 0
   IsUnmade path before after = (error : Error) × (words : List ℕ) × creates path (Err error) × Tells (unmade_line path words) before after
 
-  -- it is said which
+  -- A new file of this path got no more than a front of a text, which standard error was told.
+  abbrev pub IsUnwritten : List ℕ → List ℕ → Streams → Streams → Type 0
+  IsUnwritten path text before after = (held : Option (List ℕ)) × (holds : Option (List ℕ)) × creates path (Ok held) × AppendsFront held holds text
+      × Tells (unwritten_line path) before after
+
+  abbrev pub IsUnsaved : List ℕ → List ℕ → Streams → Streams → Type 0
+  IsUnsaved path text before after = IsUnmade path before after ⊎ IsUnwritten path text before after
+
+  -- it is said whether it was saved
   abbrev pub SavesText : List ℕ → List ℕ → Streams → Streams → Bool → Type 0
   SavesText path text before after true = IsSaved path text × (after ≡ before)
-  SavesText path text before after false = IsUnmade path before after
+  SavesText path text before after false = IsUnsaved path text before after
 
-  -- The text of a filter was written into a new file, and the filter's line was written; or there is no such file, and the filter is left out.
+  -- The text of a filter was written into a new file, and the filter's line was written; or it was not, and the filter is left out.
   abbrev pub SavesFilter : ConfigView → List ℕ → Made → List ℕ → List ℕ → Streams → Streams → Bool → Type 0
   SavesFilter config name made text path before after is_left =
       (IsSaved path text × Writes (made_line config name made (Some path)) before after × (is_left ≡ false))
-      ⊎ (IsUnmade path before after × (is_left ≡ true))
+      ⊎ (IsUnsaved path text before after × (is_left ≡ true))
 
   -- What came of a filter: it was saved, where there is a folder and it is verified; and otherwise its line was written. It is said whether the
   -- filter is left out.

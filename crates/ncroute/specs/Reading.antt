@@ -42,6 +42,13 @@ long_line source = told_line (name_of source) long_words (codes " (E4)" ++ 10 �
 abbrev pub unmade_line : List ℕ → List ℕ → List ℕ
 unmade_line name words = told_line name words (codes " (E2)" ++ 10 ∷ [])
 
+-- the line that tells that a new file did not get the whole text
+unfoldable pub unwritten_words : List ℕ
+unwritten_words = codes "could not be written to its end"
+
+abbrev pub unwritten_line : List ℕ → List ℕ
+unwritten_line name = told_line name unwritten_words (codes " (E2)" ++ 10 ∷ [])
+
 -- A text is all that standard input had, or goes one byte beyond a limit. `known` is what it had, `left` what it has now.
 abbrev pub ReadsInput : ℕ → List ℕ → Option (List ℕ) → Option (List ℕ) → Type 0
 ReadsInput limit text known left = Consumes known left text × (length text ≤ limit → IsAtEnd left) × (length text ≤ limit + 1)

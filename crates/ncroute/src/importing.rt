@@ -1,6 +1,6 @@
 //! From a configuration of BIRD to verified filters, in files of their own: the engine of `import`.
 ghost use Rattle.std.specs.Option.{option_map};
-ghost use Rattle.std.specs.Prelude.{◌≡◌, ◌≤◌, ℕ, false, [], ◌∷◌, ◌++◌, IfOk, IfSome, OnOk, is_some, length, string_bytes};
+ghost use Rattle.std.specs.Prelude.{◌≡◌, ◌≤◌, ℕ, false, [], ◌∷◌, ◌++◌, IfOk, IfSome, Ok, OnOk, is_some, length, string_bytes};
 ghost use Rattle.ncroute.specs.Following.{DoesFirst};
 ghost use Rattle.ncroute.specs.Importing.{AreWordsFor, ImportsConfig, ImportsCut, ImportsDraft, ImportsMade, ImportsParts, ImportsRead, ImportsSource, ImportsWords, IsMade, IsMadeOfText, IsMadeOfWords, IsRefusedText, IsToldFor};
 ghost use Rattle.ncroute.specs.Importing.{SavesFilter, SavesText, TellsEnd, TellsStrange, TellsWord, byte_line, end_words, ends_in_slash, fate_words, file_name, file_path, head_of, is_outside, made_line, origin_line, origins_for, outside_line, path_words, place_from, slash_behind, strange_words, text_for, text_in};
@@ -15,7 +15,7 @@ use crate::checking::is_any;
 use crate::console::Console;
 use crate::ending::{FAILED, status_of_found};
 use crate::including::{Whole, push_place, push_texts, read_whole};
-use crate::texts::{Folder, tell_unmade};
+use crate::texts::{Folder, tell_unmade, tell_unwritten};
 use bird_import::{
     Config, Cut, Draft, Fate, FilterText, Outcome, Why, Word, WordKind, cut_words,
     find_definitions, find_items, make_drafts, origin_of, reason_words, write_filter,
@@ -288,7 +288,28 @@ fn file_path(alloc: Global, folder: &str, name: &[u8]) -> Result<String, AllocEr
     Ok(path)
 }
 
-/// Writes a text into a new file. Returns whether that was done; people are told where no file was made.
+/// Writes a text into a file that was made. Returns whether all of it was written; people are told where it was not.
+fn save_in<F: Folder, R: Read, W: Write, E: Write>(
+    files: &F,
+    alloc: Global,
+    path: &str,
+    file: F::New,
+    text: &[u8],
+    console: &mut Console<R, W, E>,
+) -> Result<bool, ProgramFault>
+    requires { F.creates files.now path.now (Ok (F.New.contents file)) }
+    ensures { IfOk result (SavesText (F.creates files.now) (F.leaves files.now) path.now text.now console.old console.new) }
+{
+    let mut file = file;
+    if write_text(&mut file, text).is_err() {
+        tell_unwritten(alloc, &mut console.errors, path)?;
+        return Ok(false);
+    }
+    files.close(path, file);
+    Ok(true)
+}
+
+/// Writes a text into a new file. Returns whether that was done; people are told where no file was made, or where it did not get all.
 fn save<F: Folder, R: Read, W: Write, E: Write>(
     files: &F,
     alloc: Global,
@@ -299,12 +320,7 @@ fn save<F: Folder, R: Read, W: Write, E: Write>(
     ensures { IfOk result (SavesText (F.creates files.now) (F.leaves files.now) path.now text.now console.old console.new) }
 {
     match files.create(path) {
-        Ok(file) => {
-            let mut file = file;
-            write_text(&mut file, text)?;
-            files.close(path, file);
-            Ok(true)
-        }
+        Ok(file) => save_in(files, alloc, path, file, text, console),
         Err(error) => {
             tell_unmade(alloc, &mut console.errors, path, &error)?;
             Ok(false)

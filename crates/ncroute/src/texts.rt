@@ -5,7 +5,7 @@ ghost use Rattle.std.specs.declared.io.Error.{Error as TheError};
 ghost use Rattle.filter_commands.specs.Evaluation.{IsCut};
 ghost use Rattle.filter_commands.specs.Faults.{stream_fault};
 ghost use Rattle.ncroute.specs.Reading.{IsCause, IsOfFile, IsRead, IsUnread, LeavesFile, LeavesInput, ReadsFile, ReadsInput, ReadsWhole};
-ghost use Rattle.ncroute.specs.Reading.{StopsTelling, TellsUnread, long_line, long_words, name_of, told_line, unmade_line, unread_line};
+ghost use Rattle.ncroute.specs.Reading.{StopsTelling, TellsUnread, long_line, long_words, name_of, told_line, unmade_line, unread_line, unwritten_line, unwritten_words};
 
 use command_line::Source;
 use filter_commands::ProgramFault;
@@ -277,6 +277,31 @@ pub fn tell_unmade<E: Write>(
         × IsCut (stream_fault fault) (E.contents errors.old) (E.contents errors.new) (unmade_line name.now words)) }
 {
     tell_reason(alloc, errors, name.as_bytes(), error, b" (E2)\n")
+}
+
+/// What is said of a new file that did not get the whole text.
+#[tactic(auto, unfolding(crate::specs::Reading::unwritten_words))]
+fn unwritten_words() -> &'static str
+    ensures { result.now ≡ unwritten_words }
+{
+    "could not be written to its end"
+}
+
+/// Tells on `errors` that a new file did not get the whole text.
+pub fn tell_unwritten<E: Write>(
+    alloc: Global,
+    errors: &mut E,
+    name: &str,
+) -> Result<(), ProgramFault>
+    ensures { OnOk result (Appends (E.contents errors.old) (E.contents errors.new) (unwritten_line name.now)) }
+{
+    tell_of(
+        alloc,
+        errors,
+        name.as_bytes(),
+        unwritten_words(),
+        b" (E2)\n",
+    )
 }
 
 /// Tells that a source was not read, and the reason in the error.
