@@ -290,7 +290,7 @@ const OPTIONAL_SIZE: Parameter = Parameter {
 const LIMIT: Parameter = Parameter {
     name: "limit",
     value: "CLASSES",
-    help: "Try at most so many classes of routes (1000000)",
+    help: "Try at most this many classes of routes (1000000)",
     kind: Kind::Count,
     is_required: false,
 };
@@ -461,7 +461,7 @@ const HISTORY_LIMIT: Parameter = Parameter {
 const RETRY: Parameter = Parameter {
     name: "retry",
     value: "SECONDS",
-    help: "Open a link that was closed again after so many seconds (1 or more)",
+    help: "Reopen a closed link after this many seconds (1 or more)",
     kind: Kind::Number,
     is_required: false,
 };

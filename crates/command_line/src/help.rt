@@ -70,7 +70,7 @@ BEFORE and AFTER are `reject`, `accept METRIC`, or `accept`, which is with the m
 The last line is one of these:
   same on all routes         there is no other line: the filters do the same
   same on all other routes   they do the same outside of these parts
-  undecided on COUNT parts   so many parts are undecided; outside of the parts they do the same
+  undecided on COUNT parts   this many parts are undecided; outside of the parts they do the same
 
 Example:
   sed 's/> 12/> 10/' examples/backup_link.filter | ncroute diff examples/backup_link.filter -
@@ -285,7 +285,7 @@ const REPLAY_HELP: &str = "\
 FILE is the text of a history, of at most 1,073,741,824 bytes: a line for the router's
 opening, and a line for each entry with the reply that was given. The entries are carried
 out again, in order, and one line is printed:
-  replay ok ENTRIES                   each reply is right, of so many
+  replay ok ENTRIES                   each of these entries has the right reply
   differs AT saved REPLY right REPLY  the reply at position AT is the first that is wrong
   cut LINE                            line LINE was not written to its end; all before it
                                       is right

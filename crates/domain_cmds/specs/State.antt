@@ -6,7 +6,7 @@ use Rattle.std.specs.Map.{lookup}
 use Rattle.std.specs.Option.{option_map}
 use Rattle.std.specs.Ordering.{nat_cmp}
 use Rattle.std.specs.declared.sync.Arc.{Arc}
-use Rattle.std.proofs.Common.{Global}
+use Rattle.std.specs.declared.alloc.Global.{Global}
 use Rattle.filter_verifier.specs.VerifiedView.{VerifiedView}
 use Rattle.domain_routes.specs.PlanView.{PlanView}
 use Rattle.domain_routes.specs.declared.best.Best.{Best}

@@ -8,7 +8,7 @@ use Rattle.std.proofs.Math.Seq.{drop-append_seam, take-append_seam}
 use Rattle.std.proofs.lemmas.Bool.{ne_eqb}
 use Rattle.std.proofs.lemmas.List.{length-take-le, take-append-drop, take-take}
 use Rattle.std.proofs.lemmas.List.Elements.{All-head, All-more, All-tail}
-use Rattle.prefix_patterns.specs.Leading.{BeginsWith, BeginsWithDigit}
+use Rattle.prefix_patterns.specs.Leading.{BeginsWith, BeginsWithDigit, IsUsualPrefix}
 use Rattle.prefix_patterns.specs.Number.{IsDigits, decimal_value}
 use Rattle.prefix_patterns.specs.Reading.{number_in}
 use Rattle.prefix_patterns.proofs.DecimalValues.{decimal_value-more, decimal_value-take}
@@ -31,6 +31,17 @@ no_first_digit (byte ∷ bytes) e = rw e refl
 pub begins_with_digit : (rest : List ℕ) → begins_digit rest ≡ true → BeginsWithDigit rest
 begins_with_digit [] e = absurd cc
 begins_with_digit (byte ∷ bytes) e = digit_fact byte e
+
+-- so does a text that begins with a prefix in the usual spelling: the first number of it has a digit
+begins_as_digits : (digits others more rest text : List ℕ) → IsDigits digits → text ≡ ((digits ++ others) ++ more) ++ rest → begins_digit text ≡ true
+begins_as_digits [] others more rest text is spelled = absurd (omega (arith, is.some))
+begins_as_digits (byte ∷ bytes) others more rest text is spelled =
+    ap begins_digit spelled ∙ All-head (λ byte. is_ascii_digit byte ≡ true) byte bytes (digits_pass (byte ∷ bytes) is)
+
+pub usual_prefix_begins : (text rest : List ℕ) → BeginsWith IsUsualPrefix text rest → begins_digit text ≡ true
+usual_prefix_begins text rest begins =
+    let usual = begins.wanted in
+    begins_as_digits usual.first _ _ rest text usual.groups.0.0.0 (begins.spelled ∙ ap (λ token. token ++ rest) usual.spelled)
 
 -- digits at the front are counted with those that follow them
 count_with : (digits rest : List ℕ) → All (λ byte. is_ascii_digit byte ≡ true) digits →

@@ -15,7 +15,9 @@ const USUAL_ROOM: usize = 20;
 
 /// The token at the front of a text that begins with a digit, where it is a prefix in the usual spelling or a decimal number.
 pub fn digits_token(text: &[u8]) -> Option<Part>
-    ensures { IfSome result (λ part. token_in text.now ≡ Some part) }
+    ensures token { IfSome result (λ part. token_in text.now ≡ Some part) }
+    ensures usual { (rest : List ℕ) → BeginsWith IsUsualPrefix text.now rest → ¬ BeginsWithDigit rest → IsSome result }
+    ensures number { IsSome (number_ahead text.now) → IsSome result }
 {
     if begins_digit(text) {
         begun_token(text)
@@ -28,7 +30,9 @@ pub fn digits_token(text: &[u8]) -> Option<Part>
 /// there, the compiled code does without the tests for the end of the text.
 #[inline(always)]
 fn begun_token(text: &[u8]) -> Option<Part>
-    ensures { IfSome result (λ part. token_in text.now ≡ Some part) }
+    ensures token { IfSome result (λ part. token_in text.now ≡ Some part) }
+    ensures usual { (rest : List ℕ) → BeginsWith IsUsualPrefix text.now rest → ¬ BeginsWithDigit rest → IsSome result }
+    ensures number { IsSome (number_ahead text.now) → IsSome result }
 {
     if text.len() < USUAL_ROOM {
         last_token(text)
@@ -40,7 +44,9 @@ fn begun_token(text: &[u8]) -> Option<Part>
 /// The same near the end of a text.
 #[inline(never)]
 fn last_token(text: &[u8]) -> Option<Part>
-    ensures { IfSome result (λ part. token_in text.now ≡ Some part) }
+    ensures token { IfSome result (λ part. token_in text.now ≡ Some part) }
+    ensures usual { (rest : List ℕ) → BeginsWith IsUsualPrefix text.now rest → ¬ BeginsWithDigit rest → IsSome result }
+    ensures number { IsSome (number_ahead text.now) → IsSome result }
 {
     usual_token(text)
 }
@@ -48,7 +54,9 @@ fn last_token(text: &[u8]) -> Option<Part>
 /// A prefix in the usual spelling, or a decimal number.
 #[inline(always)]
 fn usual_token(text: &[u8]) -> Option<Part>
-    ensures { IfSome result (λ part. token_in text.now ≡ Some part) }
+    ensures token { IfSome result (λ part. token_in text.now ≡ Some part) }
+    ensures usual { (rest : List ℕ) → BeginsWith IsUsualPrefix text.now rest → ¬ BeginsWithDigit rest → IsSome result }
+    ensures number { IsSome (number_ahead text.now) → IsSome result }
 {
     match prefix_token(text) {
         Some(part) => Some(part),

@@ -17,7 +17,7 @@ use std::alloc::{AllocError, Global};
 pub enum Verdict {
     /// All entries are right: so many.
     Replays(u64),
-    /// An entry's reply is not what the tables reply there. It is the first such entry.
+    /// The recorded reply of an entry differs from the replayed one. It is the first such entry.
     Differs {
         /// The entry's position, counted from 0.
         at: u64,

@@ -1,7 +1,7 @@
 -- What the words of `router` come to: the plan of a router. (This project's own choice.)
 use Rattle.std.specs.Prelude.{◌≡◌, ◌⊎◌, ℕ, zero, suc, Bool, true, false, List, Option, Some, String, length, slice_get, string_bytes}
 use Rattle.std.specs.Option.{option_map}
-use Rattle.std.proofs.Common.{Global}
+use Rattle.std.specs.declared.alloc.Global.{Global}
 use Rattle.command_line.specs.declared.filter_words.NamedFile.{NamedFile}
 use Rattle.command_line.specs.declared.router_words.RouterWords.{RouterWords}
 use Rattle.router_options.specs.PlanView.{PlanView}

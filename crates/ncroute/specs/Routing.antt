@@ -2,7 +2,7 @@
 use Rattle.std.specs.Prelude.{◌≡◌, ◌⊎◌, ℕ, true, false, List, [], ◌∷◌, ◌++◌, Option, Some, None, Result, Ok, IfSome, String, codes, string_bytes, ⊤}
 use Rattle.std.specs.Io.KnownBytes.{Appends}
 use Rattle.std.specs.declared.io.Error.{Error}
-use Rattle.std.proofs.Common.{Global}
+use Rattle.std.specs.declared.alloc.Global.{Global}
 use Rattle.filter_commands.specs.Evaluation.{IsCut}
 use Rattle.filter_commands.specs.Faults.{stream_fault}
 use Rattle.history_saver.specs.Saved.{SaverView}

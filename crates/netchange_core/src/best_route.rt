@@ -28,7 +28,7 @@ fn distance_at(distances: &[u16], hop: usize, near: u16, k: usize) -> u16
     if k == hop { near } else { distances[k] }
 }
 
-/// Whether a neighbour leads before the next hop that led at a distance: it is nearer, or as near and not after it in number.
+/// Whether a neighbour beats the current next hop: it is nearer, or equally near with no higher number.
 fn overtakes(near: u16, hop: usize, dist: u16, node: u16) -> bool
     ensures fits { result ≡ true → near + 1 ≤ dist }
     ensures closer { result ≡ true → (near + 1 < dist) ⊎ ((near + 1 ≡ dist) × (hop ≤ node)) }

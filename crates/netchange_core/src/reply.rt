@@ -27,7 +27,7 @@ pub enum Refusal {
     #[error("the node is an up neighbour already")]
     AlreadyUp,
     /// N3: no up neighbour's present session has this number.
-    #[error("the session is not an up neighbour's present one")]
+    #[error("no neighbour is up in this session")]
     Stale,
     /// N4: the node that a message or a look is about is not in the domain.
     #[error("the destination is not in the domain")]

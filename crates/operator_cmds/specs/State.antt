@@ -5,7 +5,7 @@ use Rattle.std.specs.Cmp.Lexicographic.{slice_cmp}
 use Rattle.std.specs.Option.{option_map}
 use Rattle.std.specs.Ordering.{nat_cmp}
 use Rattle.std.specs.declared.sync.Arc.{Arc}
-use Rattle.std.proofs.Common.{Global}
+use Rattle.std.specs.declared.alloc.Global.{Global}
 use Rattle.filter_verifier.specs.VerifiedView.{VerifiedView}
 
 -- the filter of a name

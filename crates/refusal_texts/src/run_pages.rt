@@ -149,8 +149,9 @@ Give the process more memory.
     Page {
         code: "E4",
         text: "\
-E4: the input is longer than 16,777,216 bytes: about a million routes of 16 bytes
+E4: the input is longer than the command's limit
 
+`eval`, `run` and `domain` take 16,777,216 bytes, about a million routes of 16 bytes;
 `filter` takes 4,000,000,000 bytes of routes.
 
     $ (echo 4e434632000000000170; head -c 17000000 /dev/zero | tr '\\0' '\\n') | ncroute eval 2>&1
@@ -189,7 +190,7 @@ Take it down first.
     Page {
         code: "N3",
         text: "\
-N3: The session is not an up neighbour's present one.
+N3: No neighbour is up in this session.
 Place: the event's place in the history
 
     $ printf '%s\\n' 'network 4 0' 'down 1' | ncroute run

@@ -39,8 +39,8 @@ impl CallFault {
 /// Why a history does not replay.
 #[derive(Clone, Copy, Debug, Error)]
 pub enum ReplayFault {
-    /// The reply of the entry at this index, counted from 0, is not what the tables reply there. It is the first such entry.
-    #[error("the reply of entry {0} is not what the tables reply")]
+    /// The recorded reply of the entry at this index, counted from 0, differs from the replayed one. It is the first such entry.
+    #[error("entry {0}: the recorded reply differs from the replayed one")]
     Differs(usize),
     /// The memory for the tables was refused.
     #[error("out of memory")]

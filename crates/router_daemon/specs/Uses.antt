@@ -1,7 +1,7 @@
 -- How the filters that a plan uses are set. (This project's own choice.)
 use Rattle.std.specs.Prelude.{◌≡◌, ℕ, List, [], ◌∷◌, Option, Some, None, string_bytes}
 use Rattle.std.specs.declared.sync.Arc.{Arc}
-use Rattle.std.proofs.Common.{Global}
+use Rattle.std.specs.declared.alloc.Global.{Global}
 use Rattle.filter_verifier.specs.VerifiedView.{VerifiedView}
 use Rattle.operator_cmds.specs.Script.{setting}
 use Rattle.operator_cmds.specs.declared.event.Direction.{Direction}

@@ -2,7 +2,7 @@
 use Rattle.std.specs.Prelude.{◌≡◌, ◌==◌, ◌&&◌, ℕ, ◌≤◌, Bool, true, not, nat_lt, All, List, count_by, Option, String, string_bytes}
 use Rattle.std.specs.List.{list_any}
 use Rattle.std.specs.Str.{bytes_eq}
-use Rattle.std.proofs.Common.{Global}
+use Rattle.std.specs.declared.alloc.Global.{Global}
 use Rattle.netchange_core.specs.OpeningView.{OpeningView}
 use Rattle.operator_cmds.specs.Limits.{largest_limit}
 use Rattle.router_options.specs.declared.parts.FilterUse.{FilterUse}

@@ -418,7 +418,7 @@ const SHOWN: [(Shown, &str); 119] = [
     ),
     (
         Shown::Event(Refusal::Stale),
-        "the session is not an up neighbour's present one",
+        "no neighbour is up in this session",
     ),
     (
         Shown::Event(Refusal::BadDest),
