@@ -27,12 +27,18 @@ const VALUES: [&str; 4] = ["net", "rip_metric", "true", "false"];
 /// What some editors write before a text.
 const BYTE_ORDER_MARK: &[u8] = b"\xef\xbb\xbf";
 
+/// How the line begins that `check` writes before the digits of a code file.
+const CODE_LINE: &[u8] = b"code ";
+
 /// What is wrong with a source.
 pub(crate) fn words_of(alloc: Global, text: &[u8], told: &Diagnosis) -> Result<String, AllocError> {
     match told.refusal {
         Refusal::Parse(fault) => parse_words(alloc, text, fault),
         Refusal::Typing(fault) => kind_words(alloc, text, fault),
         Refusal::Verify(fault) => code_words(alloc, fault, told.byte.is_some()),
+        Refusal::Hexadecimal if text.starts_with(CODE_LINE) => {
+            format!(in alloc; "{}: leave out the word `code`", told.refusal)
+        }
         _ => format!(in alloc; "{}", told.refusal),
     }
 }

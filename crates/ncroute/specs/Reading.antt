@@ -23,9 +23,9 @@ abbrev pub name_of : Source → List ℕ
 name_of Input = codes "<stdin>"
 name_of (File name) = string_bytes name
 
--- a line that tells something of what has a name: the name as it is shown, what is said, and a code
+-- a line that tells something of what has a name: the name as it is shown, what is said, shown in the same way, and a code
 abbrev pub told_line : List ℕ → List ℕ → List ℕ → List ℕ
-told_line name words code = shown name ++ codes ": " ++ words ++ code
+told_line name words code = shown name ++ codes ": " ++ shown words ++ code
 
 -- the line that tells that a source was not read, with its name as it is shown and the words of the reason
 abbrev pub unread_line : Source → List ℕ → List ℕ

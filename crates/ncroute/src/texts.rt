@@ -217,7 +217,7 @@ fn told_line(alloc: Global, name: &[u8], words: &str, code: &[u8]) -> Result<Vec
     let mut line = Vec::new(alloc);
     push_shown(alloc, &mut line, name)?;
     line.extend_from_slice(b": ")?;
-    line.extend_from_slice(words.as_bytes())?;
+    push_shown(alloc, &mut line, words.as_bytes())?;
     line.extend_from_slice(code)?;
     Ok(line)
 }
