@@ -1,18 +1,20 @@
+-- What callers cite.
 pub mod Alike
-pub mod Spelling
-pub mod Rules
 pub mod Blocks
-pub mod Functions
-pub mod Sets
 pub mod Cases
-pub mod Steps
-pub mod Drafts
-pub mod Texts
-pub mod Laying
 pub mod Cutting
+pub mod Functions
 pub mod Including
-pub mod Items
 pub mod Indices
-pub mod Reasons
-pub mod Stuck
+pub mod Items
 pub mod Judged
+pub mod Laying
+pub mod Reasons
+pub mod Rules
+pub mod Sets
+pub mod Spelling
+pub mod Steps
+pub mod Stuck
+pub mod Texts
+-- What only the bodies of this crate are proved against.
+pub mod Drafts

@@ -1,3 +1,4 @@
+-- What callers cite.
 pub mod CommandNames
 pub mod Filters
 pub mod Given

@@ -1,1 +1,2 @@
+-- What callers cite.
 pub mod Play

@@ -1,7 +1,9 @@
+-- What callers cite.
 pub mod Edits
-pub mod Offers
 pub mod OfDomain
 pub mod PlanView
 pub mod Routes
-pub mod Solving
 pub mod Topology
+-- What only the bodies of this crate are proved against.
+pub mod Offers
+pub mod Solving

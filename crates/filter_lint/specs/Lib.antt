@@ -1,18 +1,20 @@
-pub mod Sites
-pub mod Sources
-pub mod Finding
-pub mod Known
-pub mod Conditions
-pub mod Commands
-pub mod Lowering
-pub mod Arithmetic
-pub mod Sets
-pub mod Variables
-pub mod Metrics
-pub mod Hints
-pub mod Watching
-pub mod HostBits
-pub mod Truths
-pub mod Rules
-pub mod WarningLines
+-- What callers cite.
 pub mod Linting
+pub mod Sources
+pub mod WarningLines
+-- What only the bodies of this crate are proved against.
+pub mod Arithmetic
+pub mod Commands
+pub mod Conditions
+pub mod Finding
+pub mod Hints
+pub mod HostBits
+pub mod Known
+pub mod Lowering
+pub mod Metrics
+pub mod Rules
+pub mod Sets
+pub mod Sites
+pub mod Truths
+pub mod Variables
+pub mod Watching

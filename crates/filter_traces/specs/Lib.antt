@@ -1,8 +1,10 @@
-pub mod Sites
-pub mod TracedView
-pub mod Told
-pub mod Steps
-pub mod Hits
-pub mod Commands
-pub mod Whys
+-- What callers cite.
 pub mod Coverage
+pub mod TracedView
+pub mod Whys
+-- What only the bodies of this crate are proved against.
+pub mod Commands
+pub mod Hits
+pub mod Sites
+pub mod Steps
+pub mod Told

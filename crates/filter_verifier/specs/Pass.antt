@@ -1,4 +1,4 @@
--- The steps of the pass: only bodies are proved against these.
+-- The steps of the pass.
 use Rattle.std.specs.Prelude.{ℕ, zero, suc, max, Option, Some, None, List, [], ◌∷◌, length, map, slice_index_or}
 use Rattle.filter_code.specs.declared.instruction.Instr.{Instr}
 use Rattle.filter_code.specs.CodeView.{CodeView}

@@ -1,12 +1,11 @@
+-- What callers cite.
 pub mod Checking
 pub mod Comparing
 pub mod Ending
 pub mod Filters
-pub mod Following
 pub mod Guiding
 pub mod Importing
 pub mod Including
-pub mod Inclusions
 pub mod Joining
 pub mod Linting
 pub mod Loading
@@ -23,5 +22,8 @@ pub mod Scripts
 pub mod Streaming
 pub mod Testing
 pub mod Trying
-pub mod Watching
 pub mod WrongWords
+-- What only the bodies of this crate are proved against.
+pub mod Following
+pub mod Inclusions
+pub mod Watching

@@ -15,6 +15,7 @@ use crate::wrong_words::wrong_line;
 use command_line::RouterWords;
 use filter_commands::ProgramFault;
 use history_saver::{SaveFault, Saver};
+use line_protocol::StreamFault;
 use route_history::CallFault;
 use router_daemon::{DaemonFault, LinkFolder, Setting, run_router};
 use router_options::RouterPlan;
@@ -97,8 +98,8 @@ fn router_line(fault: DaemonFault) -> &'static str
         DaemonFault::Call(CallFault::Memory) => "ncroute: J2\n",
         DaemonFault::Lock(LockFault::Held) => "ncroute: L2\n",
         DaemonFault::Lock(LockFault::Memory) => "ncroute: L3\n",
-        DaemonFault::Save(SaveFault::Write) => "ncroute: E2\n",
-        DaemonFault::Save(SaveFault::Memory) => "ncroute: E3\n",
+        DaemonFault::Save(SaveFault::Write) => fault_line(ProgramFault::Stream(StreamFault::Write)),
+        DaemonFault::Save(SaveFault::Memory) => fault_line(ProgramFault::MEMORY),
         DaemonFault::NotStarted => "ncroute: X2\n",
         DaemonFault::Memory => fault_line(ProgramFault::MEMORY),
     }

@@ -1,2 +1,3 @@
+-- What callers cite.
 pub mod Network
 pub mod Ring

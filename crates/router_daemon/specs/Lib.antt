@@ -1,10 +1,10 @@
 -- what callers cite
 pub mod Codes
 pub mod Running
-pub mod Told
 -- what only bodies are proved against
 pub mod Links
 pub mod Passes
 pub mod Saves
 pub mod Sets
+pub mod Told
 pub mod Uses

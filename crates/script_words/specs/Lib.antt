@@ -1,2 +1,3 @@
+-- What callers cite.
 pub mod Causes
 pub mod Telling
