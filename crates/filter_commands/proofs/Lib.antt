@@ -2,6 +2,7 @@ pub mod Clipped
 pub mod Evaluated
 pub mod Evaluations
 pub mod Endings
+pub mod FileLength
 pub mod PlainLines
 pub mod Printed
 pub mod Reading
@@ -10,3 +11,6 @@ pub mod Rewritten
 pub mod RouteLines
 mod Rows
 pub mod Saying
+pub mod SetMembers
+pub mod TextLines
+pub mod TextMembers

@@ -1,5 +1,6 @@
 //! Laws on what the commands write and rest on, each the contract of a function with an empty body.
-ghost use Rattle.code_file.specs.Spelling.{IsCode, spelling};
+ghost use Rattle.code_file.specs.Spelling.{IsCode, spelling, spelling_in};
+ghost use Rattle.code_file.specs.declared.version.Version.{Version};
 ghost use Rattle.filter_code.specs.CodeView.{CodeView};
 ghost use Rattle.filter_code.specs.Machine.{outcome_of};
 ghost use Rattle.filter_code.specs.RouteView.{RouteView};
@@ -7,13 +8,14 @@ ghost use Rattle.filter_compiler.specs.Same.{MeansTheSame};
 ghost use Rattle.filter_compiler.specs.Verdicts.{meaning};
 ghost use Rattle.filter_machine.specs.Verdicts.{announced};
 ghost use Rattle.filter_parser.specs.SyntaxText.{FilterView};
+ghost use Rattle.filter_source.specs.Sources.{Translates};
 ghost use Rattle.filter_verifier.specs.Safe.{IsSafe};
 ghost use Rattle.hex.specs.Hex.{encode_lower};
 ghost use Rattle.line_protocol.specs.Lines.{answerable_from};
 ghost use Rattle.line_protocol.specs.declared.answers.Reply.TheVariants as reply;
 ghost use Rattle.std.specs.Str.Lines.{lines};
-ghost use Rattle.std.specs.Prelude.{◌≡◌, ◌≤◌, ◌↔◌, ◌++◌, ℕ, Bool, true, List, None, Ok, Err, map};
-ghost use Rattle.filter_commands.specs.Check.{FitsLine, IsCodeReport, IsReport, ReportView, printed};
+ghost use Rattle.std.specs.Prelude.{◌≡◌, ◌≤◌, ◌↔◌, ◌+◌, ◌*◌, ◌++◌, ℕ, Bool, true, false, List, None, Ok, Err, length, map};
+ghost use Rattle.filter_commands.specs.Check.{FitsLine, GivesCode, IsCodeReport, IsReport, ReportView, printed};
 ghost use Rattle.filter_commands.specs.Eval.{code_in, eval_answers, route_answer, verdict};
 ghost use Rattle.filter_commands.specs.RouteLine.{IsLineFault, IsRouteLine, route_in};
 ghost use Rattle.filter_commands.specs.Saying.{Says, SaysTheSame};
@@ -38,6 +40,19 @@ pub fn printed_code_is_evaluated()
         → SaysTheSame filter program size → IsRouteLine line route → route.size ≡ size
         → Says (meaning filter route) (outcome_of program route)
         × (route_answer program (number, line) ≡ record { text = verdict (outcome_of program route); reply = reply.Answered }) }
+{}
+
+/// The file of a text's code, of either version, has at most four times as many bytes as the text, and 6,409 more. So what `check` prints of a text is
+/// within the limit of a source, whatever the text is: `check --code` always reads it as the same code, with the same lines, and `eval`
+/// reads it as that code.
+pub fn translations_fit_a_line()
+    ensures size { (version : Version) (text : List ℕ) (filter : FilterView) (program : CodeView) → Translates text filter program
+        → length (spelling_in version program) ≤ 4 * length text + 6409 }
+    ensures fits { (text : List ℕ) (filter : FilterView) (program : CodeView) → Translates text filter program → FitsLine program }
+    ensures checked_alike { (size : ℕ) (text : List ℕ) (program : CodeView) (report : ReportView) → GivesCode false text program
+        → IsCodeReport size program report → IsReport size true (printed program) report }
+    ensures evaluated { (text : List ℕ) (program : CodeView) (routes : List ℕ) → GivesCode false text program → IsCode program
+        → eval_answers (printed program ++ routes) ≡ map (route_answer program) (answerable_from 2 (lines routes)) }
 {}
 
 /// Code that means what a filter means, and that never goes wrong in domains of a size, says of each route of such a domain

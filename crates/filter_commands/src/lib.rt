@@ -19,7 +19,7 @@ pub use eval::{eval_lines, eval_watched_lines};
 pub use fault::ProgramFault;
 pub use laws::{
     printed_code_is_checked_alike, printed_code_is_evaluated, route_lines,
-    smaller_domains_clip_the_metric, verified_code_says_the_same,
+    smaller_domains_clip_the_metric, translations_fit_a_line, verified_code_says_the_same,
 };
 pub use line_fault::LineFault;
 pub use rewrite::rewrite_text;
