@@ -35,7 +35,11 @@ range_length r = lit≤ tt
 
 set_length : (patterns : List PrefixPattern) → length (bytes_of (set patterns)) ≤ 2 + 7 * length patterns
 set_length patterns =
-    omega (arith, ap length (bytes_of-flat_map (λ p. pattern p ∷ []) patterns), items_length 7 (λ p. bytes_of (pattern p ∷ [])) pattern_length patterns)
+    omega (
+      arith,
+      ap length (bytes_of-flat_map (λ p. pattern p ∷ []) patterns),
+      items_length 7 (λ p. bytes_of (pattern p ∷ [])) pattern_length patterns,
+    )
 
 int_set_length : (ranges : List NumberRange) → length (bytes_of (int_set ranges)) ≤ 2 + 8 * length ranges
 int_set_length ranges =

@@ -1,8 +1,11 @@
 pub mod Clipped
+pub mod CommandsFit
 pub mod Evaluated
 pub mod Evaluations
 pub mod Endings
 pub mod FileLength
+pub mod InstructionsFit
+pub mod LexemeLimits
 pub mod PlainLines
 pub mod Printed
 pub mod Reading
@@ -12,5 +15,7 @@ pub mod RouteLines
 mod Rows
 pub mod Saying
 pub mod SetMembers
+pub mod SetsFit
+pub mod TextFiles
 pub mod TextLines
 pub mod TextMembers

@@ -1,8 +1,8 @@
 -- The printed code of a text is within the limit of a source.
-use Rattle.std.proofs.Common.{◌≡◌, ℕ, ◌+◌, ◌*◌, ◌<◌, ◌≤◌, true, false, List, [], ◌∷◌, ◌++◌, length, map, inl, inr, sym, subst, arith, length-append}
+use Rattle.std.proofs.Common.{◌≡◌, ℕ, ◌+◌, ◌*◌, ◌≤◌, true, false, List, [], ◌∷◌, ◌++◌, length, map, inl, inr, sym, subst, arith, length-append}
 use Rattle.hex.proofs.HexLemmas.{length-encode_with}
 use Rattle.hex.specs.Hex.{encode_lower, lower_digits}
-use Rattle.code_file.specs.Spelling.{IsCode, spelling, spelling_in}
+use Rattle.code_file.specs.Spelling.{spelling, spelling_in}
 use Rattle.code_file.specs.declared.version.Version.{Version}
 use Rattle.code_file.specs.declared.version.Version.TheVariants as version
 use Rattle.filter_code.specs.CodeView.{CodeView}
@@ -10,6 +10,7 @@ use Rattle.filter_parser.specs.SyntaxText.{FilterView}
 use Rattle.filter_compiler.specs.Translation.{code_of}
 use Rattle.filter_source.specs.Sources.{Translates}
 use Rattle.filter_commands.proofs.FileLength.{file_length}
+use Rattle.filter_commands.proofs.TextFiles.{at_most, text_has_file}
 use Rattle.filter_commands.proofs.TextMembers.{members_of_text}
 use Rattle.filter_commands.proofs.Evaluated.{evaluated}
 use Rattle.filter_commands.proofs.Printed.{printed_again}
@@ -17,9 +18,6 @@ use Rattle.filter_commands.specs.Check.{FitsLine, GivesCode, IsCodeReport, IsRep
 use Rattle.filter_commands.specs.Eval.{eval_answers, route_answer}
 use Rattle.line_protocol.specs.Lines.{answerable_from}
 use Rattle.std.specs.Str.Lines.{lines}
-
-at_most : (limit n : ℕ) → ¬ (limit < n) → n ≤ limit
-at_most limit n h = omega (arith, h)
 
 -- the file of a translation has at most four times as many bytes as the text, and 6,409
 pub file_of_text : (v : Version) (text : List ℕ) (filter : FilterView) (program : CodeView) → Translates text filter program
@@ -46,6 +44,8 @@ pub text_checked_alike : (size : ℕ) (text : List ℕ) (program : CodeView) (re
 text_checked_alike size text program report gives h =
     printed_again size program report (text_fits text gives.1.0 program gives.1.1) h
 
-pub text_evaluated : (text : List ℕ) (program : CodeView) (routes : List ℕ) → GivesCode false text program → IsCode program
+pub text_evaluated : (text : List ℕ) (program : CodeView) (routes : List ℕ) → GivesCode false text program
     → eval_answers (printed program ++ routes) ≡ map (route_answer program) (answerable_from 2 (lines routes))
-text_evaluated text program routes gives h = evaluated program routes (text_fits text gives.1.0 program gives.1.1) h
+text_evaluated text program routes gives =
+    let translates = gives.1.1 in
+    evaluated program routes (text_fits text gives.1.0 program translates) (text_has_file text gives.1.0 program translates)

@@ -42,16 +42,17 @@ pub fn printed_code_is_evaluated()
         × (route_answer program (number, line) ≡ record { text = verdict (outcome_of program route); reply = reply.Answered }) }
 {}
 
-/// The file of a text's code, of either version, has at most four times as many bytes as the text, and 6,409 more. So what `check` prints of a text is
-/// within the limit of a source, whatever the text is: `check --code` always reads it as the same code, with the same lines, and `eval`
-/// reads it as that code.
+/// The code of each text has a code file. This has at most four times as many bytes as the text, and 6,409 more, and so has one of the
+/// older form. So what `check` prints of a text is within the limit of a source, whatever the text is: `check --code` always reads it as
+/// the same code, with the same lines, and `eval` reads it as that code.
 pub fn translations_fit_a_line()
+    ensures has_file { (text : List ℕ) (filter : FilterView) (program : CodeView) → Translates text filter program → IsCode program }
     ensures size { (version : Version) (text : List ℕ) (filter : FilterView) (program : CodeView) → Translates text filter program
         → length (spelling_in version program) ≤ 4 * length text + 6409 }
     ensures fits { (text : List ℕ) (filter : FilterView) (program : CodeView) → Translates text filter program → FitsLine program }
     ensures checked_alike { (size : ℕ) (text : List ℕ) (program : CodeView) (report : ReportView) → GivesCode false text program
         → IsCodeReport size program report → IsReport size true (printed program) report }
-    ensures evaluated { (text : List ℕ) (program : CodeView) (routes : List ℕ) → GivesCode false text program → IsCode program
+    ensures evaluated { (text : List ℕ) (program : CodeView) (routes : List ℕ) → GivesCode false text program
         → eval_answers (printed program ++ routes) ≡ map (route_answer program) (answerable_from 2 (lines routes)) }
 {}
 

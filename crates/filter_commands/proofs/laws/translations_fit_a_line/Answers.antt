@@ -1,5 +1,9 @@
+use Rattle.filter_commands.proofs.TextFiles.{text_has_file}
 use Rattle.filter_commands.proofs.TextLines.{file_of_text, text_checked_alike, text_evaluated, text_fits}
 use Rattle.filter_commands.proofs.laws.translations_fit_a_line.Goals as goal
+
+pub returns-clause-has_file : goal.returns-clause-has_file
+returns-clause-has_file c = text_has_file
 
 pub returns-clause-size : goal.returns-clause-size
 returns-clause-size c = file_of_text
