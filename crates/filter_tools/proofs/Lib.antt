@@ -7,5 +7,6 @@ pub mod Cut
 mod Rows
 pub mod Harmless
 pub mod Indents
+pub mod Excerpts
 pub mod LineWords
 pub mod BestWord

@@ -1,7 +1,7 @@
 -- Worked rows of places: a text of two lines, `ab` and a sign of three bytes, a tab and `c`.
-use Rattle.std.proofs.Common.{◌≡◌, ℕ, List, [], ◌∷◌, map, refl}
+use Rattle.std.proofs.Common.{◌≡◌, ℕ, List, [], ◌∷◌, ◌++◌, map, replicate, refl}
 use Rattle.unicode_width.proofs.Computing.{unicode_width}
-use Rattle.filter_tools.specs.Explanations.{excerpt_of}
+use Rattle.filter_tools.specs.Explanations.{excerpt_of, first_of, last_of}
 use Rattle.filter_tools.specs.Places.{column_at, line_at}
 use Rattle.filter_tools.specs.Shown.{shown_character}
 
@@ -49,3 +49,16 @@ wide = refl
 -- ESC is shown as a space, CSI and an override of the direction as U+FFFD, and a tab as it is
 hidden : map shown_character (27 ∷ (0x9b ∷ (0x202e ∷ (9 ∷ (97 ∷ []))))) ≡ 32 ∷ (0xfffd ∷ (0xfffd ∷ (9 ∷ (97 ∷ []))))
 hidden = refl
+
+-- of 13 tabs 12 are kept, which take 96 columns; and of a line that takes 100 all is
+tabs : last_of (replicate 13 9) ≡ replicate 12 9
+tabs = refl
+
+whole : first_of (replicate 12 9 ++ replicate 4 97) ≡ replicate 12 9 ++ replicate 4 97
+unfolding unicode_width
+whole = refl
+
+-- of 51 wide characters 48 are kept
+wide_front : first_of (replicate 51 0x65e5) ≡ replicate 48 0x65e5
+unfolding unicode_width
+wide_front = refl

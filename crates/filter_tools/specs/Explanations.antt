@@ -1,12 +1,12 @@
 -- A refusal for people: where it is, in words, and the line with a caret under the place. (This project's own choice.)
-use Rattle.std.specs.Prelude.{◌≡◌, ℕ, ◌+◌, ◌-◌, nat_lt, min, unwrap_or, if◌then◌else◌, List, [], ◌∷◌, ◌++◌, Option, Some, None, codes, decimal, drop, encode_utf8_all, flat_map, length, take}
+use Rattle.std.specs.Prelude.{◌≡◌, ℕ, ◌+◌, ◌-◌, Bool, nat_lt, min, unwrap_or, if◌then◌else◌, List, [], ◌∷◌, ◌++◌, Option, Some, None, codes, decimal, drop, encode_utf8_all, flat_map, length, take}
 use Rattle.std.specs.Option.{option_map}
 use Rattle.filter_source.specs.Refusals.{refusal_code}
 use Rattle.filter_source.specs.declared.diagnosis.Diagnosis.{Diagnosis}
 use Rattle.filter_source.specs.declared.refusal.Refusal.{Refusal}
 use Rattle.filter_tools.specs.Places.{before_first_feed, behind_last_feed, column_at, line_at}
 use Rattle.filter_tools.specs.Ranges.{EndsInRange}
-use Rattle.filter_tools.specs.Shown.{indent_of, shown, shown_characters}
+use Rattle.filter_tools.specs.Shown.{columns, columns_of, indent_of, shown, shown_characters}
 
 -- a line and a column, each behind a colon
 abbrev pub position : ℕ → ℕ → List ℕ
@@ -20,23 +20,36 @@ coded words code = words ++ codes " (" ++ code ++ 41 ∷ []
 abbrev pub message : List ℕ → List ℕ → List ℕ
 message words code = codes ": " ++ coded words code ++ 10 ∷ []
 
--- of a long line at most so many characters are shown at each side of the place, three of which are then dots
+-- of a long line at most so many columns are shown at each side of the place, three of which are then dots
 abbrev pub side : ℕ
 side = 100
 
+-- whether the characters of one side are not all shown
+abbrev pub is_long : List ℕ → Bool
+is_long characters = nat_lt side (columns characters)
+
 -- what stands in place of the characters of one side that are not shown, and what stands below
 abbrev pub dots_for : List ℕ → List ℕ
-dots_for characters = if nat_lt side (length characters) then codes "..." else []
+dots_for characters = if is_long characters then codes "..." else []
 
 abbrev pub blanks_for : List ℕ → List ℕ
-blanks_for characters = if nat_lt side (length characters) then codes "   " else []
+blanks_for characters = if is_long characters then codes "   " else []
+
+-- the longest end of some characters that takes at most so many columns, and the longest front that does
+abbrev pub end_within : ℕ → List ℕ → List ℕ
+end_within most [] = []
+end_within most (c ∷ cs) = if nat_lt most (columns (c ∷ cs)) then end_within most cs else c ∷ cs
+
+abbrev pub front_within : ℕ → List ℕ → List ℕ
+front_within most [] = []
+front_within most (c ∷ cs) = if nat_lt most (columns_of c) then [] else c ∷ front_within (most - columns_of c) cs
 
 -- the last characters before the place, and the first ones from it on
 abbrev pub last_of : List ℕ → List ℕ
-last_of characters = if nat_lt side (length characters) then drop (length characters - 97) characters else characters
+last_of characters = if is_long characters then end_within 97 characters else characters
 
 abbrev pub first_of : List ℕ → List ℕ
-first_of characters = if nat_lt side (length characters) then take 97 characters else characters
+first_of characters = if is_long characters then front_within 97 characters else characters
 
 -- a line of two parts, and a caret under the first character of the second
 abbrev pub excerpt_of : List ℕ → List ℕ → List ℕ

@@ -1,6 +1,6 @@
 -- Text as it is shown on a terminal: no character of it is a control character, or turns the direction of the text; and the line that a
 -- caret stands under. (This project's own choice; which characters turn a text is Unicode's, and how wide one is, East Asian Width.)
-use Rattle.std.specs.Prelude.{ℕ, ◌==◌, ◌&&◌, ◌||◌, Bool, false, not, nat_lt, nat_le, min, if◌then◌else◌, List, [], ◌∷◌, codes, encode_utf8_all, map, take, unwrap_or}
+use Rattle.std.specs.Prelude.{ℕ, ◌==◌, ◌&&◌, ◌||◌, Bool, false, not, nat_lt, nat_le, min, if◌then◌else◌, List, [], ◌∷◌, codes, encode_utf8_all, map, sum_by, take, unwrap_or}
 use Rattle.bstr.specs.Utf8.{lossy_chars}
 use Rattle.unicode_width.specs.Width.{char_width}
 
@@ -22,6 +22,18 @@ shown_characters bytes = map shown_character (lossy_chars bytes)
 abbrev pub shown : List ℕ → List ℕ
 shown bytes = encode_utf8_all (shown_characters bytes)
 
--- what stands under a character before the caret: a tab under a tab, and otherwise as many spaces as the character is wide, three at most
+-- the columns of a character on a terminal, three at most, where it is no tab
+abbrev pub width_of : ℕ → ℕ
+width_of c = min (unwrap_or (char_width false c) 0) 3
+
+-- what stands under a character before the caret: a tab under a tab, and otherwise as many spaces as the character is wide
 abbrev pub indent_of : ℕ → List ℕ
-indent_of c = if c == 9 then 9 ∷ [] else take (min (unwrap_or (char_width false c) 0) 3) (codes "   ")
+indent_of c = if c == 9 then 9 ∷ [] else take (width_of c) (codes "   ")
+
+-- the columns that a character takes at most: a tab ends at the next multiple of 8
+abbrev pub columns_of : ℕ → ℕ
+columns_of c = if c == 9 then 8 else width_of c
+
+-- those that characters take at most, side by side
+abbrev pub columns : List ℕ → ℕ
+columns characters = sum_by columns_of characters

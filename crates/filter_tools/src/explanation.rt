@@ -2,16 +2,16 @@
 ghost use Rattle.std.specs.Prelude.{◌≡◌, ◌++◌, None, Some, IfOk, OnOk, unwrap_or};
 ghost use Rattle.std.specs.Option.{option_map};
 ghost use Rattle.filter_tools.specs.Explanations.{AreRefusalWords, IsExplanation, IsLineExplanation, blanks_for, byte_of_line, dots_for, excerpt, excerpt_of, told_at};
-ghost use Rattle.filter_tools.specs.Explanations.{coded, explanation, first_of, last_of, message, number_text, position};
+ghost use Rattle.filter_tools.specs.Explanations.{coded, end_within, explanation, first_of, front_within, is_long, last_of, message, number_text, position};
 
 use crate::place::place_in;
-use crate::shown::{push_characters, push_indent, push_shown, shown_characters};
+use crate::shown::{columns_of, push_characters, push_indent, push_shown, shown_characters};
 use crate::told_words::told_words;
 use filter_source::{Diagnosis, Refusal};
 use line_protocol::push_decimal;
 use std::alloc::{AllocError, Global};
 
-/// Of a long line at most so many characters are shown at each side of the place.
+/// Of a long line at most so many columns are shown at each side of the place.
 const SIDE: usize = 100;
 
 /// So many of them where dots stand for the others.
@@ -27,26 +27,65 @@ pub fn push_position(out: &mut Vec<u8>, line: usize, column: usize) -> Result<()
     push_decimal(out, column as u64)
 }
 
+/// The longest front of some characters that takes at most so many columns.
+fn front_within(characters: &[char], most: usize) -> &[char]
+    ensures { result.now ≡ front_within most characters.now }
+{
+    let mut room = most;
+    for (i, character) in characters.iter().enumerate() {
+        let columns = columns_of(*character);
+        if columns > room {
+            return &characters[..i];
+        }
+        room -= columns;
+    }
+    characters
+}
+
+/// The longest end of some characters that takes at most so many columns.
+fn end_within(characters: &[char], most: usize) -> &[char]
+    ensures { result.now ≡ end_within most characters.now }
+{
+    let mut room = most;
+    let mut start = characters.len();
+    while start > 0 {
+        let columns = columns_of(characters[start - 1]);
+        if columns > room {
+            return &characters[start..];
+        }
+        room -= columns;
+        start -= 1;
+    }
+    characters
+}
+
+/// Whether the characters of one side are not all shown.
+fn is_long(characters: &[char]) -> bool
+    ensures { result ≡ is_long characters.now }
+{
+    front_within(characters, SIDE).len() < characters.len()
+}
+
 /// What stands in place of the characters of one side that are not shown.
 fn dots_for(characters: &[char]) -> &'static [u8]
     ensures { result.now ≡ dots_for characters.now }
 {
-    if characters.len() > SIDE { b"..." } else { b"" }
+    if is_long(characters) { b"..." } else { b"" }
 }
 
 /// What stands below the dots.
 fn blanks_for(characters: &[char]) -> &'static [u8]
     ensures { result.now ≡ blanks_for characters.now }
 {
-    if characters.len() > SIDE { b"   " } else { b"" }
+    if is_long(characters) { b"   " } else { b"" }
 }
 
 /// The last characters before the place.
 fn last_of(characters: &[char]) -> &[char]
     ensures { result.now ≡ last_of characters.now }
 {
-    if characters.len() > SIDE {
-        &characters[characters.len() - KEPT..]
+    if is_long(characters) {
+        end_within(characters, KEPT)
     } else {
         characters
     }
@@ -56,8 +95,8 @@ fn last_of(characters: &[char]) -> &[char]
 fn first_of(characters: &[char]) -> &[char]
     ensures { result.now ≡ first_of characters.now }
 {
-    if characters.len() > SIDE {
-        &characters[..KEPT]
+    if is_long(characters) {
+        front_within(characters, KEPT)
     } else {
         characters
     }

@@ -21,7 +21,7 @@ mod words;
 
 pub use explanation::{explain, explain_line, push_position, refusal_words, tell_at};
 pub use filter::{Filtered, PlacedCode, ROUTES_LIMIT, placed_code, verified_filter, write_refusal};
-pub use laws::shown_is_harmless;
+pub use laws::{excerpt_is_narrow, shown_is_harmless};
 pub use listing::write_listing;
 pub use named::{check_named, list_named, tell, tell_refusal};
 pub use named_text::NamedText;

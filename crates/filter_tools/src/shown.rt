@@ -1,7 +1,7 @@
 //! Text as it is shown on a terminal, which it must not be able to steer.
 ghost use Rattle.std.specs.Prelude.{◌≡◌, ◌++◌, IfOk, OnOk, encode_utf8_all, flat_map};
 ghost use Rattle.prefix_patterns.specs.Spelling.{prefix_text};
-ghost use Rattle.filter_tools.specs.Shown.{indent_of, is_hidden, shown_character, shown_characters};
+ghost use Rattle.filter_tools.specs.Shown.{columns_of, indent_of, is_hidden, shown_character, shown_characters, width_of};
 
 use bstr::ByteSlice;
 use prefix_patterns::Prefix;
@@ -71,6 +71,13 @@ pub fn push_prefix(alloc: Global, out: &mut Vec<u8>, prefix: Prefix) -> Result<(
     out.extend_from_slice(text.as_bytes())
 }
 
+/// The columns of a character on a terminal, three at most, where it is no tab.
+fn width_of(c: char) -> usize
+    ensures { result ≡ width_of c }
+{
+    c.width().unwrap_or(0).min(3)
+}
+
 /// Puts what stands under a character at the end of `out`, so that a caret behind it is in its column: a tab under a tab, and
 /// otherwise as many spaces as the character is wide.
 fn push_indent_of(out: &mut Vec<u8>, c: char) -> Result<(), AllocError>
@@ -80,7 +87,14 @@ fn push_indent_of(out: &mut Vec<u8>, c: char) -> Result<(), AllocError>
         out.push(b'\t')?;
         return Ok(());
     }
-    out.extend_from_slice(&b"   "[..c.width().unwrap_or(0).min(3)])
+    out.extend_from_slice(&b"   "[..width_of(c)])
+}
+
+/// The columns that a character takes at most: a tab ends at the next multiple of 8.
+pub(crate) fn columns_of(c: char) -> usize
+    ensures { result ≡ columns_of c }
+{
+    if c == '\t' { 8 } else { width_of(c) }
 }
 
 /// Puts what stands under some characters at the end of `out`.
