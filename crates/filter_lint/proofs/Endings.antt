@@ -1,5 +1,5 @@
 -- How a run of `lint` ends.
-use Rattle.std.proofs.Common.{◌≡◌, inr, ℕ, ◌+◌, Bool, false, List, length, Option, Some, None, Result, Ok, Err, IfOk, refl, sym, subst, ap}
+use Rattle.std.proofs.Common.{◌≡◌, inr, ℕ, ◌+◌, Bool, List, length, Option, Result, Ok, Err, IfOk, sym, subst}
 use Rattle.std.specs.Prelude.{All}
 use Rattle.filter_code.specs.CodeView.{CodeView}
 use Rattle.filter_source.specs.TextPlaces.{ArePlacesOf}

@@ -14,7 +14,7 @@ use Rattle.line_protocol.specs.declared.faults.StreamFault.TheVariants.{Memory, 
 use Rattle.filter_lint.specs.HostBits.{AreHostBits}
 use Rattle.filter_lint.specs.Rules.{AreFound}
 use Rattle.filter_lint.specs.Truths.{IsTrueOf}
-use Rattle.filter_lint.specs.WarningLines.{warnings_text}
+use Rattle.filter_lint.specs.WarningLines.{host_bits_text, warnings_text}
 use Rattle.filter_lint.specs.declared.host_bits.HostBits.{HostBits}
 use Rattle.filter_lint.specs.declared.linting.Linted.{Linted}
 use Rattle.filter_lint.specs.declared.linting.Linted.TheVariants as linted
@@ -72,3 +72,20 @@ abbrev pub WarnsNamedOff : StreamFault → ℕ → Named → Option (List ℕ) �
 WarnsNamedOff fault size source tells told = ((fault ≡ Memory) × Keeps tells told)
     ⊎ ((f : FilterView) × (is_f : IsFilterOf source.text size f) × (places : List ℕ) × ArePlacesOf source.text places
     × CutsWarnings fault is_f.program size places source tells told)
+
+-- These are the lines of the prefixes of a text that have host bits, as they are among those of its warnings.
+pub record AreHostBitsLines (source : Named) (lines : List ℕ) : Type 0 where
+  pub host_bits : List HostBits
+  pub are_host_bits : AreHostBits source.text host_bits
+  pub lines_are : lines ≡ host_bits_text source.name source.text host_bits
+
+-- They were told.
+pub record TellsHostBits (source : Named) (tells told : Option (List ℕ)) : Type 0 where
+  pub lines : List ℕ
+  pub are_lines : AreHostBitsLines source lines
+  pub written : Appends tells told lines
+
+-- A fault kept them from being told whole: memory was refused, and nothing was told; or they were cut.
+abbrev pub CutsHostBits : StreamFault → Named → Option (List ℕ) → Option (List ℕ) → Type 0
+CutsHostBits fault source tells told = ((fault ≡ Memory) × Keeps tells told)
+    ⊎ ((lines : List ℕ) × AreHostBitsLines source lines × (fault ≡ Write) × AppendsFront tells told lines)

@@ -144,6 +144,10 @@ abbrev pub host_bits_line : List ℕ → List ℕ → HostBits → List ℕ
 host_bits_line name text found = shown name ++ position (line_at text found.token.from) (column_at text found.token.from)
     ++ message (host_bits_words text found) (codes "W5")
 
+-- those of several, in order
+abbrev pub host_bits_text : List ℕ → List ℕ → List HostBits → List ℕ
+host_bits_text name text all = flat_map (host_bits_line name text) all
+
 -- the line that says that not all routes were tried
 unfoldable pub undecided_words : List ℕ
 undecided_words = codes ": undecided: not all routes were tried, so W1, W2 and W8 were not looked for" ++ 10 ∷ []
@@ -157,4 +161,4 @@ undecided_text name is_complete = if is_complete then [] else undecided_line nam
 -- the lines of the warnings of a text, of its prefixes with host bits, and a last one where not all routes were tried
 abbrev pub warnings_text : List ℕ → List ℕ → List (List PrefixPattern) → List Warning → List HostBits → Bool → List ℕ
 warnings_text name text sets warnings host_bits is_complete =
-    flat_map (warning_line name text sets) warnings ++ flat_map (host_bits_line name text) host_bits ++ undecided_text name is_complete
+    flat_map (warning_line name text sets) warnings ++ host_bits_text name text host_bits ++ undecided_text name is_complete

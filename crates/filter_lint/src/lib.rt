@@ -20,6 +20,6 @@ mod warning;
 mod warning_lines;
 mod watching;
 
-pub use linting::{Linted, lint_named, warn_named};
+pub use linting::{Linted, lint_named, tell_host_bits, warn_named};
 pub use site::Site;
 pub use warning::{Bounds, Cause, Operation, Warning};

@@ -11,7 +11,7 @@ ghost use Rattle.filter_lint.specs.WarningLines.{warnings_text as warnings_text_
 
 use crate::host_bits::{HostBits, find_host_bits};
 use crate::rules::{Warnings, find_warnings};
-use crate::warning_lines::warnings_text;
+use crate::warning_lines::{host_bits_text, warnings_text};
 use filter_commands::ProgramFault;
 use filter_source::Failure;
 use filter_tools::{NamedText, PlacedCode, placed_code, tell_refusal};
@@ -184,4 +184,28 @@ pub fn warn_named<E: Write>(
         Err(Failure::Refused(_)) => Ok(()),
         Err(Failure::Memory) => Err(ProgramFault::MEMORY),
     }
+}
+
+/// The lines of the prefixes of a text that have host bits.
+fn host_bits_lines(alloc: Global, source: &NamedText<'_>) -> Result<Vec<u8>, AllocError>
+    ensures { IfOk result (λ lines. spec.AreHostBitsLines (named source.now) lines.items) }
+{
+    let host_bits = find_host_bits(alloc, source.text)?;
+    let lines = host_bits_text(alloc, source.name, source.text, host_bits.as_slice())?;
+    Ok(lines)
+}
+
+/// Tells of the prefixes of a text that are written with host bits, in the lines that `warn_named` has of them. No route is tried.
+pub fn tell_host_bits<E: Write>(
+    alloc: Global,
+    source: &NamedText<'_>,
+    errors: &mut E,
+) -> Result<(), ProgramFault>
+    ensures told { OnOk result (spec.TellsHostBits (named source.now) (E.contents errors.old) (E.contents errors.new)) }
+    ensures cut { IfErr result (λ fault. spec.CutsHostBits (stream_fault fault) (named source.now)
+        (E.contents errors.old) (E.contents errors.new)) }
+{
+    let lines = host_bits_lines(alloc, source)?;
+    write_text(errors, lines.as_slice())?;
+    Ok(())
 }

@@ -417,12 +417,26 @@ fn push_all_host_bits(
     text: &[u8],
     all: &[HostBits],
 ) -> Result<(), AllocError>
-    ensures { OnOk result (out.new.items ≡ out.old.items ++ flat_map (spec.host_bits_line name.now text.now) all.now) }
+    ensures { OnOk result (out.new.items ≡ out.old.items ++ spec.host_bits_text name.now text.now all.now) }
 {
     for found in all {
         push_host_bits(alloc, out, name, text, found)?;
     }
     Ok(())
+}
+
+/// The lines of the prefixes of a text that have host bits.
+pub(crate) fn host_bits_text(
+    alloc: Global,
+    name: &[u8],
+    text: &[u8],
+    all: &[HostBits],
+) -> Result<Vec<u8>, AllocError>
+    ensures { IfOk result (λ out. out.items ≡ spec.host_bits_text name.now text.now all.now) }
+{
+    let mut out = Vec::new(alloc);
+    push_all_host_bits(alloc, &mut out, name, text, all)?;
+    Ok(out)
 }
 
 /// The lines of the warnings of a text, of its prefixes with host bits, and a last one where not all routes were tried.

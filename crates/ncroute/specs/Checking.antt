@@ -7,7 +7,7 @@ use Rattle.line_protocol.specs.declared.faults.StreamFault.{StreamFault}
 use Rattle.command_line.specs.declared.requests.Checking.{Checking}
 use Rattle.command_line.specs.declared.requests.Source.{Source}
 use Rattle.ncroute.specs.Following.{CutsLater, DoesAll}
-use Rattle.ncroute.specs.Linting.{CutsWarning, Warns}
+use Rattle.ncroute.specs.Linting.{CutsWarning, Warns, wanted_of}
 use Rattle.ncroute.specs.Marking.{ChecksLines, CutsLines, CutsReport, ReportsOn}
 use Rattle.ncroute.specs.Reading.{Reads, SkipsUnread, StopsReading, name_of}
 use Rattle.ncroute.specs.Streaming.{Streams}
@@ -33,18 +33,18 @@ abbrev pub CutsBy : Bool → StreamFault → Checking → List ℕ → List ℕ 
 CutsBy true fault how name text before after = CutsLines fault how name text before after
 CutsBy false fault how name text before after = CutsWhole fault how name text before after
 
--- And then its warnings were told, if they are asked for.
+-- And then those of its warnings were told that are wanted.
 pub record ChecksText (how : Checking) (name text : List ℕ) (before after : Streams) (is_refused : Bool) : Type 0 where
   pub mid : Streams
   pub checked : ChecksBy (how.has_names || how.is_quiet) how name text before mid is_refused
-  pub warned : Warns how.warning_limit how.size is_refused name text mid after
+  pub warned : Warns (wanted_of how is_refused) how.size (record { name = name; text = text }) mid after
 
 -- A fault cut the warnings.
 pub record CutsWarnings (fault : StreamFault) (how : Checking) (name text : List ℕ) (before after : Streams) : Type 0 where
   pub is_refused : Bool
   pub mid : Streams
   pub checked : ChecksBy (how.has_names || how.is_quiet) how name text before mid is_refused
-  pub cut : CutsWarning fault how.size is_refused name text mid after
+  pub cut : CutsWarning (wanted_of how is_refused) fault how.size (record { name = name; text = text }) mid after
 
 unfoldable pub CutsText : StreamFault → Checking → List ℕ → List ℕ → Streams → Streams → Type 0
 CutsText fault how name text before after =

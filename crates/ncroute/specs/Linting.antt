@@ -1,17 +1,20 @@
 -- What the program does with filters that are linted. (This project's own choice.)
-use Rattle.std.specs.Prelude.{◌≡◌, ◌⊎◌, ℕ, Bool, true, false, nat_lt, List, Option, Some, None, Result}
+use Rattle.std.specs.Prelude.{◌≡◌, ◌⊎◌, ℕ, Bool, true, false, nat_lt, not, ◌&&◌, if◌then◌else◌, List, Option, Some, None, Result}
 use Rattle.std.specs.declared.io.Error.{Error}
 use Rattle.filter_source.specs.Limits.{source_limit}
-use Rattle.filter_lint.specs.Linting.{LintsNamed, LintsNamedOff, WarnsNamed, WarnsNamedOff}
+use Rattle.filter_lint.specs.Linting.{CutsHostBits, LintsNamed, LintsNamedOff, TellsHostBits, WarnsNamed, WarnsNamedOff}
 use Rattle.filter_lint.specs.declared.linting.Linted.{Linted}
 use Rattle.filter_lint.specs.declared.linting.Linted.TheVariants.{Refused, Warned}
 use Rattle.filter_tools.specs.Naming.{Named}
 use Rattle.line_protocol.specs.declared.faults.StreamFault.{StreamFault}
+use Rattle.command_line.specs.declared.requests.Checking.{Checking}
 use Rattle.command_line.specs.declared.requests.Source.{Source}
 use Rattle.command_line.specs.declared.lint_words.Linting.{Linting}
 use Rattle.ncroute.specs.Following.{CutsLater, DoesAll}
 use Rattle.ncroute.specs.Reading.{Reads, SkipsUnread, StopsReading, name_of}
 use Rattle.ncroute.specs.Streaming.{Streams}
+use Rattle.ncroute.specs.declared.linting.Wanted.{Wanted}
+use Rattle.ncroute.specs.declared.linting.Wanted.TheVariants as wanted
 
 -- whether something is said of a filter: why it is refused, or a warning
 abbrev pub is_said : Linted → Bool
@@ -30,24 +33,55 @@ pub record CutsLintText (fault : StreamFault) (how : Linting) (source : Named) (
   pub named : LintsNamedOff fault how.size how.is_explained source before.holds after.holds before.tells after.tells
   pub reads : after.reads ≡ before.reads
 
+-- which warnings are told of a filter where they are not asked for: where words are told, those of its prefixes with host bits
+abbrev pub wanted_unasked : Bool → Bool → Wanted
+wanted_unasked is_explained is_code = if is_explained && not is_code then wanted.HostBits else wanted.Nothing
+
+-- all where they are asked for
+abbrev pub wanted_with : Option ℕ → Wanted → Wanted
+wanted_with None unasked = unasked
+wanted_with (Some limit) unasked = wanted.All limit
+
+-- and none of a text that is refused
+abbrev pub wanted_of : Checking → Bool → Wanted
+wanted_of how is_refused =
+    if is_refused then wanted.Nothing else wanted_with how.warning_limit (wanted_unasked how.is_explained how.is_code)
+
 -- The warnings of a text that was checked were told.
 pub record WarnsText (size : ℕ) (source : Named) (before after : Streams) : Type 0 where
   pub named : WarnsNamed size source before.tells after.tells
   pub reads : after.reads ≡ before.reads
   pub holds : after.holds ≡ before.holds
 
--- They were, where they are asked for and it is not refused; otherwise nothing was done.
-abbrev pub Warns : Option ℕ → ℕ → Bool → List ℕ → List ℕ → Streams → Streams → Type 0
-Warns None size is_refused name text before after = after ≡ before
-Warns (Some limit) size true name text before after = after ≡ before
-Warns (Some limit) size false name text before after = WarnsText size (record { name = name; text = text }) before after
-
 -- A fault cut that.
-pub record CutsWarning (fault : StreamFault) (size : ℕ) (is_refused : Bool) (name text : List ℕ) (before after : Streams) : Type 0 where
-  pub is_read : is_refused ≡ false
-  pub named : WarnsNamedOff fault size (record { name = name; text = text }) before.tells after.tells
+pub record CutsWarningText (fault : StreamFault) (size : ℕ) (source : Named) (before after : Streams) : Type 0 where
+  pub named : WarnsNamedOff fault size source before.tells after.tells
   pub reads : after.reads ≡ before.reads
   pub holds : after.holds ≡ before.holds
+
+-- Those of its prefixes with host bits were told.
+pub record WarnsOfHostBits (source : Named) (before after : Streams) : Type 0 where
+  pub told : TellsHostBits source before.tells after.tells
+  pub reads : after.reads ≡ before.reads
+  pub holds : after.holds ≡ before.holds
+
+-- A fault cut that.
+pub record CutsHostBitsText (fault : StreamFault) (source : Named) (before after : Streams) : Type 0 where
+  pub cut : CutsHostBits fault source before.tells after.tells
+  pub reads : after.reads ≡ before.reads
+  pub holds : after.holds ≡ before.holds
+
+-- Those warnings were told that are wanted; where none are, nothing was done.
+abbrev pub Warns : Wanted → ℕ → Named → Streams → Streams → Type 0
+Warns wanted.Nothing size source before after = after ≡ before
+Warns wanted.HostBits size source before after = WarnsOfHostBits source before after
+Warns (wanted.All limit) size source before after = WarnsText size source before after
+
+-- A fault cut that.
+abbrev pub CutsWarning : Wanted → StreamFault → ℕ → Named → Streams → Streams → Type 0
+CutsWarning wanted.Nothing fault size source before after = ⊥
+CutsWarning wanted.HostBits fault size source before after = CutsHostBitsText fault source before after
+CutsWarning (wanted.All limit) fault size source before after = CutsWarningText fault size source before after
 
 -- `opens name` says what may come of opening a file of this name.
 module _ (opens : List ℕ → Result (Option (List ℕ)) Error → Type 0) where

@@ -2,7 +2,7 @@
 ghost use Rattle.std.specs.Prelude.{◌≡◌, IfErr, IfOk, OnOk};
 ghost use Rattle.filter_commands.specs.Faults.{stream_fault};
 ghost use Rattle.filter_tools.specs.Naming.{named};
-ghost use Rattle.ncroute.specs.Linting.{CutsLint, CutsLintText, CutsWarning, LintsAll, LintsOne, LintsText, StopsLinting, Warns, is_said};
+ghost use Rattle.ncroute.specs.Linting.{CutsHostBitsText, CutsLint, CutsLintText, CutsWarning, CutsWarningText, LintsAll, LintsOne, LintsText, StopsLinting, Warns, WarnsOfHostBits, WarnsText, is_said, wanted_of};
 
 use crate::checking::is_any;
 use crate::console::{Console, Loaded};
@@ -10,11 +10,22 @@ use crate::ending::status_of_found;
 use crate::texts::{Folder, name_of};
 use command_line::{Checking, Linting, Source};
 use filter_commands::ProgramFault;
-use filter_lint::{Linted, lint_named, warn_named};
+use filter_lint::{Linted, lint_named, tell_host_bits, warn_named};
 use filter_source::SOURCE_LIMIT;
 use filter_tools::NamedText;
 use std::alloc::Global;
 use std::io::{Read, Write};
+
+/// Which warnings are told of a text that was checked.
+#[derive(Clone, Copy)]
+pub enum Wanted {
+    /// None.
+    Nothing,
+    /// Those of its prefixes that are written with host bits.
+    HostBits,
+    /// All, for which so many classes of routes are tried.
+    All(u64),
+}
 
 /// Whether something is said of a filter: why it is refused, or a warning.
 fn is_said(linted: Linted) -> bool
@@ -50,7 +61,52 @@ fn lint_text<R: Read, W: Write, E: Write>(
     }
 }
 
-/// Tells the warnings of a text that was checked, where they are asked for and it is not refused.
+/// Which warnings are told of a text that was checked: none if it is refused, all where they are asked for, and otherwise those of the
+/// prefixes of a filter, where words are told.
+fn wanted_of(how: Checking, is_refused: bool) -> Wanted
+    ensures { result ≡ wanted_of how is_refused }
+{
+    match how.warning_limit {
+        _ if is_refused => Wanted::Nothing,
+        Some(limit) => Wanted::All(limit),
+        None if how.is_explained && !how.is_code => Wanted::HostBits,
+        None => Wanted::Nothing,
+    }
+}
+
+/// Tells all warnings of a text that is verified.
+fn warn_of_all<R: Read, W: Write, E: Write>(
+    alloc: Global,
+    size: u32,
+    limit: u64,
+    source: &NamedText<'_>,
+    console: &mut Console<R, W, E>,
+) -> Result<(), ProgramFault>
+    ensures told { OnOk result (WarnsText size (named source.now) console.old console.new) }
+    ensures cut { IfErr result (λ fault. CutsWarningText (stream_fault fault) size (named source.now) console.old console.new) }
+{
+    match warn_named(alloc, source, size, limit, &mut console.errors) {
+        Ok(()) => Ok(()),
+        Err(fault) => Err(fault),
+    }
+}
+
+/// Tells those of its prefixes that are written with host bits.
+fn warn_of_host_bits<R: Read, W: Write, E: Write>(
+    alloc: Global,
+    source: &NamedText<'_>,
+    console: &mut Console<R, W, E>,
+) -> Result<(), ProgramFault>
+    ensures told { OnOk result (WarnsOfHostBits (named source.now) console.old console.new) }
+    ensures cut { IfErr result (λ fault. CutsHostBitsText (stream_fault fault) (named source.now) console.old console.new) }
+{
+    match tell_host_bits(alloc, source, &mut console.errors) {
+        Ok(()) => Ok(()),
+        Err(fault) => Err(fault),
+    }
+}
+
+/// Tells those warnings of a text that was checked that are wanted.
 pub fn warn<R: Read, W: Write, E: Write>(
     alloc: Global,
     how: Checking,
@@ -59,18 +115,16 @@ pub fn warn<R: Read, W: Write, E: Write>(
     is_refused: bool,
     console: &mut Console<R, W, E>,
 ) -> Result<(), ProgramFault>
-    ensures told { OnOk result (Warns how.warning_limit how.size is_refused name.now text.now console.old console.new) }
-    ensures cut { IfErr result (λ fault. CutsWarning (stream_fault fault) how.size is_refused name.now text.now console.old console.new) }
+    ensures told { OnOk result (Warns (wanted_of how is_refused) how.size (record { name = name.now; text = text.now })
+        console.old console.new) }
+    ensures cut { IfErr result (λ fault. CutsWarning (wanted_of how is_refused) (stream_fault fault) how.size
+        (record { name = name.now; text = text.now }) console.old console.new) }
 {
-    match how.warning_limit {
-        Some(limit) if !is_refused => {
-            let source = NamedText { name, text };
-            match warn_named(alloc, &source, how.size, limit, &mut console.errors) {
-                Ok(()) => Ok(()),
-                Err(fault) => Err(fault),
-            }
-        }
-        _ => Ok(()),
+    let source = NamedText { name, text };
+    match wanted_of(how, is_refused) {
+        Wanted::Nothing => Ok(()),
+        Wanted::HostBits => warn_of_host_bits(alloc, &source, console),
+        Wanted::All(limit) => warn_of_all(alloc, how.size, limit, &source, console),
     }
 }
 
