@@ -1,5 +1,5 @@
 -- What the program does with filters that are linted. (This project's own choice.)
-use Rattle.std.specs.Prelude.{◌≡◌, ◌⊎◌, ℕ, Bool, true, false, nat_lt, not, ◌&&◌, if◌then◌else◌, List, Option, Some, None, Result}
+use Rattle.std.specs.Prelude.{◌≡◌, ◌⊎◌, ℕ, Bool, true, nat_lt, not, ◌&&◌, if◌then◌else◌, List, Option, Some, None, Result}
 use Rattle.std.specs.declared.io.Error.{Error}
 use Rattle.filter_source.specs.Limits.{source_limit}
 use Rattle.filter_lint.specs.Linting.{CutsHostBits, LintsNamed, LintsNamedOff, TellsHostBits, WarnsNamed, WarnsNamedOff}
