@@ -2,7 +2,8 @@
 ghost use Rattle.std.specs.Prelude.{◌≡◌, IfErr, IfOk, OnOk};
 ghost use Rattle.filter_commands.specs.Faults.{stream_fault};
 ghost use Rattle.filter_tools.specs.Naming.{named};
-ghost use Rattle.ncroute.specs.Linting.{CutsHostBitsText, CutsLint, CutsLintText, CutsWarning, CutsWarningText, LintsAll, LintsOne, LintsText, StopsLinting, Warns, WarnsOfHostBits, WarnsText, is_said, wanted_of};
+ghost use Rattle.ncroute.specs.Linting.{CutsHostBitsText, CutsLint, CutsLintText, CutsWarning, CutsWarningText, LintsAll, LintsOne, LintsText};
+ghost use Rattle.ncroute.specs.Linting.{StopsLinting, Warns, WarnsOfHostBits, WarnsText, is_said, wanted_of};
 
 use crate::checking::is_any;
 use crate::console::{Console, Loaded};
