@@ -1,4 +1,21 @@
--- What callers cite.
+pub mod Sites
+pub mod Sources
+pub mod Finding
+pub mod Known
+pub mod Conditions
+pub mod Commands
+pub mod Lowering
+pub mod Arithmetic
+pub mod Sets
+pub mod Variables
+pub mod Metrics
+pub mod Hints
+pub mod Watching
+pub mod HostBits
+pub mod Slashes
+pub mod Truths
+pub mod Rules
+pub mod WarningLines
 pub mod Linting
 pub mod Sources
 pub mod WarningLines

@@ -4,6 +4,7 @@ ghost use Rattle.std.specs.Option.{option_map};
 ghost use Rattle.filter_tokens.specs.Lexemes.{covered};
 ghost use Rattle.filter_lint.specs.HostBits as spec;
 
+use crate::slashes::may_have_host_bits;
 use filter_tokens::{Token, TokenKind, lex};
 use prefix_patterns::{Ip, Prefix, read_ip};
 use std::alloc::{AllocError, Global};
@@ -84,6 +85,9 @@ fn among(alloc: Global, text: &[u8], tokens: &[Token]) -> Result<Vec<HostBits>, 
 pub(crate) fn find_host_bits(alloc: Global, text: &[u8]) -> Result<Vec<HostBits>, AllocError>
     ensures { IfOk result (λ found. spec.AreHostBits text.now found.items) }
 {
+    if !may_have_host_bits(text) {
+        return Ok(Vec::new(alloc));
+    }
     let lexed = lex(alloc, text)?;
     let found = among(alloc, text, lexed.tokens.as_slice())?;
     Ok(found)

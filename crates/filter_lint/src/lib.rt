@@ -14,6 +14,7 @@ mod metrics;
 mod rules;
 mod sets;
 mod site;
+mod slashes;
 mod source;
 mod variables;
 mod warning;
