@@ -4,9 +4,9 @@ use Rattle.std.proofs.Common.{nat_lt, refl, sym, ◌∙◌, ap, subst, arith, le
 use Rattle.std.specs.Char.{IsAsciiDigit, is_ascii_digit}
 use Rattle.std.proofs.Math.Seq.{get_or-append_seam}
 use Rattle.std.proofs.lemmas.Bool.{eq-eqb, ltb-true, ltb-false}
-use Rattle.std.proofs.lemmas.List.{append_assoc, get_or-drop, length-take-le, take-append-drop, drop-drop, take_at}
+use Rattle.std.proofs.lemmas.List.{append_assoc, get_or-drop, length-take-le, length-drop, take-append-drop, drop-drop, drop_at, take_all, take_at}
 use Rattle.std.proofs.lemmas.List.Elements.{All-append, All-cons, All-nil}
-use Rattle.memchr.specs.Find.{Nowhere, Passes, is_byte}
+use Rattle.memchr.specs.Find.{IsFirstByte, Nowhere, Passes, is_byte}
 use Rattle.prefix_patterns.specs.Bits.{prefix_bits, address_of}
 use Rattle.prefix_patterns.specs.Number.{decimal_value}
 use Rattle.prefix_patterns.specs.Reading.{parts_at, number_in, address_in, prefix_in}
@@ -175,3 +175,53 @@ none_further text from to count reach so_far nowhere before behind e below =
 -- nothing is before the text
 pub none_yet : (text : List ℕ) → AreHarmless text 0
 none_yet text before behind e below = absurd (omega (arith, below))
+
+-- what follows a place of a text
+abbrev tail : List ℕ → ℕ → List ℕ
+tail text from = take (length text - from) (drop from text)
+
+tail_is : (text : List ℕ) (from : ℕ) → tail text from ≡ drop from text
+tail_is text from = take_all _ (drop from text) (omega (arith, length-drop from text))
+
+-- where no slash is left, all are harmless
+pub none_left : (text : List ℕ) (from : ℕ) → AreHarmless text from
+    → Nowhere (Passes (is_byte slash) (tail text from)) 0 (length (tail text from)) → AreHarmless text (length text)
+none_left text from so_far nowhere =
+    let left : length (tail text from) ≡ length text - from = ap length (tail_is text from) ∙ length-drop from text in
+    none_further text from (length text) (length (tail text from)) (omega (arith, left)) so_far
+    (subst (λ t. Nowhere (Passes (is_byte slash) t) 0 (length (tail text from))) (tail_is text from) nowhere)
+
+-- what is before and behind a slash is cut there
+cut_before : (text before behind : List ℕ) (place : ℕ) → text ≡ before ++ slash ∷ behind → length before ≡ place → before ≡ take place text
+cut_before text before behind place e count = sym (ap (take place) e ∙ take_at before (slash ∷ behind) place count)
+
+cut_behind : (text before behind : List ℕ) (place : ℕ) → text ≡ before ++ slash ∷ behind → length before ≡ place
+    → behind ≡ drop (place + 1) text
+cut_behind text before behind place e count =
+    let split : text ≡ (before ++ slash ∷ []) ++ behind = e ∙ sym (append_assoc before (slash ∷ []) behind) in
+    sym (ap (drop (place + 1)) split
+    ∙ drop_at (before ++ slash ∷ []) behind (place + 1) (omega (arith, length-append before (slash ∷ []), count)))
+
+here : (text : List ℕ) (place : ℕ) (earlier : Bool) → AreHarmless text place → IsHarmless (take place text) (tail text (place + 1))
+    → (before behind : List ℕ) → nat_lt (length before) place ≡ earlier → text ≡ before ++ slash ∷ behind → length before < place + 1
+    → IsHarmless before behind
+here text place true so_far harmless before behind test e below = so_far before behind e (ltb-true _ _ test)
+here text place false so_far harmless before behind test e below =
+    let past : place ≤ length before = ltb-false _ _ test in
+    let count : length before ≡ place = omega arith in
+    let first = cut_before text before behind place e count in
+    let second = cut_behind text before behind place e count ∙ sym (tail_is text (place + 1)) in
+    subst (λ b. IsHarmless b behind) (sym first) (subst (λ b. IsHarmless (take place text) b) (sym second) harmless)
+
+-- one slash further
+pub one_further : (text : List ℕ) (from at : ℕ) → from ≤ length text → AreHarmless text from
+    → IsFirstByte (is_byte slash) (tail text from) (Some at) → IsHarmless (take (from + at) text) (tail text (from + at + 1))
+    → (from + at + 1 ≤ length text) × AreHarmless text (from + at + 1)
+one_further text from at within so_far first harmless =
+    let left : length (tail text from) ≡ length text - from = ap length (tail_is text from) ∙ length-drop from text in
+    let none : AreHarmless text (from + at) =
+    none_further text from (from + at) at (omega arith) so_far
+    (subst (λ t. Nowhere (Passes (is_byte slash) t) 0 at) (tail_is text from) first.0.before) in (
+      omega (arith, left, first.0.high),
+      λ before behind e below. here text (from + at) (nat_lt (length before) (from + at)) none harmless before behind refl e below,
+    )

@@ -2,6 +2,7 @@ pub mod Covered
 pub mod Endings
 pub mod Found
 pub mod Hinted
+pub mod Groups
 pub mod Harmless
 pub mod True
 pub mod Tried
