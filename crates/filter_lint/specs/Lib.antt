@@ -1,21 +1,4 @@
-pub mod Sites
-pub mod Sources
-pub mod Finding
-pub mod Known
-pub mod Conditions
-pub mod Commands
-pub mod Lowering
-pub mod Arithmetic
-pub mod Sets
-pub mod Variables
-pub mod Metrics
-pub mod Hints
-pub mod Watching
-pub mod HostBits
-pub mod Slashes
-pub mod Truths
-pub mod Rules
-pub mod WarningLines
+-- What callers cite.
 pub mod Linting
 pub mod Sources
 pub mod WarningLines
@@ -32,6 +15,7 @@ pub mod Metrics
 pub mod Rules
 pub mod Sets
 pub mod Sites
+pub mod Slashes
 pub mod Truths
 pub mod Variables
 pub mod Watching
