@@ -7,9 +7,11 @@ Needs BIRD 2.0 (`bird`, `birdc`); as a daemon of its own it is given ROUTES stat
 the filters below. For each filter it is asked to show the number of routes that the filter accepts, and the daemon's processor
 time for the answer is taken. The text of each filter is compiled by `ncroute check` and the code taken through
 `bench_parts verified`, with the same routes. This is done RUNS times with all filters by turns, and of each the least time
-counts. From both times that for a filter that only accepts is subtracted: the walk over the routes, and the question. In BIRD
-that walk takes as long as a match, and its time varies by itself; so its least time wants many turns. Where the two accept
-different numbers of routes, that is said and the status is 1.
+counts. From both times that for a filter that only rejects is subtracted, and again that for one that only accepts: the walk
+over the routes, and the question. The first leaves what a filter does beside beginning and ending; the second leaves more, since
+`run` deals with code that begins with ACCEPT before it makes ready for any other. In BIRD the walk takes as long as a match, and
+its time varies by itself; so its least time wants many turns. Where the two accept different numbers of routes, that is said and
+the status is 1.
 """
 import os
 import subprocess
@@ -58,6 +60,7 @@ def arithmetic(numbers):
 def filters(numbers):
     patterns = [pattern(numbers) for _ in range(PATTERNS)]
     texts = {
+        "reject_alone": "filter reject_alone { reject; }\n",
         "accept_alone": "filter accept_alone { accept; }\n",
         "set_of_1024": set_of_1024(patterns),
         "arithmetic": arithmetic(numbers),
@@ -146,18 +149,20 @@ def measured(programs, daemon, runs, texts, routes, folder):
 
 
 def report(rows, count):
-    """Prints the rows after the first, whose times are subtracted; whether all accept the same routes."""
+    """Prints the rows after the first two, less the times of each of these; whether all accept the same routes."""
     alike = True
-    for index, (name, (accepted, by_bird), steps, here, there) in enumerate(rows):
+    least = {}
+    for name, (accepted, by_bird), steps, here, there in rows:
         if accepted != by_bird:
             print(f"{name}: {accepted} routes accepted here, {by_bird} by BIRD", file=sys.stderr)
             alike = False
-        elif index == 0:
-            least_here, least_there = here, there
+        elif name.endswith("_alone"):
+            least[name] = here, there
         else:
-            ours_alone, bird_alone = ((took - least) / count * 1e9 for took, least in ((here, least_here), (there, least_there)))
             print(f"{name}, {accepted} of {count} routes accepted, {steps:.1f} steps a run")
-            print(f"  run   {ours_alone:8.1f} ns a route\n  BIRD  {bird_alone:8.1f} ns a route   ratio {ours_alone / bird_alone:.2f}")
+            for base, (least_here, least_there) in least.items():
+                run, bird = ((took - least) / count * 1e9 for took, least in ((here, least_here), (there, least_there)))
+                print(f"  less {base}: run {run:.1f} ns a route, BIRD {bird:.1f} ns, ratio {run / bird:.2f}")
     return alike
 
 
