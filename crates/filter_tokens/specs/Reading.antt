@@ -316,6 +316,11 @@ byte_part byte =
     else (if byte == 42 then byte_token symbol.Times
     else None))))))))))))))
 
+-- the part that the first byte of a text is whatever follows it, where it is one
+abbrev pub leading_byte : List ℕ → Option Part
+leading_byte [] = None
+leading_byte (first ∷ others) = byte_part first
+
 -- the punctuator that a byte is whatever follows it, where it is one
 abbrev pub byte_symbol : ℕ → Symbol
 byte_symbol byte =
