@@ -11,7 +11,8 @@ use Rattle.bird_import.specs.Texts.{Fated}
 use Rattle.bird_import.specs.declared.text.Fate.{Fate}
 use Rattle.bird_import.specs.declared.text.Fate.TheVariants as fates
 use Rattle.bird_import.specs.declared.word.Word.{Word}
-use Rattle.expression_parser.specs.declared.fault.ParseFault.{ParseFault}
+use Rattle.filter_parser.specs.Surroundings.{TellsRound}
+use Rattle.filter_parser.specs.declared.unparsed.Unparsed.{Unparsed}
 use Rattle.expression_parser.specs.declared.fault.ParseFault.TheVariants as faults
 
 -- what failed did not hold
@@ -97,8 +98,9 @@ not_written text words filter tokens only same other is =
     other (subst (λ list. AreAlike (IsSpelled text) list words) (ap (λ (f : FilterView). f.tokens) (only is.filter is.spells) ∙ sym same) is.same)
 
 -- and a text that the parser refuses, if not for want of memory, spells none, for this fault
-pub of_fault : {E : Type 0} (words : List Word) (text : List ℕ) (fault : ParseFault) (r : Result Fate E)
-    → IfOk r (λ fate. (fate ≡ fates.Refused fault) × (fault ≢ faults.Memory)) → (fault ≢ faults.Memory → IsUnspelled text fault)
-    → IfOk r (Fated words text)
-of_fault words text fault (Ok fate) (same, other) unspelled = subst (λ (f : Fate). Fated words text f) (sym same) (unspelled other)
-of_fault words text fault (Err e) is unspelled = tt
+pub of_fault : {E : Type 0} (words : List Word) (text : List ℕ) (why : Unparsed) (r : Result Fate E)
+    → IfOk r (λ fate. (fate ≡ fates.Refused why) × (why.fault ≢ faults.Memory)) → (why.fault ≢ faults.Memory → IsUnspelled text why.fault)
+    → TellsRound text why.fault why.around → IfOk r (Fated words text)
+of_fault words text why (Ok fate) (same, other) unspelled round =
+    subst (λ (f : Fate). Fated words text f) (sym same) (unspelled other, round)
+of_fault words text why (Err e) is unspelled round = tt

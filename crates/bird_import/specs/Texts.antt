@@ -1,5 +1,6 @@
 -- What becomes of a text that was written for some words.
 use Rattle.std.specs.Prelude.{◌≡◌, List, Some, slice_get, ℕ}
+use Rattle.filter_parser.specs.Surroundings.{TellsRound}
 use Rattle.filter_parser.specs.SyntaxCommands.{DeclView}
 use Rattle.filter_parser.specs.Unspelled.{IsUnspelled}
 use Rattle.bird_import.specs.Indices.{IsNamedAt}
@@ -15,10 +16,10 @@ pub record HasVariableAt (words : List Word) (text : List ℕ) (k : ℕ) : Type 
   pub declared : (n : ℕ) × (slice_get written.filter.decls n ≡ Some variable)
   pub named : IsNamedAt variable.name words k
 
--- A text that is taken spells a filter, and its tokens are the words. One that is refused spells no filter, for a fault that it has, and one that is
--- garbled is not written for the words. One with a variable that may be read before it is assigned is, and has that variable.
+-- A text that is taken spells a filter, and its tokens are the words. One that is refused spells no filter, for a fault that it has, and what
+-- stands round the place is told. One that is garbled is not written for the words. One with a variable that may be read before it is assigned is, and has that variable.
 abbrev pub Fated : List Word → List ℕ → Fate → Type 0
 Fated words text fate.Taken = IsWritten words text
-Fated words text (fate.Refused fault) = IsUnspelled text fault
+Fated words text (fate.Refused why) = IsUnspelled text why.fault × TellsRound text why.fault why.around
 Fated words text fate.Garbled = IsWritten words text → ⊥
 Fated words text (fate.Unset k) = HasVariableAt words text k

@@ -10,7 +10,7 @@ ghost use Rattle.bird_import.specs.Texts.{Fated};
 
 use crate::unset::first_unset;
 use crate::word::{Word, WordKind, is_named_at};
-use filter_parser::{ParseFault, parse};
+use filter_parser::{ParseFault, Unparsed, parse};
 use filter_tokens::Token;
 use std::alloc::{AllocError, Global};
 
@@ -29,7 +29,7 @@ pub enum Fate {
     /// It is a filter, and its tokens are the words that it was written for.
     Taken,
     /// It is no filter.
-    Refused(ParseFault),
+    Refused(Unparsed),
     /// It is a filter of other words.
     Garbled,
     /// It is a filter that may read a variable before it is assigned, by the word at this index.
@@ -127,12 +127,12 @@ fn are_words(text: &[u8], tokens: &[Token], words: &[Word<'_>]) -> bool
 }
 
 /// What becomes of a text that the parser refuses.
-fn fate_of(fault: ParseFault) -> Result<Fate, AllocError>
-    ensures { IfOk result (λ fate. (fate ≡ Fate.Refused fault) × (fault ≢ ParseFault.Memory)) }
+fn fate_of(why: Unparsed) -> Result<Fate, AllocError>
+    ensures { IfOk result (λ fate. (fate ≡ Fate.Refused why) × (why.fault ≢ ParseFault.Memory)) }
 {
-    match fault {
+    match why.fault {
         ParseFault::Memory => Err(AllocError),
-        _ => Ok(Fate::Refused(fault)),
+        _ => Ok(Fate::Refused(why)),
     }
 }
 
@@ -166,7 +166,7 @@ fn judge(alloc: Global, text: &[u8], words: &[Word<'_>]) -> Result<Fate, AllocEr
 {
     let filter = match parse(alloc, text) {
         Ok(filter) => filter,
-        Err(fault) => return fate_of(fault),
+        Err(why) => return fate_of(why),
     };
     if !are_words(text, filter.tokens(), words) {
         return Ok(Fate::Garbled);

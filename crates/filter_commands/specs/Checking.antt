@@ -5,7 +5,7 @@ use Rattle.line_protocol.specs.Runs.{AppendsFront}
 use Rattle.line_protocol.specs.declared.faults.StreamFault.{StreamFault}
 use Rattle.line_protocol.specs.declared.faults.StreamFault.TheVariants.{Read, Write, Memory, TooLong}
 use Rattle.filter_code.specs.CodeView.{CodeView}
-use Rattle.filter_source.specs.Diagnoses.{TellsOfCode, of_source}
+use Rattle.filter_source.specs.Diagnoses.{TellsOfCode, TellsOfSource}
 use Rattle.filter_source.specs.Limits.{source_limit}
 use Rattle.filter_source.specs.Refusals.{place_in_line, refusal_code}
 use Rattle.filter_source.specs.Sources.{IsUnsafe}
@@ -30,11 +30,11 @@ abbrev pub ArePlaces : Bool → List ℕ → List ℕ → Type 0
 ArePlaces true source places = places ≡ []
 ArePlaces false source places = ArePlacesOf source places
 
--- This is told of a source that is refused: what follows from the refusal where there is no code; otherwise the part of the text that
+-- This is told of a source that is refused: what follows from the refusal where there is no code, and what stands round its place; otherwise the part of the text that
 -- gave the instruction which is refused, and the range that the verifier knows there.
 abbrev pub IsDiagnosis : ℕ → Bool → List ℕ → Diagnosis → Type 0
 IsDiagnosis size is_code source told =
-    (IsRefused is_code source told.refusal × (told ≡ of_source told.refusal))
+    (IsRefused is_code source told.refusal × TellsOfSource is_code source told)
     ⊎ ((program : CodeView) × GivesCode is_code source program × IsUnsafe program size told.refusal
     × ((places : List ℕ) × ArePlaces is_code source places × TellsOfCode program places size told))
 

@@ -1,6 +1,7 @@
 //! `ncroute check`: a filter's text, or a code file, becomes code, and the code is verified.
 ghost use Rattle.std.specs.Prelude.{◌≡◌, IfErr, IfOk, IfSome};
-ghost use Rattle.filter_source.specs.Failures.{IsOfSource, OnRefusal};
+ghost use Rattle.filter_source.specs.Diagnoses.{TellsOfSource};
+ghost use Rattle.filter_source.specs.Failures.{OnDiagnosis, OnRefusal};
 ghost use Rattle.filter_tokens.specs.Tokenization.{is_space};
 ghost use Rattle.filter_commands.specs.Check.{GivesCode, IsRefused, IsReport, without_white_end};
 ghost use Rattle.filter_commands.specs.Checking.{ArePlaces, Checks, ChecksOff, EndsWith, IsCutOff, IsDiagnosis, Reports};
@@ -34,7 +35,7 @@ pub fn code_of(alloc: Global, input: &[u8], is_code: bool) -> Result<MappedCode,
     ensures code { IfOk result (λ mapped. GivesCode is_code input.now mapped.code) }
     ensures places { IfOk result (λ mapped. ArePlaces is_code input.now mapped.places.items) }
     ensures refused { IfErr result (OnRefusal (IsRefused is_code input.now)) }
-    ensures told { IfErr result IsOfSource }
+    ensures told { IfErr result (OnDiagnosis (TellsOfSource is_code input.now)) }
 {
     check_length(input)?;
     if is_code {

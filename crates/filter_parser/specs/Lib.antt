@@ -2,6 +2,7 @@
 pub mod Heads
 pub mod Placed
 pub mod Places
+pub mod Surroundings
 pub mod SyntaxCommands
 pub mod SyntaxText
 pub mod Unspelled

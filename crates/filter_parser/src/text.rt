@@ -4,9 +4,10 @@ ghost use Rattle.std.specs.Prelude.{◌≡◌, ◌≢◌, ◌<◌, ◌≤◌, Li
 ghost use Rattle.filter_tokens.specs.Codes.{fault_place};
 ghost use Rattle.filter_tokens.specs.Tokenization.{AreInOrder, IsTokenization, StopsAt};
 ghost use Rattle.filter_tokens.specs.declared.token.Token.{Token as TheToken};
-ghost use Rattle.expression_parser.specs.Codes.{LiesWithin};
+ghost use Rattle.expression_parser.specs.Codes.{LiesWithin, fault_place as parse_place};
 ghost use Rattle.filter_parser.specs.Heads.{HasHead};
 ghost use Rattle.filter_parser.specs.Placed.{IsPlaced};
+ghost use Rattle.filter_parser.specs.Surroundings.{StandsRound, TellsRound, nothing};
 ghost use Rattle.expression_parser.specs.Codes.{text_limit};
 ghost use Rattle.filter_parser.specs.SyntaxText.{IsText, FilterView, view_filter};
 ghost use Rattle.expression_parser.specs.declared.fault.ParseFault.TheVariants.{Memory, TooLong};
@@ -14,6 +15,7 @@ ghost use Rattle.expression_parser.specs.declared.fault.ParseFault.TheVariants.{
 use crate::filter::parse_filter;
 use crate::head::with_head;
 use crate::tree::Filter;
+use crate::unparsed::Unparsed;
 use expression_parser::{Input, ParseFault, Source, TEXT_LIMIT};
 use filter_tokens::{Lexed, Token, TokenFault, lex};
 use std::alloc::Global;
@@ -24,7 +26,7 @@ fn filter_of_tokens(
     text: &[u8],
     tokens: Vec<Token>,
     fault: Option<TokenFault>,
-) -> Result<Filter, ParseFault>
+) -> Result<Filter, Unparsed>
     requires size { length text.now ≤ text_limit }
     requires spans { AreInOrder 0 tokens.items (length text.now) }
     requires cut { fault ≡ None → IsTokenization tokens.items 0 text.now }
@@ -32,11 +34,12 @@ fn filter_of_tokens(
     requires only { (all : List TheToken) → IsTokenization all 0 text.now → (fault ≡ None) × (tokens.items ≡ all) }
     ensures found { IfOk result (λ f. IsText text.now (view_filter f)) }
     ensures unique { IfOk result (λ f. (t : FilterView) → IsText text.now t → t ≡ view_filter f) }
-    ensures refused { IfErr result (λ e. e ≢ Memory → (t : FilterView) → IsText text.now t → ⊥) }
+    ensures refused { IfErr result (λ e. e.fault ≢ Memory → (t : FilterView) → IsText text.now t → ⊥) }
     ensures spans { IfOk result (λ f. AreInOrder 0 (view_filter f).tokens (length text.now)) }
     ensures placed { IfOk result (λ f. IsPlaced text.now f) }
-    ensures within { IfErr result (LiesWithin (length text.now)) }
-    ensures head { IfErr result (HasHead text.now) }
+    ensures within { IfErr result (λ e. LiesWithin (length text.now) e.fault) }
+    ensures head { IfErr result (λ e. HasHead text.now e.fault) }
+    ensures around { IfErr result (λ e. StandsRound text.now (parse_place e.fault) e.around) }
 {
     let source = Source { text, end: fault };
     let read = parse_filter(
@@ -54,9 +57,12 @@ fn filter_of_tokens(
                 body: parts.body,
                 tokens,
             }),
-            Some(fault) => Err(ParseFault::Token(fault)),
+            Some(fault) => Err(Unparsed::at(tokens.as_slice(), ParseFault::Token(fault))),
         },
-        Err(fault) => Err(with_head(tokens.as_slice(), fault)),
+        Err(fault) => {
+            let fault = with_head(tokens.as_slice(), fault);
+            Err(Unparsed::at(tokens.as_slice(), fault))
+        }
     }
 }
 
@@ -64,7 +70,7 @@ fn filter_of_tokens(
 ///
 /// A text that spells none is refused with its first fault. Each token has the place of its first byte and the place after
 /// its last one, and the tokens are in order.
-pub fn parse(alloc: Global, text: &[u8]) -> Result<Filter, ParseFault>
+pub fn parse(alloc: Global, text: &[u8]) -> Result<Filter, Unparsed>
     // The text spells the filter that is answered.
     ensures found { IfOk result (λ f. IsText text.now (view_filter f)) }
     // It spells no other.
@@ -72,21 +78,23 @@ pub fn parse(alloc: Global, text: &[u8]) -> Result<Filter, ParseFault>
     // No text spells two filters.
     ensures one { (t u : FilterView) → IsText text.now t → IsText text.now u → t ≡ u }
     // A text that is refused spells no filter, unless memory ran out.
-    ensures refused { IfErr result (λ e. e ≢ Memory → (t : FilterView) → IsText text.now t → ⊥) }
+    ensures refused { IfErr result (λ e. e.fault ≢ Memory → (t : FilterView) → IsText text.now t → ⊥) }
     // The tokens are in the order of the text.
     ensures spans { IfOk result (λ f. AreInOrder 0 (view_filter f).tokens (length text.now)) }
     // Each part of the tree has the place of its own token.
     ensures placed { IfOk result (λ f. IsPlaced text.now f) }
     // A fault is at a byte of the text, or at its end.
-    ensures within { IfErr result (LiesWithin (length text.now)) }
+    ensures within { IfErr result (λ e. LiesWithin (length text.now) e.fault) }
     // Where the `=` of an assignment is missing, the fault has the name before it, if there is one.
-    ensures head { IfErr result (HasHead text.now) }
+    ensures head { IfErr result (λ e. HasHead text.now e.fault) }
+    // What stands round the place of a fault is told with it.
+    ensures around { IfErr result (λ e. TellsRound text.now e.fault e.around) }
     // P7 is the answer if and only if the text is over the limit.
-    ensures long { text_limit < length text.now → IsErrOf result TooLong }
-    ensures short { length text.now ≤ text_limit → IfErr result (λ e. e ≢ TooLong) }
+    ensures long { text_limit < length text.now → IsErrOf result (record { fault = TooLong; around = nothing }) }
+    ensures short { length text.now ≤ text_limit → IfErr result (λ e. e.fault ≢ TooLong) }
 {
     if text.len() > TEXT_LIMIT {
-        return Err(ParseFault::TooLong);
+        return Err(Unparsed::uncut(ParseFault::TooLong));
     }
     let Lexed { tokens, fault } = lex(alloc, text)?;
     filter_of_tokens(alloc, text, tokens, fault)

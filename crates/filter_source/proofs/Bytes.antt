@@ -1,11 +1,11 @@
 -- A place that the tree of a text keeps is one of the bytes of the text.
-use Rattle.std.proofs.Common.{◌≡◌, ◌⊎◌, inl, inr, ℕ, zero, suc, ◌+◌, ◌<◌, ◌≤◌, Some, None, Option, List, [], ◌∷◌, ◌++◌, length, map, refl, sym, ap, subst, ◌∙◌, append_assoc, arith}
+use Rattle.std.proofs.Common.{◌≡◌, ◌⊎◌, inl, inr, ℕ, zero, suc, ◌<◌, ◌≤◌, Some, None, List, [], ◌∷◌, ◌++◌, length, map, refl, sym, ap, subst, ◌∙◌, append_assoc, arith}
 use Rattle.std.specs.Prelude.{Contains}
 use Rattle.std.proofs.lemmas.List.Elements.{Contains-append_cases, Contains-append_left, Contains-append_right}
 use Rattle.filter_tokens.specs.Tokenization.{AreInOrder}
 use Rattle.filter_tokens.specs.declared.token.Token.{Token}
 use Rattle.expression_parser.specs.Placed.{AreAt, Kept, joined}
-use Rattle.filter_parser.specs.Placed.{ArePlaced, IsPlaced, command_kept, decl_kept}
+use Rattle.filter_parser.specs.Placed.{IsPlaced, command_kept, decl_kept}
 use Rattle.filter_parser.specs.Places.{body_of, decls_of}
 use Rattle.filter_parser.specs.declared.tree.decl.Decl.{Decl}
 use Rattle.filter_parser.specs.declared.tree.filter.Filter.{Filter}

@@ -12,6 +12,8 @@ use Rattle.filter_compiler.specs.declared.fault.CompileFault.{CompileFault}
 use Rattle.filter_compiler.specs.declared.fault.CompileFault.TheVariants as compile
 use Rattle.expression_parser.specs.Codes.{LiesWithin}
 use Rattle.filter_parser.specs.Heads.{HasHead}
+use Rattle.filter_parser.specs.Surroundings.{around_of}
+use Rattle.filter_parser.specs.declared.around.Around.{Around}
 use Rattle.filter_parser.specs.Placed.{IsPlaced}
 use Rattle.expression_parser.specs.Codes.{text_limit}
 use Rattle.filter_parser.specs.SyntaxText.{FilterView, IsText, view_filter}
@@ -24,23 +26,25 @@ use Rattle.filter_types.specs.Faults.{IsFaultOf, KeepsPlace}
 use Rattle.filter_types.specs.Kinds.{IsTyped}
 use Rattle.filter_types.specs.declared.fault.TypeFault.{TypeFault}
 use Rattle.filter_types.specs.declared.fault.TypeFault.TheVariants as types
-use Rattle.filter_source.specs.Failures.{OnRefusal, of_compile, of_file, of_parse, of_type}
-use Rattle.filter_source.specs.Sources.{IsRefusedText, IsUntyped, IsUnwritten}
+use Rattle.filter_source.specs.Diagnoses.{TellsOfText}
+use Rattle.filter_source.specs.Failures.{OnDiagnosis, OnRefusal, of_compile, of_file, of_parse, of_type}
+use Rattle.filter_source.specs.Sources.{IsRefusedText, IsUnwritten}
 use Rattle.filter_source.proofs.Bytes.{byte_of}
 
-pub no_filter : (text : List ℕ) (why : ParseFault) → (why ≢ parse.Memory → (filter : FilterView) → IsText text filter → ⊥)
-    → LiesWithin (length text) why → HasHead text why → (text_limit < length text → why ≡ parse.TooLong) → OnRefusal (IsRefusedText text) (of_parse why)
-no_filter text parse.Memory none within head long = tt
-no_filter text why none within head long = let other : why ≢ parse.Memory = λ e. cc in
+pub no_filter : (text : List ℕ) (why : ParseFault) (around : Around) → (why ≢ parse.Memory → (filter : FilterView) → IsText text filter → ⊥)
+    → LiesWithin (length text) why → HasHead text why → (text_limit < length text → why ≡ parse.TooLong)
+    → OnRefusal (IsRefusedText text) (of_parse why around)
+no_filter text parse.Memory around none within head long = tt
+no_filter text why around none within head long = let other : why ≢ parse.Memory = λ e. cc in
     record { spells_none = none other; no_memory = other; within = within; head = head; long = long }
 
 -- a filter whose names and kinds do not fit has a fault at a byte of its text; of refused memory nothing is said
-pub untyped : (text : List ℕ) (tree : Filter) (why : TypeFault) → IsText text (view_filter tree) → IsPlaced text tree
+pub untyped : (text : List ℕ) (tree : Filter) (why : TypeFault) (around : Around) → IsText text (view_filter tree) → IsPlaced text tree
     → AreInOrder 0 (view_filter tree).tokens (length text) → (why ≢ types.Memory → IsTyped (view_filter tree) → ⊥)
     → (why ≢ types.Memory → IsFaultOf tree why) → (why ≢ types.Memory → KeepsPlace tree (fault_place why))
-    → OnRefusal (IsRefusedText text) (of_type why)
-untyped text tree types.Memory spelled placed order unfit has keeps = tt
-untyped text tree why spelled placed order unfit has keeps =
+    → OnRefusal (IsRefusedText text) (of_type why around)
+untyped text tree types.Memory around spelled placed order unfit has keeps = tt
+untyped text tree why around spelled placed order unfit has keeps =
     let other : why ≢ types.Memory = λ e. cc in
     record {
       tree = tree;
@@ -51,6 +55,13 @@ untyped text tree why spelled placed order unfit has keeps =
       is_fault = has other;
       within = byte_of text tree (fault_place why) order placed (keeps other);
     }
+
+-- what is told of such a filter stands round the place of its fault
+pub untyped_told : (text : List ℕ) (filter : FilterView) (why : TypeFault) (around : Around) → IsText text filter
+    → AreInOrder 0 filter.tokens (length text) → around ≡ around_of filter.tokens (fault_place why)
+    → OnDiagnosis (TellsOfText text) (of_type why around)
+untyped_told text filter types.Memory around spelled order is = tt
+untyped_told text filter why around spelled order is = (refl, (filter.tokens, (order, inl spelled.cut), is))
 
 -- a filter whose names and kinds fit has no code where its translation is over a limit; of refused memory nothing is said
 pub over_limit : (text : List ℕ) (filter : FilterView) (why : CompileFault) → IsText text filter → IsTyped filter

@@ -1,8 +1,10 @@
--- What is told of a refusal: where in a filter's text it is shown, and the range of the int that the verifier refuses. (This project's
--- own choice.)
-use Rattle.std.specs.Prelude.{◌≡◌, ℕ, List, Option, Some, None, slice_get}
+-- What is told of a refusal: where in a filter's text it is shown, what stands there, and the range of the int that the verifier refuses.
+-- (This project's own choice.)
+use Rattle.std.specs.Prelude.{◌≡◌, ℕ, Bool, true, false, List, Option, Some, None, slice_get}
 use Rattle.filter_code.specs.CodeView.{CodeView}
 use Rattle.expression_parser.specs.Codes as parse
+use Rattle.filter_parser.specs.Surroundings as parser
+use Rattle.filter_parser.specs.declared.around.Around.{Around}
 use Rattle.filter_types.specs.Codes as types
 use Rattle.filter_verifier.specs.Faults.{fault_place}
 use Rattle.filter_verifier.specs.Ranges.{RangeView}
@@ -23,9 +25,31 @@ named_byte (File why) = None
 named_byte (Compile why) = None
 named_byte (Verify why) = None
 
--- what is told of a source that gives no code
-abbrev pub of_source : Refusal → Diagnosis
-of_source why = record { refusal = why; byte = named_byte why; range = None }
+-- what is told of a source that gives no code, by what stands round the place
+abbrev pub of_source : Refusal → Around → Diagnosis
+of_source why around = record { refusal = why; byte = named_byte why; range = None; around = around }
+
+-- This stands round the place of a refusal in a text. A refusal that has no place in a text has nothing round it.
+abbrev pub TellsRound : List ℕ → Refusal → Around → Type 0
+TellsRound text (Parse why) around = parser.TellsRound text why around
+TellsRound text (Typing why) around = parser.StandsRound text (types.fault_place why) around
+TellsRound text TooLong around = around ≡ parser.nothing
+TellsRound text Hexadecimal around = around ≡ parser.nothing
+TellsRound text (File why) around = around ≡ parser.nothing
+TellsRound text (Compile why) around = around ≡ parser.nothing
+TellsRound text (Verify why) around = around ≡ parser.nothing
+
+-- This is told of a text that gives no code, and of a code file that gives none.
+abbrev pub TellsOfText : List ℕ → Diagnosis → Type 0
+TellsOfText text told = (told ≡ of_source told.refusal told.around) × TellsRound text told.refusal told.around
+
+abbrev pub TellsOfFile : Diagnosis → Type 0
+TellsOfFile told = told ≡ of_source told.refusal parser.nothing
+
+-- the same of a source that is the one or the other
+abbrev pub TellsOfSource : Bool → List ℕ → Diagnosis → Type 0
+TellsOfSource true source told = TellsOfFile told
+TellsOfSource false source told = TellsOfText source told
 
 -- the instruction that the verifier refuses; the size of a domain, and memory, are about none
 abbrev pub refused_instruction : VerifyFault → Option ℕ
@@ -40,7 +64,8 @@ place_of places (Some at) = slice_get places at
 
 -- what is told of code whose instructions come from these places of a text; a code file has no places
 abbrev pub of_code : VerifyFault → Option RangeView → List ℕ → Diagnosis
-of_code why range places = record { refusal = Verify why; byte = place_of places (refused_instruction why); range = range }
+of_code why range places =
+    record { refusal = Verify why; byte = place_of places (refused_instruction why); range = range; around = parser.nothing }
 
 -- This is told of code that is refused for domains of a size: the part of the text that gave the instruction, and the range that the
 -- verifier knows there.

@@ -1,5 +1,5 @@
 -- What the fault of a step is as a failure: refused memory is one failure, whichever step met it. (This project's own choice.)
-use Rattle.std.specs.Prelude.{◌≡◌, ⊤, ℕ, List, Option, Some, None}
+use Rattle.std.specs.Prelude.{⊤, ℕ, List, Option, Some, None}
 use Rattle.code_file.specs.declared.fault.FileFault.{FileFault}
 use Rattle.code_file.specs.declared.fault.FileFault.TheVariants as file
 use Rattle.filter_compiler.specs.declared.fault.CompileFault.{CompileFault}
@@ -7,7 +7,11 @@ use Rattle.filter_compiler.specs.declared.fault.CompileFault.TheVariants as comp
 use Rattle.expression_parser.specs.declared.fault.ParseFault.{ParseFault}
 use Rattle.expression_parser.specs.declared.fault.ParseFault.TheVariants as parse
 use Rattle.filter_types.specs.declared.fault.TypeFault.{TypeFault}
+use Rattle.filter_parser.specs.Surroundings.{nothing}
+use Rattle.filter_parser.specs.declared.around.Around.{Around}
+use Rattle.filter_parser.specs.declared.unparsed.Unparsed.{Unparsed}
 use Rattle.filter_types.specs.declared.fault.TypeFault.TheVariants as types
+use Rattle.filter_types.specs.declared.typed.Untyped.{Untyped}
 use Rattle.filter_verifier.specs.Ranges.{RangeView}
 use Rattle.filter_verifier.specs.declared.fault.VerifyFault.{VerifyFault}
 use Rattle.filter_verifier.specs.declared.fault.VerifyFault.TheVariants as verify
@@ -18,7 +22,7 @@ use Rattle.filter_source.specs.declared.diagnosis.Diagnosis.{Diagnosis}
 use Rattle.filter_source.specs.declared.failure.Failure.{Failure}
 use Rattle.filter_source.specs.declared.failure.Failure.TheVariants.{Refused, Memory}
 use Rattle.filter_source.specs.declared.refusal.Refusal.{Refusal}
-use Rattle.filter_source.specs.declared.refusal.Refusal.TheVariants.{Hexadecimal, File, Parse, Typing, Compile, Verify}
+use Rattle.filter_source.specs.declared.refusal.Refusal.TheVariants.{Hexadecimal, File, Parse, Typing, Compile}
 
 -- this holds of the refusal, or of what is told of it; of refused memory nothing is said
 abbrev pub OnRefusal : (Refusal → Type 0) → Failure → Type 0
@@ -29,11 +33,6 @@ abbrev pub OnDiagnosis : (Diagnosis → Type 0) → Failure → Type 0
 OnDiagnosis P (Refused told) = P told
 OnDiagnosis P Memory = ⊤
 
--- what is told of a refusal before there is code follows from it
-abbrev pub IsOfSource : Failure → Type 0
-IsOfSource (Refused told) = told ≡ of_source told.refusal
-IsOfSource Memory = ⊤
-
 -- the refusal, if it is one
 abbrev pub refusal_of : Failure → Option Refusal
 refusal_of (Refused told) = Some told.refusal
@@ -41,23 +40,29 @@ refusal_of Memory = None
 
 abbrev pub of_digits : FromHexError → Failure
 of_digits digits.OutOfMemory = Memory
-of_digits fault = Refused (of_source Hexadecimal)
+of_digits fault = Refused (of_source Hexadecimal nothing)
 
 abbrev pub of_file : FileFault → Failure
 of_file file.Memory = Memory
-of_file fault = Refused (of_source (File fault))
+of_file fault = Refused (of_source (File fault) nothing)
 
-abbrev pub of_parse : ParseFault → Failure
-of_parse parse.Memory = Memory
-of_parse fault = Refused (of_source (Parse fault))
+abbrev pub of_parse : ParseFault → Around → Failure
+of_parse parse.Memory around = Memory
+of_parse fault around = Refused (of_source (Parse fault) around)
 
-abbrev pub of_type : TypeFault → Failure
-of_type types.Memory = Memory
-of_type fault = Refused (of_source (Typing fault))
+abbrev pub of_unparsed : Unparsed → Failure
+of_unparsed why = of_parse why.fault why.around
+
+abbrev pub of_type : TypeFault → Around → Failure
+of_type types.Memory around = Memory
+of_type fault around = Refused (of_source (Typing fault) around)
+
+abbrev pub of_untyped : Untyped → Failure
+of_untyped why = of_type why.fault why.around
 
 abbrev pub of_compile : CompileFault → Failure
 of_compile compile.Memory = Memory
-of_compile fault = Refused (of_source (Compile fault))
+of_compile fault = Refused (of_source (Compile fault) nothing)
 
 -- that of code whose instructions come from these places of a text
 abbrev pub of_verify : VerifyFault → Option RangeView → List ℕ → Failure

@@ -3,11 +3,12 @@ ghost use Rattle.std.specs.Prelude.{◌≡◌, slice_get};
 ghost use Rattle.filter_source.specs.Diagnoses as spec;
 
 use crate::refusal::Refusal;
+use filter_parser::Around;
 use filter_verifier::{Range, VerifyFault};
 use std::fmt;
 
 /// Why a source is refused, and what is told of it besides: it is made once, where the refusal is found.
-#[derive(Clone, Copy, Debug)]
+#[derive(Clone, Copy)]
 pub struct Diagnosis {
     /// Why the source is refused.
     pub refusal: Refusal,
@@ -15,12 +16,15 @@ pub struct Diagnosis {
     pub byte: Option<usize>,
     /// The range of the int that is refused: of a divisor that may be 0 (V3), or of a metric that may be too low (V6).
     pub range: Option<Range>,
+    /// What stands round that byte in a text that spells no filter, or one whose names and kinds do not fit: the words for people are made
+    /// of it.
+    pub around: Around,
 }
 
 impl Diagnosis {
-    /// That of a source which gives no code.
-    pub fn of_source(refusal: Refusal) -> Diagnosis
-        ensures { result ≡ spec.of_source refusal }
+    /// That of a source which gives no code, by what stands round the place.
+    pub fn of_source(refusal: Refusal, around: Around) -> Diagnosis
+        ensures { result ≡ spec.of_source refusal around }
     {
         let byte = match refusal {
             Refusal::Parse(fault) => Some(fault.shown_at()),
@@ -31,6 +35,7 @@ impl Diagnosis {
             refusal,
             byte,
             range: None,
+            around,
         }
     }
 
@@ -42,6 +47,7 @@ impl Diagnosis {
             refusal: Refusal::Verify(fault),
             byte: place_of(places, refused_instruction(fault)),
             range,
+            around: Around::nothing(),
         }
     }
 }
@@ -54,6 +60,13 @@ impl fmt::Display for Diagnosis {
             Some(range) => write!(f, ": it is {}..{} here", range.low(), range.high()),
             None => Ok(()),
         }
+    }
+}
+
+/// The same words.
+impl fmt::Debug for Diagnosis {
+    fn fmt<W: fmt::Write>(&self, f: &mut fmt::Formatter<W>) -> fmt::Result {
+        write!(f, "{}", self)
     }
 }
 

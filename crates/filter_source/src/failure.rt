@@ -1,5 +1,6 @@
 //! What ends the work on a source.
 ghost use Rattle.std.specs.Prelude.{◌≡◌};
+ghost use Rattle.filter_parser.specs.Surroundings.{nothing};
 ghost use Rattle.filter_source.specs.Diagnoses.{of_source};
 ghost use Rattle.filter_source.specs.Failures as spec;
 ghost use Rattle.filter_source.specs.declared.failure.Failure.TheVariants as failure;
@@ -8,8 +9,8 @@ use crate::diagnosis::Diagnosis;
 use crate::refusal::Refusal;
 use code_file::FileFault;
 use filter_compiler::CompileFault;
-use filter_parser::ParseFault;
-use filter_types::TypeFault;
+use filter_parser::{Around, ParseFault, Unparsed};
+use filter_types::{TypeFault, Untyped};
 use hex::FromHexError;
 use std::alloc::AllocError;
 use thiserror::Error;
@@ -34,11 +35,11 @@ impl From<AllocError> for Failure {
 }
 
 impl From<Refusal> for Failure {
-    ghost from_gives = { λ why e. e ≡ failure.Refused (of_source why) };
+    ghost from_gives = { λ why e. e ≡ failure.Refused (of_source why nothing) };
 
-    /// That of a source which gives no code.
+    /// That of a source which gives no code, and which has no text round the place.
     fn from(why: Refusal) -> Failure {
-        Failure::Refused(Diagnosis::of_source(why))
+        Failure::Refused(Diagnosis::of_source(why, Around::nothing()))
     }
 }
 
@@ -64,24 +65,24 @@ impl From<FileFault> for Failure {
     }
 }
 
-impl From<ParseFault> for Failure {
-    ghost from_gives = { λ fault e. e ≡ spec.of_parse fault };
+impl From<Unparsed> for Failure {
+    ghost from_gives = { λ why e. e ≡ spec.of_unparsed why };
 
-    fn from(fault: ParseFault) -> Failure {
-        match fault {
+    fn from(why: Unparsed) -> Failure {
+        match why.fault {
             ParseFault::Memory => Failure::Memory,
-            _ => Failure::from(Refusal::Parse(fault)),
+            fault => Failure::Refused(Diagnosis::of_source(Refusal::Parse(fault), why.around)),
         }
     }
 }
 
-impl From<TypeFault> for Failure {
-    ghost from_gives = { λ fault e. e ≡ spec.of_type fault };
+impl From<Untyped> for Failure {
+    ghost from_gives = { λ why e. e ≡ spec.of_untyped why };
 
-    fn from(fault: TypeFault) -> Failure {
-        match fault {
+    fn from(why: Untyped) -> Failure {
+        match why.fault {
             TypeFault::Memory => Failure::Memory,
-            _ => Failure::from(Refusal::Typing(fault)),
+            fault => Failure::Refused(Diagnosis::of_source(Refusal::Typing(fault), why.around)),
         }
     }
 }

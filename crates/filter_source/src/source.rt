@@ -1,12 +1,13 @@
 //! A filter's text, or a code file, becomes code, and code is verified.
 ghost use Rattle.std.specs.Prelude.{◌≡◌, ◌<◌, ◌≤◌, ◌↔◌, [], Ok, Err, Some, None, false, IfOk, IfErr, MatchResult, OnOk, length};
 ghost use Rattle.code_file.specs.Spelling.{IsCodeIn, spelling_in};
+ghost use Rattle.filter_parser.specs.Surroundings.{nothing};
 ghost use Rattle.filter_parser.specs.SyntaxText.{FilterView};
 ghost use Rattle.filter_verifier.specs.FirstFault.{is_size, the_fault};
 ghost use Rattle.filter_verifier.specs.Safe.{IsSafe};
 ghost use Rattle.filter_verifier.specs.declared.fault.VerifyFault.TheVariants as fault;
-ghost use Rattle.filter_source.specs.Diagnoses.{TellsOfCode, of_source};
-ghost use Rattle.filter_source.specs.Failures.{IsOfSource, OnDiagnosis, OnRefusal, of_verify, refusal_of};
+ghost use Rattle.filter_source.specs.Diagnoses.{TellsOfCode, TellsOfFile, TellsOfText, of_source};
+ghost use Rattle.filter_source.specs.Failures.{OnDiagnosis, OnRefusal, of_verify, refusal_of};
 ghost use Rattle.filter_source.specs.Limits.{source_limit};
 ghost use Rattle.filter_source.specs.Sources as spec;
 ghost use Rattle.filter_source.specs.TextPlaces.{ArePlacesOf};
@@ -30,7 +31,7 @@ pub const SOURCE_LIMIT: usize = 1_048_576;
 /// Refuses a source that is longer than its limit.
 pub fn check_length(source: &[u8]) -> Result<(), Failure>
     ensures ok { OnOk result (length source.now ≤ source_limit) }
-    ensures long { IfErr result (λ e. (e ≡ failure.Refused (of_source refusal.TooLong)) × (source_limit < length source.now)) }
+    ensures long { IfErr result (λ e. (e ≡ failure.Refused (of_source refusal.TooLong nothing)) × (source_limit < length source.now)) }
 {
     if source.len() > SOURCE_LIMIT {
         return Err(Failure::from(Refusal::TooLong));
@@ -44,7 +45,7 @@ pub fn compile_text_mapped(alloc: Global, text: &[u8]) -> Result<MappedCode, Fai
     ensures code { IfOk result (λ mapped. (filter : FilterView) × spec.Translates text.now filter mapped.code) }
     ensures places { IfOk result (λ mapped. ArePlacesOf text.now mapped.places.items) }
     ensures refused { IfErr result (OnRefusal (spec.IsRefusedText text.now)) }
-    ensures told { IfErr result IsOfSource }
+    ensures told { IfErr result (OnDiagnosis (TellsOfText text.now)) }
 {
     let filter = parse(alloc, text)?;
     let typed = check(alloc, filter)?;
@@ -55,7 +56,7 @@ pub fn compile_text_mapped(alloc: Global, text: &[u8]) -> Result<MappedCode, Fai
 pub fn compile_text(alloc: Global, text: &[u8]) -> Result<Code, Failure>
     ensures code { IfOk result (λ code. (filter : FilterView) × spec.Translates text.now filter code) }
     ensures refused { IfErr result (OnRefusal (spec.IsRefusedText text.now)) }
-    ensures told { IfErr result IsOfSource }
+    ensures told { IfErr result (OnDiagnosis (TellsOfText text.now)) }
 {
     let mapped = compile_text_mapped(alloc, text)?;
     Ok(mapped.code)
@@ -65,7 +66,7 @@ pub fn compile_text(alloc: Global, text: &[u8]) -> Result<Code, Failure>
 pub fn read_file(alloc: Global, bytes: &[u8]) -> Result<Code, Failure>
     ensures code { MatchResult result (λ code. spec.code_in_file bytes.now ≡ Ok code)
         (OnRefusal (λ why. spec.code_in_file bytes.now ≡ Err why)) }
-    ensures told { IfErr result IsOfSource }
+    ensures told { IfErr result (OnDiagnosis TellsOfFile) }
 {
     Ok(read_code(alloc, bytes)?)
 }
@@ -75,7 +76,7 @@ pub fn write_file(alloc: Global, code: &Code, is_old: bool) -> Result<Vec<u8>, F
     ensures written { IfOk result (λ bytes. IsCodeIn (spec.version_for is_old) code.now
         × (bytes.items ≡ spelling_in (spec.version_for is_old) code.now)) }
     ensures refused { IfErr result (OnRefusal (spec.IsUnwritten is_old code.now)) }
-    ensures told { IfErr result IsOfSource }
+    ensures told { IfErr result (OnDiagnosis TellsOfFile) }
 {
     if is_old {
         Ok(write_old(alloc, code)?)
@@ -88,7 +89,7 @@ pub fn write_file(alloc: Global, code: &Code, is_old: bool) -> Result<Vec<u8>, F
 pub fn read_hexadecimal(alloc: Global, digits: &[u8]) -> Result<Code, Failure>
     ensures code { MatchResult result (λ code. spec.code_in_hexadecimal digits.now ≡ Ok code)
         (OnRefusal (λ why. spec.code_in_hexadecimal digits.now ≡ Err why)) }
-    ensures told { IfErr result IsOfSource }
+    ensures told { IfErr result (OnDiagnosis TellsOfFile) }
 {
     let bytes = hex::decode(alloc, digits)?;
     read_file(alloc, bytes.as_slice())

@@ -7,7 +7,7 @@ use Rattle.filter_code.specs.CodeView.{CodeView}
 use Rattle.filter_code.specs.Names.{instruction_text}
 use Rattle.filter_code.specs.declared.instruction.Instr.{Instr}
 use Rattle.filter_code.specs.declared.instruction.Instr.TheVariants as instr
-use Rattle.filter_source.specs.Diagnoses.{TellsOfCode, of_code, of_source}
+use Rattle.filter_source.specs.Diagnoses.{TellsOfCode, TellsOfSource, of_code}
 use Rattle.filter_source.specs.Sources.{IsUnsafe}
 use Rattle.filter_source.specs.BoundsLine.{bounds_line}
 use Rattle.filter_source.specs.declared.diagnosis.Diagnosis.{Diagnosis}
@@ -124,7 +124,7 @@ IsToldOfCode (Some size) program places told = IsUnsafe program size told.refusa
 -- This is told of a source that is listed and refused.
 abbrev pub IsToldOfListing : Option ℕ → Bool → List ℕ → Diagnosis → Type 0
 IsToldOfListing size is_code source told =
-    (IsRefused is_code source told.refusal × (told ≡ of_source told.refusal))
+    (IsRefused is_code source told.refusal × TellsOfSource is_code source told)
     ⊎ ((program : CodeView) × GivesCode is_code source program
     × ((places : List ℕ) × ArePlaces is_code source places × IsToldOfCode size program places told))
 

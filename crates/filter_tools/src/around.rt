@@ -7,17 +7,6 @@ use std::alloc::{AllocError, Global};
 /// The most bytes of a token that is quoted.
 const QUOTED_LIMIT: usize = 64;
 
-/// The token at which a text is refused, and the two before it.
-#[derive(Clone, Copy)]
-pub(crate) struct Around {
-    /// The token at the place.
-    pub found: Option<Token>,
-    /// The one before it.
-    pub last: Option<Token>,
-    /// The one before that.
-    pub earlier: Option<Token>,
-}
-
 /// Whether a token is the name of a kind, with which a declaration begins.
 pub(crate) fn is_kind(kind: TokenKind) -> bool {
     matches!(
@@ -75,39 +64,17 @@ pub(crate) fn name_of(text: &[u8], token: Option<Token>) -> Option<&str> {
     }
 }
 
-/// What stands round a byte of a text that these tokens cut.
-pub(crate) fn tokens_around(tokens: &[Token], at: usize) -> Around {
-    let mut pieces = Around {
-        found: None,
-        last: None,
-        earlier: None,
-    };
-    for token in tokens {
-        if token.to <= at {
-            pieces.earlier = pieces.last;
-            pieces.last = Some(*token);
-        } else if token.from == at {
-            pieces.found = Some(*token);
-        }
-    }
-    pieces
-}
-
-/// The names of a text's variables.
+/// The names that begin at these places of a text.
 pub(crate) fn declared<'a>(
     alloc: Global,
     text: &'a [u8],
-    tokens: &[Token],
+    places: &[usize],
 ) -> Result<Vec<&'a str>, AllocError> {
     let mut names = Vec::new(alloc);
-    let mut is_declaration = false;
-    for token in tokens {
-        if is_declaration && token.kind == TokenKind::Name {
-            if let Some(name) = quoted(text, token.from, token.to) {
-                names.push(name)?;
-            }
+    for place in places {
+        if let Some(name) = word_at(text, *place) {
+            names.push(name)?;
         }
-        is_declaration = is_kind(token.kind);
     }
     Ok(names)
 }

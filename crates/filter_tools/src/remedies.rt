@@ -1,7 +1,7 @@
 //! What to write in place of what this language has not.
 
-use crate::around::{Around, is_kind, is_name, is_symbol};
-use filter_parser::Expected;
+use crate::around::{is_kind, is_name, is_symbol};
+use filter_parser::{Around, Expected};
 use filter_tokens::{Symbol, Token, TokenKind};
 
 /// What to write in place of an address of IPv6.

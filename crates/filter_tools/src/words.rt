@@ -1,14 +1,13 @@
 //! What is wrong with a refused source, in words.
 
 use crate::around::{
-    Around, character_at, declared, is_ipv6, is_number, is_symbol, name_of, quoted, tokens_around,
-    word_at,
+    character_at, declared, is_ipv6, is_number, is_symbol, name_of, quoted, word_at,
 };
 use crate::nearest::nearest_word;
 use crate::remedies::{
     IPV6, in_place_of, in_place_of_character, in_place_of_found, in_place_of_name,
 };
-use filter_parser::{Expected, ParseFault};
+use filter_parser::{Around, Expected, ParseFault};
 use filter_source::{Diagnosis, Refusal};
 use filter_tokens::{Symbol, Token, TokenFault, TokenKind, lex};
 use filter_types::{ExpectedKind, TypeFault};
@@ -33,8 +32,8 @@ const CODE_LINE: &[u8] = b"code ";
 /// What is wrong with a source.
 pub(crate) fn words_of(alloc: Global, text: &[u8], told: &Diagnosis) -> Result<String, AllocError> {
     match told.refusal {
-        Refusal::Parse(fault) => parse_words(alloc, text, fault),
-        Refusal::Typing(fault) => kind_words(alloc, text, fault),
+        Refusal::Parse(fault) => parse_words(alloc, text, fault, &told.around),
+        Refusal::Typing(fault) => kind_words(alloc, text, fault, &told.around),
         Refusal::Verify(fault) => code_words(alloc, fault, told.byte.is_some()),
         Refusal::Hexadecimal if text.starts_with(CODE_LINE) => {
             format!(in alloc; "{}: leave out the word `code`", told.refusal)
@@ -44,14 +43,16 @@ pub(crate) fn words_of(alloc: Global, text: &[u8], told: &Diagnosis) -> Result<S
 }
 
 /// What is wrong with a text that is no filter.
-fn parse_words(alloc: Global, text: &[u8], fault: ParseFault) -> Result<String, AllocError> {
+fn parse_words(
+    alloc: Global,
+    text: &[u8],
+    fault: ParseFault,
+    around: &Around,
+) -> Result<String, AllocError> {
     match fault {
         ParseFault::Token(fault) => token_words(alloc, text, fault),
-        ParseFault::Unexpected(at, expected) => {
-            let lexed = lex(alloc, text)?;
-            unexpected(alloc, text, lexed.tokens.as_slice(), at, expected)
-        }
-        ParseFault::MissingAssign(at, name) => head_words(alloc, text, at, name),
+        ParseFault::Unexpected(at, expected) => unexpected(alloc, text, at, expected, around),
+        ParseFault::MissingAssign(at, name) => head_words(alloc, text, at, name, around),
         _ => String::from_str(alloc, plain_words(fault)),
     }
 }
@@ -193,14 +194,14 @@ fn is_among(name: &str, names: &[&str]) -> bool {
 fn remedy_for(
     text: &[u8],
     expected: Expected,
-    around: Around,
+    around: &Around,
     variables: &[&str],
 ) -> Option<&'static str> {
     match foreign(text, around.found, variables) {
         Some(remedy) => Some(remedy),
         None => match foreign(text, around.last, variables) {
             Some(remedy) => Some(remedy),
-            None => in_place_of_found(expected, around),
+            None => in_place_of_found(expected, *around),
         },
     }
 }
@@ -259,16 +260,15 @@ fn is_in_capitals(alloc: Global, name: &str, variables: &[&str]) -> Result<bool,
 fn unexpected(
     alloc: Global,
     text: &[u8],
-    tokens: &[Token],
     at: usize,
     expected: Expected,
+    around: &Around,
 ) -> Result<String, AllocError> {
-    let around = tokens_around(tokens, at);
     if let Some(words) = prefix_words(text, expected, around.found, around.last, at) {
         return String::from_str(alloc, words);
     }
     let found = found_words(alloc, text, around.found)?;
-    let variables = declared(alloc, text, tokens)?;
+    let variables = declared(alloc, text, around.names.places())?;
     if let Some(name) = name_of(text, around.found) {
         if is_in_capitals(alloc, name, variables.as_slice())? {
             return format!(in alloc; "expected {expected}{found}: write it in lower case");
@@ -281,11 +281,15 @@ fn unexpected(
 }
 
 /// What is wrong with a command whose `=` is missing at a byte, and whose name is at another one.
-fn head_words(alloc: Global, text: &[u8], at: usize, name: usize) -> Result<String, AllocError> {
-    let lexed = lex(alloc, text)?;
-    let tokens = lexed.tokens.as_slice();
-    let variables = declared(alloc, text, tokens)?;
-    let plain = unexpected(alloc, text, tokens, at, Expected::Assign)?;
+fn head_words(
+    alloc: Global,
+    text: &[u8],
+    at: usize,
+    name: usize,
+    around: &Around,
+) -> Result<String, AllocError> {
+    let variables = declared(alloc, text, around.names.places())?;
+    let plain = unexpected(alloc, text, at, Expected::Assign, around)?;
     match word_at(text, name) {
         Some(name) if !is_among(name, variables.as_slice()) => no_command(
             alloc,
@@ -322,10 +326,15 @@ fn no_command(alloc: Global, name: &str, plain: &str) -> Result<String, AllocErr
 }
 
 /// What is wrong with the names and kinds of a filter.
-fn kind_words(alloc: Global, text: &[u8], fault: TypeFault) -> Result<String, AllocError> {
+fn kind_words(
+    alloc: Global,
+    text: &[u8],
+    fault: TypeFault,
+    around: &Around,
+) -> Result<String, AllocError> {
     match fault {
         TypeFault::UnknownName(at) => match word_at(text, at) {
-            Some(name) => name_words(alloc, text, name),
+            Some(name) => name_words(alloc, text, name, around),
             None => String::from_str(alloc, "undeclared variable"),
         },
         TypeFault::DeclaredTwice(at) => match word_at(text, at) {
@@ -352,9 +361,13 @@ fn plain_kind_words(fault: TypeFault) -> &'static str {
 }
 
 /// What is wrong with a name that is no variable's.
-fn name_words(alloc: Global, text: &[u8], name: &str) -> Result<String, AllocError> {
-    let lexed = lex(alloc, text)?;
-    let mut known = declared(alloc, text, lexed.tokens.as_slice())?;
+fn name_words(
+    alloc: Global,
+    text: &[u8],
+    name: &str,
+    around: &Around,
+) -> Result<String, AllocError> {
+    let mut known = declared(alloc, text, around.names.places())?;
     known.extend_from_slice(VALUES.as_slice())?;
     match meant_word(alloc, name, known.as_slice())? {
         Some(near) => {

@@ -14,5 +14,4 @@ mod typed;
 mod variables;
 
 pub use fault::{ExpectedKind, TypeFault};
-pub use typed::{Typed, check};
-pub use variables::VARIABLE_LIMIT;
+pub use typed::{Typed, Untyped, check};

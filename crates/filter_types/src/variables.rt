@@ -8,10 +8,7 @@ ghost use Rattle.filter_types.specs.Kinds.{AreDeclared, kind_named, number_of};
 ghost use Rattle.filter_types.specs.declared.fault.TypeFault.TheVariants as fault;
 
 use crate::fault::TypeFault;
-use filter_parser::{Decl, Kind};
-
-/// How many variables a filter may have.
-pub const VARIABLE_LIMIT: usize = 16;
+use filter_parser::{Decl, Kind, VARIABLE_LIMIT};
 
 /// The number of a variable, and the count of the variables where none has the name.
 pub(crate) fn number_of(variables: &[Decl], name: &[u8]) -> usize

@@ -7,7 +7,9 @@ ghost use Rattle.ncroute.specs.Importing.{SavesFilter, SavesText, TellsEnd, Tell
 ghost use Rattle.ncroute.specs.Places.{config_of, place_of};
 ghost use Rattle.ncroute.specs.Streaming.{Tells, Writes};
 ghost use Rattle.filter_commands.specs.Check.{IsRefused};
+ghost use Rattle.filter_parser.specs.Surroundings.{TellsRound};
 ghost use Rattle.filter_parser.specs.Unspelled.{IsUnspelled};
+ghost use Rattle.filter_source.specs.Diagnoses.{TellsOfText};
 ghost use Rattle.filter_source.specs.VerifiedLine.{verified_line};
 ghost use Rattle.filter_tools.specs.Explanations.{AreRefusalWords};
 
@@ -22,7 +24,7 @@ use bird_import::{
 };
 use command_line::{Importing, Source};
 use filter_commands::ProgramFault;
-use filter_parser::ParseFault;
+use filter_parser::{Around, Unparsed};
 use filter_source::{Diagnosis, Failure, Refusal, SOURCE_LIMIT, push_verified};
 use filter_tokens::TokenFault;
 use filter_tools::{push_shown, refusal_words, verified_filter};
@@ -149,7 +151,7 @@ fn make_filter(
     let written = write_filter(alloc, head.as_slice(), words)?;
     match written.fate {
         Fate::Taken => verify_filter(alloc, size, draft.at, written),
-        Fate::Refused(fault) => refuse_text(alloc, draft.at, &written, fault),
+        Fate::Refused(why) => refuse_text(alloc, draft.at, &written, why),
         Fate::Garbled => left_out(alloc, draft.at, Why::Unwritten),
         Fate::Unset(index) => {
             let word = words[index];
@@ -186,30 +188,32 @@ fn refused(
     })
 }
 
-/// Why a text that the parser refuses is refused as a source: its length comes first.
-fn source_refusal(text: &[u8], fault: ParseFault) -> Refusal
-    ensures { IsUnspelled text.now fault → IsRefused false text.now result }
+/// What is told of a text that the parser refuses, as of a source: its length comes first.
+fn source_diagnosis(text: &[u8], why: Unparsed) -> Diagnosis
+    ensures { IsUnspelled text.now why.fault → TellsRound text.now why.fault why.around
+        → IsRefused false text.now result.refusal × TellsOfText text.now result }
 {
     if text.len() > SOURCE_LIMIT {
-        Refusal::TooLong
+        Diagnosis::of_source(Refusal::TooLong, Around::nothing())
     } else {
-        Refusal::Parse(fault)
+        Diagnosis::of_source(Refusal::Parse(why.fault), why.around)
     }
 }
 
-/// What is told of a filter, which begins at a place, whose text the parser refuses for this fault.
+/// What is told of a filter, which begins at a place, whose text the parser refuses.
 fn refuse_text(
     alloc: Global,
     at: usize,
     written: &FilterText,
-    fault: ParseFault,
+    why: Unparsed,
 ) -> Result<Made, AllocError>
-    requires unspelled { IsUnspelled written.now.text.items fault }
+    requires unspelled { IsUnspelled written.now.text.items why.fault }
+    requires round { TellsRound written.now.text.items why.fault why.around }
     ensures text { IfOk result (λ made. text_in made ≡ None) }
     ensures told { IfOk result (λ made. (size : ℕ) → IsRefusedText size at written.now.text.items written.now.origins.items made) }
 {
-    let refusal = source_refusal(written.text.as_slice(), fault);
-    refused(alloc, at, written, &Diagnosis::of_source(refusal))
+    let told = source_diagnosis(written.text.as_slice(), why);
+    refused(alloc, at, written, &told)
 }
 
 /// Verifies the text of a filter, which begins at a place, for domains of a size.

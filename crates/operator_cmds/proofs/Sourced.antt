@@ -2,7 +2,7 @@
 use Rattle.std.proofs.Common.{◌≡◌, ℕ, List, [], ◌++◌, Option, Some, None, Result, Ok, Err, IfOk, IfErr, inl, inr, refl, sym, subst, ap, ◌∙◌}
 use Rattle.std.specs.Prelude.{OnOk}
 use Rattle.filter_code.specs.CodeView.{CodeView}
-use Rattle.filter_source.specs.Diagnoses.{TellsOfCode}
+use Rattle.filter_source.specs.Diagnoses.{TellsOfCode, TellsOfFile, TellsOfText}
 use Rattle.filter_source.specs.Failures.{OnDiagnosis, OnRefusal}
 use Rattle.filter_source.specs.Refusals.{place_in_line, refusal_code}
 use Rattle.filter_source.specs.Sources.{IsRefusedText, IsUnsafe}
@@ -40,25 +40,25 @@ verified Gives code size (Ok v) gives h safe = record {
 verified Gives code size (Err e) gives h safe = tt
 
 -- what is told of code that is refused is told of its source
-pub diagnosed_by : (Gives : CodeView → Type 0) (Lacks : Refusal → Type 0) (ArePlaces : List ℕ → Type 0) (code : CodeView) (places : List ℕ)
+pub diagnosed_by : (Gives : CodeView → Type 0) (Lacks : Refusal → Type 0) (Tells : Diagnosis → Type 0) (ArePlaces : List ℕ → Type 0) (code : CodeView) (places : List ℕ)
     (size : ℕ) (r : Result VerifiedView Failure) → Gives code → ArePlaces places → IfErr r (OnRefusal (IsUnsafe code size))
-    → IfErr r (OnDiagnosis (TellsOfCode code places size)) → IfErr r (OnDiagnosis (IsDiagnosedBy Gives Lacks ArePlaces size))
-diagnosed_by Gives Lacks ArePlaces code places size (Ok v) gives are h tells = tt
-diagnosed_by Gives Lacks ArePlaces code places size (Err (failure.Refused told)) gives are h tells = inr (code, gives, h, (places, are, tells))
-diagnosed_by Gives Lacks ArePlaces code places size (Err failure.Memory) gives are h tells = tt
+    → IfErr r (OnDiagnosis (TellsOfCode code places size)) → IfErr r (OnDiagnosis (IsDiagnosedBy Gives Lacks Tells ArePlaces size))
+diagnosed_by Gives Lacks Tells ArePlaces code places size (Ok v) gives are h tells = tt
+diagnosed_by Gives Lacks Tells ArePlaces code places size (Err (failure.Refused told)) gives are h tells = inr (code, gives, h, (places, are, tells))
+diagnosed_by Gives Lacks Tells ArePlaces code places size (Err failure.Memory) gives are h tells = tt
 
 -- of what something is told, that is refused
-is_refused : (Gives : CodeView → Type 0) (Lacks : Refusal → Type 0) (ArePlaces : List ℕ → Type 0) (size : ℕ) (told : Diagnosis)
-    → IsDiagnosedBy Gives Lacks ArePlaces size told → IsRefusedBy Gives Lacks size told.refusal
-is_refused Gives Lacks ArePlaces size told (inl h) = inl h.0
-is_refused Gives Lacks ArePlaces size told (inr h) = inr (h.0, h.1, h.2)
+is_refused : (Gives : CodeView → Type 0) (Lacks : Refusal → Type 0) (Tells : Diagnosis → Type 0) (ArePlaces : List ℕ → Type 0) (size : ℕ) (told : Diagnosis)
+    → IsDiagnosedBy Gives Lacks Tells ArePlaces size told → IsRefusedBy Gives Lacks size told.refusal
+is_refused Gives Lacks Tells ArePlaces size told (inl h) = inl h.0
+is_refused Gives Lacks Tells ArePlaces size told (inr h) = inr (h.0, h.1, h.2)
 
 pub refused_source : (given : Source) (size : ℕ) (told : Diagnosis) → diagnoses given size told
     → IsRefusedBy (gives given) (lacks given) size told.refusal
 refused_source (source.Text text) size told h =
-    is_refused (GivesText text.now) (IsRefusedText text.now) (ArePlacesOf text.now) size told h
+    is_refused (GivesText text.now) (IsRefusedText text.now) (TellsOfText text.now) (ArePlacesOf text.now) size told h
 refused_source (source.File bytes) size told h =
-    is_refused (GivesFile bytes.now) (IsRefusedFile bytes.now) (λ places. places ≡ []) size told h
+    is_refused (GivesFile bytes.now) (IsRefusedFile bytes.now) TellsOfFile (λ places. places ≡ []) size told h
 
 -- the line of a refusal, by its code and its place
 refused_as : (why : Refusal) (number : ℕ) (code : List ℕ) (at : ℕ) → code ≡ refusal_code why → at ≡ place_in_line why number

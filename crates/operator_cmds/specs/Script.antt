@@ -5,7 +5,7 @@ use Rattle.std.specs.declared.sync.Arc.{Arc}
 use Rattle.std.specs.declared.alloc.Global.{Global}
 use Rattle.filter_code.specs.CodeView.{CodeView}
 use Rattle.filter_parser.specs.SyntaxText.{FilterView}
-use Rattle.filter_source.specs.Diagnoses.{TellsOfCode, of_source}
+use Rattle.filter_source.specs.Diagnoses.{TellsOfCode, TellsOfFile, TellsOfText}
 use Rattle.filter_source.specs.Refusals.{place_in_line, refusal_code}
 use Rattle.filter_source.specs.Sources.{IsRefusedText, IsUnsafe, Translates, code_in_file}
 use Rattle.filter_source.specs.TextPlaces.{ArePlacesOf}
@@ -113,11 +113,10 @@ pub record IsVerified (Gives : CodeView → Type 0) (size : ℕ) (filter : Verif
 abbrev pub IsRefusedBy : (CodeView → Type 0) → (Refusal → Type 0) → ℕ → Refusal → Type 0
 IsRefusedBy Gives Lacks size why = Lacks why ⊎ ((program : CodeView) × Gives program × IsUnsafe program size why)
 
--- This is told of a source that is refused: what follows from the refusal where it gives no code; and otherwise the part of the source that
--- gave the instruction which is refused, and the range that the verifier knows there. The last function says which places the
--- instructions come from.
-abbrev pub IsDiagnosedBy : (CodeView → Type 0) → (Refusal → Type 0) → (List ℕ → Type 0) → ℕ → Diagnosis → Type 0
-IsDiagnosedBy Gives Lacks ArePlaces size told = (Lacks told.refusal × (told ≡ of_source told.refusal))
+-- This is told of a source that is refused: what `Tells` says where it gives no code; and otherwise the part of the source that gave the
+-- instruction which is refused, and the range that the verifier knows there. `ArePlaces` says which places the instructions come from.
+abbrev pub IsDiagnosedBy : (CodeView → Type 0) → (Refusal → Type 0) → (Diagnosis → Type 0) → (List ℕ → Type 0) → ℕ → Diagnosis → Type 0
+IsDiagnosedBy Gives Lacks Tells ArePlaces size told = (Lacks told.refusal × Tells told)
     ⊎ ((program : CodeView) × Gives program × IsUnsafe program size told.refusal
     × ((places : List ℕ) × ArePlaces places × TellsOfCode program places size told))
 
@@ -169,11 +168,11 @@ IsRefusedFile bytes why = code_in_file bytes ≡ Err why
 
 -- this is told of a text that is refused
 abbrev pub IsTextDiagnosis : List ℕ → ℕ → Diagnosis → Type 0
-IsTextDiagnosis text size = IsDiagnosedBy (GivesText text) (IsRefusedText text) (ArePlacesOf text) size
+IsTextDiagnosis text size = IsDiagnosedBy (GivesText text) (IsRefusedText text) (TellsOfText text) (ArePlacesOf text) size
 
 -- the instructions of a file come from no places of a text
 abbrev pub IsFileDiagnosis : List ℕ → ℕ → Diagnosis → Type 0
-IsFileDiagnosis bytes size = IsDiagnosedBy (GivesFile bytes) (IsRefusedFile bytes) (λ places. places ≡ []) size
+IsFileDiagnosis bytes size = IsDiagnosedBy (GivesFile bytes) (IsRefusedFile bytes) TellsOfFile (λ places. places ≡ []) size
 
 -- what a source gives, why it gives nothing, and what is told of it where it is refused
 abbrev pub gives : Source → CodeView → Type 0

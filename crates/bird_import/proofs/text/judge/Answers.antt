@@ -13,14 +13,14 @@ use Rattle.bird_import.proofs.text.judge.Goals as goal
 pub returns-in-Err : goal.returns-in-Err
 returns-in-Err c =
     let refused = c.in-Err.ensures in
-    of_fault c.args.words.now c.args.text.now c.in-Err.fault c.fate_of.result c.fate_of.ensures
+    of_fault c.args.words.now c.args.text.now c.in-Err.why c.fate_of.result c.fate_of.ensures
     (λ other. record {
       spells_none = refused.refused other;
       no_memory = other;
       within = refused.within;
       head = refused.head;
       long = λ over. let is = refused.long over in cc;
-    })
+    }) refused.around
 
 pub returns-then-not-are_words : goal.returns-then-not-are_words
 returns-then-not-are_words c =

@@ -1,5 +1,6 @@
 -- The verifier's answer is that to the text's code.
 use Rattle.std.proofs.Common.{IfErr, IfOk, ℕ, subst, sym}
+use Rattle.filter_source.specs.Diagnoses.{TellsOfText}
 use Rattle.filter_source.specs.Failures.{OnDiagnosis}
 use Rattle.filter_source.specs.Sources.{IsRefusedText}
 use Rattle.filter_source.specs.TextPlaces.{ArePlacesOf}
@@ -19,6 +20,6 @@ returns-clause-refused c =
     let text = c.args.text.now in
     let mapped = c.in_ok-code.field-0 in
     subst (λ (n : ℕ). IfErr c.verify_mapped.result (OnDiagnosis (IsTextDiagnosis text n))) c.from.ensures
-    (diagnosed_by (GivesText text) (IsRefusedText text) (ArePlacesOf text) mapped.code c.as_slice.result.now c.from.result c.verify_mapped.result
+    (diagnosed_by (GivesText text) (IsRefusedText text) (TellsOfText text) (ArePlacesOf text) mapped.code c.as_slice.result.now c.from.result c.verify_mapped.result
     c.in_ok-code.ensures.code (subst (ArePlacesOf text) (sym c.as_slice.ensures.value) c.in_ok-code.ensures.places)
     c.verify_mapped.ensures.refused c.verify_mapped.ensures.told)
