@@ -11,6 +11,7 @@ usage: scripts/check_documents.py        (NCROUTE=PATH: the program; without it,
 - Each row of a table of codes says what `ncroute explain CODE` says, and each example of `ncroute explain` writes what it shows.
 - Each listing of docs/VERIFIER.md (`    0 METRIC`, `    1 INT 2`, ..), as a code file with as many variables and sets as it names: `check --code`
   refuses it as the listing says (`V3 at 6`), or verifies it. If a line of hexadecimal follows, it is that file.
+- Each link of a document to a file of the repository, or to a heading of a document, leads there.
 """
 import glob
 import os
@@ -136,6 +137,35 @@ def played(ncroute, tell):
             tell(name, "blocks of terminals", [(" ".join(block[-1]), terminals.play(block, ncroute.environment())) for block in blocks])
 
 
+def without_code(text):
+    """A document less what it shows as code, which has no links."""
+    text = re.sub(r"^```.*?^```", "", text, flags=re.M | re.S)
+    lines = [line for line in text.split("\n") if not line.startswith("    ")]
+    return re.sub(r"`[^`\n]*`", "", "\n".join(lines))
+
+
+def anchors(text):
+    """The names of a document's headings, as links write them."""
+    found = []
+    for heading in re.findall(r"^#+ +(.*)$", re.sub(r"^```.*?^```", "", text, flags=re.M | re.S), flags=re.M):
+        name = re.sub(r"[^\w\- ]", "", heading.strip().lower()).replace(" ", "-")
+        found.append(name if name not in found else f"{name}-{sum(other.startswith(name) for other in found)}")
+    return found
+
+
+def linked(name):
+    """The links of a document, and what is wrong with each: there is no such file, or no such heading in it."""
+    for target in re.findall(r"\]\(([^)\s]+)\)", without_code(read(name))):
+        if re.match(r"[a-z]+:", target):
+            continue
+        path, _, heading = target.partition("#")
+        file = os.path.normpath(os.path.join(os.path.dirname(name), path)) if path else name
+        if not os.path.exists(os.path.join(program.TOP, file)):
+            yield target, f"there is no {file}"
+        else:
+            yield target, heading and heading not in anchors(read(file)) and f"{file} has no heading #{heading}"
+
+
 def needs(block):
     """What a block needs of the system."""
     return {word for _, kind, words in block if kind == "$" for word in re.findall(r"\b(?:mkfifo|socat)\b", words)}
@@ -182,6 +212,10 @@ def main():
     tell("docs", "pipelines closed on a refused filter", [
         (command, (MISTAKE not in command and "has no filter of its own" or wrote and f"wrote {wrote.decode()!r}" or not status and "ends with status 0"))
         for command, (wrote, status) in shut])
+    for name in documents_here():
+        rows = list(linked(name))
+        if rows:
+            tell(name, "links", rows)
     explained(ncroute, tell)
     played(ncroute, tell)
     ncroute.close()

@@ -34,7 +34,8 @@ named, each of them is, in order; `-` is standard input. For each refused file, 
 error says why, or with --explain never just its name and the refusal. With --names each
 printed line begins with the name of its file, as `FILE: verified 7 2`, and with -q only
 refusals are printed. With --warn standard error says of each filter that is verified what
-`ncroute lint` says of it.
+`ncroute lint` says of it. Where refusals are told in words, it also says what a prefix with
+bits past its length is read as, with or without --warn.
 
 Two lines are printed:
   code HEX                the filter's code, as `ncroute eval` reads it
