@@ -1,5 +1,5 @@
 -- Events that are not refused.
-use Rattle.std.proofs.Common.{◌≡◌, ℕ, ◌+◌, ◌<◌, ◌≤◌, false, cond, nat_eq, nat_le, min, Some, List, length, ◌++◌, drop, ap, sym, ◌∙◌, ⊎_elim, arith, eq-eqb, ne_eqb, leb-false, le-ltb, drop_of_length-le}
+use Rattle.std.proofs.Common.{◌≡◌, ℕ, ◌+◌, ◌<◌, ◌≤◌, false, cond, nat_eq, nat_le, min, Some, None, is_some, List, length, ◌++◌, drop, ap, sym, ◌∙◌, ⊎_elim, arith, eq-eqb, ne_eqb, leb-false, drop_of_length-le}
 use Rattle.std.proofs.lemmas.Bool.{cases_lt, or_parts}
 use Rattle.filter_verifier.specs.VerifiedView.{VerifiedView}
 use Rattle.netchange_core.specs.declared.destination.Destination.{Destination}
@@ -18,7 +18,7 @@ pub neighbour_below : (o : OpeningView) (k : ℕ) → is_no_neighbour o k ≡ fa
 neighbour_below o k e = leb-false o.size k (or_parts (nat_le o.size k) (nat_eq k o.me) e).0
 
 pub up_goes : (o : OpeningView) (s k : ℕ) (ns : List NeighbourView) → is_no_neighbour o k ≡ false →
-    (neighbour_at ns k).session ≡ 0 → (s ≡ 4294967295 → ⊥) →
+    (neighbour_at ns k).session ≡ None → (s ≡ 4294967295 → ⊥) →
     up (world o s ns) k ≡ answered (world o (s + 1) (change k (joined o (distance_by o ns) (s + 1)) ns)) (reply.Opened (s + 1))
 up_goes o s k ns neighbour down left =
     let w = world o s ns in
@@ -26,7 +26,7 @@ up_goes o s k ns neighbour down left =
     ap (λ b. cond b (refused w refusal.NoNode) (cond (is_up (neighbour_at ns k)) (refused w refusal.AlreadyUp)
     (cond (nat_eq s last_session) (refused w refusal.NoSession) last))) neighbour
     ∙ ap (λ b. cond b (refused w refusal.AlreadyUp) (cond (nat_eq s last_session) (refused w refusal.NoSession) last))
-    (le-ltb 0 (neighbour_at ns k).session (omega arith))
+    (ap is_some down)
     ∙ ap (λ b. cond b (refused w refusal.NoSession) last) (ne_eqb s last_session left)
 
 pub import_goes : (o : OpeningView) (s k : ℕ) (ns : List NeighbourView) (f : VerifiedView) → is_no_neighbour o k ≡ false →

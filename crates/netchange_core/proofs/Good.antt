@@ -1,6 +1,6 @@
 -- Each change leaves a neighbour of the domain, and each distance where it does not speak of it.
-use Rattle.std.proofs.Common.{◌≡◌, ℕ, ◌<◌, ◌≤◌, true, cond, nat_lt, Option, Some, None, length, replicate, slice_index, slice_set, ap, sym, subst, refl, ◌∙◌, ⊎_elim, arith, eq-eqb, length-set, get_or-set_same, get_or-set_other}
-use Rattle.std.proofs.lemmas.Bool.{cases_eq, cond_both}
+use Rattle.std.proofs.Common.{◌≡◌, ℕ, ◌<◌, ◌≤◌, true, cond, Option, Some, None, is_some, length, slice_index, slice_set, ap, sym, subst, refl, ◌∙◌, ⊎_elim, arith, eq-eqb, length-set, get_or-set_same, get_or-set_other}
+use Rattle.std.proofs.lemmas.Bool.{cases_eq}
 use Rattle.std.proofs.lemmas.List.{get_or-replicate, length-replicate}
 use Rattle.filter_code.specs.Machine.{outcome_of}
 use Rattle.filter_machine.specs.Verdicts.{announced}
@@ -65,19 +65,18 @@ filtered_unreached o (Some f) v =
     (eq-eqb o.size o.size refl)
 
 -- a neighbour that joins has told no distance, as one that is down
-pub joined_distance : (o : OpeningView) (dist : ℕ → ℕ) (session v : ℕ) (n : NeighbourView) → n.session ≡ 0 → v < o.size →
+pub joined_distance : (o : OpeningView) (dist : ℕ → ℕ) (session v : ℕ) (n : NeighbourView) → n.session ≡ None → v < o.size →
     neighbour_distance o v (joined o dist session n) ≡ neighbour_distance o v n
 joined_distance o dist session v n e h =
-    cond_both (nat_lt 0 session) (filtered_distance o n.imports v (slice_index (replicate o.size o.size) v)) o.size (λ x. x ≡ o.size)
-    (λ _. ap (λ x. filtered_distance o n.imports v x) (get_or-replicate o.size v o.size 0 h) ∙ filtered_unreached o n.imports v) (λ _. refl)
-    ∙ sym (ap (λ s. cond (nat_lt 0 s) (filtered_distance o n.imports v (slice_index n.raw v)) o.size) e)
+    ap (λ x. filtered_distance o n.imports v x) (get_or-replicate o.size v o.size 0 h) ∙ filtered_unreached o n.imports v
+    ∙ sym (ap (λ s. cond (is_some s) (filtered_distance o n.imports v (slice_index n.raw v)) o.size) e)
 
 -- a filter of what is told changes nothing while the neighbour is down
-pub importing_distance : (o : OpeningView) (f : VerifiedView) (v : ℕ) (n : NeighbourView) → n.session ≡ 0 →
+pub importing_distance : (o : OpeningView) (f : VerifiedView) (v : ℕ) (n : NeighbourView) → n.session ≡ None →
     neighbour_distance o v (importing f n) ≡ neighbour_distance o v n
 importing_distance o f v n e =
-    ap (λ s. cond (nat_lt 0 s) (filtered_distance o (Some f) v (slice_index n.raw v)) o.size) e
-    ∙ sym (ap (λ s. cond (nat_lt 0 s) (filtered_distance o n.imports v (slice_index n.raw v)) o.size) e)
+    ap (λ s. cond (is_some s) (filtered_distance o (Some f) v (slice_index n.raw v)) o.size) e
+    ∙ sym (ap (λ s. cond (is_some s) (filtered_distance o n.imports v (slice_index n.raw v)) o.size) e)
 
 -- a distance that is heard is that of one node
 pub heard_distance : (o : OpeningView) (v d u : ℕ) (n : NeighbourView) → (u ≡ v → ⊥) →

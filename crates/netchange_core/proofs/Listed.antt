@@ -1,29 +1,34 @@
 -- Loops over the up neighbours, by the list of the present sessions.
-use Rattle.std.proofs.Common.{◌≡◌, ◌≢◌, inl, inr, ℕ, zero, suc, ◌+◌, ◌<◌, ◌≤◌, true, false, cond, List, [], ◌∷◌, length, map, get_or, set, ap, sym, subst, ◌∙◌, arith, ltb-true, lt-ltb, get_or-set_same, get_or-set_other, deque_capacity, deque_len}
-use Rattle.std.proofs.lemmas.Bool.{cases_Bool, cases_eq, cases_lt, ltb-false}
+use Rattle.std.proofs.Common.{◌≡◌, ◌≢◌, inl, inr, ℕ, zero, suc, ◌+◌, ◌<◌, ◌≤◌, true, false, cond, Option, None, is_some, List, [], ◌∷◌, length, map, get_or, set, ap, sym, subst, ◌∙◌, arith, get_or-set_same, get_or-set_other, deque_capacity, deque_len}
+use Rattle.std.proofs.lemmas.Bool.{cases_Bool, cases_eq, cases_lt}
 use Rattle.std.proofs.lemmas.List.{get_or-map, get_or_default, get_or_past, length-map, same_lists}
+use Rattle.std.proofs.lemmas.Option.{same_Some}
 use Rattle.netchange_core.specs.declared.neighbour.Neighbour.{Neighbour}
 use Rattle.netchange_core.specs.declared.sessions.Present.{Present}
 use Rattle.netchange_core.specs.Kept.{view_of}
 use Rattle.netchange_core.specs.Next.{message_of, tell}
 use Rattle.netchange_core.specs.OpeningView.{OpeningView}
-use Rattle.netchange_core.specs.Present.{AreListed, ArePresent, present, sessions_of}
+use Rattle.netchange_core.specs.Present.{AreListed, ArePresent, present, session_in, sessions_of}
 use Rattle.netchange_core.specs.Room.{HasRoom, HaveRoom, queueing}
 use Rattle.netchange_core.specs.World.{NeighbourView, is_up, neighbour_at, nobody}
+use Rattle.netchange_core.proofs.Holders.{none_by, some_by, some_none}
 use Rattle.netchange_core.proofs.Presence.{session_at}
 use Rattle.netchange_core.proofs.Views.{view_at}
 
 -- the present sessions name the up neighbours
-pub present_listed : (count : ℕ) (sessions : List ℕ) (ps : List Present) → ArePresent count sessions ps → AreListed sessions ps
+pub present_listed : (count : ℕ) (sessions : List (Option ℕ)) (ps : List Present) → ArePresent count sessions ps → AreListed sessions ps
 present_listed count sessions ps are = record {
-  up = λ i d h. let p = are.each i d h in omega (arith, p.numbered, p.held);
+  up = λ i d h. ap is_some (are.each i d h).held;
   apart = λ i j d before h same.
       let p = are.each i d (omega arith) in
       let q = are.each j d h in
-      omega (arith, are.rising i j d before h, p.held, q.held, ap (λ k. get_or sessions k 0) same);
+      let one : (get_or ps i d).session ≡ (get_or ps j d).session =
+      same_Some (get_or ps i d).session (get_or ps j d).session (sym p.held ∙ ap (λ k. session_in sessions k) same ∙ q.held) in
+      omega (arith, are.rising i j d before h, one);
   listed = λ k up.
-      let here = are.listed k up in
-      let p = present (get_or sessions k 0) k in
+      let held = some_by (session_in sessions k) up in
+      let here = are.listed k held.0 held.1 in
+      let p = present held.0 k in
       (here.0, here.1, λ d. ap (λ q. q.node) (get_or_default ps here.0 d p here.1 ∙ here.2));
 }
 
@@ -37,15 +42,14 @@ named_below ns ps i d are h =
       | inr past ↦
           let ss = sessions_of (map view_of ns) in
           let long : length ss ≤ k = omega (arith, past, length-map (map view_of ns) (λ n. n.session), length-map ns view_of) in
-          let none : get_or ss k 0 ≡ 0 = get_or_past ss k 0 long in
-          absurd (omega (arith, are.up i d h, none))
+          absurd (some_none (session_in ss k) (are.up i d h) (get_or_past ss k None long))
     ]
 
 pub named_up : (ns : List Neighbour) (ps : List Present) (i : ℕ) (d : Present) →
     AreListed (sessions_of (map view_of ns)) ps → i < length ps → is_up (neighbour_at (map view_of ns) (get_or ps i d).node) ≡ true
 named_up ns ps i d are h =
     let k = (get_or ps i d).node in
-    lt-ltb 0 (neighbour_at (map view_of ns) k).session (omega (arith, are.up i d h, session_at (map view_of ns) k))
+    ap is_some (sym (session_at (map view_of ns) k)) ∙ are.up i d h
 
 -- what holds of the neighbours named so far, after one more was replaced
 pub named_set : (P : Neighbour → Type 0) (ps : List Present) (i : ℕ) (d : Present) (ns : List Neighbour) (k : ℕ) (n : Neighbour) →
@@ -121,10 +125,9 @@ module _ (o : OpeningView) (v dist : ℕ) (ps : List Present) (old ns : List Nei
               let at = is_next j c within (λ less. omega arith) in
               let was : HasRoom (more + 1) head =
               subst (HasRoom (more + 1)) (ap (λ m. get_or old m f) at ∙ get_or_default old k f e below) room in
-              let is_up_there : 0 < head.session = ltb-true 0 head.session up in
               let len : deque_len n.queue ≡ deque_len head.queue + 1 = long ∙ ap (λ m. deque_len m.queue + 1) same in
               let cap : deque_capacity n.queue ≡ deque_capacity head.queue = wide ∙ ap (λ m. deque_capacity m.queue) same in
-              let now : HasRoom more n = λ _. omega (arith, was is_up_there, len, cap) in
+              let now : HasRoom more n = λ _. omega (arith, was up, len, cap) in
               subst (HasRoom more) (sym (ap (λ m. get_or (set ns k n) m f) at ∙ get_or-set_same ns k n f short)) now
         ];
         rest = λ m f others.
@@ -141,7 +144,7 @@ next_room o v dist ps old ns same_length are room i d e h so_far =
     let k = (get_or ps i d).node in
     let below : k < length old = named_below old ps i d are h in
     let up : is_up (view_of (get_or old k e)) ≡ true = ap is_up (view_at old k e below) ∙ named_up old ps i d are h in
-    let was = room k e below (ltb-true 0 (get_or old k e).session up) in
+    let was = room k e below up in
     subst (λ n. deque_len n.queue < deque_capacity n.queue) (sym (next_same o v dist ps old ns same_length are i d e h so_far))
     (omega (arith, was))
 
@@ -153,23 +156,23 @@ element (x ∷ xs) (suc i) h = element xs i (omega arith)
 -- after the last one
 module _ (o : OpeningView) (v dist : ℕ) (ps : List Present) (old ns : List Neighbour) (same_length : length ns ≡ length old)
     (are : AreListed (sessions_of (map view_of old)) ps) (all : Told o v dist ps (length ps) old ns) where
-  session_is : (k : ℕ) (e : Neighbour) → k < length old → get_or (sessions_of (map view_of old)) k 0 ≡ (get_or old k e).session
+  session_is : (k : ℕ) (e : Neighbour) → k < length old →
+      session_in (sessions_of (map view_of old)) k ≡ (get_or old k e).session
   session_is k e h = session_at (map view_of old) k ∙ ap (λ n. n.session) (sym (view_at old k e h))
 
-  unnamed : (k : ℕ) (e : Neighbour) → k < length old → (get_or old k e).session ≡ 0 → get_or ns k e ≡ get_or old k e
+  unnamed : (k : ℕ) (e : Neighbour) → k < length old → (get_or old k e).session ≡ None → get_or ns k e ≡ get_or old k e
   unnamed k e h down = all.rest k e (λ j c short is.
-      omega (arith, are.up j c short, ap (λ m. get_or (sessions_of (map view_of old)) m 0) is, session_is k e h))
+      some_none (session_in (sessions_of (map view_of old)) (get_or ps j c).node) (are.up j c short)
+      (ap (λ m. session_in (sessions_of (map view_of old)) m) is ∙ session_is k e h ∙ down))
 
   told_at : (k : ℕ) (e : Neighbour) → k < length old → view_of (get_or ns k e) ≡ tell o v dist (view_of (get_or old k e))
   told_at k e h = elim (cases_Bool (is_up (view_of (get_or old k e)))) [
     | inl up ↦
-        let above : 0 < (get_or old k e).session = ltb-true 0 (get_or old k e).session up in
-        let here = are.listed k (omega (arith, session_is k e h)) in
+        let here = are.listed k (ap is_some (session_is k e h) ∙ up) in
         let c = element ps here.0 here.1 in
         subst (λ m. view_of (get_or ns m e) ≡ tell o v dist (view_of (get_or old m e))) (here.2 c) (all.told here.0 c e here.1)
     | inr down ↦
-        let none : (get_or old k e).session ≤ 0 = ltb-false 0 (get_or old k e).session down in
-        ap view_of (unnamed k e h (omega arith)) ∙ sym (told_nowhere o v dist (view_of (get_or old k e)) down)
+        ap view_of (unnamed k e h (none_by (get_or old k e).session down)) ∙ sym (told_nowhere o v dist (view_of (get_or old k e)) down)
   ]
 
   pub all_told : map view_of ns ≡ map (tell o v dist) (map view_of old)
@@ -188,16 +191,15 @@ module _ (o : OpeningView) (v dist : ℕ) (ps : List Present) (old ns : List Nei
   room_told more room k e h = elim (cases_Bool (is_up (view_of (get_or old k e)))) [
     | inl up ↦
         let below : k < length old = omega arith in
-        let above : 0 < (get_or old k e).session = ltb-true 0 (get_or old k e).session up in
-        let here = are.listed k (omega (arith, session_is k e below)) in
+        let here = are.listed k (ap is_some (session_is k e below) ∙ up) in
         let c = element ps here.0 here.1 in
         subst (λ m. HasRoom more (get_or ns m e)) (here.2 c)
         (all.room more here.0 c e here.1 (subst (λ m. HasRoom (more + 1) (get_or old m e)) (sym (here.2 c)) (room k e below)))
     | inr down ↦
         let below : k < length old = omega arith in
-        let none : (get_or old k e).session ≤ 0 = ltb-false 0 (get_or old k e).session down in
-        let same : (get_or ns k e).session ≡ (get_or old k e).session = ap (λ n. n.session) (unnamed k e below (omega arith)) in
-        λ up. absurd (omega arith)
+        let none : (get_or old k e).session ≡ None = none_by (get_or old k e).session down in
+        let same : (get_or ns k e).session ≡ (get_or old k e).session = ap (λ n. n.session) (unnamed k e below none) in
+        λ up. absurd (some_none (get_or ns k e).session up (same ∙ none))
   ]
 
 -- room for each up neighbour that is named is room for each up neighbour
@@ -207,8 +209,8 @@ pub room_named : (more : ℕ) (ps : List Present) (ns ms : List Neighbour) → A
     deque_len (get_or ms (get_or ps j c).node e).queue + more ≤ deque_capacity (get_or ms (get_or ps j c).node e).queue) →
     HaveRoom more ms
 room_named more ps ns ms are same room k e h up =
-    let session : get_or (sessions_of (map view_of ns)) k 0 ≡ (get_or ms k e).session =
-    ap (λ vs. get_or (sessions_of vs) k 0) (sym same) ∙ session_at (map view_of ms) k ∙ ap (λ n. n.session) (sym (view_at ms k e h)) in
-    let here = are.listed k (omega arith) in
+    let session : session_in (sessions_of (map view_of ns)) k ≡ (get_or ms k e).session =
+    ap (λ vs. session_in (sessions_of vs) k) (sym same) ∙ session_at (map view_of ms) k ∙ ap (λ n. n.session) (sym (view_at ms k e h)) in
+    let here = are.listed k (ap is_some session ∙ up) in
     let c = element ps here.0 here.1 in
     subst (λ m. deque_len (get_or ms m e).queue + more ≤ deque_capacity (get_or ms m e).queue) (here.2 c) (room here.0 c e here.1)

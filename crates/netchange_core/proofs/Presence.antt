@@ -1,5 +1,5 @@
 -- The list of the present sessions.
-use Rattle.std.proofs.Common.{◌≡◌, ◌≢◌, ap, refl, ℕ, zero, suc, ◌+◌, ◌-◌, ◌<◌, ◌≤◌, ◌∙◌, sym, subst, inl, inr, Result, Ok, Err, IfNone, IfSome, Some, None, List, [], ◌∷◌, ◌++◌, length, get_or, replicate, set, All, Contains, position, arith, get_or-set_same, get_or-set_other}
+use Rattle.std.proofs.Common.{◌≡◌, ◌≢◌, ap, refl, ℕ, zero, suc, ◌+◌, ◌-◌, ◌<◌, ◌≤◌, ◌∙◌, sym, subst, inl, inr, Result, Ok, Err, IfNone, IfSome, Option, Some, None, List, [], ◌∷◌, ◌++◌, length, get_or, replicate, set, All, Contains, position, arith, get_or-set_same, get_or-set_other}
 use Rattle.std.specs.List.{HoldsAt, remove}
 use Rattle.std.specs.Result.{result_ok}
 use Rattle.std.specs.List.Sorted.{IsBinarySearchResult, IsNonDecreasingBy, IsSearchInRange}
@@ -12,11 +12,12 @@ use Rattle.std.proofs.lemmas.List.Edits.{get_or-remove_above, get_or-remove_belo
 use Rattle.std.proofs.lemmas.List.Elements.{All-push, All-weaker, Contains-append_left, Contains-push}
 use Rattle.std.proofs.lemmas.List.Quantifiers.{all_pairs_push, all_pairs_remove}
 use Rattle.std.proofs.lemmas.List.Sorted.{IsNonDecreasingBy-from_default}
+use Rattle.std.proofs.lemmas.Option.{none-some, same_Some}
 use Rattle.netchange_core.specs.declared.sessions.Present.{Present}
 use Rattle.netchange_core.specs.Calls.{newcomer}
 use Rattle.netchange_core.specs.Next.{tell_changes}
 use Rattle.netchange_core.specs.OpeningView.{OpeningView}
-use Rattle.netchange_core.specs.Present.{ArePresent, AreRising, IsPresent, present, sessions_of}
+use Rattle.netchange_core.specs.Present.{ArePresent, AreRising, IsPresent, present, session_in, sessions_of}
 use Rattle.netchange_core.specs.Settling.{told_if_differs}
 use Rattle.netchange_core.specs.World.{NeighbourView, change, has_session, neighbour_at}
 use Rattle.netchange_core.proofs.Change.{change_set, map_change_same}
@@ -52,7 +53,7 @@ module _ (ps : List Present) (rising : AreRising ps) (s : ℕ) where
   )
 
 -- the session of a neighbour
-pub session_at : (ns : List NeighbourView) (k : ℕ) → get_or (sessions_of ns) k 0 ≡ (neighbour_at ns k).session
+pub session_at : (ns : List NeighbourView) (k : ℕ) → session_in (sessions_of ns) k ≡ (neighbour_at ns k).session
 session_at [] k = refl
 session_at (n ∷ ns) zero = refl
 session_at (n ∷ ns) (suc k) = session_at ns k
@@ -86,36 +87,43 @@ one_place ps i j d rising here there same = elim (cases_eq i j) [
   ]
 ]
 
-module _ (count : ℕ) (sessions : List ℕ) (ps : List Present) (are : ArePresent count sessions ps) where
+module _ (count : ℕ) (sessions : List (Option ℕ)) (ps : List Present) (are : ArePresent count sessions ps) where
   -- two nodes with one session are one node
-  pub one_node : (j k : ℕ) → 0 < get_or sessions k 0 → get_or sessions j 0 ≡ get_or sessions k 0 → j ≡ k
-  one_node j k up same =
-      let at_j = are.listed j (omega arith) in
-      let at_k = are.listed k up in
-      let pj = present (get_or sessions j 0) j in
-      let pk = present (get_or sessions k 0) k in
+  pub one_node : (j k s : ℕ) → session_in sessions k ≡ Some s → session_in sessions j ≡ Some s → j ≡ k
+  one_node j k s has_k has_j =
+      let at_j = are.listed j s has_j in
+      let at_k = are.listed k s has_k in
+      let pj = present s j in
+      let pk = present s k in
       let shown : get_or ps at_k.0 pj ≡ pk = get_or_default ps at_k.0 pj pk at_k.1 ∙ at_k.2 in
       let place : at_j.0 ≡ at_k.0 = one_place ps at_j.0 at_k.0 pj are.rising at_j.1 at_k.1
-      (ap (λ p. p.session) at_j.2 ∙ same ∙ sym (ap (λ p. p.session) shown)) in
+      (ap (λ p. p.session) at_j.2 ∙ sym (ap (λ p. p.session) shown)) in
       ap (λ p. p.node) (sym at_j.2 ∙ ap (λ i. get_or ps i pj) place ∙ shown)
 
 -- who holds a session is listed with it
 module _ (count : ℕ) (ns : List NeighbourView) (ps : List Present) (are : ArePresent count (sessions_of ns) ps) (s : ℕ) where
   apart : AreApart ns
-  apart j k up same = one_node count (sessions_of ns) ps are j k (omega (arith, session_at ns k))
-      (session_at ns j ∙ same ∙ sym (session_at ns k))
+  apart j k t at_k at_j = one_node count (sessions_of ns) ps are j k t (session_at ns k ∙ at_k) (session_at ns j ∙ at_j)
 
   pub listed_holds : (i : ℕ) (d : Present) → i < length ps → (get_or ps i d).session ≡ s →
       position (has_session s) ns ≡ Some (get_or ps i d).node
   listed_holds i d h is =
       let p = get_or ps i d in
       let here = are.each i d h in
-      holder_found ns s p.node apart (omega (arith, here.numbered)) (sym (session_at ns p.node) ∙ here.held ∙ is)
+      holder_found ns s p.node apart (sym (session_at ns p.node) ∙ here.held ∙ ap Some is)
 
   pub unlisted : All (λ p. p.session ≢ s) ps → position (has_session s) ns ≡ None
-  unlisted absent = holder_none ns s (λ k up is.
-      let here = are.listed k (omega (arith, session_at ns k)) in
-      absent here.0 (present (get_or (sessions_of ns) k 0) k) here.1 (ap (λ p. p.session) here.2 ∙ session_at ns k ∙ is))
+  unlisted absent = holder_none ns s (λ k is.
+      let here = are.listed k s (session_at ns k ∙ is) in
+      absent here.0 (present s k) here.1 (ap (λ p. p.session) here.2))
+
+-- the number of a session is 1 or more
+pub session_numbered : (count : ℕ) (ns : List NeighbourView) (ps : List Present) (k : ℕ) (o : Option ℕ) →
+    ArePresent count (sessions_of ns) ps → o ≡ (neighbour_at ns k).session → IfSome o (λ s. 0 < s)
+session_numbered count ns ps k None are is = tt
+session_numbered count ns ps k (Some s) are is =
+    let here = are.listed k s (session_at ns k ∙ sym is) in
+    subst (λ p. 0 < p.session) here.2 (are.each here.0 (present s k) here.1).numbered
 
 -- no session yet
 pub none_present : (o : OpeningView) (n : ℕ) (ns : List NeighbourView) → ns ≡ replicate n (newcomer o) →
@@ -123,39 +131,41 @@ pub none_present : (o : OpeningView) (n : ℕ) (ns : List NeighbourView) → ns 
 none_present o n ns e = record {
   rising = λ i j d h short. absurd (omega arith);
   each = λ i d short. absurd (omega arith);
-  listed = λ k up. absurd (omega (arith, ap (λ ms. get_or (sessions_of ms) k 0) e, all_down n k));
+  listed = λ k s up. absurd (none-some s (sym (all_down n k) ∙ ap (λ ms. session_in (sessions_of ms) k) (sym e) ∙ up));
 }
   where
-    all_down : (n k : ℕ) → get_or (sessions_of (replicate n (newcomer o))) k 0 ≡ 0
+    all_down : (n k : ℕ) → session_in (sessions_of (replicate n (newcomer o))) k ≡ None
     all_down zero k = refl
     all_down (suc n) zero = refl
     all_down (suc n) (suc k) = all_down n k
 
 -- a session begins
-pub one_more : (count k : ℕ) (sessions : List ℕ) (ps : List Present) → k < length sessions → get_or sessions k 0 ≡ 0 →
-    ArePresent count sessions ps → ArePresent (count + 1) (set sessions k (count + 1)) (ps ++ present (count + 1) k ∷ [])
+pub one_more : (count k : ℕ) (sessions : List (Option ℕ)) (ps : List Present) → k < length sessions → session_in sessions k ≡ None →
+    ArePresent count sessions ps → ArePresent (count + 1) (set sessions k (Some (count + 1))) (ps ++ present (count + 1) k ∷ [])
 one_more count k sessions ps h down are = record {
   rising = all_pairs_push (λ p q. p.session < q.session) ps (present (count + 1) k) are.rising
       (λ i d short. omega (arith, (are.each i d short).opened));
-  each = All-push (IsPresent (count + 1) (set sessions k (count + 1))) ps (present (count + 1) k)
-      (All-weaker (IsPresent count sessions) (IsPresent (count + 1) (set sessions k (count + 1))) (λ p was. record {
+  each = All-push (IsPresent (count + 1) (set sessions k (Some (count + 1)))) ps (present (count + 1) k)
+      (All-weaker (IsPresent count sessions) (IsPresent (count + 1) (set sessions k (Some (count + 1)))) (λ p was. record {
         numbered = was.numbered;
         opened = omega (arith, was.opened);
         held =
-            let other : p.node ≢ k = λ is. omega (arith, was.numbered, was.held, ap (λ i. get_or sessions i 0) is) in
-            get_or-set_other sessions k p.node (count + 1) 0 other ∙ was.held;
+            let other : p.node ≢ k = λ is.
+            none-some p.session (sym down ∙ ap (λ i. session_in sessions i) (sym is) ∙ was.held) in
+            get_or-set_other sessions k p.node (Some (count + 1)) None other ∙ was.held;
       }) ps are.each)
-      (record { numbered = omega arith; opened = omega arith; held = get_or-set_same sessions k (count + 1) 0 h });
-  listed = λ j up. elim (cases_eq j k) [
+      (record { numbered = omega arith; opened = omega arith; held = get_or-set_same sessions k (Some (count + 1)) None h });
+  listed = λ j s up. elim (cases_eq j k) [
     | inl is ↦
-        let e : get_or (set sessions k (count + 1)) j 0 ≡ count + 1 =
-        ap (λ i. get_or (set sessions k (count + 1)) i 0) is ∙ get_or-set_same sessions k (count + 1) 0 h in
-        subst (Contains (ps ++ present (count + 1) k ∷ [])) (λ i. present (sym e i) (sym is i))
+        let e : session_in (set sessions k (Some (count + 1))) j ≡ Some (count + 1) =
+        ap (λ i. session_in (set sessions k (Some (count + 1))) i) is ∙ get_or-set_same sessions k (Some (count + 1)) None h in
+        let number : count + 1 ≡ s = same_Some (count + 1) s (sym e ∙ up) in
+        subst (Contains (ps ++ present (count + 1) k ∷ [])) (λ i. present (number i) (sym is i))
         (Contains-push ps (present (count + 1) k))
     | inr other ↦
-        let e : get_or (set sessions k (count + 1)) j 0 ≡ get_or sessions j 0 = get_or-set_other sessions k j (count + 1) 0 other in
-        subst (Contains (ps ++ present (count + 1) k ∷ [])) (ap (λ s. present s j) (sym e))
-        (Contains-append_left ps (present (count + 1) k ∷ []) (present (get_or sessions j 0) j) (are.listed j (omega arith)))
+        let e : session_in (set sessions k (Some (count + 1))) j ≡ session_in sessions j =
+        get_or-set_other sessions k j (Some (count + 1)) None other in
+        Contains-append_left ps (present (count + 1) k ∷ []) (present s j) (are.listed j s (sym e ∙ up))
   ];
 }
 
@@ -181,36 +191,39 @@ contains_remove xs i j x h short at other =
     ]
 
 -- a session is over
-pub one_less : (count i k s : ℕ) (sessions : List ℕ) (ps : List Present) → i < length ps → HoldsAt (λ p. p.session ≡ s) ps i →
-    0 < s → get_or sessions k 0 ≡ s → ArePresent count sessions ps → ArePresent count (set sessions k 0) (remove ps i)
-one_less count i k s sessions ps h here up held are =
+pub one_less : (count i k s : ℕ) (sessions : List (Option ℕ)) (ps : List Present) → i < length ps →
+    HoldsAt (λ p. p.session ≡ s) ps i → session_in sessions k ≡ Some s → ArePresent count sessions ps →
+    ArePresent count (set sessions k None) (remove ps i)
+one_less count i k s sessions ps h here held are =
     let not_here : (j : ℕ) (d : Present) → j < length ps → j ≢ i → (get_or ps j d).session ≢ s =
     λ j d short other is. other (one_place ps j i d are.rising short h (is ∙ sym (here d))) in
     record {
       rising = all_pairs_remove (λ p q. p.session < q.session) ps i h are.rising;
-      each = remove_each (IsPresent count (set sessions k 0)) ps i h (λ j d short other.
+      each = remove_each (IsPresent count (set sessions k None)) ps i h (λ j d short other.
           let was = are.each j d short in
           let apart : (get_or ps j d).node ≢ k =
-          λ is. not_here j d short other (sym was.held ∙ ap (λ n. get_or sessions n 0) is ∙ held) in
+          λ is. not_here j d short other (same_Some (get_or ps j d).session s
+          (sym was.held ∙ ap (λ n. session_in sessions n) is ∙ held)) in
           record {
             numbered = was.numbered;
             opened = was.opened;
-            held = get_or-set_other sessions k (get_or ps j d).node 0 0 apart ∙ was.held;
+            held = get_or-set_other sessions k (get_or ps j d).node None None apart ∙ was.held;
           });
-      listed = λ j there. elim (cases_eq j k) [
-        | inl is ↦ absurd (omega (arith, ap (λ n. get_or (set sessions k 0) n 0) is, gone k sessions))
+      listed = λ j t there. elim (cases_eq j k) [
+        | inl is ↦
+            absurd (none-some t (sym (gone k sessions) ∙ ap (λ n. session_in (set sessions k None) n) (sym is) ∙ there))
         | inr other ↦
-            let e : get_or (set sessions k 0) j 0 ≡ get_or sessions j 0 = get_or-set_other sessions k j 0 0 other in
-            let p = present (get_or sessions j 0) j in
-            let was = are.listed j (omega arith) in
+            let e : session_in (set sessions k None) j ≡ session_in sessions j = get_or-set_other sessions k j None None other in
+            let p = present t j in
+            let was = are.listed j t (sym e ∙ there) in
             let apart : was.0 ≢ i = λ is.
-            other (one_node count sessions ps are j k (omega arith)
-            (ap (λ q. q.session) (sym was.2 ∙ ap (λ n. get_or ps n p) is) ∙ here p ∙ sym held)) in
-            subst (Contains (remove ps i)) (ap (λ n. present n j) (sym e)) (contains_remove ps i was.0 p h was.1 was.2 apart)
+            other (one_node count sessions ps are j k s held
+            (sym e ∙ there ∙ ap (λ q. Some q.session) (sym was.2 ∙ ap (λ n. get_or ps n p) is) ∙ ap Some (here p))) in
+            contains_remove ps i was.0 p h was.1 was.2 apart
       ];
     }
   where
-    gone : (k : ℕ) (xs : List ℕ) → get_or (set xs k 0) k 0 ≡ 0
+    gone : (k : ℕ) (xs : List (Option ℕ)) → session_in (set xs k None) k ≡ None
     gone k [] = refl
     gone zero (x ∷ xs) = refl
     gone (suc k) (x ∷ xs) = gone k xs

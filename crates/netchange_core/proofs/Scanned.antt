@@ -1,5 +1,5 @@
 -- The nearest neighbour, found among those that are up, in the order of their sessions.
-use Rattle.std.proofs.Common.{◌≡◌, ⊎_elim, inl, inr, ℕ, ◌+◌, ◌<◌, ◌≤◌, List, length, map, slice_index, slice_index_or, slice_set, length-set, true, sym, subst, ◌∙◌, arith, refl, ltb-true, get_or-set_other}
+use Rattle.std.proofs.Common.{◌≡◌, ⊎_elim, inl, inr, ℕ, ◌+◌, ◌<◌, ◌≤◌, List, length, map, slice_index, slice_index_or, slice_set, length-set, true, None, is_some, ap, sym, subst, ◌∙◌, arith, refl, get_or-set_other}
 use Rattle.std.specs.List.{HoldsAt}
 use Rattle.std.proofs.lemmas.Bool.{cases_Bool, cases_eq, cases_lt}
 use Rattle.std.proofs.lemmas.List.{get_or-map, get_or_past, length-map}
@@ -10,8 +10,9 @@ use Rattle.netchange_core.specs.declared.sessions.Present.{Present}
 use Rattle.netchange_core.specs.Best.{neighbour_distance}
 use Rattle.netchange_core.specs.Leading.{Leads, LeadsBy, LeadsListed, LeadsListedBy, ListsReachable}
 use Rattle.netchange_core.specs.OpeningView.{OpeningView}
-use Rattle.netchange_core.specs.Present.{AreListed, sessions_of}
+use Rattle.netchange_core.specs.Present.{AreListed, session_in, sessions_of}
 use Rattle.netchange_core.specs.World.{NeighbourView, is_up, neighbour_at, nobody}
+use Rattle.netchange_core.proofs.Holders.{some_none}
 use Rattle.netchange_core.proofs.Presence.{session_at}
 
 -- after the last one
@@ -57,11 +58,12 @@ module _ (o : OpeningView) (v : ℕ) (ns : List NeighbourView) (ps : List Presen
       let k = (slice_index_or ps i p).node in
       ⊎_elim (λ (short : k < length ns). omega (arith, length-map ns (neighbour_distance o v)))
       (λ (past : length ns ≤ k).
-      absurd (omega (arith, are.up i p h, get_or_past (sessions_of ns) k 0 (omega (arith, length-map ns (λ n. n.session))))))
+      absurd (some_none (session_in (sessions_of ns) k) (are.up i p h)
+      (get_or_past (sessions_of ns) k None (omega (arith, length-map ns (λ n. n.session))))))
       (cases_lt k (length ns))
 
   pub up_is_listed : (k : ℕ) → is_up (neighbour_at ns k) ≡ true → (i : ℕ) × (i < length ps) × HoldsAt (λ p. p.node ≡ k) ps i
-  up_is_listed k up = are.listed k (omega (arith, session_at ns k, ltb-true 0 (neighbour_at ns k).session up))
+  up_is_listed k up = are.listed k (ap is_some (session_at ns k) ∙ up)
 
   pub lists_reachable : ListsReachable o.size (map (neighbour_distance o v) ns) ps
   lists_reachable = record {

@@ -11,14 +11,14 @@ use Rattle.netchange_core.specs.World.{NeighbourView, World, holder, neighbour_a
 
 -- a neighbour that never was up
 abbrev pub newcomer : OpeningView → NeighbourView
-newcomer o = record { session = 0; raw = unreached o; imports = None; exports = None; queue = [] }
+newcomer o = record { session = None; raw = unreached o; imports = None; exports = None; queue = [] }
 
 -- the world of an opening: no neighbour was ever up
 abbrev pub opened : OpeningView → World
 opened o = record { opening = o; sessions = 0; neighbours = replicate o.size (newcomer o) }
 
--- the present session of a node, or 0 while it is no up neighbour
-abbrev pub session_of : World → ℕ → ℕ
+-- the present session of a node, if it is an up neighbour
+abbrev pub session_of : World → ℕ → Option ℕ
 session_of w k = (neighbour_at w.neighbours k).session
 
 -- how many messages wait for a neighbour, and for the one whose present session this is

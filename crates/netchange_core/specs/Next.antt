@@ -63,14 +63,14 @@ unreached o = replicate o.size o.size
 -- Up: a neighbour joins in a session. It told nothing yet, and is told all distances.
 abbrev pub joined : OpeningView → (ℕ → ℕ) → ℕ → NeighbourView → NeighbourView
 joined o dist session n = record n {
-  session = session;
+  session = Some session;
   raw = unreached o;
   queue = all_messages o n.exports dist o.size;
 }
 
 -- Down: a neighbour leaves, and its queue is dropped. Its filters stay.
 abbrev pub gone : OpeningView → NeighbourView → NeighbourView
-gone o n = record n { session = 0; raw = unreached o; queue = [] }
+gone o n = record n { session = None; raw = unreached o; queue = [] }
 
 -- Receive: a neighbour tells a distance to a node
 abbrev pub heard : ℕ → ℕ → NeighbourView → NeighbourView

@@ -1,35 +1,39 @@
 -- The present sessions, as the tables keep them.
-use Rattle.std.specs.Prelude.{◌≡◌, ◌≢◌, ℕ, ◌<◌, ◌≤◌, All, Contains, List, length, map, slice_index}
+use Rattle.std.specs.Prelude.{◌≡◌, ◌≢◌, ℕ, ◌<◌, ◌≤◌, All, Contains, IsSome, Option, Some, None, List, length, map, slice_index_or}
 use Rattle.std.specs.List.{AllPairs, HoldsAt}
 use Rattle.netchange_core.specs.declared.sessions.Present.{Present}
 use Rattle.netchange_core.specs.World.{NeighbourView}
 
--- the session of each neighbour, by number; 0 where it is down
-abbrev pub sessions_of : List NeighbourView → List ℕ
+-- the session of each neighbour, by number, if it is up
+abbrev pub sessions_of : List NeighbourView → List (Option ℕ)
 sessions_of ns = map (λ n. n.session) ns
+
+-- the session of the neighbour of a number
+abbrev pub session_in : List (Option ℕ) → ℕ → Option ℕ
+session_in sessions k = slice_index_or sessions k None
 
 -- the numbers rise along the list
 abbrev pub AreRising : List Present → Type 0
 AreRising ps = AllPairs (λ p q. p.session < q.session) ps
 
 -- a session that was opened, and its node is up in it
-pub record IsPresent (count : ℕ) (sessions : List ℕ) (p : Present) : Type 0 where
+pub record IsPresent (count : ℕ) (sessions : List (Option ℕ)) (p : Present) : Type 0 where
   pub numbered : 0 < p.session
   pub opened : p.session ≤ count
-  pub held : slice_index sessions p.node ≡ p.session
+  pub held : session_in sessions p.node ≡ Some p.session
 
 -- a session with its node
 abbrev pub present : ℕ → ℕ → Present
 present session node = record { session = session; node = node }
 
 -- of so many sessions, the list has those that are present, in the order of their numbers
-pub record ArePresent (count : ℕ) (sessions : List ℕ) (ps : List Present) : Type 0 where
+pub record ArePresent (count : ℕ) (sessions : List (Option ℕ)) (ps : List Present) : Type 0 where
   pub rising : AreRising ps
   pub each : All (IsPresent count sessions) ps
-  pub listed : (k : ℕ) → 0 < slice_index sessions k → Contains ps (present (slice_index sessions k) k)
+  pub listed : (k s : ℕ) → session_in sessions k ≡ Some s → Contains ps (present s k)
 
 -- the list names each up neighbour once, and no other node
-pub record AreListed (sessions : List ℕ) (ps : List Present) : Type 0 where
-  pub up : All (λ p. 0 < slice_index sessions p.node) ps
+pub record AreListed (sessions : List (Option ℕ)) (ps : List Present) : Type 0 where
+  pub up : All (λ p. IsSome (session_in sessions p.node)) ps
   pub apart : AllPairs (λ p q. p.node ≢ q.node) ps
-  pub listed : (k : ℕ) → 0 < slice_index sessions k → (i : ℕ) × (i < length ps) × HoldsAt (λ p. p.node ≡ k) ps i
+  pub listed : (k : ℕ) → IsSome (session_in sessions k) → (i : ℕ) × (i < length ps) × HoldsAt (λ p. p.node ≡ k) ps i

@@ -26,7 +26,7 @@ pub(crate) fn leave(opening: &Opening, neighbour: &mut Neighbour)
     requires { length neighbour.old.raw.items ≡ opening.now.size }
     ensures { view_of neighbour.new ≡ gone opening.now (view_of neighbour.old) }
 {
-    neighbour.session = 0;
+    neighbour.session = None;
     forget(neighbour.raw.as_mut_slice(), opening.size());
     neighbour.queue.clear();
 }
@@ -61,7 +61,7 @@ pub(crate) fn join(
     requires room { deque_len neighbour.old.queue + opening.now.size ≤ deque_capacity neighbour.old.queue }
     ensures { view_of neighbour.new ≡ joined opening.now (kept_distance destinations.now) session (view_of neighbour.old) }
 {
-    neighbour.session = session;
+    neighbour.session = Some(session);
     forget(neighbour.raw.as_mut_slice(), opening.size());
     neighbour.queue.clear();
     tell_everything(opening, neighbour, destinations);
@@ -80,7 +80,7 @@ pub(crate) fn export(
     ensures { view_of neighbour.new ≡ exporting opening.now (kept_distance destinations.now) filter.value (view_of neighbour.old) }
 {
     neighbour.exports = Some(filter);
-    if 0 < neighbour.session {
+    if neighbour.session.is_some() {
         tell_everything(opening, neighbour, destinations);
     }
 }

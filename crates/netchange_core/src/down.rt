@@ -1,10 +1,10 @@
 //! A channel fails.
 
-ghost use Rattle.std.specs.Prelude.{◌≡◌, true, Some};
+ghost use Rattle.std.specs.Prelude.{◌≡◌, Some};
 ghost use Rattle.netchange_core.specs.Handling.{Handles};
 ghost use Rattle.netchange_core.specs.Kept.{AreTables, views_of, world_of};
 ghost use Rattle.netchange_core.specs.Next.{down};
-ghost use Rattle.netchange_core.specs.World.{is_up, neighbour_at};
+ghost use Rattle.netchange_core.specs.World.{neighbour_at};
 
 use crate::changing::leave;
 use crate::reply::Reply;
@@ -14,10 +14,10 @@ use crate::state::State;
 use std::alloc::AllocError;
 
 impl State {
-    /// The channel to an up neighbour failed.
-    pub(crate) fn down(&mut self, hop: usize) -> Result<Reply, AllocError>
+    /// The channel to an up neighbour failed, whose present session this is.
+    pub(crate) fn down(&mut self, hop: usize, session: u32) -> Result<Reply, AllocError>
         requires right { AreTables self.old }
-        requires up { is_up (neighbour_at (views_of self.old) hop) ≡ true }
+        requires holds { (neighbour_at (views_of self.old) hop).session ≡ Some session }
         ensures { Handles self.old (down (world_of self.old) (Some hop)) self.new result }
     {
         make_room(
@@ -26,7 +26,7 @@ impl State {
             usize::from(self.opening.size()),
         )?;
         let neighbour = &mut self.neighbours[hop];
-        close(&mut self.sessions.present, neighbour.session);
+        close(&mut self.sessions.present, session);
         leave(&self.opening, neighbour);
         let changed = self.settle(hop);
         Ok(Reply::Done { changed })

@@ -26,7 +26,7 @@ impl State {
         ensures { let w = world_of self.old in
             Handles self.old (recomputed w (changed w node (importing filter.value))) self.new result }
     {
-        if self.neighbours[node].session == 0 {
+        if self.neighbours[node].session.is_none() {
             import(&mut self.neighbours[node], filter);
             return Ok(Reply::Done { changed: 0 });
         }

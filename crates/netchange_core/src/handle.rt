@@ -36,7 +36,7 @@ impl State {
         match event {
             Event::Up(node) => self.up(*node),
             Event::Down(session) => match self.holder(*session) {
-                Some(hop) => self.down(hop),
+                Some(hop) => self.down(hop, *session),
                 None => Ok(Reply::Refused(Refusal::Stale)),
             },
             Event::Receive(session, dest, dist) => match self.holder(*session) {

@@ -15,8 +15,8 @@ use std::sync::Arc;
 /// A node as a neighbour.
 #[derive(Drop)]
 pub(crate) struct Neighbour {
-    /// Its present session, or 0 while it is down.
-    pub(crate) session: u32,
+    /// Its present session, if it is up.
+    pub(crate) session: Option<u32>,
     /// The distance to each node that it told last in this session.
     pub(crate) raw: Vec<u16>,
     /// The filter of what it tells.
@@ -33,7 +33,7 @@ fn make_newcomer(alloc: Global, opening: &Opening) -> Result<Neighbour, AllocErr
 {
     let size = opening.size();
     Ok(Neighbour {
-        session: 0,
+        session: None,
         raw: vec![in alloc; size; usize::from(size)]?,
         imports: None,
         exports: None,

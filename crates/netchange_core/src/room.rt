@@ -27,7 +27,7 @@ pub(crate) fn make_room_for(neighbour: &mut Neighbour, more: usize) -> Result<()
     ensures same { view_of neighbour.new ≡ view_of neighbour.old }
     ensures room { OnOk result (HasRoom more neighbour.new) }
 {
-    if neighbour.session == 0 {
+    if neighbour.session.is_none() {
         return Ok(());
     }
     reserve(neighbour, more)

@@ -1,8 +1,8 @@
 //! The sessions of a router.
 
-ghost use Rattle.std.specs.Prelude.{◌≡◌, ◌≢◌, ℕ, ◌<◌, All, IfNone, IfSome, List, length, position, slice_index, slice_set};
+ghost use Rattle.std.specs.Prelude.{◌≡◌, ◌≢◌, ℕ, ◌<◌, All, IfNone, IfSome, List, Option, Some, None, length, position, slice_set};
 ghost use Rattle.std.specs.List.{HoldsAt};
-ghost use Rattle.netchange_core.specs.Present.{ArePresent, AreRising, sessions_of};
+ghost use Rattle.netchange_core.specs.Present.{ArePresent, AreRising, session_in, sessions_of};
 ghost use Rattle.netchange_core.specs.World.{NeighbourView, has_session};
 
 /// A present session.
@@ -61,8 +61,8 @@ pub(crate) fn holder(sessions: &Sessions, session: u32) -> Option<usize>
 /// The session of a node is over.
 pub(crate) fn close(present: &mut Vec<Present>, session: u32)
     requires { AreRising present.old.items }
-    ensures { (count node : ℕ) (sessions : List ℕ) → 0 < session → slice_index sessions node ≡ session →
-        ArePresent count sessions present.old.items → ArePresent count (slice_set sessions node 0) present.new.items }
+    ensures { (count node : ℕ) (sessions : List (Option ℕ)) → session_in sessions node ≡ Some session →
+        ArePresent count sessions present.old.items → ArePresent count (slice_set sessions node None) present.new.items }
 {
     if let Some(index) = find(present, session) {
         present.remove(index);

@@ -25,7 +25,7 @@ pub(crate) fn neighbour_distance(opening: &Opening, neighbour: &Neighbour, node:
     ensures value { result ≡ neighbour_distance opening.now node (view_of neighbour.now) }
     ensures reachable { result ≤ opening.now.size }
 {
-    if neighbour.session == 0 {
+    if neighbour.session.is_none() {
         return opening.size();
     }
     filtered_distance(

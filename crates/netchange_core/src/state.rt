@@ -1,6 +1,6 @@
 //! The state of a router, which the events change.
 
-ghost use Rattle.std.specs.Prelude.{◌≡◌, true, IfSome};
+ghost use Rattle.std.specs.Prelude.{◌≡◌, true, IfSome, Some};
 ghost use Rattle.netchange_core.specs.Kept.{AreTables, views_of, world_of};
 ghost use Rattle.netchange_core.specs.World.{holder, is_up, neighbour_at};
 
@@ -28,6 +28,7 @@ impl State {
     pub(crate) fn holder(&self, session: u32) -> Option<usize>
         requires { AreTables self.now }
         ensures is { result ≡ holder (world_of self.now) session }
+        ensures holds { IfSome result (λ k. (neighbour_at (views_of self.now) k).session ≡ Some session) }
         ensures up { IfSome result (λ k. is_up (neighbour_at (views_of self.now) k) ≡ true) }
     {
         holder(&self.sessions, session)

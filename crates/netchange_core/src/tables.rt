@@ -1,6 +1,6 @@
 //! The tables of a router.
 
-ghost use Rattle.std.specs.Prelude.{◌≡◌, ◌<◌, ◌≤◌, IfOk, OnErr, length, slice_index};
+ghost use Rattle.std.specs.Prelude.{◌≡◌, ◌<◌, ◌≤◌, IfOk, IfSome, OnErr, OnSome, length, slice_index};
 ghost use Rattle.netchange_core.specs.Best.{best, neighbour_distance};
 ghost use Rattle.netchange_core.specs.Calls.{MayNeedMemory, carried, opened, queued_of, room_of, session_of};
 ghost use Rattle.netchange_core.specs.Next.{answered, next};
@@ -76,16 +76,14 @@ impl Tables {
         }
     }
 
-    /// The present session of a node; 0 where it is no up neighbour.
-    pub fn session(&self, node: u16) -> u32
+    /// The present session of a node, if it is an up neighbour.
+    pub fn session(&self, node: u16) -> Option<u32>
         ensures value { result ≡ session_of self.now node }
         // Only a node of the domain is up.
-        ensures within { 0 < result → node < self.now.opening.size }
+        ensures within { OnSome result (node < self.now.opening.size) }
+        ensures numbered { IfSome result (λ session. 0 < session) }
     {
-        match self.state.neighbours.get(usize::from(node)) {
-            Some(neighbour) => neighbour.session,
-            None => 0,
-        }
+        self.state.neighbours.get(usize::from(node))?.session
     }
 
     /// The best route to a node.

@@ -22,7 +22,7 @@ impl State {
             return Ok(Reply::Refused(Refusal::NoNode));
         }
         let neighbour = &mut self.neighbours[usize::from(node)];
-        if 0 < neighbour.session {
+        if neighbour.session.is_some() {
             return Ok(Reply::Refused(Refusal::AlreadyUp));
         }
         if self.sessions.count == u32::MAX {

@@ -1,4 +1,4 @@
-use Rattle.std.proofs.Common.{◌≡◌, ℕ, ◌<◌, length, ap, refl, sym, subst, ◌∙◌, arith}
+use Rattle.std.proofs.Common.{◌≡◌, ℕ, ◌<◌, None, not, length, ap, refl, sym, subst, ◌∙◌, arith}
 use Rattle.std.specs.Vec.{with_item, with_items}
 use Rattle.netchange_core.specs.declared.reply.Reply.TheVariants as reply
 use Rattle.netchange_core.specs.Kept.{views_of}
@@ -7,6 +7,7 @@ use Rattle.netchange_core.specs.Present.{ArePresent}
 use Rattle.netchange_core.specs.Room.{HaveRoom}
 use Rattle.netchange_core.specs.World.{neighbour_at}
 use Rattle.netchange_core.proofs.Good.{importing_distance, importing_good}
+use Rattle.netchange_core.proofs.Holders.{none_by}
 use Rattle.netchange_core.proofs.Listed.{present_listed}
 use Rattle.netchange_core.proofs.Presence.{sessions_kept}
 use Rattle.netchange_core.proofs.Received.{recomputed_same}
@@ -16,8 +17,8 @@ use Rattle.netchange_core.proofs.state.State.import.Goals as goal
 use Rattle.netchange_core.proofs.state.State.import.Goals.{After-index_mut-2}
 
 -- while the node is down
-pub returns-then-index-eq0 : goal.returns-then-index-eq0
-returns-then-index-eq0 c =
+pub returns-then-is_none : goal.returns-then-is_none
+returns-then-is_none c =
     let s = c.args.self.now in
     let k = c.args.node in
     let f = importing c.args.filter.value in
@@ -26,9 +27,9 @@ returns-then-index-eq0 c =
     let one = changes_one s c.requires.right s.neighbours.items k c.index_mut.result.now
     (record { within = h; same = refl; is = c.index_mut.ensures.value }) f c.import.new.neighbour c.import.ensures.view
     (importing_good s.opening.size c.args.filter.value _ c.requires.size) in
-    let down : (neighbour_at ns k).session ≡ 0 =
+    let down : (neighbour_at ns k).session ≡ None =
     ap (λ m. m.session) (sym (looks s c.requires.right s.neighbours.items k c.index.result.now
-    (record { within = h; same = refl; is = c.index.ensures }))) ∙ c.if-index-eq0.true in
+    (record { within = h; same = refl; is = c.index.ensures }))) ∙ none_by c.index.result.now.session (c.is_none.ensures ∙ ap not c.if-is_none.true) in
     let same = λ (v : ℕ) (_ : v < s.opening.size). importing_distance s.opening c.args.filter.value v (neighbour_at ns k) down in
     done s _ _ _ refl
     (recomputed_same s.opening s.sessions.count k f ns same

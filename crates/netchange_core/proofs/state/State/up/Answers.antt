@@ -1,4 +1,4 @@
-use Rattle.std.proofs.Common.{◌≡◌, ◌+◌, [], ◌∷◌, ◌++◌, length, map, slice_set, ap, refl, sym, subst, ◌∙◌, arith}
+use Rattle.std.proofs.Common.{◌≡◌, ◌+◌, None, [], ◌∷◌, ◌++◌, length, map, slice_set, ap, refl, sym, subst, ◌∙◌, arith}
 use Rattle.std.proofs.lemmas.List.{length-map}
 use Rattle.std.specs.Vec.{with_item}
 use Rattle.netchange_core.specs.declared.reply.Reply.TheVariants as reply
@@ -10,6 +10,7 @@ use Rattle.netchange_core.specs.World.{change, neighbour_at}
 use Rattle.netchange_core.proofs.Change.{change_as}
 use Rattle.netchange_core.proofs.Goes.{joined_kept, neighbour_below, up_goes}
 use Rattle.netchange_core.proofs.Good.{joined_distance, joined_good}
+use Rattle.netchange_core.proofs.Holders.{none_by}
 use Rattle.netchange_core.proofs.Presence.{one_more, session_at, sessions_changed}
 use Rattle.netchange_core.proofs.States.{IsAtHand, all_same, changes_one, done, good_here, looks, no_memory, still_kept}
 use Rattle.netchange_core.proofs.Worlds.{world}
@@ -38,7 +39,8 @@ goes : (c : After-reserve) →
 goes c was =
     let s = c.args.self.now in
     let neighbour = sym c.is_no_neighbour.ensures ∙ c.if-is_no_neighbour.false in
-    let idle : c.index_mut-neighbour.result.now.session ≡ 0 = omega arith in
+    let idle : c.index_mut-neighbour.result.now.session ≡ None =
+    none_by c.index_mut-neighbour.result.now.session (sym c.is_some.ensures ∙ c.if-is_some.false) in
     let down = ap (λ n. n.session) (sym (looks s c.requires _ c.from.result _ was)) ∙ idle in
     up_goes s.opening s.sessions.count c.args.node (views_of s) neighbour
     (ap (λ j. (neighbour_at (views_of s) j).session) (sym c.from.ensures) ∙ down) c.if-self.false
@@ -55,8 +57,8 @@ returns c =
     let head = c.index_mut-neighbour.result.now in
     let was = here (goal.at.returns c).After-index_mut-neighbour in
     let h = was.within in
-    let idle : head.session ≡ 0 = omega arith in
-    let down : (neighbour_at ns k).session ≡ 0 = ap (λ n. n.session) (sym (looks s c.requires _ k _ was)) ∙ idle in
+    let idle : head.session ≡ None = none_by head.session (sym c.is_some.ensures ∙ c.if-is_some.false) in
+    let down : (neighbour_at ns k).session ≡ None = ap (λ n. n.session) (sym (looks s c.requires _ k _ was)) ∙ idle in
     let one = changes_one s c.requires _ k _ was f c.join.new.neighbour
     (c.join.ensures ∙ ap (λ es. joined o (kept_distance es) (count + 1) (view_of c.reserve.new.neighbour)) c.deref.ensures.value
     ∙ ap f c.reserve.ensures.same)
