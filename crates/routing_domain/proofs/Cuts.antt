@@ -1,7 +1,7 @@
 -- A link that goes down at both ends keeps a domain in order.
-use Rattle.std.proofs.Common.{◌≡◌, inr, ℕ, ◌<◌, true, false, Some, [], length, refl, sym, ap, subst, ◌∙◌, arith}
-use Rattle.std.proofs.lemmas.Bool.{ltb-true}
+use Rattle.std.proofs.Common.{◌≡◌, inr, ℕ, ◌<◌, true, false, Option, Some, [], length, refl, sym, ap, subst, ◌∙◌, arith}
 use Rattle.std.proofs.lemmas.List.Elements.{All-nil}
+use Rattle.netchange_core.specs.declared.event.Event.{Event}
 use Rattle.netchange_core.specs.declared.event.Event.TheVariants as event
 use Rattle.netchange_core.specs.Best.{distance}
 use Rattle.netchange_core.specs.Kept.{IsNeighbour}
@@ -9,10 +9,10 @@ use Rattle.netchange_core.specs.Next.{down, gone, next, recomputed}
 use Rattle.netchange_core.specs.World.{World, change, changed, holder, is_up, neighbour_at, nobody}
 use Rattle.netchange_core.proofs.Change.{change_good, changed_at}
 use Rattle.netchange_core.proofs.Good.{gone_good}
-use Rattle.netchange_core.proofs.Holders.{holder_found}
+use Rattle.netchange_core.proofs.Holders.{holder_found, up_in}
 use Rattle.netchange_core.proofs.Queued.{changes_good}
 use Rattle.routing_domain.specs.Domain.{Domain, IsInOrder, IsWithin, are_linked, neighbour}
-use Rattle.routing_domain.specs.Events.{cuts, enters}
+use Rattle.routing_domain.specs.Events.{cuts, enters_in, in_session}
 use Rattle.routing_domain.specs.Steps.{with_flight}
 use Rattle.routing_domain.proofs.Keeping.{IsMember, KeepsLink, member_of}
 use Rattle.routing_domain.proofs.Pairs.{two_routers_keep_order}
@@ -22,10 +22,8 @@ use Rattle.routing_domain.proofs.Seen.{recomputed_other, told_seen}
 use Rattle.routing_domain.proofs.Sound.{down_own, recomputed_sound}
 
 -- who holds a neighbour's present session is that neighbour
-pub holds : (d : Domain) (u w : ℕ) → IsInOrder d → u < d.size → are_linked d u w ≡ true → holder (d.router u) (neighbour d u w).session ≡ Some w
-holds d u w o short linked =
-    holder_found (d.router u).neighbours (neighbour d u w).session w
-    (λ j k up same. (o.sound u short).apart j k up same) (ltb-true 0 (neighbour d u w).session linked) refl
+pub holds : (d : Domain) (u w s : ℕ) → IsInOrder d → u < d.size → (neighbour d u w).session ≡ Some s → holder (d.router u) s ≡ Some w
+holds d u w s o short held = holder_found (d.router u).neighbours s w (o.sound u short).apart held
 
 -- the world of the one whom another left
 abbrev pub leaver : World → ℕ → World
@@ -68,9 +66,18 @@ leaver_down size u k r m short =
     told_seen is_up r k (gone r.opening) k (λ _ _. refl) ∙ ap is_up (changed_at k (gone r.opening) r.neighbours (near_of size u k r m short))
 
 -- Down is not refused
-pub down_leaves : (d : Domain) (u w : ℕ) → IsInOrder d → u < d.size → are_linked d u w ≡ true →
-    next (d.router u) (event.Down (neighbour d u w).session) ≡ recomputed (d.router u) (changed (d.router u) w (gone (d.router u).opening))
-down_leaves d u w o short linked = ap (λ h. down (d.router u) h) (holds d u w o short linked)
+pub down_leaves : (d : Domain) (u w s : ℕ) → IsInOrder d → u < d.size → (neighbour d u w).session ≡ Some s →
+    next (d.router u) (event.Down s) ≡ recomputed (d.router u) (changed (d.router u) w (gone (d.router u).opening))
+down_leaves d u w s o short held = ap (λ h. down (d.router u) h) (holds d u w s o short held)
+
+abbrev goes : ℕ → Event
+goes s = event.Down s
+
+leaves : (d : Domain) (u w : ℕ) → IsInOrder d → u < d.size → are_linked d u w ≡ true →
+    in_session (d.router u) (neighbour d u w).session goes ≡ leaver (d.router u) w
+leaves d u w o short linked =
+    let there = up_in (neighbour d u w) linked in
+    ap (λ (s : Option ℕ). in_session (d.router u) s goes) there.1 ∙ ap (λ a. a.world) (down_leaves d u w there.0 o short there.1)
 
 -- two neighbours are two nodes
 pub unlike : (d : Domain) (u w : ℕ) → IsInOrder d → u < d.size → are_linked d u w ≡ true → u ≡ w → ⊥
@@ -79,32 +86,32 @@ unlike d u w o short linked same =
 
 -- the domain after both, before what was on its way is lost
 abbrev pub parts : Domain → ℕ → ℕ → Domain
-parts d u w = enters (enters d u (event.Down (neighbour d u w).session)) w (event.Down (neighbour d w u).session)
+parts d u w = enters_in (enters_in d u (neighbour d u w).session goes) w (neighbour d w u).session goes
 
 pub cut_one : (d : Domain) (u w : ℕ) → IsInOrder d → u < d.size → w < d.size → are_linked d u w ≡ true → (cuts d u w).router u ≡ leaver (d.router u) w
 cut_one d u w o from to linked =
-    let s = event.Down (neighbour d u w).session in
-    let t = event.Down (neighbour d w u).session in
-    let e = enters d u s in
-    router_other e w (next (e.router w) t).world u (unlike d u w o from linked)
-    ∙ router_here d u (next (d.router u) s).world
-    ∙ ap (λ a. a.world) (down_leaves d u w o from linked)
+    let s = (neighbour d u w).session in
+    let t = (neighbour d w u).session in
+    let e = enters_in d u s goes in
+    router_other e w (in_session (e.router w) t goes) u (unlike d u w o from linked)
+    ∙ router_here d u (in_session (d.router u) s goes)
+    ∙ leaves d u w o from linked
 
 pub cut_other : (d : Domain) (u w : ℕ) → IsInOrder d → u < d.size → w < d.size → are_linked d u w ≡ true → (cuts d u w).router w ≡ leaver (d.router w) u
 cut_other d u w o from to linked =
-    let s = event.Down (neighbour d u w).session in
-    let t = event.Down (neighbour d w u).session in
-    let e = enters d u s in
-    router_here e w (next (e.router w) t).world
-    ∙ ap (λ r. (next r t).world) (router_other d u (next (d.router u) s).world w (λ h. unlike d u w o from linked (sym h)))
-    ∙ ap (λ a. a.world) (down_leaves d w u o to (o.both_ways u w from to linked))
+    let s = (neighbour d u w).session in
+    let t = (neighbour d w u).session in
+    let e = enters_in d u s goes in
+    router_here e w (in_session (e.router w) t goes)
+    ∙ ap (λ r. in_session r t goes) (router_other d u (in_session (d.router u) s goes) w (λ h. unlike d u w o from linked (sym h)))
+    ∙ leaves d w u o to (o.both_ways u w from to linked)
 
 pub cut_third : (d : Domain) (u w x : ℕ) → (x ≡ u → ⊥) → (x ≡ w → ⊥) → (cuts d u w).router x ≡ d.router x
 cut_third d u w x one other =
-    let s = event.Down (neighbour d u w).session in
-    let t = event.Down (neighbour d w u).session in
-    let e = enters d u s in
-    router_other e w (next (e.router w) t).world x other ∙ router_other d u (next (d.router u) s).world x one
+    let s = (neighbour d u w).session in
+    let t = (neighbour d w u).session in
+    let e = enters_in d u s goes in
+    router_other e w (in_session (e.router w) t goes) x other ∙ router_other d u (in_session (d.router u) s goes) x one
 
 pub cuts_in_order : (d : Domain) (u w : ℕ) → IsInOrder d → u < d.size → w < d.size → are_linked d u w ≡ true → IsInOrder (cuts d u w)
 cuts_in_order d u w o from to linked =

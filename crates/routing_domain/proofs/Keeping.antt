@@ -1,6 +1,6 @@
 -- Order is kept where each link is: as it was, up anew, or gone.
 use Rattle.std.proofs.Common.{◌≡◌, ◌⊎◌, ⊎_elim, inl, ℕ, ◌<◌, true, false, All, List, [], ◌++◌, slice_index, refl, sym, ap, subst, ◌∙◌}
-use Rattle.std.specs.Prelude.{nat_lt}
+use Rattle.std.specs.Prelude.{is_some}
 use Rattle.std.proofs.lemmas.Bool.{cases_eq}
 use Rattle.std.proofs.lemmas.List.Elements.{All-nil}
 use Rattle.netchange_core.specs.declared.message.Message.{Message}
@@ -70,7 +70,7 @@ kept_told size ra sa rb sb flight a b v up below ka kb told =
 
 -- a link that is kept is linked as it was
 linked_as : (d e : Domain) (a b : ℕ) → KeepsLink d.size (d.router a) (e.router a) b → are_linked e a b ≡ are_linked d a b
-linked_as d e a b k = ap (λ s. nat_lt 0 s) k.session
+linked_as d e a b k = ap is_some k.session
 
 both_ways_after : (d e : Domain) (a b : ℕ) → IsInOrder d → a < d.size → b < d.size → IsAfter d e a b → are_linked e a b ≡ true → are_linked e b a ≡ true
 both_ways_after d e a b o from to after linked =

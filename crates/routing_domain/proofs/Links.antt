@@ -1,6 +1,6 @@
 -- A link that comes up at both ends keeps a domain in order.
 use Rattle.std.proofs.Common.{◌≡◌, inl, inr, ℕ, ◌+◌, ◌<◌, true, false, nat_eq, nat_le, [], ◌++◌, length, slice_index, refl, sym, ap, subst, ◌∙◌, arith, ne_eqb}
-use Rattle.std.proofs.lemmas.Bool.{cases_eq, lt-leb, lt-ltb, ltb-false, or_from}
+use Rattle.std.proofs.lemmas.Bool.{cases_eq, lt-leb, or_from}
 use Rattle.netchange_core.specs.declared.event.Event.TheVariants as event
 use Rattle.netchange_core.specs.declared.reply.Reply.TheVariants as reply
 use Rattle.netchange_core.specs.Best.{best_by, distance, neighbour_distance, neighbour_distances}
@@ -8,10 +8,11 @@ use Rattle.netchange_core.specs.Kept.{IsNeighbour}
 use Rattle.netchange_core.specs.Next.{answered, is_no_neighbour, joined, last_session, next, up}
 use Rattle.netchange_core.specs.OpeningView.{OpeningView}
 use Rattle.netchange_core.specs.FilteredDistance.{filtered_distance}
-use Rattle.netchange_core.specs.World.{NeighbourView, World, changed, is_up, neighbour_at, nobody}
+use Rattle.netchange_core.specs.World.{World, changed, is_up, neighbour_at, nobody}
 use Rattle.netchange_core.proofs.Change.{change_good, changed_at, map_change_same}
 use Rattle.netchange_core.proofs.Goes.{up_goes}
 use Rattle.netchange_core.proofs.Good.{joined_distance, joined_good}
+use Rattle.netchange_core.proofs.Holders.{down_none}
 use Rattle.netchange_core.proofs.Opened.{best_within}
 use Rattle.routing_domain.specs.Domain.{Domain, IsInOrder, IsQueued, are_linked, last_told}
 use Rattle.routing_domain.specs.Events.{CanLink, enters, links}
@@ -31,15 +32,12 @@ joiner r k = record (changed r k (joined r.opening (distance r) (r.sessions + 1)
 pub no_neighbour : (o : OpeningView) (k : ℕ) → k < o.size → (k ≡ o.me → ⊥) → is_no_neighbour o k ≡ false
 no_neighbour o k below other = or_from (nat_le o.size k) (nat_eq k o.me) (lt-leb o.size k below) (ne_eqb k o.me other)
 
-down_session : (n : NeighbourView) → is_up n ≡ false → n.session ≡ 0
-down_session n down = omega (arith, ltb-false 0 n.session down)
-
 pub up_joins : (size u k : ℕ) (r : World) → IsMember size u r → k < size → (k ≡ u → ⊥) → is_up (neighbour_at r.neighbours k) ≡ false →
     (r.sessions ≡ last_session → ⊥) → up r k ≡ answered (joiner r k) (reply.Opened (r.sessions + 1))
 up_joins size u k r m below other down left =
     up_goes r.opening r.sessions k r.neighbours
     (no_neighbour r.opening k (omega (arith, below, m.size)) (λ e. other (e ∙ m.me)))
-    (down_session (neighbour_at r.neighbours k) down) left
+    (down_none (neighbour_at r.neighbours k) down) left
 
 -- at the one whom another joined
 near_of : (size u k : ℕ) (r : World) → IsMember size u r → k < size → k < length r.neighbours
@@ -53,7 +51,7 @@ joiner_member size u k r m short other =
     let q : IsQueued size (f n) = record {
       within = all_within r.opening n.exports size (distance r) r.opening.size m.size (omega (arith, m.size))
           (λ v. omega (arith, m.size, best_within r.opening v (neighbour_distances r v)));
-      idle = λ down. absurd (let h : true ≡ false = sym (lt-ltb 0 (r.sessions + 1) (omega arith)) ∙ down in cc);
+      idle = λ down. absurd (let h : true ≡ false = down in cc);
     } in
     record {
       size = m.size;
@@ -71,7 +69,7 @@ joiner_distance size u k v r m down below =
     let n = neighbour_at r.neighbours k in
     ap (λ ds. (best_by r.opening v ds).dist)
     (map_change_same (neighbour_distance r.opening v) k (joined r.opening (distance r) (r.sessions + 1)) r.neighbours
-    (joined_distance r.opening (distance r) (r.sessions + 1) v n (down_session n down) (omega (arith, below, m.size))))
+    (joined_distance r.opening (distance r) (r.sessions + 1) v n (down_none n down) (omega (arith, below, m.size))))
 
 pub joiner_keeps : (size u k b : ℕ) (r : World) → IsMember size u r → k < size → is_up (neighbour_at r.neighbours k) ≡ false → (b ≡ k → ⊥) →
     KeepsLink size r (joiner r k) b
@@ -91,7 +89,7 @@ joiner_at : (size u k : ℕ) (r : World) → IsMember size u r → k < size →
 joiner_at size u k r m short = changed_at k (joined r.opening (distance r) (r.sessions + 1)) r.neighbours (near_of size u k r m short)
 
 pub joiner_up : (size u k : ℕ) (r : World) → IsMember size u r → k < size → is_up (neighbour_at (joiner r k).neighbours k) ≡ true
-joiner_up size u k r m short = ap is_up (joiner_at size u k r m short) ∙ lt-ltb 0 (r.sessions + 1) (omega arith)
+joiner_up size u k r m short = ap is_up (joiner_at size u k r m short)
 
 pub joiner_tells : (size u k v : ℕ) (r rb : World) → IsMember size u r → k < size → is_up (neighbour_at r.neighbours k) ≡ false → v < size →
     ToldBy (joiner r k) rb [] u k v

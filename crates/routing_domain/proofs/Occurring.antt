@@ -11,6 +11,7 @@ use Rattle.netchange_core.specs.declared.reply.Reply.TheVariants as reply
 use Rattle.netchange_core.specs.Best.{best, distance}
 use Rattle.netchange_core.specs.Next.{Answered, answered, count_changes, down, exporting, gone, heard, importing, is_no_neighbour, joined, last_session, next, receive, recomputed, refused, take_from}
 use Rattle.netchange_core.specs.World.{World, changed, holder, is_up, neighbour_at}
+use Rattle.netchange_core.proofs.Holders.{up_by}
 use Rattle.routing_domain.specs.Domain.{Domain, IsInOrder, IsQuiet, IsWithin, are_linked, neighbour}
 use Rattle.routing_domain.specs.Events.{CanLink, cuts, enters, links}
 use Rattle.routing_domain.specs.Steps.{IsNext, hears, sends, with_router}
@@ -21,11 +22,11 @@ use Rattle.routing_domain.proofs.Order.{at_hearer}
 use Rattle.routing_domain.proofs.Places.{router_same}
 use Rattle.routing_domain.proofs.Sends.{at_sender}
 
-pub take_sends : (d : Domain) (u w max : ℕ) → IsInOrder d → u < d.size → are_linked d u w ≡ true →
-    next (d.router u) (event.Take (neighbour d u w).session max)
+pub take_sends : (d : Domain) (u w max s : ℕ) → IsInOrder d → u < d.size → (neighbour d u w).session ≡ Some s →
+    next (d.router u) (event.Take s max)
     ≡ answered ((sends d u w max).router u) (reply.Messages (take max (neighbour d u w).queue))
-take_sends d u w max o short linked =
-    ap (λ h. take_from (d.router u) h max) (holds d u w o short linked)
+take_sends d u w max s o short held =
+    ap (λ h. take_from (d.router u) h max) (holds d u w s o short held)
     ∙ ap (λ r. answered r (reply.Messages (take max (neighbour d u w).queue))) (sym (at_sender d u w max))
 
 -- what is first on its way is heard
@@ -54,13 +55,14 @@ first_is_next d u w m rest o from to first =
     head : Rattle.std.proofs.Common.All (IsWithin d.size) (m ∷ rest) → IsWithin d.size m
     head all = all 0 m (omega arith)
 
-pub receive_hears : (d : Domain) (u w : ℕ) (m : Message) (rest : List Message) → IsInOrder d → IsNext d u w m rest →
-    (changed : ℕ) × (next (d.router w) (event.Receive (neighbour d w u).session m.dest m.dist) ≡ answered ((hears d u w m rest).router w) (reply.Done changed))
-receive_hears d u w m rest o n =
+pub receive_hears : (d : Domain) (u w s : ℕ) (m : Message) (rest : List Message) → IsInOrder d → IsNext d u w m rest →
+    (neighbour d w u).session ≡ Some s →
+    (changed : ℕ) × (next (d.router w) (event.Receive s m.dest m.dist) ≡ answered ((hears d u w m rest).router w) (reply.Done changed))
+receive_hears d u w s m rest o n held =
     let r = d.router w in
     let a = recomputed r (changed r u (heard m.dest m.dist)) in (
       count_changes (distance r) (distance (changed r u (heard m.dest m.dist))) r.opening.size,
-      ap (λ h. receive r h m.dest m.dist) (holds d w u o n.to n.linked)
+      ap (λ h. receive r h m.dest m.dist) (holds d w u s o n.to held)
           ∙ heard_by r u m.dest m.dist (omega (arith, n.dest, o.size w n.to)) (omega (arith, n.dist, o.size w n.to))
           ∙ ap (λ x. answered x a.reply) (sym (at_hearer d u w m rest o n)),
     )
@@ -73,22 +75,24 @@ pub up_links_back : (d : Domain) (u w : ℕ) → IsInOrder d → CanLink d u w �
     next (d.router w) (event.Up u) ≡ answered ((links d u w).router w) (reply.Opened ((d.router w).sessions + 1))
 up_links_back d u w o c = up_at_other d u w o c ∙ ap (λ x. answered x (reply.Opened ((d.router w).sessions + 1))) (sym (linked_other d u w o c))
 
-pub down_cuts : (d : Domain) (u w : ℕ) → IsInOrder d → u < d.size → w < d.size → are_linked d u w ≡ true →
-    (changed : ℕ) × (next (d.router u) (event.Down (neighbour d u w).session) ≡ answered ((cuts d u w).router u) (reply.Done changed))
-down_cuts d u w o from to linked =
+pub down_cuts : (d : Domain) (u w s : ℕ) → IsInOrder d → u < d.size → w < d.size → (neighbour d u w).session ≡ Some s →
+    (changed : ℕ) × (next (d.router u) (event.Down s) ≡ answered ((cuts d u w).router u) (reply.Done changed))
+down_cuts d u w s o from to held =
     let r = d.router u in
     let a = recomputed r (changed r w (gone r.opening)) in (
       count_changes (distance r) (distance (changed r w (gone r.opening))) r.opening.size,
-      down_leaves d u w o from linked ∙ ap (λ x. answered x a.reply) (sym (cut_one d u w o from to linked)),
+      down_leaves d u w s o from held
+          ∙ ap (λ x. answered x a.reply) (sym (cut_one d u w o from to (up_by (neighbour d u w) s held))),
     )
 
-pub down_cuts_back : (d : Domain) (u w : ℕ) → IsInOrder d → u < d.size → w < d.size → are_linked d u w ≡ true →
-    (changed : ℕ) × (next (d.router w) (event.Down (neighbour d w u).session) ≡ answered ((cuts d u w).router w) (reply.Done changed))
-down_cuts_back d u w o from to linked =
+pub down_cuts_back : (d : Domain) (u w s : ℕ) → IsInOrder d → u < d.size → w < d.size → (neighbour d w u).session ≡ Some s →
+    (changed : ℕ) × (next (d.router w) (event.Down s) ≡ answered ((cuts d u w).router w) (reply.Done changed))
+down_cuts_back d u w s o from to held =
     let r = d.router w in
     let a = recomputed r (changed r u (gone r.opening)) in (
       count_changes (distance r) (distance (changed r u (gone r.opening))) r.opening.size,
-      down_leaves d w u o to (o.both_ways u w from to linked) ∙ ap (λ x. answered x a.reply) (sym (cut_other d u w o from to linked)),
+      down_leaves d w u s o to held
+          ∙ ap (λ x. answered x a.reply) (sym (cut_other d u w o from to (o.both_ways w u to from (up_by (neighbour d w u) s held)))),
     )
 
 -- an event that is refused leaves the world

@@ -2,8 +2,9 @@
 use Rattle.std.proofs.Common.{◌≡◌, ⊎_elim, ℕ, ◌+◌, ◌<◌, ◌≤◌, zero, suc, true, false, nat_eq, All, [], ◌∷◌, ◌++◌, length, drop, refl, sym, ap, subst, ◌∙◌, arith}
 use Rattle.std.proofs.lemmas.Bool.{cases_eq, cond_both}
 use Rattle.std.proofs.lemmas.List.Elements.{All-append, All-cons, All-drop, All-nil}
+use Rattle.std.proofs.lemmas.Option.{none-some, same_Some}
 use Rattle.filter_verifier.specs.VerifiedView.{VerifiedView}
-use Rattle.std.specs.Prelude.{Option}
+use Rattle.std.specs.Prelude.{Option, Some, None}
 use Rattle.netchange_core.specs.declared.message.Message.{Message}
 use Rattle.netchange_core.specs.Best.{distance, neighbour_distances}
 use Rattle.netchange_core.specs.Next.{all_messages, message_of, recomputed, relieved, tell}
@@ -61,29 +62,31 @@ relieved_queued size max n q = record {
     nothing (suc k) = refl
 
 -- a change of one neighbour after which its session is no other's
-pub record IsOwn (r : World) (k session sessions : ℕ) : Type 0 where
+pub record IsOwn (r : World) (k : ℕ) (session : Option ℕ) (sessions : ℕ) : Type 0 where
   pub more : r.sessions ≤ sessions
-  pub opened : session ≤ sessions
-  pub own : (j : ℕ) → (j ≡ k → ⊥) → 0 < session → (neighbour_at r.neighbours j).session ≡ session → ⊥
+  pub opened : (s : ℕ) → session ≡ Some s → s ≤ sessions
+  pub own : (j s : ℕ) → (j ≡ k → ⊥) → session ≡ Some s → (neighbour_at r.neighbours j).session ≡ Some s → ⊥
 
 pub kept_own : (size : ℕ) (r : World) (k : ℕ) → IsSound size r → IsOwn r k (neighbour_at r.neighbours k).session r.sessions
-kept_own size r k s = record { more = omega arith; opened = s.opened k; own = λ j other up same. other (s.apart j k up same) }
+kept_own size r k s = record { more = omega arith; opened = s.opened k; own = λ j t other here there. other (s.apart j k t here there) }
 
-pub down_own : (r : World) (k : ℕ) → IsOwn r k 0 r.sessions
-down_own r k = record { more = omega arith; opened = omega arith; own = λ j other up same. omega (arith, up) }
+pub down_own : (r : World) (k : ℕ) → IsOwn r k None r.sessions
+down_own r k =
+    record { more = omega arith; opened = λ t is. absurd (none-some t is); own = λ j t other is there. none-some t is }
 
-pub new_own : (size : ℕ) (r : World) (k : ℕ) → IsSound size r → IsOwn r k (r.sessions + 1) (r.sessions + 1)
-new_own size r k s = record { more = omega arith; opened = omega arith; own = λ j other up same. omega (arith, same, s.opened j) }
+pub new_own : (size : ℕ) (r : World) (k : ℕ) → IsSound size r → IsOwn r k (Some (r.sessions + 1)) (r.sessions + 1)
+new_own size r k s = record {
+  more = omega arith;
+  opened = λ t is. omega (arith, same_Some (r.sessions + 1) t is);
+  own = λ j t other is there. omega (arith, same_Some (r.sessions + 1) t is, s.opened j t there);
+}
 
 pub changed_sound : (size sessions : ℕ) (r : World) (k : ℕ) (f : NeighbourView → NeighbourView) → IsSound size r → k < length r.neighbours →
     IsOwn r k (f (neighbour_at r.neighbours k)).session sessions → IsQueued size (f (neighbour_at r.neighbours k)) →
     IsSound size (record (changed r k f) { sessions = sessions })
 changed_sound size sessions r k f s near own q = record {
-  opened = λ x. ⊎_elim
-      (λ here. subst (λ y. (neighbour_at (change k f r.neighbours) y).session ≤ sessions) (sym here)
-      (subst (λ n. n.session ≤ sessions) (sym (changed_at k f r.neighbours near)) own.opened))
-      (λ other. subst (λ n. n.session ≤ sessions) (sym (changed_other k x f r.neighbours near other)) (omega (arith, own.more, s.opened x)))
-      (cases_eq x k);
+  opened = λ x t held. ⊎_elim (λ here. own.opened t (sym (at_k x here) ∙ held))
+      (λ other. omega (arith, own.more, s.opened x t (sym (at_other x other) ∙ held))) (cases_eq x k);
   apart = apart;
   queues = λ x short. ⊎_elim
       (λ here. subst (λ y. IsQueued size (neighbour_at (change k f r.neighbours) y)) (sym here)
@@ -92,28 +95,23 @@ changed_sound size sessions r k f s near own q = record {
       (cases_eq x k);
 }
   where
-    apart : (j i : ℕ) → 0 < (neighbour_at (change k f r.neighbours) i).session →
-        (neighbour_at (change k f r.neighbours) j).session ≡ (neighbour_at (change k f r.neighbours) i).session → j ≡ i
-    apart j i up same =
-        let at_k : (neighbour_at (change k f r.neighbours) k).session ≡ (f (neighbour_at r.neighbours k)).session = ap (λ n. n.session) (changed_at k f r.neighbours near) in
+    at_k : (x : ℕ) → x ≡ k → (neighbour_at (change k f r.neighbours) x).session ≡ (f (neighbour_at r.neighbours k)).session
+    at_k x here =
+        ap (λ y. (neighbour_at (change k f r.neighbours) y).session) here ∙ ap (λ n. n.session) (changed_at k f r.neighbours near)
+
+    at_other : (x : ℕ) → (x ≡ k → ⊥) → (neighbour_at (change k f r.neighbours) x).session ≡ (neighbour_at r.neighbours x).session
+    at_other x other = ap (λ n. n.session) (changed_other k x f r.neighbours near other)
+
+    apart : (j i t : ℕ) → (neighbour_at (change k f r.neighbours) i).session ≡ Some t →
+        (neighbour_at (change k f r.neighbours) j).session ≡ Some t → j ≡ i
+    apart j i t has_i has_j =
         ⊎_elim
         (λ (jk : j ≡ k). ⊎_elim (λ (ik : i ≡ k). jk ∙ sym ik)
-        (λ (other : i ≡ k → ⊥).
-        let at_i : (neighbour_at (change k f r.neighbours) i).session ≡ (neighbour_at r.neighbours i).session = ap (λ n. n.session) (changed_other k i f r.neighbours near other) in
-        let at_j : (neighbour_at (change k f r.neighbours) j).session ≡ (f (neighbour_at r.neighbours k)).session =
-        ap (λ x. (neighbour_at (change k f r.neighbours) x).session) jk ∙ at_k in
-        absurd (own.own i other (omega (arith, up, same, at_j)) (sym at_i ∙ sym same ∙ at_j)))
+        (λ (other : i ≡ k → ⊥). absurd (own.own i t other (sym (at_k j jk) ∙ has_j) (sym (at_other i other) ∙ has_i)))
         (cases_eq i k))
         (λ (apart : j ≡ k → ⊥).
-        let at_j : (neighbour_at (change k f r.neighbours) j).session ≡ (neighbour_at r.neighbours j).session = ap (λ n. n.session) (changed_other k j f r.neighbours near apart) in
-        ⊎_elim
-        (λ (ik : i ≡ k).
-        let at_i : (neighbour_at (change k f r.neighbours) i).session ≡ (f (neighbour_at r.neighbours k)).session =
-        ap (λ x. (neighbour_at (change k f r.neighbours) x).session) ik ∙ at_k in
-        absurd (own.own j apart (omega (arith, up, at_i)) (sym at_j ∙ same ∙ at_i)))
-        (λ (other : i ≡ k → ⊥).
-        let at_i : (neighbour_at (change k f r.neighbours) i).session ≡ (neighbour_at r.neighbours i).session = ap (λ n. n.session) (changed_other k i f r.neighbours near other) in
-        s.apart j i (omega (arith, up, at_i)) (sym at_j ∙ same ∙ at_i))
+        ⊎_elim (λ (ik : i ≡ k). absurd (own.own j t apart (sym (at_k i ik) ∙ has_i) (sym (at_other j apart) ∙ has_j)))
+        (λ (other : i ≡ k → ⊥). s.apart j i t (sym (at_other i other) ∙ has_i) (sym (at_other j apart) ∙ has_j))
         (cases_eq i k))
         (cases_eq j k)
 
@@ -125,8 +123,8 @@ recomputed_sound size r k f e long s near own q =
     let c : IsSound size (changed r k f) = changed_sound size r.sessions r k f s near own q in
     let session = λ (x : ℕ). told_seen (λ n. n.session) r k f x (λ _ _. refl) in
     record {
-      opened = λ x. omega (arith, session x, c.opened x);
-      apart = λ j i up same. c.apart j i (omega (arith, session i, up)) (sym (session j) ∙ same ∙ session i);
+      opened = λ x t held. c.opened x t (sym (session x) ∙ held);
+      apart = λ j i t has_i has_j. c.apart j i t (sym (session i) ∙ has_i) (sym (session j) ∙ has_j);
       queues = λ x short.
           subst (IsQueued size) (sym (recomputed_at r k x f (omega (arith, short, long))))
           (changes_queued r.opening size (distance r) (distance (changed r k f)) r.opening.size (neighbour_at (change k f r.neighbours) x) e (omega (arith, e))

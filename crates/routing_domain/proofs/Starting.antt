@@ -1,9 +1,10 @@
 -- A domain of routers that were just opened is in order.
 use Rattle.std.proofs.Common.{◌≡◌, ⊎_elim, ℕ, ◌<◌, true, false, List, [], replicate, refl, sym, ap, subst, ◌∙◌, arith}
-use Rattle.std.specs.Prelude.{nat_lt}
+use Rattle.std.specs.Prelude.{None, is_some}
 use Rattle.std.proofs.lemmas.Bool.{cases_lt}
 use Rattle.std.proofs.lemmas.List.{get_or-replicate, get_or_past, length-replicate}
 use Rattle.std.proofs.lemmas.List.Elements.{All-nil}
+use Rattle.std.proofs.lemmas.Option.{none-some}
 use Rattle.netchange_core.specs.Calls.{newcomer, opened}
 use Rattle.netchange_core.specs.Kept.{AreNeighbours, IsNeighbour}
 use Rattle.netchange_core.specs.OpeningView.{OpeningView}
@@ -13,7 +14,7 @@ use Rattle.routing_domain.specs.Domain.{AreOpenings, IsInOrder, IsQueued, IsWith
 
 -- no neighbour has a session, nor does anything wait for one
 abbrev IsIdle : NeighbourView → Type 0
-IsIdle n = (n.session ≡ 0) × (n.queue ≡ [])
+IsIdle n = (n.session ≡ None) × (n.queue ≡ [])
 
 idle_at : (o : OpeningView) (k : ℕ) → IsIdle (neighbour_at (opened o).neighbours k)
 idle_at o k =
@@ -23,7 +24,7 @@ idle_at o k =
     (cases_lt k o.size)
 
 down_at : (o : OpeningView) (k : ℕ) → is_up (neighbour_at (opened o).neighbours k) ≡ false
-down_at o k = ap (λ s. nat_lt 0 s) ((idle_at o k).0)
+down_at o k = ap is_some ((idle_at o k).0)
 
 tables_of : (o : OpeningView) → AreNeighbours o.size (opened o).neighbours
 tables_of o = record {
@@ -44,8 +45,8 @@ opened_in_order n openings a = record {
   me = a.me;
   tables = λ u short. subst (λ s. AreNeighbours s (opened (openings u)).neighbours) (a.size u short) (tables_of (openings u));
   sound = λ u short. record {
-    opened = λ k. omega (arith, (idle_at (openings u) k).0);
-    apart = λ j k up same. absurd (omega (arith, up, (idle_at (openings u) k).0));
+    opened = λ k s held. absurd (none-some s (sym ((idle_at (openings u) k).0) ∙ held));
+    apart = λ j k s held same. absurd (none-some s (sym ((idle_at (openings u) k).0) ∙ held));
     queues = λ k near. queued_at n (openings u) k;
   };
   apart = λ u short. down_at (openings u) u;

@@ -1,21 +1,21 @@
 //! What the steps of a domain are as events of its routers.
 
-ghost use Rattle.std.specs.Prelude.{◌≡◌, ℕ, ◌+◌, ◌<◌, List, ◌∷◌, true, take};
+ghost use Rattle.std.specs.Prelude.{◌≡◌, ℕ, ◌+◌, ◌<◌, Some, List, ◌∷◌, take};
 ghost use Rattle.netchange_core.specs.declared.event.Event.{Event};
 ghost use Rattle.netchange_core.specs.declared.event.Event.TheVariants as event;
 ghost use Rattle.netchange_core.specs.declared.message.Message.{Message};
 ghost use Rattle.netchange_core.specs.declared.reply.Refusal.{Refusal};
 ghost use Rattle.netchange_core.specs.declared.reply.Reply.TheVariants as reply;
 ghost use Rattle.netchange_core.specs.Next.{answered, next};
-ghost use Rattle.routing_domain.specs.Domain.{Domain, IsInOrder, are_linked, neighbour};
+ghost use Rattle.routing_domain.specs.Domain.{Domain, IsInOrder, neighbour};
 ghost use Rattle.routing_domain.specs.Events.{CanLink, cuts, enters, links};
 ghost use Rattle.routing_domain.specs.Steps.{IsNext, hears, sends};
 
 /// Sending is Take in the neighbour's present session: it is not refused, the router is as after sending, and the reply has what
 /// is put on its way.
 pub fn sending_is_taking()
-    ensures taken { (d : Domain) → (u w max : ℕ) → IsInOrder d → u < d.size → w < d.size → are_linked d u w ≡ true →
-        next (d.router u) (event.Take (neighbour d u w).session max)
+    ensures taken { (d : Domain) → (u w max s : ℕ) → IsInOrder d → u < d.size → w < d.size → (neighbour d u w).session ≡ Some s →
+        next (d.router u) (event.Take s max)
         ≡ answered ((sends d u w max).router u) (reply.Messages (take max (neighbour d u w).queue)) }
 {}
 
@@ -24,8 +24,9 @@ pub fn sending_is_taking()
 pub fn hearing_is_receiving()
     ensures is_next { (d : Domain) → (u w : ℕ) → (m : Message) → (rest : List Message) → IsInOrder d → u < d.size → w < d.size →
         d.flight u w ≡ m ∷ rest → IsNext d u w m rest }
-    ensures received { (d : Domain) → (u w : ℕ) → (m : Message) → (rest : List Message) → IsInOrder d → IsNext d u w m rest →
-        (changed : ℕ) × (next (d.router w) (event.Receive (neighbour d w u).session m.dest m.dist)
+    ensures received { (d : Domain) → (u w s : ℕ) → (m : Message) → (rest : List Message) → IsInOrder d → IsNext d u w m rest →
+        (neighbour d w u).session ≡ Some s →
+        (changed : ℕ) × (next (d.router w) (event.Receive s m.dest m.dist)
         ≡ answered ((hears d u w m rest).router w) (reply.Done changed)) }
 {}
 
@@ -39,10 +40,10 @@ pub fn linking_is_up()
 
 /// Cutting is Down at both ends, in the present sessions, and neither is refused.
 pub fn cutting_is_down()
-    ensures one { (d : Domain) → (u w : ℕ) → IsInOrder d → u < d.size → w < d.size → are_linked d u w ≡ true →
-        (changed : ℕ) × (next (d.router u) (event.Down (neighbour d u w).session) ≡ answered ((cuts d u w).router u) (reply.Done changed)) }
-    ensures other { (d : Domain) → (u w : ℕ) → IsInOrder d → u < d.size → w < d.size → are_linked d u w ≡ true →
-        (changed : ℕ) × (next (d.router w) (event.Down (neighbour d w u).session) ≡ answered ((cuts d u w).router w) (reply.Done changed)) }
+    ensures one { (d : Domain) → (u w s : ℕ) → IsInOrder d → u < d.size → w < d.size → (neighbour d u w).session ≡ Some s →
+        (changed : ℕ) × (next (d.router u) (event.Down s) ≡ answered ((cuts d u w).router u) (reply.Done changed)) }
+    ensures other { (d : Domain) → (u w s : ℕ) → IsInOrder d → u < d.size → w < d.size → (neighbour d w u).session ≡ Some s →
+        (changed : ℕ) × (next (d.router w) (event.Down s) ≡ answered ((cuts d u w).router w) (reply.Done changed)) }
 {}
 
 /// An event that is refused changes nothing.
