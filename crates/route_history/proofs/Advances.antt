@@ -19,11 +19,11 @@ took_in s e a = taken_with e s (carried a.reply)
 -- Where the session goes on, what it took and what still waits is what waited and what was queued. Where it begins, its
 -- number is new, and what was queued waits. Where it is not present afterwards, it took nothing and was queued nothing.
 pub record Advances (w : World) (s : ℕ) (e : Event) (a : Answered) : Type 0 where
-  pub goes_on : (k : ℕ) → session_of a.world k ≡ s → session_of w k ≡ s →
+  pub goes_on : (k : ℕ) → session_of a.world k ≡ Some s → session_of w k ≡ Some s →
       (neighbour_at w.neighbours k).queue ++ queued_in w s e a ≡ took_in s e a ++ (neighbour_at a.world.neighbours k).queue
-  pub begins : (k : ℕ) → session_of a.world k ≡ s → (session_of w k ≡ s → ⊥) →
+  pub begins : (k : ℕ) → session_of a.world k ≡ Some s → (session_of w k ≡ Some s → ⊥) →
       (w.sessions < s) × (took_in s e a ≡ []) × (queued_in w s e a ≡ (neighbour_at a.world.neighbours k).queue)
-  pub is_gone : ((k : ℕ) → session_of a.world k ≡ s → ⊥) → (took_in s e a ≡ []) × (queued_in w s e a ≡ [])
+  pub is_gone : ((k : ℕ) → session_of a.world k ≡ Some s → ⊥) → (took_in s e a ≡ []) × (queued_in w s e a ≡ [])
   pub own : AreOwn a.world
   pub more : w.sessions ≤ a.world.sessions
 

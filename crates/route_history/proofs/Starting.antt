@@ -1,6 +1,7 @@
 -- Up: a neighbour joins in a session with a new number, and is told all distances.
-use Rattle.std.proofs.Common.{◌≡◌, ◌∙◌, sym, ap, refl, ℕ, ◌+◌, ◌<◌, inl, inr, ◌++◌, if◌then◌else◌, List, [], length, append-nil, arith}
+use Rattle.std.proofs.Common.{◌≡◌, ◌∙◌, sym, ap, refl, ℕ, ◌+◌, ◌<◌, inl, inr, ◌++◌, if◌then◌else◌, Some, None, List, [], length, append-nil, arith}
 use Rattle.std.proofs.lemmas.Bool.{cases_eq, eq-eqb, ne_eqb}
+use Rattle.std.proofs.lemmas.Option.{none-some, same_Some}
 use Rattle.netchange_core.specs.declared.event.Event.TheVariants as event
 use Rattle.netchange_core.specs.declared.message.Message.{Message}
 use Rattle.netchange_core.specs.declared.reply.Reply.TheVariants as reply
@@ -15,7 +16,7 @@ use Rattle.route_history.proofs.Advances.{Advances}
 use Rattle.route_history.proofs.Holders.{AreOwn}
 use Rattle.route_history.proofs.Neighbours.{at_another, change_length}
 
-module _ (w : World) (s j : ℕ) (own : AreOwn w) (up : 0 < s) (there : j < length w.neighbours) (was_down : session_of w j ≡ 0) where
+module _ (w : World) (s j : ℕ) (own : AreOwn w) (there : j < length w.neighbours) (was_down : session_of w j ≡ None) where
   abbrev join : NeighbourView → NeighbourView
   join = joined w.opening (distance w) (w.sessions + 1)
 
@@ -28,7 +29,7 @@ module _ (w : World) (s j : ℕ) (own : AreOwn w) (up : 0 < s) (there : j < leng
   joined_at : neighbour_at after.neighbours j ≡ join (neighbour_at w.neighbours j)
   joined_at = changed_at j join w.neighbours there
 
-  session_joined : session_of after j ≡ w.sessions + 1
+  session_joined : session_of after j ≡ Some (w.sessions + 1)
   session_joined = ap (λ (p : NeighbourView). p.session) joined_at
 
   another : (k : ℕ) → (k ≡ j → ⊥) → neighbour_at after.neighbours k ≡ neighbour_at w.neighbours k
@@ -37,30 +38,40 @@ module _ (w : World) (s j : ℕ) (own : AreOwn w) (up : 0 < s) (there : j < leng
   another_session : (k : ℕ) → (k ≡ j → ⊥) → session_of after k ≡ session_of w k
   another_session k other = ap (λ (p : NeighbourView). p.session) (another k other)
 
-  session_at_joined : (k : ℕ) → k ≡ j → session_of after k ≡ w.sessions + 1
+  session_at_joined : (k : ℕ) → k ≡ j → session_of after k ≡ Some (w.sessions + 1)
   session_at_joined k is = ap (session_of after) is ∙ session_joined
 
   own_after : AreOwn after
   own_after = record {
-    opened = λ k. elim (cases_eq k j) [
-      | inl is ↦ omega (arith, session_at_joined k is)
-      | inr other ↦ omega (arith, another_session k other, own.opened k)
+    opened = λ k t here. elim (cases_eq k j) [
+      | inl is ↦ omega (arith, same_Some (w.sessions + 1) t (sym (session_at_joined k is) ∙ here))
+      | inr other ↦ omega (arith, own.opened k t (sym (another_session k other) ∙ here))
     ];
-    apart = λ i k here same. elim (cases_eq k j) [
+    apart = λ i k t here same. elim (cases_eq k j) [
       | inl is ↦ elim (cases_eq i j) [
         | inl at ↦ at ∙ sym is
-        | inr other ↦ absurd (omega (arith, another_session i other, own.opened i, session_at_joined k is))
+        | inr other ↦
+            absurd (omega (
+              arith,
+              own.opened i t (sym (another_session i other) ∙ same),
+              same_Some (w.sessions + 1) t (sym (session_at_joined k is) ∙ here),
+            ))
       ]
       | inr other ↦ elim (cases_eq i j) [
-        | inl at ↦ absurd (omega (arith, another_session k other, own.opened k, session_at_joined i at))
-        | inr apart ↦ own.apart i k (omega (arith, another_session k other)) (sym (another_session i apart) ∙ same ∙ another_session k other)
+        | inl at ↦
+            absurd (omega (
+              arith,
+              own.opened k t (sym (another_session k other) ∙ here),
+              same_Some (w.sessions + 1) t (sym (session_at_joined i at) ∙ same),
+            ))
+        | inr apart ↦ own.apart i k t (sym (another_session k other) ∙ here) (sym (another_session i apart) ∙ same)
       ]
     ];
     one_a_node = change_length join w.neighbours j ∙ own.one_a_node;
   }
 
-  queued_here : (k : ℕ) → session_of after k ≡ s → queued_in w s (event.Up j) opened_by ≡ queued_at w after k (event.Up j)
-  queued_here k now = ap (queued_for w after (event.Up j)) (holder_found after.neighbours s k own_after.apart up now)
+  queued_here : (k : ℕ) → session_of after k ≡ Some s → queued_in w s (event.Up j) opened_by ≡ queued_at w after k (event.Up j)
+  queued_here k now = ap (queued_for w after (event.Up j)) (holder_found after.neighbours s k own_after.apart now)
 
   abbrev nothing : List Message
   nothing = []
@@ -77,17 +88,17 @@ module _ (w : World) (s j : ℕ) (own : AreOwn w) (up : 0 < s) (there : j < leng
   pub opened_advances : Advances w s (event.Up j) opened_by
   opened_advances = record {
     goes_on = λ k now before. elim (cases_eq k j) [
-      | inl is ↦ let e : session_of w k ≡ 0 = ap (session_of w) is ∙ was_down in absurd (omega arith)
+      | inl is ↦ absurd (none-some s (sym (ap (session_of w) is ∙ was_down) ∙ before))
       | inr other ↦
           ap (λ m. (neighbour_at w.neighbours k).queue ++ m) (queued_here k now ∙ quiet k other)
           ∙ append-nil (neighbour_at w.neighbours k).queue
           ∙ sym (ap (λ (p : NeighbourView). p.queue) (another k other))
     ];
     begins = λ k now before. elim (cases_eq k j) [
-      | inl is ↦ (omega (arith, session_at_joined k is), refl, queued_here k now ∙ all_told k is)
+      | inl is ↦ (omega (arith, same_Some (w.sessions + 1) s (sym (session_at_joined k is) ∙ now)), refl, queued_here k now ∙ all_told k is)
       | inr other ↦ absurd (before (sym (another_session k other) ∙ now))
     ];
-    is_gone = λ nobody_has. (refl, ap (queued_for w after (event.Up j)) (holder_none after.neighbours s (λ k _. nobody_has k)));
+    is_gone = λ nobody_has. (refl, ap (queued_for w after (event.Up j)) (holder_none after.neighbours s nobody_has));
     own = own_after;
     more = omega arith;
   }

@@ -1,5 +1,5 @@
 -- Laws of every legal history. (This project's own choice.)
-use Rattle.std.specs.Prelude.{◌≡◌, ℕ, ◌≤◌, List, ◌++◌, length}
+use Rattle.std.specs.Prelude.{◌≡◌, ℕ, ◌≤◌, Some, List, ◌++◌, length}
 use Rattle.netchange_core.specs.declared.event.Event.{Event}
 use Rattle.netchange_core.specs.declared.event.Event.TheVariants as event
 use Rattle.netchange_core.specs.declared.message.Message.{Message}
@@ -15,9 +15,9 @@ use Rattle.route_history.specs.Sent.{sent, taken}
 -- and then what waits for the node. Once it is over, both stay, whatever the history goes on with.
 pub record TakesWhatWasSent (opening : OpeningView) (es : List Entry) (s : ℕ) : Type 0 where
   pub begins : Begins (taken es s) (sent opening es s)
-  pub waits : (k : ℕ) → session_of (world_of opening es) k ≡ s →
+  pub waits : (k : ℕ) → session_of (world_of opening es) k ≡ Some s →
       sent opening es s ≡ taken es s ++ (neighbour_at (world_of opening es).neighbours k).queue
-  pub stays : s ≤ (world_of opening es).sessions → ((k : ℕ) → session_of (world_of opening es) k ≡ s → ⊥) →
+  pub stays : s ≤ (world_of opening es).sessions → ((k : ℕ) → session_of (world_of opening es) k ≡ Some s → ⊥) →
       (more : List Entry) → IsLegal opening (es ++ more) →
       (sent opening (es ++ more) s ≡ sent opening es s) × (taken (es ++ more) s ≡ taken es s)
 

@@ -1,5 +1,5 @@
 -- How entries are kept: the messages of all replies stand one after another, and a reply keeps where its own begin and how many they are.
-use Rattle.std.specs.Prelude.{ℕ, ◌+◌, ◌≤◌, List, All, length, map, slice_range, ⊤}
+use Rattle.std.specs.Prelude.{◌+◌, ◌≤◌, List, All, length, map, slice_range, ⊤}
 use Rattle.netchange_core.specs.declared.message.Message.{Message}
 use Rattle.netchange_core.specs.declared.reply.Reply.{Reply}
 use Rattle.netchange_core.specs.declared.reply.Reply.TheVariants as reply

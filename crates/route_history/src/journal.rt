@@ -98,8 +98,8 @@ impl Journal {
         &self.tables
     }
 
-    /// The present session of a node; 0 where it is no up neighbour.
-    pub fn session(&self, node: u16) -> u32
+    /// The present session of a node, if it is an up neighbour.
+    pub fn session(&self, node: u16) -> Option<u32>
         ensures { result ≡ session_of (world_of self.now.opening self.now.entries) node }
     {
         self.tables.session(node)

@@ -16,7 +16,7 @@ pub fn beginnings_are_legal()
 
 /// What each session took begins what it was sent, and the reply to a Take has at most as many messages as were asked for.
 pub fn taken_begins_sent()
-    ensures sent { (opening : OpeningView) (es : List Pair) (s : ℕ) → IsLegal opening es → 0 < s → TakesWhatWasSent opening es s }
+    ensures sent { (opening : OpeningView) (es : List Pair) (s : ℕ) → IsLegal opening es → TakesWhatWasSent opening es s }
     ensures at_most { (opening : OpeningView) (es : List Pair) → IsLegal opening es → (k : ℕ) (d : Pair) → k < length es →
         IsWithinTake (slice_index_or es k d) }
 {}
