@@ -1,6 +1,6 @@
 -- The domain of a list of routers, after one of them entered an event.
 use Rattle.std.proofs.Common.{◌≡◌, ⊎_elim, ℕ, ◌<◌, Bool, true, false, cond, nat_eq, List, [], ◌∷◌, ◌++◌, length, drop, get_or, map, slice_set, take, refl, sym, ap, subst, ◌∙◌, arith, eq-eqb, ne_eqb, get_or-set_same, get_or-set_other, length-drop, length-set}
-use Rattle.std.specs.Prelude.{Err, Ok, OnErr, OnOk, Result, Some}
+use Rattle.std.specs.Prelude.{Err, Ok, OnErr, OnOk, Option, Result, Some}
 use Rattle.std.proofs.lemmas.Bool.{cases_eq}
 use Rattle.std.proofs.lemmas.List.{append-nil, get_or_default, get_or_read, nil_from_length}
 use Rattle.netchange_core.specs.declared.event.Event.{Event}
@@ -8,11 +8,11 @@ use Rattle.netchange_core.specs.declared.message.Message.{Message}
 use Rattle.netchange_core.specs.Next.{next, receive, relieved}
 use Rattle.netchange_core.specs.World.{World, changed}
 use Rattle.routing_domain.specs.Domain.{Domain, IsInOrder, neighbour}
-use Rattle.routing_domain.specs.Events.{enters}
+use Rattle.routing_domain.specs.Events.{enters, enters_in, in_session}
 use Rattle.routing_domain.specs.Steps.{hears, sends, with_flight}
 use Rattle.domain_player.specs.declared.sent.Sent.{Sent}
 use Rattle.domain_player.specs.Play.{AreRouters, domain, domain_of, nowhere, router_at, sent_by, under_way}
-use Rattle.domain_player.proofs.Ways.{other_from, other_to, under_way_first, under_way_other, under_way_sent, under_way_unsent}
+use Rattle.domain_player.proofs.Ways.{other_from, other_to, under_way_other, under_way_sent, under_way_unsent}
 
 pub router_set : (ws : List World) (u : ℕ) (r : World) (x : ℕ) → u < length ws → router_at (slice_set ws u r) x ≡ cond (nat_eq x u) r (router_at ws x)
 router_set ws u r x here =
@@ -39,6 +39,12 @@ pub enters_as : (ws : List World) (ss : List Sent) (u : ℕ) (r : World) (e : Ev
     domain_of (slice_set ws u r) ss ≡ enters (domain_of ws ss) u e
 enters_as ws ss u r e here is =
     ap (λ s. domain_of (slice_set ws u s) ss) is ∙ domain_with ws ss u (next (router_at ws u) e).world (under_way ss) here (λ a b. refl)
+
+pub enters_in_as : (ws : List World) (ss : List Sent) (u : ℕ) (r : World) (session : Option ℕ) (e : ℕ → Event) → u < length ws →
+    r ≡ in_session (router_at ws u) session e → domain_of (slice_set ws u r) ss ≡ enters_in (domain_of ws ss) u session e
+enters_in_as ws ss u r session e here is =
+    ap (λ s. domain_of (slice_set ws u s) ss) is
+    ∙ domain_with ws ss u (in_session (router_at ws u) session e) (under_way ss) here (λ a b. refl)
 
 -- what is on its way after messages were sent, and after one was heard
 flight_at : (old : ℕ → ℕ → List Message) (u w : ℕ) (ms xs : List Message) (a b : ℕ) → (a ≡ u → b ≡ w → xs ≡ ms) →

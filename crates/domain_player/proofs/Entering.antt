@@ -1,7 +1,7 @@
 -- What a router answers to an event, where it is sound.
-use Rattle.std.proofs.Common.{◌≡◌, ⊎_elim, ℕ, ◌+◌, ◌<◌, ◌≤◌, true, false, cond, length, refl, sym, ap, subst, ◌∙◌, arith, eq-eqb, ne_eqb}
+use Rattle.std.proofs.Common.{◌≡◌, ℕ, ◌+◌, ◌<◌, false, cond, Some, None, is_some, length, sym, ap, ◌∙◌, eq-eqb, ne_eqb}
 use Rattle.std.specs.Prelude.{◌||◌, nat_eq}
-use Rattle.std.proofs.lemmas.Bool.{cases_lt, le-ltb, lt-leb}
+use Rattle.std.proofs.lemmas.Bool.{lt-leb}
 use Rattle.netchange_core.specs.declared.event.Event.TheVariants as event
 use Rattle.netchange_core.specs.declared.reply.Refusal.TheVariants as refusal
 use Rattle.netchange_core.specs.declared.reply.Reply.TheVariants as reply
@@ -10,17 +10,15 @@ use Rattle.netchange_core.specs.Calls.{queued_of, session_of, waiting_for}
 use Rattle.netchange_core.specs.Next.{Answered, answered, is_no_neighbour, joined, last_session, next, refused}
 use Rattle.netchange_core.specs.OpeningView.{OpeningView}
 use Rattle.netchange_core.specs.World.{World, changed, is_up, neighbour_at}
-use Rattle.netchange_core.proofs.Holders.{holder_found, holder_none}
+use Rattle.netchange_core.proofs.Holders.{holder_found}
 use Rattle.routing_domain.specs.Domain.{IsSound}
 
 -- all that waits for a neighbour is what waits for its present session
-pub queued_all : (size : ℕ) (r : World) (k : ℕ) → IsSound size r → k < size → queued_of r (session_of r k) ≡ length (neighbour_at r.neighbours k).queue
-queued_all size r k sound below =
-    ⊎_elim
-    (λ up. ap (waiting_for r) (holder_found r.neighbours (session_of r k) k sound.apart up refl))
-    (λ down. ap (waiting_for r) (holder_none r.neighbours (session_of r k) (λ j up is. absurd (omega (arith, up, down))))
-    ∙ sym (ap length ((sound.queues k below).idle (le-ltb 0 (session_of r k) down))))
-    (cases_lt 0 (session_of r k))
+pub queued_all : (size : ℕ) (r : World) (k s : ℕ) → IsSound size r → session_of r k ≡ Some s → queued_of r s ≡ length (neighbour_at r.neighbours k).queue
+queued_all size r k s sound held = ap (waiting_for r) (holder_found r.neighbours s k sound.apart held)
+
+pub none_queued : (size : ℕ) (r : World) (k : ℕ) → IsSound size r → k < size → session_of r k ≡ None → 0 ≡ length (neighbour_at r.neighbours k).queue
+none_queued size r k sound below none = sym (ap length ((sound.queues k below).idle (ap is_some none)))
 
 -- a node of the domain is a possible neighbour of another
 pub is_neighbour : (o : OpeningView) (k : ℕ) → k < o.size → (k ≡ o.me → ⊥) → is_no_neighbour o k ≡ false

@@ -1,14 +1,15 @@
 -- Two routers enter that the channel between them is there, or failed.
-use Rattle.std.proofs.Common.{◌≡◌, ℕ, ◌<◌, true, false, List, [], length, slice_set, refl, sym, ap, subst, ◌∙◌, arith, inl, inr, get_or-set_other, length-set}
+use Rattle.std.proofs.Common.{◌≡◌, ℕ, ◌<◌, true, false, List, [], length, slice_set, refl, sym, ap, ◌∙◌, arith, inl, inr, get_or-set_other, length-set}
 use Rattle.std.proofs.lemmas.Bool.{cases_Bool}
+use Rattle.netchange_core.specs.declared.event.Event.{Event}
 use Rattle.netchange_core.specs.declared.event.Event.TheVariants as event
 use Rattle.netchange_core.specs.Calls.{session_of}
 use Rattle.netchange_core.specs.Next.{is_no_neighbour, next}
 use Rattle.netchange_core.specs.World.{World}
 use Rattle.routing_domain.specs.Domain.{Domain, IsInOrder, are_linked}
-use Rattle.routing_domain.specs.Events.{cuts, enters, links}
+use Rattle.routing_domain.specs.Events.{cuts, enters, enters_in, in_session, links}
 use Rattle.domain_player.specs.Play.{domain_of, nowhere, router_at}
-use Rattle.domain_player.proofs.Domains.{enters_as, nothing_lost}
+use Rattle.domain_player.proofs.Domains.{enters_as, enters_in_as, nothing_lost}
 use Rattle.domain_player.proofs.Entering.{is_neighbour}
 
 -- in a domain in order: another node is a possible neighbour, and links are the same from both ends
@@ -37,16 +38,19 @@ links_as ws u w r s from to first second =
     enters_as (slice_set ws u r) [] w s (event.Up u) (omega (arith, to, length-set ws u r)) second
     ∙ ap (λ e. enters e w (event.Up u)) (enters_as ws [] u r (event.Up w) from first)
 
+abbrev pub goes : ℕ → Event
+goes s = event.Down s
+
 pub cuts_as : (ws : List World) (u w : ℕ) (r s : World) → u < length ws → w < length ws → (u ≡ w → ⊥) →
-    r ≡ (next (router_at ws u) (event.Down (session_of (router_at ws u) w))).world →
-    s ≡ (next (router_at (slice_set ws u r) w) (event.Down (session_of (router_at (slice_set ws u r) w) u))).world →
+    r ≡ in_session (router_at ws u) (session_of (router_at ws u) w) goes →
+    s ≡ in_session (router_at (slice_set ws u r) w) (session_of (router_at (slice_set ws u r) w) u) goes →
     domain_of (slice_set (slice_set ws u r) w s) [] ≡ cuts (domain_of ws []) u w
 cuts_as ws u w r s from to apart first second =
-    enters_as (slice_set ws u r) [] w s (event.Down (session_of (router_at (slice_set ws u r) w) u)) (omega (arith, to, length-set ws u r)) second
-    ∙ ap (λ e. enters e w (event.Down (session_of (router_at (slice_set ws u r) w) u)))
-    (enters_as ws [] u r (event.Down (session_of (router_at ws u) w)) from first)
-    ∙ ap (λ t. enters down w (event.Down (session_of t u))) (router_still ws u w r apart)
-    ∙ sym (nothing_lost (enters down w (event.Down (session_of (router_at ws w) u))) u w (λ a b. refl))
+    enters_in_as (slice_set ws u r) [] w s (session_of (router_at (slice_set ws u r) w) u) goes (omega (arith, to, length-set ws u r)) second
+    ∙ ap (λ e. enters_in e w (session_of (router_at (slice_set ws u r) w) u) goes)
+    (enters_in_as ws [] u r (session_of (router_at ws u) w) goes from first)
+    ∙ ap (λ t. enters_in down w (session_of t u) goes) (router_still ws u w r apart)
+    ∙ sym (nothing_lost (enters_in down w (session_of (router_at ws w) u) goes) u w (λ a b. refl))
   where
     down : Domain
-    down = enters (domain_of ws []) u (event.Down (session_of (router_at ws u) w))
+    down = enters_in (domain_of ws []) u (session_of (router_at ws u) w) goes

@@ -1,8 +1,9 @@
 -- What sending and hearing leave, one after another.
-use Rattle.std.proofs.Common.{◌≡◌, ⊎_elim, ℕ, ◌+◌, ◌<◌, zero, suc, true, nat_eq, All, List, [], ◌∷◌, length, drop, get_or, slice_set, take, refl, sym, ap, subst, ◌∙◌, arith}
+use Rattle.std.proofs.Common.{◌≡◌, ⊎_elim, ℕ, ◌+◌, ◌<◌, zero, suc, nat_eq, Option, Some, All, List, [], ◌∷◌, length, drop, get_or, slice_set, take, refl, sym, ap, subst, ◌∙◌, arith}
 use Rattle.std.proofs.lemmas.Bool.{cases_eq, cond_both, eqb-true}
 use Rattle.std.proofs.lemmas.List.{drop_more}
 use Rattle.netchange_core.specs.declared.message.Message.{Message}
+use Rattle.netchange_core.specs.declared.event.Event.{Event}
 use Rattle.netchange_core.specs.declared.event.Event.TheVariants as event
 use Rattle.netchange_core.specs.declared.reply.Reply.{Reply}
 use Rattle.netchange_core.specs.declared.reply.Reply.TheVariants as reply
@@ -11,10 +12,11 @@ use Rattle.netchange_core.specs.Calls.{carried, session_of}
 use Rattle.netchange_core.specs.Next.{answered, next, relieved}
 use Rattle.netchange_core.specs.World.{World, changed, neighbour_at}
 use Rattle.netchange_core.proofs.Change.{changed_at}
-use Rattle.routing_domain.specs.Domain.{Domain, IsInOrder, IsQuiet, are_linked, neighbour, topology}
+use Rattle.netchange_core.proofs.Holders.{up_in}
+use Rattle.routing_domain.specs.Domain.{Domain, IsInOrder, IsQuiet, neighbour, topology}
+use Rattle.routing_domain.specs.Events.{in_session}
 use Rattle.routing_domain.specs.Rest.{IsRest}
 use Rattle.routing_domain.specs.Steps.{IsNext, hears, sends}
-use Rattle.routing_domain.specs.Weight.{weight}
 use Rattle.routing_domain.proofs.Recomputed.{changed_other}
 use Rattle.routing_domain.proofs.Hearing.{hearing_is_lighter}
 use Rattle.routing_domain.proofs.Lighter.{sending_is_lighter}
@@ -90,10 +92,14 @@ sends_sent d u w max o from to some = record {
     near : w < length (d.router u).neighbours
     near = omega (arith, to, (o.tables u from).one_a_node)
 
+-- a message is heard in a session
+abbrev pub hearing : Message → ℕ → Event
+hearing m session = event.Receive session m.dest m.dist
+
 -- one message more is heard
 pub hear_on : (d : Domain) (i : ℕ) (ws : List World) (s : Sent) (rest : List Sent) (r : World) → IsPlayed d (domain_of ws (s ∷ rest)) i →
     IsBetween (length ws) s →
-    r ≡ (next (router_at ws s.to) (event.Receive (session_of (router_at ws s.to) s.from) s.message.dest s.message.dist)).world →
+    r ≡ in_session (router_at ws s.to) (session_of (router_at ws s.to) s.from) (hearing s.message) →
     IsPlayed d (domain_of (slice_set ws s.to r) rest) (i + 1)
 hear_on d i ws s rest r played between router =
     played_on d e (domain_of (slice_set ws s.to r) rest) i 1 played
@@ -107,30 +113,34 @@ hear_on d i ws s rest r played between router =
     first = first_is_next e s.from s.to s.message (under_way rest s.from s.to) played.in_order between.from between.to (under_way_first s rest)
 
     heard : r ≡ (hears e s.from s.to s.message (under_way rest s.from s.to)).router s.to
-    heard = router ∙ ap (λ a. a.world) (receive_hears e s.from s.to s.message (under_way rest s.from s.to) played.in_order first).1
+    heard =
+        let there = up_in (neighbour e s.to s.from) first.linked in
+        router ∙ ap (λ (o : Option ℕ). in_session (router_at ws s.to) o (hearing s.message)) there.1
+        ∙ ap (λ a. a.world)
+        (receive_hears e s.from s.to there.0 s.message (under_way rest s.from s.to) played.in_order first there.1).1
 
 -- what Take gave was sent
 pub record IsTaken (d : Domain) (u w max : ℕ) (r : World) (ms : List Message) : Type 0 where
   pub router : r ≡ (sends d u w max).router u
   pub messages : ms ≡ take max (neighbour d u w).queue
 
-take_as : (d : Domain) (u w max s : ℕ) (x r : World) (p : Reply) → IsInOrder d → u < d.size → w < d.size → are_linked d u w ≡ true →
-    x ≡ d.router u → s ≡ session_of x w → next x (event.Take s max) ≡ answered r p →
+take_as : (d : Domain) (u w max s : ℕ) (x r : World) (p : Reply) → IsInOrder d → u < d.size → w < d.size →
+    x ≡ d.router u → session_of x w ≡ Some s → next x (event.Take s max) ≡ answered r p →
     answered r p ≡ answered ((sends d u w max).router u) (reply.Messages (take max (neighbour d u w).queue))
-take_as d u w max s x r p o from to linked is session done =
-    sym done ∙ ap (λ t. next x (event.Take t max)) session ∙ ap (λ y. next y (event.Take (session_of y w) max)) is
-    ∙ take_sends d u w max o from linked
+take_as d u w max s x r p o from to is held done =
+    sym done ∙ ap (λ y. next y (event.Take s max)) is
+    ∙ take_sends d u w max s o from (ap (λ y. session_of y w) (sym is) ∙ held)
 
-pub taken : (d : Domain) (u w max s : ℕ) (x r : World) (p : Reply) → IsInOrder d → u < d.size → w < d.size → are_linked d u w ≡ true →
-    x ≡ d.router u → s ≡ session_of x w → next x (event.Take s max) ≡ answered r p → IsTaken d u w max r (carried p)
-taken d u w max s x r p o from to linked is session done =
-    let same = take_as d u w max s x r p o from to linked is session done in
+pub taken : (d : Domain) (u w max s : ℕ) (x r : World) (p : Reply) → IsInOrder d → u < d.size → w < d.size →
+    x ≡ d.router u → session_of x w ≡ Some s → next x (event.Take s max) ≡ answered r p → IsTaken d u w max r (carried p)
+taken d u w max s x r p o from to is held done =
+    let same = take_as d u w max s x r p o from to is held done in
     record { router = ap (λ a. a.world) same; messages = ap (λ a. carried a.reply) same }
 
-pub take_answers : (d : Domain) (u w max s : ℕ) (x r : World) (p : Reply) → IsInOrder d → u < d.size → w < d.size → are_linked d u w ≡ true →
-    x ≡ d.router u → s ≡ session_of x w → next x (event.Take s max) ≡ answered r p → p ≡ reply.Messages (take max (neighbour d u w).queue)
-take_answers d u w max s x r p o from to linked is session done =
-    ap (λ a. a.reply) (take_as d u w max s x r p o from to linked is session done)
+pub take_answers : (d : Domain) (u w max s : ℕ) (x r : World) (p : Reply) → IsInOrder d → u < d.size → w < d.size →
+    x ≡ d.router u → session_of x w ≡ Some s → next x (event.Take s max) ≡ answered r p → p ≡ reply.Messages (take max (neighbour d u w).queue)
+take_answers d u w max s x r p o from to is held done =
+    ap (λ a. a.reply) (take_as d u w max s x r p o from to is held done)
 
 -- a message that says nothing, for a place where there is none
 abbrev pub no_sent : Sent
@@ -139,12 +149,12 @@ no_sent = record { from = 0; to = 0; message = record { dest = 0; dist = 0 } }
 -- the message in a place is heard
 pub heard_more : (d : Domain) (ss : List Sent) (i n : ℕ) (ws : List World) (to : ℕ) (x r : World) → i < length ss → n ≡ length ws →
     All (IsBetween n) ss → to ≡ (get_or ss i no_sent).to →
-    r ≡ (next (get_or ws to x) (event.Receive (session_of (get_or ws to x) (get_or ss i no_sent).from) (get_or ss i no_sent).message.dest (get_or ss i no_sent).message.dist)).world →
+    r ≡ in_session (get_or ws to x) (session_of (get_or ws to x) (get_or ss i no_sent).from) (hearing (get_or ss i no_sent).message) →
     IsPlayed d (domain_of ws (drop i ss)) i → IsPlayed d (domain_of (slice_set ws to r) (drop (i + 1) ss)) (i + 1)
 heard_more d ss i n ws to x r below wide between at heard played =
     subst (λ t. IsPlayed d (domain_of (slice_set ws t r) (drop (i + 1) ss)) (i + 1)) (sym at)
     (hear_on d i ws s (drop (i + 1) ss) r (subst (λ l. IsPlayed d (domain_of ws l) i) (drop_more ss i no_sent below) played) here
-    (heard ∙ ap (λ y. (next y (event.Receive (session_of y s.from) s.message.dest s.message.dist)).world) there))
+    (heard ∙ ap (λ y. in_session y (session_of y s.from) (hearing s.message)) there))
   where
     s : Sent
     s = get_or ss i no_sent

@@ -1,5 +1,5 @@
 -- One node after another sends what waits for its neighbours.
-use Rattle.std.proofs.Common.{◌≡◌, ⊎_elim, ℕ, ◌+◌, ◌-◌, ◌<◌, ◌≤◌, zero, suc, true, false, cond, All, List, [], ◌∷◌, ◌++◌, length, drop, get_or, map, slice_set, take, refl, sym, ap, subst, ◌∙◌, arith, inl, inr, eq-eqb, length-drop, length-set}
+use Rattle.std.proofs.Common.{◌≡◌, ⊎_elim, ℕ, ◌+◌, ◌<◌, ◌≤◌, zero, suc, true, cond, Some, All, List, [], ◌∷◌, ◌++◌, length, drop, get_or, map, slice_set, take, refl, sym, ap, subst, ◌∙◌, arith, inl, inr, eq-eqb, length-drop}
 use Rattle.std.proofs.lemmas.Bool.{cases_Bool, cases_lt}
 use Rattle.std.proofs.lemmas.List.{nil_from_length}
 use Rattle.std.proofs.lemmas.List.Elements.{All-append, All-cons, All-nil}
@@ -10,10 +10,10 @@ use Rattle.netchange_core.specs.Calls.{carried, session_of}
 use Rattle.netchange_core.specs.Next.{answered, next, relieved}
 use Rattle.netchange_core.specs.World.{World, changed, is_up, neighbour_at}
 use Rattle.netchange_core.proofs.Change.{changed_at}
-use Rattle.routing_domain.specs.Domain.{Domain, IsInOrder, IsSound, are_linked, neighbour}
+use Rattle.routing_domain.specs.Domain.{Domain, IsInOrder, IsSound, neighbour}
 use Rattle.routing_domain.specs.Steps.{sends}
 use Rattle.domain_player.specs.declared.sent.Sent.{Sent}
-use Rattle.domain_player.specs.Play.{AreSent, IsBetween, domain_of, router_at, sent_by}
+use Rattle.domain_player.specs.Play.{AreSent, IsBetween, domain_of, sent_by}
 use Rattle.domain_player.proofs.Domains.{router_place, sends_as}
 use Rattle.domain_player.proofs.Played.{IsTaken, sends_sent, sent_on, taken}
 
@@ -70,15 +70,15 @@ all_from d e n k sent before last u w below short =
 
 -- what was taken is on its way
 pub sent_by_both : (ws : List World) (ss : List Sent) (u w i s : ℕ) (x r : World) (p : Reply) → u < length ws → w < length ws →
-    IsInOrder (domain_of ws ss) → are_linked (domain_of ws ss) u w ≡ true → i ≡ u → s ≡ session_of (get_or ws i x) w →
+    IsInOrder (domain_of ws ss) → i ≡ u → session_of (get_or ws i x) w ≡ Some s →
     next (get_or ws i x) (event.Take s 65535) ≡ answered r p →
     domain_of (slice_set ws i r) (ss ++ map (sent_by u w) (carried p)) ≡ sends (domain_of ws ss) u w 65535
-sent_by_both ws ss u w i s x r p from to o linked at session done =
+sent_by_both ws ss u w i s x r p from to o at held done =
     ap (λ k. domain_of (slice_set ws k r) (ss ++ map (sent_by u w) (carried p))) at
     ∙ sends_as ws ss u w 65535 r (carried p) from given.router given.messages
   where
     given : IsTaken (domain_of ws ss) u w 65535 r (carried p)
-    given = taken (domain_of ws ss) u w 65535 s (get_or ws i x) r p o from to linked (router_place ws i u x at from) session done
+    given = taken (domain_of ws ss) u w 65535 s (get_or ws i x) r p o from to (router_place ws i u x at from) held done
 
 pub take_past : (k : ℕ) (xs : List Message) → length xs ≤ k → take k xs ≡ xs
 take_past zero [] few = refl

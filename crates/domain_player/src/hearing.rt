@@ -2,9 +2,9 @@
 
 ghost use Rattle.std.specs.Prelude.{◌≡◌, ◌<◌, All, OnOk, [], length};
 ghost use Rattle.netchange_core.specs.Calls.{session_of};
-ghost use Rattle.netchange_core.specs.Next.{next};
 ghost use Rattle.netchange_core.specs.declared.event.Event.TheVariants as event;
 ghost use Rattle.routing_domain.specs.Domain.{IsInOrder};
+ghost use Rattle.routing_domain.specs.Events.{in_session};
 ghost use Rattle.domain_player.specs.Play.{IsBetween, IsPlayed, domain_of};
 
 use crate::sent::Sent;
@@ -13,12 +13,13 @@ use std::alloc::AllocError;
 
 /// A router hears a message, in the present session of the node that sent it.
 fn hear(router: &mut Tables, sent: Sent) -> Result<(), AllocError>
-    ensures { OnOk result (router.new
-        ≡ (next router.old (event.Receive (session_of router.old sent.from) sent.message.dest sent.message.dist)).world) }
+    ensures { OnOk result (router.new ≡ in_session router.old (session_of router.old sent.from)
+        (λ s. event.Receive s sent.message.dest sent.message.dist)) }
 {
-    let session = router.session(sent.from);
-    let message = sent.message;
-    router.apply(&Event::Receive(session, message.dest, message.dist))?;
+    if let Some(session) = router.session(sent.from) {
+        let message = sent.message;
+        router.apply(&Event::Receive(session, message.dest, message.dist))?;
+    }
     Ok(())
 }
 

@@ -6,7 +6,7 @@ ghost use Rattle.netchange_core.specs.Next.{is_no_neighbour, last_session, next}
 ghost use Rattle.netchange_core.specs.World.{is_up, neighbour_at};
 ghost use Rattle.netchange_core.specs.declared.event.Event.TheVariants as event;
 ghost use Rattle.routing_domain.specs.Domain.{IsInOrder, are_linked};
-ghost use Rattle.routing_domain.specs.Events.{CanLink, cuts, links};
+ghost use Rattle.routing_domain.specs.Events.{CanLink, cuts, in_session, links};
 ghost use Rattle.domain_player.specs.Play.{domain_of, router_at};
 
 use crate::fault::LinkFault;
@@ -30,10 +30,11 @@ fn enter_up(router: &mut Tables, node: u16) -> Result<(), LinkFault>
 
 /// The channel to an up neighbour failed.
 fn enter_down(router: &mut Tables, node: u16) -> Result<(), AllocError>
-    ensures { OnOk result (router.new ≡ (next router.old (event.Down (session_of router.old node))).world) }
+    ensures { OnOk result (router.new ≡ in_session router.old (session_of router.old node) (λ s. event.Down s)) }
 {
-    let session = router.session(node);
-    router.apply(&Event::Down(session))?;
+    if let Some(session) = router.session(node) {
+        router.apply(&Event::Down(session))?;
+    }
     Ok(())
 }
 

@@ -19,7 +19,10 @@ fn waiting(tables: &[Tables], from: u16, to: u16) -> usize
     ensures { result ≡ length (neighbour_at (router_at tables.now from).neighbours to).queue }
 {
     let router = &tables[usize::from(from)];
-    router.queued(router.session(to))
+    match router.session(to) {
+        Some(session) => router.queued(session),
+        None => 0,
+    }
 }
 
 /// A node sends what waits for a neighbour, at most 65,535 messages.
@@ -37,7 +40,9 @@ fn send_some(
     ensures between { OnOk result (All (IsBetween (length tables.old)) sents.old.items → All (IsBetween (length tables.old)) sents.new.items) }
 {
     let router = &mut tables[usize::from(from)];
-    let session = router.session(to);
+    let Some(session) = router.session(to) else {
+        unreachable!()
+    };
     let Reply::Messages(messages) = router.apply(&Event::Take(session, u16::MAX))? else {
         unreachable!()
     };

@@ -1,11 +1,10 @@
-use Rattle.std.proofs.Common.{◌≡◌, [], length, slice_set, subst, sym, ap, ◌∙◌, arith, length-set}
+use Rattle.std.proofs.Common.{[], slice_set, ap, ◌∙◌, arith, length-set}
 use Rattle.std.proofs.lemmas.Result.{on_ok_weaker}
-use Rattle.netchange_core.specs.declared.event.Event.TheVariants as event
 use Rattle.netchange_core.specs.Calls.{session_of}
-use Rattle.netchange_core.specs.Next.{next}
+use Rattle.routing_domain.specs.Events.{in_session}
 use Rattle.domain_player.specs.Play.{domain_of, router_at}
 use Rattle.domain_player.proofs.Domains.{router_place}
-use Rattle.domain_player.proofs.Linking.{cuts_as, linked_apart}
+use Rattle.domain_player.proofs.Linking.{cuts_as, goes, linked_apart}
 use Rattle.domain_player.proofs.links.cut_both.Goals as goal
 
 pub returns : goal.returns
@@ -21,7 +20,7 @@ returns c =
     ∙ ap (λ j. domain_of (slice_set (slice_set ws c.args.u r) j c.enter_down-2.new.router) []) c.from-2.ensures
     ∙ cuts_as ws c.args.u c.args.w r c.enter_down-2.new.router c.requires.from c.requires.to
     (linked_apart (domain_of ws []) c.args.u c.args.w c.requires.order c.requires.from c.requires.linked)
-    (c.in_ok-enter_down.ensures ∙ ap (λ y. (next y (event.Down (session_of y c.args.w))).world) first)
-    (down ∙ ap (λ y. (next y (event.Down (session_of y c.args.u))).world)
+    (c.in_ok-enter_down.ensures ∙ ap (λ y. in_session y (session_of y c.args.w) goes) first)
+    (down ∙ ap (λ y. in_session y (session_of y c.args.u) goes)
     (second ∙ ap (λ i. router_at (slice_set ws i r) c.args.w) c.from.ensures)))
     c.enter_down-2.ensures
