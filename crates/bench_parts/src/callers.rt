@@ -2,7 +2,7 @@
 //! the passes of a router are compared with.
 
 ghost use Rattle.std.specs.Prelude.{IfSome};
-ghost use Rattle.slot_lock.specs.Held.{IsFirst};
+ghost use Rattle.slot_lock.specs.Passes.{IsFirst};
 
 use crate::accounts::Account;
 use crate::routers::{Answering, Work, answer_first, answer_rounds, journal_of};
@@ -31,7 +31,7 @@ struct Caller<'a, R: Wait> {
 }
 
 impl<'a, R: Wait> Model for Caller<'a, R> {
-    ghost use Rattle.slot_lock.specs.Held.{IsPassOf, PassView};
+    ghost use Rattle.slot_lock.specs.Passes.{IsPassOf, PassView};
 
     ghost Value = { PassView };
 

@@ -3,16 +3,16 @@ use Rattle.std.proofs.Common.{◌≡◌, ◌∙◌, sym, ap, refl, List, [], ◌
 use Rattle.route_history.specs.declared.entry.Entry.{Entry}
 use Rattle.route_history.specs.Beginning.{Begins}
 use Rattle.history_saver.specs.Looking.{Looks}
-use Rattle.slot_lock.specs.Held.{IsPassOf, PassView, RouterView}
+use Rattle.slot_lock.specs.Passes.{IsPassOf, PassView, RouterView}
 
 pub looks_same : (r : RouterView) (p : PassView) → IsPassOf r p → Looks r p p
 looks_same r p of = record {
   of = of;
   own = λ x. x;
   legal = λ x. x;
-  begins = record { rest = []; is = sym (append-nil p.part.seen) };
+  begins = record { rest = []; is = sym (append-nil p.fragment.seen) };
   mine = refl;
-  missed = omega arith;
+  failed_tries = omega arith;
   shares = refl;
 }
 
@@ -23,9 +23,9 @@ looks_both r a b c g h = record {
   legal = λ x. h.legal (g.legal x);
   begins = record {
     rest = g.begins.rest ++ h.begins.rest;
-    is = h.begins.is ∙ ap (λ (l : List Entry). l ++ h.begins.rest) g.begins.is ∙ append_assoc a.part.seen g.begins.rest h.begins.rest;
+    is = h.begins.is ∙ ap (λ (l : List Entry). l ++ h.begins.rest) g.begins.is ∙ append_assoc a.fragment.seen g.begins.rest h.begins.rest;
   };
   mine = h.mine ∙ g.mine;
-  missed = omega (arith, g.missed, h.missed);
+  failed_tries = omega (arith, g.failed_tries, h.failed_tries);
   shares = h.shares ∙ g.shares;
 }

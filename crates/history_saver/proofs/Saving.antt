@@ -15,7 +15,7 @@ use Rattle.route_history.specs.JournalView.{JournalView}
 use Rattle.history_saver.specs.Adding.{AddsNext, Reads, between, next_count}
 use Rattle.history_saver.specs.Saved.{Got, HasSaved, IsCut, IsFit, SaverView, first_entries, saved_text, seen_by}
 use Rattle.history_saver.specs.declared.fault.SaveFault.TheVariants as fault
-use Rattle.slot_lock.specs.Held.{PassView, RouterView}
+use Rattle.slot_lock.specs.Passes.{PassView, RouterView}
 use Rattle.history_saver.proofs.Texts.{first_same, parted, saved_more}
 
 -- the journal, after it went on
@@ -118,7 +118,7 @@ cut_by j es b saved (Some to) text first held now fit got reads more = record {
 }
 
 module _ (r : RouterView) (old new : PassView) (s : SaverView) (h : HasSaved s (seen_by r old)) (goes_on : s.fault ≡ None)
-    (b : Begins old.part.seen new.part.seen) where
+    (b : Begins old.fragment.seen new.fragment.seen) where
   got_before : Appends s.first s.held (saved_text (seen_by r old) s.saved)
   got_before = subst (λ f. Got f (seen_by r old) s.saved s.first s.held) goes_on h.got
 
@@ -128,21 +128,21 @@ module _ (r : RouterView) (old new : PassView) (s : SaverView) (h : HasSaved s (
     reads_next = subst (λ x. Reads x [] s.saved (seen_by r new) text now_saved) enough
         (subst (λ (l : List ℕ). Reads short l s.saved (seen_by r new) text now_saved) empty reads)
 
-    pub saved_on : length new.part.seen ≤ r.limit → Appends s.held now text →
+    pub saved_on : length new.fragment.seen ≤ r.limit → Appends s.held now text →
         HasSaved (record { first = s.first; held = now; saved = now_saved; fault = s.fault }) (seen_by r new)
     saved_on room more =
         subst (λ f. HasSaved (record { first = s.first; held = now; saved = now_saved; fault = f }) (seen_by r new)) (sym goes_on)
-        (on_by (seen_by r old) new.part.seen b s.saved now_saved text s.first s.held now room h.fit got_before reads_next more)
+        (on_by (seen_by r old) new.fragment.seen b s.saved now_saved text s.first s.held now room h.fit got_before reads_next more)
 
     pub saved_cut : AppendsFront s.held now text →
         HasSaved (record { first = s.first; held = now; saved = s.saved; fault = Some fault.Write }) (seen_by r new)
     saved_cut more =
-        cut_by (seen_by r old) new.part.seen b s.saved now_saved text s.first s.held now h.fit got_before reads_next more
+        cut_by (seen_by r old) new.fragment.seen b s.saved now_saved text s.first s.held now h.fit got_before reads_next more
 
   -- what is saved of a history is saved of what it grew to
   pub saved_still : HasSaved s (seen_by r new)
   saved_still = record {
-    fit = fit_longer (seen_by r old) new.part.seen b s.saved h.fit;
+    fit = fit_longer (seen_by r old) new.fragment.seen b s.saved h.fit;
     got = subst (λ f. Got f (seen_by r new) s.saved s.first s.held) (sym goes_on)
-        (got_same (seen_by r old) new.part.seen b s.saved s.first s.held h.fit got_before);
+        (got_same (seen_by r old) new.fragment.seen b s.saved s.first s.held h.fit got_before);
   }

@@ -7,7 +7,7 @@ use Rattle.history_file.specs.Views.{HistoryView, entry_view}
 use Rattle.history_saver.specs.declared.fault.SaveFault.{SaveFault}
 use Rattle.history_saver.specs.declared.fault.SaveFault.TheVariants as fault
 use Rattle.route_history.specs.JournalView.{JournalView}
-use Rattle.slot_lock.specs.Held.{PassView, RouterView}
+use Rattle.slot_lock.specs.Passes.{PassView, RouterView}
 
 -- A saver: what its file held at first and what it holds now, where that is known; of how many entries the lines are saved, none where
 -- not even the opening is; and why nothing is saved any more, if that is so.
@@ -19,7 +19,7 @@ pub record SaverView : Type 0 where
 
 -- the journal of a router, as far as a pass has seen it
 abbrev pub seen_by : RouterView → PassView → JournalView
-seen_by r p = record { opening = r.opening; limit = r.limit; entries = p.part.seen }
+seen_by r p = record { opening = r.opening; limit = r.limit; entries = p.fragment.seen }
 
 -- the history of the first so many entries
 abbrev pub first_entries : JournalView → ℕ → HistoryView

@@ -5,7 +5,7 @@ ghost use Rattle.history_saver.specs.Looking.{Looks};
 ghost use Rattle.history_saver.specs.Saved.{HasSaved, seen_by};
 ghost use Rattle.route_history.specs.History.{IsLegal};
 ghost use Rattle.route_history.specs.JournalView.{JournalView};
-ghost use Rattle.slot_lock.specs.Held.{IsPassOf};
+ghost use Rattle.slot_lock.specs.Passes.{IsPassOf};
 
 use crate::fault::SaveFault;
 use crate::reading::{MOST_AT_ONCE, Reading};
@@ -76,11 +76,11 @@ impl<V: Write> Saver<V> {
         requires goes_on { self.old.fault ≡ None }
         requires saved { HasSaved self.old (seen_by router.now pass.old) }
         ensures pass { Looks router.now pass.old pass.new }
-        ensures legal { IsLegal router.now.opening pass.new.part.seen }
+        ensures legal { IsLegal router.now.opening pass.new.fragment.seen }
         ensures saved { HasSaved self.new (seen_by router.now pass.new) }
         ensures first { self.new.first ≡ self.old.first }
         ensures ok { IfOk result (λ n. (self.new.saved ≡ Some n) × (self.new.fault ≡ None)) }
-        ensures count { IfOk result (λ n. n ≡ next_count (unwrap_or self.old.saved 0) (length pass.new.part.seen)) }
+        ensures count { IfOk result (λ n. n ≡ next_count (unwrap_or self.old.saved 0) (length pass.new.fragment.seen)) }
         ensures err { IfErr result (λ fault. self.new.fault ≡ Some fault) }
     {
         let mut reading = Reading {
@@ -123,8 +123,8 @@ impl<V: Write> Saver<V> {
         ensures pass { Looks router.now pass.old pass.new }
         ensures saved { HasSaved self.new (seen_by router.now pass.new) }
         ensures first { self.new.first ≡ self.old.first }
-        ensures legal { OnOk result (IsLegal router.now.opening pass.new.part.seen) }
-        ensures all { IfOk result (λ n. (n ≡ length pass.new.part.seen) × (self.new.saved ≡ Some n) × (self.new.fault ≡ None)) }
+        ensures legal { OnOk result (IsLegal router.now.opening pass.new.fragment.seen) }
+        ensures all { IfOk result (λ n. (n ≡ length pass.new.fragment.seen) × (self.new.saved ≡ Some n) × (self.new.fault ≡ None)) }
         ensures err { IfErr result (λ fault. self.new.fault ≡ Some fault) }
         ensures over { IfSome self.old.fault (λ fault. (result ≡ Err fault) × (self.new ≡ self.old) × (pass.new ≡ pass.old)) }
     {

@@ -8,9 +8,9 @@ use Rattle.netchange_core.specs.OpeningView.{OpeningView}
 use Rattle.route_history.specs.declared.entry.Entry.{Entry}
 use Rattle.route_history.specs.Beginning.{Begins}
 use Rattle.route_history.specs.Positions.{once_below, times}
-use Rattle.lock_rule.specs.declared.rule.Part.{Part}
+use Rattle.lock_rule.specs.declared.rule.Fragment.{Fragment}
 use Rattle.lock_rule.specs.declared.rule.View.{View}
-use Rattle.lock_rule.specs.Views.{claims, shares_of, spent}
+use Rattle.lock_rule.specs.Views.{empty_view, shares_of, times_in_view}
 use Rattle.lock_rule.specs.Rule.{AreKnown, Fits, Sees}
 use Rattle.lock_rule.proofs.Totals.{total_set}
 use Rattle.lock_rule.proofs.Prefixes.{further}
@@ -34,38 +34,38 @@ there_below [] k v at = absurd (some-ne-none v (sym at))
 there_below (x ∷ xs) zero v at = omega arith
 there_below (x ∷ xs) (suc k) v at = let below = there_below xs k v at in omega arith
 
-pub sees_on : (log grown : List Entry) (p : Part) → Begins log grown → Sees log p → Sees grown p
+pub sees_on : (log grown : List Entry) (p : Fragment) → Begins log grown → Sees log p → Sees grown p
 sees_on log grown p on h = record { begins = further p.seen log grown h.begins on; within = h.within }
 
 pub fits_on : (o : OpeningView) (l : ℕ) (log grown : List Entry) (v : View) → Begins log grown → Fits o l log v → Fits o l grown v
 fits_on o l log grown v on h = record {
-  own = sees_on log grown v.own on h.own;
-  guest = sees_on log grown v.guest on h.guest;
+  fragment = sees_on log grown v.fragment on h.fragment;
+  incoming = sees_on log grown v.incoming on h.incoming;
   about = h.about;
-  spent = h.spent;
+  empty = h.empty;
 }
 
 -- one view is set, and the history may grow
 pub known_set : (o : OpeningView) (l : ℕ) (log grown : List Entry) (views : List View) (k : ℕ) (v w : View) →
     get_elem? views k ≡ some v → AreKnown o l log views → Begins log grown → Fits o l grown w → shares_of w ≡ shares_of v →
-    ((x : ℕ) → claims x w + once_below x (length log) ≡ claims x v + once_below x (length grown)) → AreKnown o l grown (set views k w)
+    ((x : ℕ) → times_in_view x w + once_below x (length log) ≡ times_in_view x v + once_below x (length grown)) → AreKnown o l grown (set views k w)
 known_set o l log grown views k v w at known on fits same moved = record {
   fits = λ j u there. ⊎_elim (λ t. subst (λ (z : View). Fits o l grown z) t.1 fits)
       (λ t. fits_on o l log grown u on (known.fits j u t.1)) (at_set views k j w u there);
   shares = let sum = total_set shares_of views k v w at in let all = known.shares in omega arith;
-  once = λ x. let sum = total_set (claims x) views k v w at in let one = known.once x in let by = moved x in omega arith;
+  once = λ x. let sum = total_set (times_in_view x) views k v w at in let one = known.once x in let by = moved x in omega arith;
 }
 
--- a view that notes a history has shares
-pub holder_has_shares : (o : OpeningView) (l : ℕ) (log es : List Entry) (v : View) → Fits o l log v → v.note ≡ Some es → 0 < shares_of v
-holder_has_shares o l log es v fits note = positive (shares_of v) (λ e. no_note (fits.spent e))
+-- a view that holds a history has shares
+pub holder_has_shares : (o : OpeningView) (l : ℕ) (log es : List Entry) (v : View) → Fits o l log v → v.held ≡ Some es → 0 < shares_of v
+holder_has_shares o l log es v fits held = positive (shares_of v) (λ e. none_is_no_history (fits.empty e))
   where
     positive : (n : ℕ) → (n ≡ 0 → ⊥) → 0 < n
     positive zero h = absurd (h refl)
     positive (suc n) h = omega arith
 
-    no_note : v ≡ spent → ⊥
-    no_note e = let none_noted : v.note ≡ None = ap (λ (u : View). u.note) e in both none_noted note
+    none_is_no_history : v ≡ empty_view → ⊥
+    none_is_no_history e = let none_held : v.held ≡ None = ap (λ (u : View). u.held) e in both none_held held
       where
         both : {A : Type 0} {x : Option A} {a : A} → x ≡ None → x ≡ Some a → ⊥
         both p q = cc

@@ -1,10 +1,10 @@
+mod Acquiring
 mod Closing
-mod Dividing
-pub mod Giving
-mod Held
 mod Joining
 pub mod Keeping
 pub mod Longer
 pub mod Prefixes
-mod Taking
+pub mod Releasing
+mod Seats
+mod Splitting
 mod Totals

@@ -1,4 +1,4 @@
--- The longer of two histories, and what a load tells of two parts.
+-- The longer of two histories, and what a load tells of two fragments.
 use Rattle.std.proofs.Common.{◌≡◌, ◌∙◌, sym, ap, refl, subst, ℕ, ◌+◌, ◌<◌, ◌≤◌, inl, inr, ⊎_elim, Bool, true, false, nat_lt, if◌then◌else◌, None, List, ◌++◌, length, set, get_or, arith}
 use Rattle.std.proofs.lemmas.Bool.Decides.{nat_tests}
 use mathlib.Core.Option.{none, some}
@@ -11,16 +11,16 @@ use Rattle.route_history.specs.declared.entry.Entry.{Entry}
 use Rattle.route_history.specs.Beginning.{Begins}
 use Rattle.route_history.specs.JournalView.{JournalView}
 use Rattle.route_history.specs.Positions.{once_below, times}
-use Rattle.lock_rule.specs.declared.rule.Part.{Part}
+use Rattle.lock_rule.specs.declared.rule.Fragment.{Fragment}
 use Rattle.lock_rule.specs.declared.rule.View.{View}
-use Rattle.lock_rule.specs.Views.{claims, idle, longer, shares_of}
+use Rattle.lock_rule.specs.Views.{empty_fragment, longer, shares_of, times_in_view}
 use Rattle.lock_rule.specs.Rule.{AreIn, AreKnown, Fits, IsKept, Sees}
-use Rattle.lock_rule.specs.Steps.{Absorbs, Agree, Compares, Seated, joined, showing}
-use Rattle.lock_rule.proofs.Dividing.{sees_nothing}
-use Rattle.lock_rule.proofs.Giving.{zero_or_more}
+use Rattle.lock_rule.specs.Steps.{Agree, Meets, Merges, Seated, merged, with_seen}
+use Rattle.lock_rule.proofs.Splitting.{sees_nothing}
+use Rattle.lock_rule.proofs.Releasing.{zero_or_more}
 use Rattle.lock_rule.proofs.Keeping.{known_set, once_at_most, times_append}
 use Rattle.lock_rule.proofs.Prefixes.{nested, shorter, whole}
-use Rattle.lock_rule.proofs.Taking.{not_holder}
+use Rattle.lock_rule.proofs.Acquiring.{not_holder}
 use Rattle.lock_rule.proofs.Totals.{total_one}
 
 -- both begin the longer, which begins the history
@@ -40,49 +40,59 @@ nests log a b p q = let h = pick log a b (nat_lt (length a) (length b)) refl p q
 pub within_longer : (mine : List ℕ) (seen long : List Entry) → AreIn mine seen → Begins seen long → AreIn mine long
 within_longer mine seen long within on x there = let below = within x there in let le = shorter seen long on in omega arith
 
-pub within_joined : (mine more : List ℕ) (long : List Entry) → AreIn mine long → AreIn more long → AreIn (mine ++ more) long
-within_joined mine more long first second x there = ⊎_elim
+pub within_merged : (mine more : List ℕ) (long : List Entry) → AreIn mine long → AreIn more long → AreIn (mine ++ more) long
+within_merged mine more long first second x there = ⊎_elim
     (λ none_here. let sum = times_append x mine more in second x (omega arith))
     (λ some_here. first x some_here)
     (zero_or_more (times x mine))
 
-agree : (log : List Entry) (p q : Part) → Sees log p → Sees log q → ((x : ℕ) → times x p.mine + times x q.mine ≤ 1) → p.shares + q.shares ≤ 65536 → Agree p q
+agree : (log : List Entry) (p q : Fragment) → Sees log p → Sees log q → ((x : ℕ) → times x p.mine + times x q.mine ≤ 1) →
+    p.shares + q.shares ≤ 65536 → Agree p q
 agree log p q a b apart shares = let h = nests log p.seen q.seen a.begins b.begins in record { first = h.first; second = h.second; apart = apart; shares = shares }
 
-pub absorb_fits : (o : OpeningView) (l : ℕ) (log : List Entry) (v : View) → 0 < shares_of v → Fits o l log v →
-    Fits o l log (record v { own = joined v.own v.guest; guest = idle })
-absorb_fits o l log v some_shares h = let n = nests log v.own.seen v.guest.seen h.own.begins h.guest.begins in record {
-  own = record {
+pub merge_fits : (o : OpeningView) (l : ℕ) (log : List Entry) (v : View) → 0 < shares_of v → Fits o l log v →
+    Fits o l log (record v { fragment = merged v.fragment v.incoming; incoming = empty_fragment })
+merge_fits o l log v some_shares h = let n = nests log v.fragment.seen v.incoming.seen h.fragment.begins h.incoming.begins in record {
+  fragment = record {
     begins = n.both;
-    within = within_joined v.own.mine v.guest.mine (longer v.own.seen v.guest.seen)
-        (within_longer v.own.mine v.own.seen (longer v.own.seen v.guest.seen) h.own.within n.first)
-        (within_longer v.guest.mine v.guest.seen (longer v.own.seen v.guest.seen) h.guest.within n.second);
+    within = within_merged v.fragment.mine v.incoming.mine (longer v.fragment.seen v.incoming.seen)
+        (within_longer v.fragment.mine v.fragment.seen (longer v.fragment.seen v.incoming.seen) h.fragment.within n.first)
+        (within_longer v.incoming.mine v.incoming.seen (longer v.fragment.seen v.incoming.seen) h.incoming.within n.second);
   };
-  guest = sees_nothing log;
+  incoming = sees_nothing log;
   about = λ _. h.about some_shares;
-  spent = λ none_left. absurd (omega arith);
+  empty = λ none_left. absurd (omega arith);
 }
 
-pub compare_fits : (o : OpeningView) (l : ℕ) (log : List Entry) (v : View) → 0 < shares_of v → Fits o l log v →
-    Fits o l log (record v { own = showing v.own (longer v.own.seen v.guest.seen); guest = showing v.guest (longer v.own.seen v.guest.seen) })
-compare_fits o l log v some_shares h = let n = nests log v.own.seen v.guest.seen h.own.begins h.guest.begins in record {
-  own = record { begins = n.both; within = within_longer v.own.mine v.own.seen (longer v.own.seen v.guest.seen) h.own.within n.first };
-  guest = record { begins = n.both; within = within_longer v.guest.mine v.guest.seen (longer v.own.seen v.guest.seen) h.guest.within n.second };
+pub meet_fits : (o : OpeningView) (l : ℕ) (log : List Entry) (v : View) → 0 < shares_of v → Fits o l log v →
+    Fits o l log (record v {
+      fragment = with_seen v.fragment (longer v.fragment.seen v.incoming.seen);
+      incoming = with_seen v.incoming (longer v.fragment.seen v.incoming.seen);
+    })
+meet_fits o l log v some_shares h = let n = nests log v.fragment.seen v.incoming.seen h.fragment.begins h.incoming.begins in record {
+  fragment = record {
+    begins = n.both;
+    within = within_longer v.fragment.mine v.fragment.seen (longer v.fragment.seen v.incoming.seen) h.fragment.within n.first;
+  };
+  incoming = record {
+    begins = n.both;
+    within = within_longer v.incoming.mine v.incoming.seen (longer v.fragment.seen v.incoming.seen) h.incoming.within n.second;
+  };
   about = λ _. h.about some_shares;
-  spent = λ none_left. absurd (omega arith);
+  empty = λ none_left. absurd (omega arith);
 }
 
--- two parts of one view agree
-pub parts_agree : (o : OpeningView) (l : ℕ) (log : List Entry) (views : List View) (k : ℕ) (v : View) → get_elem? views k ≡ some v →
-    AreKnown o l log views → Agree v.own v.guest
-parts_agree o l log views k v at known = let h = known.fits k v at in
-    agree log v.own v.guest h.own h.guest (λ x.
-    let one = total_one (claims x) views k v at in let sum = known.once x in let most = once_at_most x (length log) in omega arith)
+-- two fragments of one view agree
+pub fragments_agree : (o : OpeningView) (l : ℕ) (log : List Entry) (views : List View) (k : ℕ) (v : View) → get_elem? views k ≡ some v →
+    AreKnown o l log views → Agree v.fragment v.incoming
+fragments_agree o l log views k v at known = let h = known.fits k v at in
+    agree log v.fragment v.incoming h.fragment h.incoming (λ x.
+    let one = total_one (times_in_view x) views k v at in let sum = known.once x in let most = once_at_most x (length log) in omega arith)
     (let one = total_one shares_of views k v at in let sum = known.shares in omega arith)
 
 -- what a load asks for, where the word and the slot are these
-abbrev LooksAt : OpeningView → ℕ → ℕ → Seated → List View → (Me JournalView View → Type 0) → List ℕ → List (core_option.Option JournalView) → Type 0
-LooksAt o l id m views then_is words homes = (w : View) × (a : Act JournalView) × Valid homes m.1 a
+abbrev LoadsAt : OpeningView → ℕ → ℕ → Seated → List View → (Me JournalView View → Type 0) → List ℕ → List (core_option.Option JournalView) → Type 0
+LoadsAt o l id m views then_is words homes = (w : View) × (a : Act JournalView) × Valid homes m.1 a
     × IsKept o l (record {
       words = set words 0 (get_or words 0 0);
       homes = homes_after homes m.1 a;
@@ -91,91 +101,91 @@ LooksAt o l id m views then_is words homes = (w : View) × (a : Act JournalView)
     × then_is (w, carried_after m.1 a)
 
 -- what a view that changes at a load has to show
-pub record MayLook (v w : View) : Type 0 where
-  pub note : v.note ≡ None
-  pub after : w.note ≡ None
+pub record MayLoad (v w : View) : Type 0 where
+  pub held : v.held ≡ None
+  pub after : w.held ≡ None
   pub fits : (o : OpeningView) (l : ℕ) (log : List Entry) → Fits o l log v → Fits o l log w
   pub shares : shares_of w ≡ shares_of v
-  pub claims_same : (x : ℕ) → claims x w ≡ claims x v
+  pub times_same : (x : ℕ) → times_in_view x w ≡ times_in_view x v
 
-looks : (o : OpeningView) (l id : ℕ) (m : Seated) (w : View) (s : State JournalView View) (kept : IsKept o l s) → MayLook m.0 w →
+known_after_load : (o : OpeningView) (l id : ℕ) (m : Seated) (w : View) (s : State JournalView View) (kept : IsKept o l s) → MayLoad m.0 w →
     get_elem? s.views id ≡ some m.0 → AreKnown o l kept.log (set s.views id w)
-looks o l id m w s kept may at = known_set o l kept.log kept.log s.views id m.0 w at kept.known (whole kept.log)
+known_after_load o l id m w s kept may at = known_set o l kept.log kept.log s.views id m.0 w at kept.known (whole kept.log)
     (may.fits o l kept.log (kept.known.fits id m.0 at)) may.shares
-    (λ x. ap (λ (n : ℕ). n + once_below x (length kept.log)) (may.claims_same x))
+    (λ x. ap (λ (n : ℕ). n + once_below x (length kept.log)) (may.times_same x))
 
-no_notes : (views : List View) (id : ℕ) (w : View) → w.note ≡ None → (k : ℕ) (u : View) → get_elem? (set views id w) k ≡ some u →
-    (get_elem? views k ≡ some u → u.note ≡ None) → u.note ≡ None
-no_notes views id w after k u there before =
-    ⊎_elim (λ t. ap (λ (z : View). z.note) (sym t.1) ∙ after) (λ t. before t.1) (at_set views id k w u there)
+none_holds_after : (views : List View) (id : ℕ) (w : View) → w.held ≡ None → (k : ℕ) (u : View) → get_elem? (set views id w) k ≡ some u →
+    (get_elem? views k ≡ some u → u.held ≡ None) → u.held ≡ None
+none_holds_after views id w after k u there before =
+    ⊎_elim (λ t. ap (λ (z : View). z.held) (sym t.1) ∙ after) (λ t. before t.1) (at_set views id k w u there)
 
-pub looking : (o : OpeningView) (l slots id : ℕ) (m : Seated) (w : View) (then_is : Me JournalView View → Type 0) → MayLook m.0 w →
-    (Agree m.0.own m.0.guest → then_is (w, m.1)) → Allows (IsKept o l) slots id m 0 (λ n. n) (λ _. then_is)
-looking o l slots id m w then_is may tells s kept _ at _ =
-    let told = tells (parts_agree o l kept.log s.views id m.0 at kept.known) in ⊎_elim
-    (λ home. subst (λ (p : List ℕ × List (core_option.Option JournalView)). LooksAt o l id m s.views then_is p.0 p.1)
-    (λ i. (sym home.words i, sym home.homes i)) (
+pub loading : (o : OpeningView) (l slots id : ℕ) (m : Seated) (w : View) (then_is : Me JournalView View → Type 0) → MayLoad m.0 w →
+    (Agree m.0.fragment m.0.incoming → then_is (w, m.1)) → Allows (IsKept o l) slots id m 0 (λ n. n) (λ _. then_is)
+loading o l slots id m w then_is may tells s kept _ at _ =
+    let told = tells (fragments_agree o l kept.log s.views id m.0 at kept.known) in ⊎_elim
+    (λ is_free. subst (λ (p : List ℕ × List (core_option.Option JournalView)). LoadsAt o l id m s.views then_is p.0 p.1)
+    (λ i. (sym is_free.words i, sym is_free.homes i)) (
       w,
       keeps,
       tt,
       record {
         log = kept.log;
-        lies = inl (record {
+        lock = inl (record {
           words = refl;
           homes = refl;
-          notes = λ k u there. no_notes s.views id w may.after k u there (λ t. home.notes k u t);
+          none_holds = λ k u there. none_holds_after s.views id w may.after k u there (λ t. is_free.none_holds k u t);
         });
         legal = kept.legal;
         room = kept.room;
-        known = looks o l id m w s kept may at;
+        known = known_after_load o l id m w s kept may at;
       },
       told,
     ))
-    (λ out. subst (λ (p : List ℕ × List (core_option.Option JournalView)). LooksAt o l id m s.views then_is p.0 p.1)
-    (λ i. (sym out.words i, sym out.homes i)) (
+    (λ is_held. subst (λ (p : List ℕ × List (core_option.Option JournalView)). LoadsAt o l id m s.views then_is p.0 p.1)
+    (λ i. (sym is_held.words i, sym is_held.homes i)) (
       w,
       keeps,
       tt,
       record {
         log = kept.log;
-        lies = inr (record {
+        lock = inr (record {
           words = refl;
           homes = refl;
-          holder = out.holder;
-          who = out.who;
-          there = set_else s.views id out.holder w (not_holder s kept.log out id m.0 at may.note) ∙ out.there;
-          note = out.note;
-          others = λ k u there other. no_notes s.views id w may.after k u there (λ t. out.others k u t other);
+          holder = is_held.holder;
+          who = is_held.who;
+          there = set_else s.views id is_held.holder w (not_holder s kept.log is_held id m.0 at may.held) ∙ is_held.there;
+          held = is_held.held;
+          others = λ k u there other. none_holds_after s.views id w may.after k u there (λ t. is_held.others k u t other);
         });
         legal = kept.legal;
         room = kept.room;
-        known = looks o l id m w s kept may at;
+        known = known_after_load o l id m w s kept may at;
       },
       told,
     ))
-    kept.lies
+    kept.lock
 
-pub absorbing : (o : OpeningView) (l slots id : ℕ) (m : Seated) → m.0.note ≡ None → 0 < shares_of m.0 →
-    Allows (IsKept o l) slots id m 0 (λ n. n) (λ _ w. Absorbs m w)
-absorbing o l slots id m note some_shares =
-    let w = record m.0 { own = joined m.0.own m.0.guest; guest = idle } in
-    looking o l slots id m w (λ u. Absorbs m u) (record {
-      note = note;
-      after = note;
-      fits = λ o l log h. absorb_fits o l log m.0 some_shares h;
+pub merging : (o : OpeningView) (l slots id : ℕ) (m : Seated) → m.0.held ≡ None → 0 < shares_of m.0 →
+    Allows (IsKept o l) slots id m 0 (λ n. n) (λ _ w. Merges m w)
+merging o l slots id m held some_shares =
+    let w = record m.0 { fragment = merged m.0.fragment m.0.incoming; incoming = empty_fragment } in
+    loading o l slots id m w (λ u. Merges m u) (record {
+      held = held;
+      after = held;
+      fits = λ o l log h. merge_fits o l log m.0 some_shares h;
       shares = omega arith;
-      claims_same = λ x. let sum = times_append x m.0.own.mine m.0.guest.mine in omega arith;
+      times_same = λ x. let sum = times_append x m.0.fragment.mine m.0.incoming.mine in omega arith;
     }) (λ told. record { after = refl; agree = told })
 
-pub comparing : (o : OpeningView) (l slots id : ℕ) (m : Seated) → m.0.note ≡ None → 0 < shares_of m.0 →
-    Allows (IsKept o l) slots id m 0 (λ n. n) (λ _ w. Compares m w)
-comparing o l slots id m note some_shares =
-    let long = longer m.0.own.seen m.0.guest.seen in
-    let w = record m.0 { own = showing m.0.own long; guest = showing m.0.guest long } in
-    looking o l slots id m w (λ u. Compares m u) (record {
-      note = note;
-      after = note;
-      fits = λ o l log h. compare_fits o l log m.0 some_shares h;
+pub meeting : (o : OpeningView) (l slots id : ℕ) (m : Seated) → m.0.held ≡ None → 0 < shares_of m.0 →
+    Allows (IsKept o l) slots id m 0 (λ n. n) (λ _ w. Meets m w)
+meeting o l slots id m held some_shares =
+    let long = longer m.0.fragment.seen m.0.incoming.seen in
+    let w = record m.0 { fragment = with_seen m.0.fragment long; incoming = with_seen m.0.incoming long } in
+    loading o l slots id m w (λ u. Meets m u) (record {
+      held = held;
+      after = held;
+      fits = λ o l log h. meet_fits o l log m.0 some_shares h;
       shares = refl;
-      claims_same = λ x. refl;
+      times_same = λ x. refl;
     }) (λ told. record { after = refl; agree = told })

@@ -7,9 +7,9 @@ use Rattle.route_history.specs.Beginning.{Begins}
 use Rattle.route_history.specs.History.{IsLegal}
 use Rattle.route_history.specs.JournalView.{JournalView}
 use Rattle.route_history.specs.Positions.{once_below, times}
-use Rattle.lock_rule.specs.declared.rule.Part.{Part}
+use Rattle.lock_rule.specs.declared.rule.Fragment.{Fragment}
 use Rattle.lock_rule.specs.declared.rule.View.{View}
-use Rattle.lock_rule.specs.Desk.{RouterView}
+use Rattle.lock_rule.specs.RouterView.{RouterView}
 use Rattle.lock_rule.specs.Rule.{IsKept}
 use Rattle.lock_rule.specs.Views.{all_shares}
 
@@ -19,7 +19,7 @@ HasEachOnce n xs = (x : ℕ) → times x xs ≡ once_below x n
 
 -- the journal of a router that is closed: it has the router's opening and limit, is legal, and goes on from what the pass
 -- has seen; if the pass has all shares, each position of the journal is one of the pass's own, once
-pub record Closed (r : RouterView) (p : Part) (j : JournalView) : Type 0 where
+pub record Closed (r : RouterView) (p : Fragment) (j : JournalView) : Type 0 where
   pub opening : j.opening ≡ r.opening
   pub limit : j.limit ≡ r.limit
   pub legal : IsLegal j.opening j.entries
@@ -27,14 +27,14 @@ pub record Closed (r : RouterView) (p : Part) (j : JournalView) : Type 0 where
   pub begins : Begins p.seen j.entries
   pub once : p.shares ≡ all_shares → HasEachOnce (length j.entries) p.mine
 
--- a caller with this part closes the router while another one has the journal: the rule holds at the end, the word is 1, and the
--- seat with the part has noted no history
-pub record AnotherHolds (r : RouterView) (p : Part) : Type 0 where
+-- a caller with this fragment closes the router while another one holds the lock: the rule holds at the end, the word is 1, and the
+-- seat with the fragment does not hold it
+pub record AnotherHolds (r : RouterView) (p : Fragment) : Type 0 where
   pub state : State JournalView View
   pub kept : IsKept r.opening r.limit state
   pub word : state.words ≡ 1 ∷ []
-  pub place : ℕ
+  pub id : ℕ
   pub view : View
-  pub there : get_elem? state.views place ≡ some view
-  pub own : view.own ≡ p
-  pub note : view.note ≡ None
+  pub there : get_elem? state.views id ≡ some view
+  pub fragment : view.fragment ≡ p
+  pub held : view.held ≡ None

@@ -1,4 +1,4 @@
--- What a seat does with the journal that it took. (This project's own choice.)
+-- What a seat that holds the lock does with the journal before it releases it. (This project's own choice.)
 use Rattle.std.specs.Prelude.{◌≡◌, ℕ, ◌<◌, None, Some, [], ◌∷◌, ◌++◌, length}
 use Rattle.atomic_table.specs.Seated.{TableId}
 use Rattle.netchange_core.specs.OpeningView.{OpeningView}
@@ -9,44 +9,47 @@ use Rattle.route_history.specs.Calls.{entry}
 use Rattle.route_history.specs.History.{IsLegal}
 use Rattle.route_history.specs.JournalView.{JournalView}
 use Rattle.netchange_core.specs.declared.reply.Reply.{Reply}
-use Rattle.lock_rule.specs.Steps.{Agree, Seated, showing}
-use Rattle.lock_rule.specs.Views.{idle, longer, noted, seeing, shares_of, unnoted}
+use Rattle.lock_rule.specs.Steps.{Agree, Seated, with_seen}
+use Rattle.lock_rule.specs.Views.{empty_fragment, held_history, longer, released, released_with, shares_of}
 
 -- the seat is one of this table, which has one word and one slot
-pub record IsAtDesk (desk seat : TableId) : Type 0 where
-  pub same : seat ≡ desk
-  pub words : desk.words ≡ 1
-  pub slots : desk.slots ≡ 1
+pub record IsAtTable (table seat : TableId) : Type 0 where
+  pub same : seat ≡ table
+  pub words : table.words ≡ 1
+  pub slots : table.slots ≡ 1
 
--- the seat has the journal, and notes its history
+-- the seat holds the lock: it has the journal, and knows the history that it acquired
 pub record IsHolding (m : Seated) : Type 0 where
-  pub taken : JournalView
-  pub slots : m.1 ≡ (0, taken) ∷ []
+  pub journal : JournalView
+  pub slots : m.1 ≡ (0, journal) ∷ []
   pub some_shares : 0 < shares_of m.0
-  pub note : m.0.note ≡ Some taken.entries
-  pub about : m.0.about ≡ Some (taken.opening, taken.limit)
+  pub held : m.0.held ≡ Some journal.entries
+  pub about : m.0.about ≡ Some (journal.opening, journal.limit)
 
--- the event is the new last entry of the history taken, and its position is the caller's
+-- the event is the new last entry of the history acquired, and its position is the caller's
 pub record Enters (m : Seated) (event : Event) (at : ℕ) (reply : Reply) (w : Seated) : Type 0 where
-  pub position : at ≡ length (noted m.0)
-  pub after : w ≡ (seeing m.0 (noted m.0 ++ entry event reply ∷ []) (m.0.own.mine ++ at ∷ []), [])
-  pub legal : (opening : OpeningView) (limit : ℕ) → m.0.about ≡ Some (opening, limit) → IsLegal opening (noted m.0 ++ entry event reply ∷ [])
+  pub position : at ≡ length (held_history m.0)
+  pub after : w ≡ (released_with m.0 (held_history m.0 ++ entry event reply ∷ []) (m.0.fragment.mine ++ at ∷ []), [])
+  pub legal : (opening : OpeningView) (limit : ℕ) → m.0.about ≡ Some (opening, limit) → IsLegal opening (held_history m.0 ++ entry event reply ∷ [])
 
--- nothing is entered; Full shows the history taken, which has as many entries as the limit
+-- nothing is entered; Full shows the history acquired, which has as many entries as the limit
 abbrev pub EntersNot : CallFault → Seated → Seated → Type 0
-EntersNot fault.Full m w = (w ≡ (seeing m.0 (noted m.0) m.0.own.mine, []))
-    × ((opening : OpeningView) (limit : ℕ) → m.0.about ≡ Some (opening, limit) → length (noted m.0) ≡ limit)
-EntersNot fault.Memory m w = w ≡ (unnoted m.0, [])
+EntersNot fault.Full m w = (w ≡ (released_with m.0 (held_history m.0) m.0.fragment.mine, []))
+    × ((opening : OpeningView) (limit : ℕ) → m.0.about ≡ Some (opening, limit) → length (held_history m.0) ≡ limit)
+EntersNot fault.Memory m w = w ≡ (released m.0, [])
 
--- the observer saw the history taken, of the journal that the seat had; nothing is entered
-pub record Shows {Seer : Type 0} (sees : Seer → JournalView → Seer → Type 0) (m : Seated) (before after : Seer) (w : Seated) : Type 0 where
-  pub taken : JournalView
-  pub slots : m.1 ≡ (0, taken) ∷ []
-  pub saw : sees before taken after
-  pub now : w ≡ (seeing m.0 taken.entries m.0.own.mine, [])
+-- the observer saw the history acquired, of the journal that the seat had; nothing is entered
+pub record Observes {Seer : Type 0} (sees : Seer → JournalView → Seer → Type 0) (m : Seated) (before after : Seer) (w : Seated) : Type 0 where
+  pub journal : JournalView
+  pub slots : m.1 ≡ (0, journal) ∷ []
+  pub saw : sees before journal after
+  pub now : w ≡ (released_with m.0 journal.entries m.0.fragment.mine, [])
 
 -- two seats after they met: each has seen the longer history
 pub record IsMet (m v w u : Seated) : Type 0 where
-  pub first : w ≡ (record m.0 { own = showing m.0.own (longer m.0.own.seen v.0.own.seen); guest = idle }, m.1)
-  pub second : u ≡ (record m.0 { note = None; own = showing v.0.own (longer m.0.own.seen v.0.own.seen); guest = idle }, [])
-  pub agree : Agree m.0.own v.0.own
+  pub first : w ≡ (record m.0 { fragment = with_seen m.0.fragment (longer m.0.fragment.seen v.0.fragment.seen); incoming = empty_fragment }, m.1)
+  pub second : u ≡ (
+    record m.0 { held = None; fragment = with_seen v.0.fragment (longer m.0.fragment.seen v.0.fragment.seen); incoming = empty_fragment },
+    [],
+  )
+  pub agree : Agree m.0.fragment v.0.fragment

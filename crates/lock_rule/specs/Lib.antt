@@ -1,7 +1,7 @@
 -- what callers cite
 pub mod Closing
-pub mod Desk
 pub mod Entering
+pub mod RouterView
 pub mod Rule
 pub mod Steps
 pub mod Views

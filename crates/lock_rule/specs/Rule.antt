@@ -9,9 +9,9 @@ use Rattle.route_history.specs.Beginning.{Begins}
 use Rattle.route_history.specs.History.{IsLegal}
 use Rattle.route_history.specs.JournalView.{JournalView}
 use Rattle.route_history.specs.Positions.{once_below, times}
-use Rattle.lock_rule.specs.declared.rule.Part.{Part}
+use Rattle.lock_rule.specs.declared.rule.Fragment.{Fragment}
 use Rattle.lock_rule.specs.declared.rule.View.{View}
-use Rattle.lock_rule.specs.Views.{all_shares, claims, shares_of, spent}
+use Rattle.lock_rule.specs.Views.{all_shares, empty_view, shares_of, times_in_view}
 
 abbrev pub journal : OpeningView → ℕ → List Entry → JournalView
 journal opening limit log = record { opening = opening; limit = limit; entries = log }
@@ -25,44 +25,44 @@ total f (v ∷ vs) = f v + total f vs
 abbrev pub AreIn : List ℕ → List Entry → Type 0
 AreIn mine seen = (x : ℕ) → 0 < times x mine → x < length seen
 
--- what a part has seen begins the history, and its positions are among what it has seen
-pub record Sees (log : List Entry) (p : Part) : Type 0 where
+-- what a fragment has seen begins the history, and its positions are among what it has seen
+pub record Sees (log : List Entry) (p : Fragment) : Type 0 where
   pub begins : Begins p.seen log
   pub within : AreIn p.mine p.seen
 
--- a view fits the history; one without shares is the spent one
+-- a view fits the history; one without shares is the empty one
 pub record Fits (opening : OpeningView) (limit : ℕ) (log : List Entry) (v : View) : Type 0 where
-  pub own : Sees log v.own
-  pub guest : Sees log v.guest
+  pub fragment : Sees log v.fragment
+  pub incoming : Sees log v.incoming
   pub about : 0 < shares_of v → v.about ≡ Some (opening, limit)
-  pub spent : shares_of v ≡ 0 → v ≡ spent
+  pub empty : shares_of v ≡ 0 → v ≡ empty_view
 
 -- all views fit; the shares add up, and each position of the history stands in one view, once
 pub record AreKnown (opening : OpeningView) (limit : ℕ) (log : List Entry) (views : List View) : Type 0 where
   pub fits : (k : ℕ) (v : View) → get_elem? views k ≡ some v → Fits opening limit log v
   pub shares : total shares_of views ≡ all_shares
-  pub once : (x : ℕ) → total (claims x) views ≡ once_below x (length log)
+  pub once : (x : ℕ) → total (times_in_view x) views ≡ once_below x (length log)
 
--- the journal lies in the slot, and no view notes a history
-pub record IsHome (opening : OpeningView) (limit : ℕ) (log : List Entry) (s : State JournalView View) : Type 0 where
+-- the lock is free: the journal is in the slot, and no view holds a history
+pub record IsFree (opening : OpeningView) (limit : ℕ) (log : List Entry) (s : State JournalView View) : Type 0 where
   pub words : s.words ≡ 0 ∷ []
   pub homes : s.homes ≡ some (journal opening limit log) ∷ []
-  pub notes : (k : ℕ) (v : View) → get_elem? s.views k ≡ some v → v.note ≡ None
+  pub none_holds : (k : ℕ) (v : View) → get_elem? s.views k ≡ some v → v.held ≡ None
 
--- a seat has the journal, and its view alone notes the history
-pub record IsOut (log : List Entry) (s : State JournalView View) : Type 0 where
+-- the lock is held: a seat has the journal, and its view alone holds the history
+pub record IsHeld (log : List Entry) (s : State JournalView View) : Type 0 where
   pub words : s.words ≡ 1 ∷ []
   pub homes : s.homes ≡ none ∷ []
   pub holder : ℕ
   pub who : View
   pub there : get_elem? s.views holder ≡ some who
-  pub note : who.note ≡ Some log
-  pub others : (k : ℕ) (v : View) → get_elem? s.views k ≡ some v → k ≢ holder → v.note ≡ None
+  pub held : who.held ≡ Some log
+  pub others : (k : ℕ) (v : View) → get_elem? s.views k ≡ some v → k ≢ holder → v.held ≡ None
 
 -- there is one history, legal and within the limit
 pub record IsKept (opening : OpeningView) (limit : ℕ) (s : State JournalView View) : Type 0 where
   pub log : List Entry
-  pub lies : IsHome opening limit log s ⊎ IsOut log s
+  pub lock : IsFree opening limit log s ⊎ IsHeld log s
   pub legal : IsLegal opening log
   pub room : length log ≤ limit
   pub known : AreKnown opening limit log s.views

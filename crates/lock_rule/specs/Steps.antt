@@ -6,79 +6,79 @@ use Rattle.route_history.specs.Beginning.{Begins}
 use Rattle.route_history.specs.History.{IsLegal}
 use Rattle.route_history.specs.JournalView.{JournalView}
 use Rattle.route_history.specs.Positions.{times}
-use Rattle.lock_rule.specs.declared.rule.Part.{Part}
+use Rattle.lock_rule.specs.declared.rule.Fragment.{Fragment}
 use Rattle.lock_rule.specs.declared.rule.View.{View}
-use Rattle.lock_rule.specs.Views.{all_shares, idle, longer, missing_by, noted, noting, seeing, shares_of, unnoted}
+use Rattle.lock_rule.specs.Views.{all_shares, empty_fragment, held_history, longer, released, released_with, shares_of, with_failed_tries, with_held}
 
 abbrev pub Seated : Type 0
 Seated = Me JournalView View
 
--- the seat has the journal, whose history is legal, within the limit, and goes on from what the seat has seen
-pub record Took (m w : Seated) : Type 0 where
-  pub taken : JournalView
-  pub slots : w.1 ≡ (0, taken) ∷ []
-  pub view : w.0 ≡ noting m.0 taken.entries
-  pub about : m.0.about ≡ Some (taken.opening, taken.limit)
-  pub legal : IsLegal taken.opening taken.entries
-  pub room : length taken.entries ≤ taken.limit
-  pub begins : Begins m.0.own.seen taken.entries
+-- the seat has acquired the lock: it has the journal, whose history is legal, within the limit, and goes on from what the seat has seen
+pub record Acquired (m w : Seated) : Type 0 where
+  pub journal : JournalView
+  pub slots : w.1 ≡ (0, journal) ∷ []
+  pub view : w.0 ≡ with_held m.0 journal.entries
+  pub about : m.0.about ≡ Some (journal.opening, journal.limit)
+  pub legal : IsLegal journal.opening journal.entries
+  pub room : length journal.entries ≤ journal.limit
+  pub begins : Begins m.0.fragment.seen journal.entries
 
--- the lock was taken, by another that has shares
-pub record Missed (m w : Seated) : Type 0 where
+-- the try found the lock held, by another that has shares
+pub record FoundHeld (m w : Seated) : Type 0 where
   pub slots : w.1 ≡ m.1
-  pub view : w.0 ≡ missing_by 1 m.0
+  pub view : w.0 ≡ with_failed_tries 1 m.0
   pub others : shares_of m.0 ≢ all_shares
 
 -- a try that found this word
-pub record Takes (m : Seated) (n : ℕ) (w : Seated) : Type 0 where
-  pub took : n ≡ 0 → Took m w
-  pub missed : n ≢ 0 → Missed m w
+pub record TriesAcquire (m : Seated) (n : ℕ) (w : Seated) : Type 0 where
+  pub acquired : n ≡ 0 → Acquired m w
+  pub found_held : n ≢ 0 → FoundHeld m w
 
 -- the entries of the journal that a seat has
-abbrev pub entries_held : List (ℕ × JournalView) → List Entry
-entries_held [] = []
-entries_held (x ∷ xs) = x.1.entries
+abbrev pub slot_entries : List (ℕ × JournalView) → List Entry
+slot_entries [] = []
+slot_entries (x ∷ xs) = x.1.entries
 
-abbrev pub after_give : Seated → Seated
-after_give m = (seeing m.0 (entries_held m.1) (m.0.own.mine ++ length (noted m.0) ∷ []), [])
+abbrev pub after_release_entered : Seated → Seated
+after_release_entered m = (released_with m.0 (slot_entries m.1) (m.0.fragment.mine ++ length (held_history m.0) ∷ []), [])
 
-abbrev pub after_show : Seated → Seated
-after_show m = (seeing m.0 (entries_held m.1) m.0.own.mine, [])
+abbrev pub after_release_seen : Seated → Seated
+after_release_seen m = (released_with m.0 (slot_entries m.1) m.0.fragment.mine, [])
 
-abbrev pub after_leave : Seated → Seated
-after_leave m = (unnoted m.0, [])
+abbrev pub after_release : Seated → Seated
+after_release m = (released m.0, [])
 
--- two parts of one history: each begins the longer, no position is in both, and they have no more than all shares
-pub record Agree (p q : Part) : Type 0 where
+-- two fragments of one history: each begins the longer, no position is in both, and they have no more than all shares
+pub record Agree (p q : Fragment) : Type 0 where
   pub first : Begins p.seen (longer p.seen q.seen)
   pub second : Begins q.seen (longer p.seen q.seen)
   pub apart : (x : ℕ) → times x p.mine + times x q.mine ≤ 1
   pub shares : p.shares + q.shares ≤ all_shares
 
--- two parts in one
-abbrev pub joined : Part → Part → Part
-joined p q = record {
+-- two fragments in one
+abbrev pub merged : Fragment → Fragment → Fragment
+merged p q = record {
   seen = longer p.seen q.seen;
   mine = p.mine ++ q.mine;
-  missed = p.missed + q.missed;
+  failed_tries = p.failed_tries + q.failed_tries;
   shares = p.shares + q.shares;
 }
 
-abbrev pub showing : Part → List Entry → Part
-showing p seen = record p { seen = seen }
+abbrev pub with_seen : Fragment → List Entry → Fragment
+with_seen p seen = record p { seen = seen }
 
--- the guest's part joins the seat's own
-pub record Absorbs (m w : Seated) : Type 0 where
-  pub after : w ≡ (record m.0 { own = joined m.0.own m.0.guest; guest = idle }, m.1)
-  pub agree : Agree m.0.own m.0.guest
+-- the incoming fragment is merged into the seat's own
+pub record Merges (m w : Seated) : Type 0 where
+  pub after : w ≡ (record m.0 { fragment = merged m.0.fragment m.0.incoming; incoming = empty_fragment }, m.1)
+  pub agree : Agree m.0.fragment m.0.incoming
 
--- both parts have seen the longer history
-pub record Compares (m w : Seated) : Type 0 where
+-- both fragments have seen the longer history
+pub record Meets (m w : Seated) : Type 0 where
   pub after : w ≡ (
     record m.0 {
-      own = showing m.0.own (longer m.0.own.seen m.0.guest.seen);
-      guest = showing m.0.guest (longer m.0.own.seen m.0.guest.seen);
+      fragment = with_seen m.0.fragment (longer m.0.fragment.seen m.0.incoming.seen);
+      incoming = with_seen m.0.incoming (longer m.0.fragment.seen m.0.incoming.seen);
     },
     m.1,
   )
-  pub agree : Agree m.0.own m.0.guest
+  pub agree : Agree m.0.fragment m.0.incoming

@@ -3,76 +3,80 @@ use Rattle.std.specs.Prelude.{ℕ, ◌+◌, ◌-◌, nat_lt, if◌then◌else◌
 use Rattle.netchange_core.specs.OpeningView.{OpeningView}
 use Rattle.route_history.specs.declared.entry.Entry.{Entry}
 use Rattle.route_history.specs.Positions.{times}
-use Rattle.lock_rule.specs.declared.rule.Part.{Part}
+use Rattle.lock_rule.specs.declared.rule.Fragment.{Fragment}
 use Rattle.lock_rule.specs.declared.rule.View.{View}
 
 -- all shares of a router
 abbrev pub all_shares : ℕ
 all_shares = 65536
 
--- a part without shares
-abbrev pub idle : Part
-idle = record { seen = []; mine = []; missed = 0; shares = 0 }
+-- a fragment without shares
+abbrev pub empty_fragment : Fragment
+empty_fragment = record { seen = []; mine = []; failed_tries = 0; shares = 0 }
 
--- the view that a joined seat is left with
-abbrev pub spent : View
-spent = record { about = None; note = None; own = idle; guest = idle }
+-- what is left of a seat that was merged with another
+abbrev pub empty_view : View
+empty_view = record { about = None; held = None; fragment = empty_fragment; incoming = empty_fragment }
 
 -- the first seat of a router
-abbrev pub newcomer : OpeningView → ℕ → View
-newcomer opening limit = record {
+abbrev pub first_view : OpeningView → ℕ → View
+first_view opening limit = record {
   about = Some (opening, limit);
-  note = None;
-  own = record { seen = []; mine = []; missed = 0; shares = all_shares };
-  guest = idle;
+  held = None;
+  fragment = record { seen = []; mine = []; failed_tries = 0; shares = all_shares };
+  incoming = empty_fragment;
 }
 
 abbrev pub shares_of : View → ℕ
-shares_of v = v.own.shares + v.guest.shares
+shares_of v = v.fragment.shares + v.incoming.shares
 
 -- how often a view has a position
-abbrev pub claims : ℕ → View → ℕ
-claims x v = times x v.own.mine + times x v.guest.mine
+abbrev pub times_in_view : ℕ → View → ℕ
+times_in_view x v = times x v.fragment.mine + times x v.incoming.mine
 
 abbrev pub entries_in : Option (List Entry) → List Entry
 entries_in None = []
 entries_in (Some es) = es
 
--- the history that a seat took, and the view that notes it
-abbrev pub noted : View → List Entry
-noted v = entries_in v.note
+-- the history that a seat acquired, and a view that holds it
+abbrev pub held_history : View → List Entry
+held_history v = entries_in v.held
 
-abbrev pub noting : View → List Entry → View
-noting v log = record v { note = Some log }
+abbrev pub with_held : View → List Entry → View
+with_held v log = record v { held = Some log }
 
--- the view that notes nothing any more, and that has seen this history, of which these positions are its caller's
-abbrev pub unnoted : View → View
-unnoted v = record v { note = None }
+-- a view after the release, and one that has seen this history then, of which these positions are its caller's
+abbrev pub released : View → View
+released v = record v { held = None }
 
-abbrev pub seeing : View → List Entry → List ℕ → View
-seeing v log mine = record v { note = None; own = record v.own { seen = log; mine = mine } }
+abbrev pub released_with : View → List Entry → List ℕ → View
+released_with v log mine = record v { held = None; fragment = record v.fragment { seen = log; mine = mine } }
 
--- a view that found the lock taken so many times more
-abbrev pub missing_by : ℕ → View → View
-missing_by n v = record v { own = record v.own { missed = v.own.missed + n } }
+-- a view after so many failed tries more
+abbrev pub with_failed_tries : ℕ → View → View
+with_failed_tries n v = record v { fragment = record v.fragment { failed_tries = v.fragment.failed_tries + n } }
 
 -- the longer of two histories, the first if they are equally long
 abbrev pub longer : List Entry → List Entry → List Entry
 longer a b = if nat_lt (length a) (length b) then b else a
 
--- a part with shares taken away, and a new part with these shares
-abbrev pub cut_left : ℕ → View → View
-cut_left n v = record v { own = record v.own { shares = v.own.shares - n } }
+-- a view with shares split off, and a new view with these shares
+abbrev pub split_left : ℕ → View → View
+split_left n v = record v { fragment = record v.fragment { shares = v.fragment.shares - n } }
 
-abbrev pub cut_right : ℕ → View → View
-cut_right n v = record v { note = None; own = record { seen = v.own.seen; mine = []; missed = 0; shares = n }; guest = idle }
+abbrev pub split_right : ℕ → View → View
+split_right n v = record v {
+  held = None;
+  fragment = record { seen = v.fragment.seen; mine = []; failed_tries = 0; shares = n };
+  incoming = empty_fragment;
+}
 
--- a seat with the part of another beside its own, and each part with a seat of its own
-abbrev pub united : View → View → View
-united v w = record v { guest = w.own }
+-- a view with the fragment of another as its incoming one, and each of the two fragments in a view of its own
+abbrev pub with_incoming : View → View → View
+with_incoming v w = record v { incoming = w.fragment }
 
-abbrev pub host_alone : View → View
-host_alone v = record v { guest = idle }
+abbrev pub without_incoming : View → View
+without_incoming v = record v { incoming = empty_fragment }
 
-abbrev pub guest_alone : View → View
-guest_alone v = record v { note = None; own = v.guest; guest = idle }
+abbrev pub incoming_alone : View → View
+incoming_alone v = record v { held = None; fragment = v.incoming; incoming = empty_fragment }

@@ -1,11 +1,11 @@
 //! The rule of the lock round a router's journal, and the steps that keep it. No other crate can make a step at such a table.
 #![tactic(auto)]
 
-mod desk;
+mod journal_lock;
 mod observer;
 mod rule;
 mod steps;
 
-pub use desk::{Desk, Place};
+pub use journal_lock::{JournalLock, LockSeat};
 pub use observer::Observer;
-pub use rule::{Part, View};
+pub use rule::{Fragment, View};

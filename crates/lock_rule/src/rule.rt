@@ -1,4 +1,4 @@
-//! The rule of the lock, what each of its steps tells, and how views are divided and joined. No value of a view is made.
+//! The rule of the lock, what each of its steps tells, and how views are split and merged. No value of a view is made.
 
 use atomic_table::{Join, Play, Seat, Split, Table, TableRule};
 use netchange_core::Opening;
@@ -8,22 +8,22 @@ use std::collections::LinkedList;
 use std::marker::{Brand, PhantomData};
 use std::snapshot::Snapshot;
 
-/// What one caller knows: a beginning of the history, the positions of its own calls there, how often it found the lock
-/// taken, and its shares of the router, of 65,536 in all.
-pub struct Part {
+/// What one caller knows, a fragment of what is known in all: a beginning of the history, the positions of its own calls there, how
+/// often it tried to acquire the lock and found it held, and its shares of the router, of 65,536 in all.
+pub struct Fragment {
     pub seen: LinkedList<Entry>,
     pub mine: LinkedList<u32>,
-    pub missed: u64,
+    pub failed_tries: u64,
     pub shares: u32,
 }
 
-/// What a seat at the table knows: the router's opening and limit, the history that it took if it has the lock, and the
-/// parts of its caller and of a caller that is just joined.
+/// What a seat at the table knows: the router's opening and limit, the history that it acquired if it holds the lock, its caller's
+/// fragment, and that of a caller that is being merged into it.
 pub struct View {
     pub about: Option<(Opening, u32)>,
-    pub note: Option<LinkedList<Entry>>,
-    pub own: Part,
-    pub guest: Part,
+    pub held: Option<LinkedList<Entry>>,
+    pub fragment: Fragment,
+    pub incoming: Fragment,
 }
 
 /// The rule of the lock.
@@ -31,96 +31,96 @@ pub struct LockRule;
 
 impl TableRule<Journal, View, Snapshot<Journal>> for LockRule {
     ghost use Rattle.lock_rule.specs.Rule.{IsKept};
-    ghost use Rattle.lock_rule.specs.Views.{newcomer};
+    ghost use Rattle.lock_rule.specs.Views.{first_view};
 
     ghost holds = { λ key. IsKept key.value.opening key.value.limit };
 
-    ghost first = { λ key. newcomer key.value.opening key.value.limit };
+    ghost first = { λ key. first_view key.value.opening key.value.limit };
 }
 
-/// The table of a router: the word is 1 while a seat has the journal, which is the one slot.
+/// The table of a router: the word is 1 while a seat holds the lock, and the journal is the one slot.
 pub(crate) type LockTable = Table<Journal, View, Snapshot<Journal>, LockRule, Global>;
 
 /// A caller's seat at the table.
-pub(crate) type LockSeat = Seat<Journal, View>;
+pub(crate) type TableSeat = Seat<Journal, View>;
 
-/// A try to take the journal.
-pub struct Take;
+/// A try to acquire the lock.
+pub struct TryAcquire;
 
-impl Play<Journal, View> for Take {
-    ghost use Rattle.lock_rule.specs.Steps.{Takes};
+impl Play<Journal, View> for TryAcquire {
+    ghost use Rattle.lock_rule.specs.Steps.{TriesAcquire};
 
-    ghost then = { λ _ m n w. Takes m n w };
+    ghost then = { λ _ m n w. TriesAcquire m n w };
 }
 
-/// The journal goes back with one entry more.
-pub struct Give;
+/// The lock is released, and the journal has one entry more.
+pub struct ReleaseEntered;
 
-impl Play<Journal, View> for Give {
+impl Play<Journal, View> for ReleaseEntered {
     ghost use Rattle.std.specs.Prelude.{◌≡◌};
-    ghost use Rattle.lock_rule.specs.Steps.{after_give};
+    ghost use Rattle.lock_rule.specs.Steps.{after_release_entered};
 
-    ghost then = { λ _ m _ w. w ≡ after_give m };
+    ghost then = { λ _ m _ w. w ≡ after_release_entered m };
 }
 
-/// The journal goes back as it was, and its history is shown: it is full.
-pub struct Show;
+/// The lock is released, the journal is as it was, and the seat has seen its history.
+pub struct ReleaseSeen;
 
-impl Play<Journal, View> for Show {
+impl Play<Journal, View> for ReleaseSeen {
     ghost use Rattle.std.specs.Prelude.{◌≡◌};
-    ghost use Rattle.lock_rule.specs.Steps.{after_show};
+    ghost use Rattle.lock_rule.specs.Steps.{after_release_seen};
 
-    ghost then = { λ _ m _ w. w ≡ after_show m };
+    ghost then = { λ _ m _ w. w ≡ after_release_seen m };
 }
 
-/// The journal goes back as it was, and nothing is told.
-pub struct Leave;
+/// The lock is released, the journal is as it was, and nothing is told.
+pub struct Release;
 
-impl Play<Journal, View> for Leave {
+impl Play<Journal, View> for Release {
     ghost use Rattle.std.specs.Prelude.{◌≡◌};
-    ghost use Rattle.lock_rule.specs.Steps.{after_leave};
+    ghost use Rattle.lock_rule.specs.Steps.{after_release};
 
-    ghost then = { λ _ m _ w. w ≡ after_leave m };
+    ghost then = { λ _ m _ w. w ≡ after_release m };
 }
 
-/// Takes in the part of a caller that was just joined.
-pub struct Absorb;
+/// The incoming fragment is merged into the seat's own.
+pub struct Merge;
 
-impl Play<Journal, View> for Absorb {
-    ghost use Rattle.lock_rule.specs.Steps.{Absorbs};
+impl Play<Journal, View> for Merge {
+    ghost use Rattle.lock_rule.specs.Steps.{Merges};
 
-    ghost then = { λ _ m _ w. Absorbs m w };
+    ghost then = { λ _ m _ w. Merges m w };
 }
 
-/// Compares the histories of a caller and of one that was just joined.
-pub struct Compare;
+/// The seat's fragment and the incoming one have both seen the longer history.
+pub struct Meet;
 
-impl Play<Journal, View> for Compare {
-    ghost use Rattle.lock_rule.specs.Steps.{Compares};
+impl Play<Journal, View> for Meet {
+    ghost use Rattle.lock_rule.specs.Steps.{Meets};
 
-    ghost then = { λ _ m _ w. Compares m w };
+    ghost then = { λ _ m _ w. Meets m w };
 }
 
-/// A seat with the part of another beside its own.
-pub struct Unite;
+/// The fragment of another seat comes in beside the seat's own.
+pub struct JoinIncoming;
 
-impl Join<View> for Unite {
-    ghost use Rattle.lock_rule.specs.Views.{spent, united};
+impl Join<View> for JoinIncoming {
+    ghost use Rattle.lock_rule.specs.Views.{empty_view, with_incoming};
 
-    ghost both = { united };
+    ghost both = { with_incoming };
 
-    ghost spent = { spent };
+    ghost spent = { empty_view };
 }
 
-/// The two parts of a seat, each with a seat of its own.
-pub struct Separate;
+/// The incoming fragment gets a seat of its own.
+pub struct SplitIncoming;
 
-impl Split<View> for Separate {
-    ghost use Rattle.lock_rule.specs.Views.{host_alone, guest_alone};
+impl Split<View> for SplitIncoming {
+    ghost use Rattle.lock_rule.specs.Views.{incoming_alone, without_incoming};
 
-    ghost left = { host_alone };
+    ghost left = { without_incoming };
 
-    ghost right = { guest_alone };
+    ghost right = { incoming_alone };
 }
 
 /// How many shares a new pass has.
@@ -134,15 +134,15 @@ impl Amount for Brand {
     ghost amount = { 0 };
 }
 
-/// A seat's shares, divided.
-pub struct Cut<N: Amount> {
+/// A seat's shares are split.
+pub struct SplitShares<N: Amount> {
     of: PhantomData<N>,
 }
 
-impl<N: Amount> Split<View> for Cut<N> {
-    ghost use Rattle.lock_rule.specs.Views.{cut_left, cut_right};
+impl<N: Amount> Split<View> for SplitShares<N> {
+    ghost use Rattle.lock_rule.specs.Views.{split_left, split_right};
 
-    ghost left = { cut_left N.amount };
+    ghost left = { split_left N.amount };
 
-    ghost right = { cut_right N.amount };
+    ghost right = { split_right N.amount };
 }

@@ -16,7 +16,7 @@ use Rattle.route_history.specs.History.{IsLegal, IsLegalFrom, world_after, world
 use Rattle.route_session.specs.Calls.{StaysSound}
 use Rattle.slot_lock.specs.Calls.{Answered, Refused}
 use Rattle.slot_lock.specs.declared.answer.Answer.{Answer}
-use Rattle.slot_lock.specs.Held.{IsOwn, IsPassOf, PassView, RouterView}
+use Rattle.slot_lock.specs.Passes.{IsOwn, IsPassOf, PassView, RouterView}
 use Rattle.neighbour_session.specs.Calls.{IsUnclosed, IsUnopened, OpensNone, end_of}
 
 -- the reply to an Up opens a session, or refuses
@@ -73,15 +73,15 @@ unclosed fault.Full r old new h = h
 unclosed fault.Memory r old new h = h
 
 -- a pass is as right as it was after a call
-pub sound_answered : (r : RouterView) (old : PassView) (e : _) (a : Answer) (new : PassView) → IsPassOf r new → IsOwn new.part →
+pub sound_answered : (r : RouterView) (old : PassView) (e : _) (a : Answer) (new : PassView) → IsPassOf r new → IsOwn new.fragment →
     Answered r old e a new → StaysSound r old new
 sound_answered r old e a new of own h = record { of = of; own = λ x. own; legal = λ x. h.legal }
 
-pub sound_refused : (r : RouterView) (old : PassView) (f : CallFault) (new : PassView) → IsPassOf r new → IsOwn new.part →
+pub sound_refused : (r : RouterView) (old : PassView) (f : CallFault) (new : PassView) → IsPassOf r new → IsOwn new.fragment →
     Refused f r old new → StaysSound r old new
 sound_refused r old fault.Full new of own h = record { of = of; own = λ x. own; legal = λ x. h.legal }
 sound_refused r old fault.Memory new of own h = record {
   of = of;
   own = λ x. own;
-  legal = λ x. subst (λ (l : List Entry). IsLegal r.opening l) (sym (ap (λ (v : PassView). v.part.seen) h.1)) x;
+  legal = λ x. subst (λ (l : List Entry). IsLegal r.opening l) (sym (ap (λ (v : PassView). v.fragment.seen) h.1)) x;
 }

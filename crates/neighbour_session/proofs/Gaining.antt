@@ -10,7 +10,7 @@ use Rattle.route_session.specs.declared.ends.Cause.{Cause}
 use Rattle.route_session.specs.declared.ends.Cause.TheVariants as cause
 use Rattle.route_session.specs.Calls.{Gained, IsCauseAt, IsCauseIn, IsFresh, StandsAt, StaysSound}
 use Rattle.route_session.specs.Told.{Rose, Told, ended_now, grown}
-use Rattle.slot_lock.specs.Held.{IsPassOf, Part, PassView, RouterView}
+use Rattle.slot_lock.specs.Passes.{Fragment, IsPassOf, PassView, RouterView}
 
 begins_further : (xs ys zs : List Entry) → Begins xs ys → Begins ys zs → Begins xs zs
 begins_further xs ys zs a b = record {
@@ -38,23 +38,23 @@ zip_both R [] (y ∷ ys) xs' ys' h k = absurd h
 zip_both R (x ∷ xs) [] xs' ys' h k = absurd h
 zip_both R (x ∷ xs) (y ∷ ys) xs' ys' h k = (h.0, zip_both R xs ys xs' ys' h.1 k)
 
-pub gained_none : (p : Part) → Gained p [] p
+pub gained_none : (p : Fragment) → Gained p [] p
 gained_none p = record {
   positions = [];
   mine = sym (append-nil p.mine);
   stand = tt;
   begins = record { rest = []; is = sym (append-nil p.seen) };
-  missed = omega arith;
+  failed_tries = omega arith;
   shares = refl;
 }
 
-pub gained_both : (a : Part) (xs : List Entry) (b : Part) (ys : List Entry) (c : Part) → Gained a xs b → Gained b ys c → Gained a (xs ++ ys) c
+pub gained_both : (a : Fragment) (xs : List Entry) (b : Fragment) (ys : List Entry) (c : Fragment) → Gained a xs b → Gained b ys c → Gained a (xs ++ ys) c
 gained_both a xs b ys c g h = record {
   positions = g.positions ++ h.positions;
   mine = h.mine ∙ ap (λ (l : List ℕ). l ++ h.positions) g.mine ∙ append_assoc a.mine g.positions h.positions;
   stand = zip_both (StandsAt c.seen) g.positions xs h.positions ys (stand_longer b.seen c.seen g.positions xs h.begins g.stand) h.stand;
   begins = begins_further a.seen b.seen c.seen g.begins h.begins;
-  missed = omega (arith, g.missed, h.missed);
+  failed_tries = omega (arith, g.failed_tries, h.failed_tries);
   shares = h.shares ∙ g.shares;
 }
 
@@ -68,7 +68,7 @@ grown_both None xs ys = refl
 grown_both (Some ms) xs ys = ap Some (append_assoc ms xs ys)
 
 -- why a run of calls ended, where calls came before it that were not refused
-pub cause_after : (c : Cause) (r : RouterView) (xs ys : List Entry) (new : Part) → All IsFresh xs → IsCauseIn c r ys new →
+pub cause_after : (c : Cause) (r : RouterView) (xs ys : List Entry) (new : Fragment) → All IsFresh xs → IsCauseIn c r ys new →
     IsCauseIn c r (xs ++ ys) new
 cause_after cause.Turns r xs ys new fresh h = All-append IsFresh xs ys fresh h
 cause_after cause.LinkEnded r xs ys new fresh h = All-append IsFresh xs ys fresh h

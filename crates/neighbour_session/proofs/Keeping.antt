@@ -1,6 +1,6 @@
 -- A pass of a session, and what was entered by it.
 use Rattle.route_session.specs.Calls.{StaysSound}
-use Rattle.slot_lock.specs.Held.{PassView, RouterView}
+use Rattle.slot_lock.specs.Passes.{PassView, RouterView}
 use Rattle.neighbour_session.specs.Keeping.{one_less}
 
 -- a pass that gave a share away is as right as it was

@@ -12,7 +12,7 @@ use Rattle.route_session.specs.Calls.{Gained, IsCauseAt, IsCauseIn, IsFresh}
 use Rattle.route_session.specs.Reads.{IsReadBy, LosesBy, Receives}
 use Rattle.route_session.specs.Told.{Told, grown}
 use Rattle.message_streams.specs.Views.{ReaderView}
-use Rattle.slot_lock.specs.Held.{Part, PassView, RouterView}
+use Rattle.slot_lock.specs.Passes.{Fragment, PassView, RouterView}
 use Rattle.neighbour_session.specs.Links.{ReadsLines}
 use Rattle.neighbour_session.specs.Reading.{IsReaderOver, IsReaderStopped, ReadsOut, told_by}
 use Rattle.neighbour_session.specs.declared.ends.SessionEnd.{SessionEnd}
@@ -20,7 +20,7 @@ use Rattle.neighbour_session.specs.declared.ends.SessionEnd.TheVariants as end
 use Rattle.neighbour_session.proofs.Gaining.{cause_after, gained_both, gained_none, grown_both, grown_none, told_after, zip_both}
 
 -- each message that the link handed out was entered, and the reader has not ended
-pub record HasRead (session : ℕ) (old : Part) (t : Told) (new : Part) (u : Told) : Type 0 where
+pub record HasRead (session : ℕ) (old : Fragment) (t : Told) (new : Fragment) (u : Told) : Type 0 where
   pub calls : List Entry
   pub messages : List Message
   pub gained : Gained old calls new
@@ -32,7 +32,7 @@ pub record HasRead (session : ℕ) (old : Part) (t : Told) (new : Part) (u : Tol
   pub ended : u.ended ≡ t.ended
   pub failures : u.failures ≡ t.failures
 
-pub read_none : (session : ℕ) (p : Part) (t : Told) → HasRead session p t p t
+pub read_none : (session : ℕ) (p : Fragment) (t : Told) → HasRead session p t p t
 read_none session p t = record {
   calls = [];
   messages = [];
@@ -47,7 +47,7 @@ read_none session p t = record {
 }
 
 -- and what comes last: the whole of it is as one reader's
-pub read_last : (r : RouterView) (session : ℕ) (old : Part) (t : Told) (mid : Part) (m : Told) (last : ReadEnd) (new : Part) (u : Told)
+pub read_last : (r : RouterView) (session : ℕ) (old : Fragment) (t : Told) (mid : Fragment) (m : Told) (last : ReadEnd) (new : Fragment) (u : Told)
     (h : HasRead session old t mid m) (k : IsReadBy r session mid m last new u) →
     IsReadBy r session old t (record { cause = last.cause; entered = length (h.calls ++ k.calls); lost = last.lost }) new u
 read_last r session old t mid m last new u h k = record {
@@ -70,7 +70,7 @@ read_last r session old t mid m last new u h k = record {
 }
 
 -- one that used up its turns has lost nothing
-pub read_on : (r : RouterView) (session : ℕ) (old : Part) (t : Told) (last : ReadEnd) (new : Part) (u : Told) → last.cause ≡ cause.Turns →
+pub read_on : (r : RouterView) (session : ℕ) (old : Fragment) (t : Told) (last : ReadEnd) (new : Fragment) (u : Told) → last.cause ≡ cause.Turns →
     IsReadBy r session old t last new u → HasRead session old t new u
 read_on r session old t last new u turns k =
     let none : k.lost ≡ [] = (subst (λ c. LosesBy c last.lost k.lost) turns k.loses).none in
@@ -89,7 +89,7 @@ read_on r session old t last new u turns k =
       failures = same.1;
     }
 
-pub reads_on : (r : RouterView) (session : ℕ) (old : Part) (t : Told) (mid : Part) (m : Told) (last : ReadEnd) (new : Part) (u : Told) →
+pub reads_on : (r : RouterView) (session : ℕ) (old : Fragment) (t : Told) (mid : Fragment) (m : Told) (last : ReadEnd) (new : Fragment) (u : Told) →
     HasRead session old t mid m → last.cause ≡ cause.Turns → IsReadBy r session mid m last new u → HasRead session old t new u
 reads_on r session old t mid m last new u h turns k =
     read_on r session old t (record { cause = last.cause; entered = length (h.calls ++ k.calls); lost = last.lost }) new u turns
@@ -105,26 +105,26 @@ stopped_over may cause.Full left why h = h
 stopped_over may cause.Memory left why h = h
 
 pub reads_stopped : (may : Bool → Type 0) (r : RouterView) (session : ℕ) (old : PassView) (input : ReaderView) (mid : PassView) (m : Told)
-    (last : ReadEnd) (why : SessionEnd) (new : PassView) (u : Told) (left : ReaderView) → HasRead session old.part (told_by input) mid.part m →
-    IsReadBy r session mid.part m last new.part u → ReadsLines input u.handed left → IsReaderStopped last.cause left why →
+    (last : ReadEnd) (why : SessionEnd) (new : PassView) (u : Told) (left : ReaderView) → HasRead session old.fragment (told_by input) mid.fragment m →
+    IsReadBy r session mid.fragment m last new.fragment u → ReadsLines input u.handed left → IsReaderStopped last.cause left why →
     ReadsOut may r session old input why new
 reads_stopped may r session old input mid m last why new u left h k lines over = record {
   end = record { cause = last.cause; entered = length (h.calls ++ k.calls); lost = last.lost };
   last = u;
-  read = read_last r session old.part (told_by input) mid.part m last new.part u h k;
+  read = read_last r session old.fragment (told_by input) mid.fragment m last new.fragment u h k;
   left = left;
   lines = lines;
   because = stopped_over may last.cause left why over;
 }
 
 pub reads_absent : (may : Bool → Type 0) (r : RouterView) (session : ℕ) (old : PassView) (input : ReaderView) (mid : PassView) (m : Told)
-    (last : ReadEnd) (new : PassView) (u : Told) (left : ReaderView) → HasRead session old.part (told_by input) mid.part m →
-    IsReadBy r session mid.part m last new.part u → ReadsLines input u.handed left → last.cause ≡ cause.Turns → may false →
+    (last : ReadEnd) (new : PassView) (u : Told) (left : ReaderView) → HasRead session old.fragment (told_by input) mid.fragment m →
+    IsReadBy r session mid.fragment m last new.fragment u → ReadsLines input u.handed left → last.cause ≡ cause.Turns → may false →
     ReadsOut may r session old input end.Closed new
 reads_absent may r session old input mid m last new u left h k lines turns absent = record {
   end = record { cause = last.cause; entered = length (h.calls ++ k.calls); lost = last.lost };
   last = u;
-  read = read_last r session old.part (told_by input) mid.part m last new.part u h k;
+  read = read_last r session old.fragment (told_by input) mid.fragment m last new.fragment u h k;
   left = left;
   lines = lines;
   because = subst (λ c. IsReaderOver may c left end.Closed) (sym turns) (refl, absent);

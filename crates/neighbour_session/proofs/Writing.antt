@@ -12,7 +12,7 @@ use Rattle.route_session.specs.Calls.{Gained, IsCauseAt, IsCauseIn, IsFresh}
 use Rattle.route_session.specs.Writes.{IsWrittenBy, LeavesBy, Takes, carried_by}
 use Rattle.route_session.specs.Told.{Told, grown}
 use Rattle.message_streams.specs.Views.{WriterView}
-use Rattle.slot_lock.specs.Held.{Part, PassView, RouterView}
+use Rattle.slot_lock.specs.Passes.{Fragment, PassView, RouterView}
 use Rattle.neighbour_session.specs.Writing.{GotAfter, IsWriterOver, IsWriterStopped, WritesOut, told_to}
 use Rattle.neighbour_session.specs.Links.{GotLinesOf}
 use Rattle.neighbour_session.specs.declared.ends.SessionEnd.{SessionEnd}
@@ -20,7 +20,7 @@ use Rattle.neighbour_session.specs.declared.ends.SessionEnd.TheVariants as end
 use Rattle.neighbour_session.proofs.Gaining.{cause_after, gained_both, gained_none, grown_both, grown_none, told_after}
 
 -- what was taken was accepted by the link, and the writer has not ended
-pub record HasWritten (session : ℕ) (old : Part) (t : Told) (new : Part) (u : Told) : Type 0 where
+pub record HasWritten (session : ℕ) (old : Fragment) (t : Told) (new : Fragment) (u : Told) : Type 0 where
   pub calls : List Entry
   pub accepted : List Message
   pub gained : Gained old calls new
@@ -33,7 +33,7 @@ pub record HasWritten (session : ℕ) (old : Part) (t : Told) (new : Part) (u : 
   pub ended : u.ended ≡ t.ended
   pub failures : u.failures ≡ t.failures
 
-pub written_none : (session : ℕ) (p : Part) (t : Told) → HasWritten session p t p t
+pub written_none : (session : ℕ) (p : Fragment) (t : Told) → HasWritten session p t p t
 written_none session p t = record {
   calls = [];
   accepted = [];
@@ -49,7 +49,7 @@ written_none session p t = record {
 }
 
 -- and what comes last: the whole of it is as one writer's
-pub written_last : (r : RouterView) (session : ℕ) (old : Part) (t : Told) (mid : Part) (m : Told) (last : WriteEnd) (new : Part) (u : Told)
+pub written_last : (r : RouterView) (session : ℕ) (old : Fragment) (t : Told) (mid : Fragment) (m : Told) (last : WriteEnd) (new : Fragment) (u : Told)
     (h : HasWritten session old t mid m) (k : IsWrittenBy r session mid m last new u) →
     IsWrittenBy r session old t (record { cause = last.cause; sent = length (h.accepted ++ k.accepted); unsent = last.unsent }) new u
 written_last r session old t mid m last new u h k = record {
@@ -71,7 +71,7 @@ written_last r session old t mid m last new u h k = record {
 }
 
 -- one that used up its turns has left nothing unsent
-written_on : (r : RouterView) (session : ℕ) (old : Part) (t : Told) (last : WriteEnd) (new : Part) (u : Told) → last.cause ≡ cause.Turns →
+written_on : (r : RouterView) (session : ℕ) (old : Fragment) (t : Told) (last : WriteEnd) (new : Fragment) (u : Told) → last.cause ≡ cause.Turns →
     IsWrittenBy r session old t last new u → HasWritten session old t new u
 written_on r session old t last new u turns k =
     let none : last.unsent ≡ [] = subst (λ c. LeavesBy c last.unsent) turns k.leaves in
@@ -90,7 +90,7 @@ written_on r session old t last new u turns k =
       failures = same.1;
     }
 
-pub writes_on : (r : RouterView) (session : ℕ) (old : Part) (t : Told) (mid : Part) (m : Told) (last : WriteEnd) (new : Part) (u : Told) →
+pub writes_on : (r : RouterView) (session : ℕ) (old : Fragment) (t : Told) (mid : Fragment) (m : Told) (last : WriteEnd) (new : Fragment) (u : Told) →
     HasWritten session old t mid m → last.cause ≡ cause.Turns → IsWrittenBy r session mid m last new u → HasWritten session old t new u
 writes_on r session old t mid m last new u h turns k =
     written_on r session old t (record { cause = last.cause; sent = length (h.accepted ++ k.accepted); unsent = last.unsent }) new u turns
@@ -117,10 +117,10 @@ got_after cause.Memory output u later g h = g.whole h.1
 
 pub writes_stopped : (may : Bool → Type 0) (r : RouterView) (session : ℕ) (old : PassView) (output : WriterView) (mid : PassView) (m : Told)
     (last : WriteEnd) (why : SessionEnd) (new : PassView) (u : Told) (later : WriterView) →
-    HasWritten session old.part (told_to output) mid.part m → IsWrittenBy r session mid.part m last new.part u → GotLinesOf output u later →
+    HasWritten session old.fragment (told_to output) mid.fragment m → IsWrittenBy r session mid.fragment m last new.fragment u → GotLinesOf output u later →
     IsWriterStopped last.cause why → WritesOut may r session old output why new later
 writes_stopped may r session old output mid m last why new u later h k got over =
-    let written = written_last r session old.part (told_to output) mid.part m last new.part u h k in
+    let written = written_last r session old.fragment (told_to output) mid.fragment m last new.fragment u h k in
     record {
       end = record { cause = last.cause; sent = length (h.accepted ++ k.accepted); unsent = last.unsent };
       last = u;
@@ -132,11 +132,11 @@ writes_stopped may r session old output mid m last why new u later h k got over 
     }
 
 pub writes_absent : (may : Bool → Type 0) (r : RouterView) (session : ℕ) (old : PassView) (output : WriterView) (mid : PassView) (m : Told)
-    (last : WriteEnd) (new : PassView) (u : Told) (later : WriterView) → HasWritten session old.part (told_to output) mid.part m →
-    IsWrittenBy r session mid.part m last new.part u → GotLinesOf output u later → last.cause ≡ cause.Turns → may false →
+    (last : WriteEnd) (new : PassView) (u : Told) (later : WriterView) → HasWritten session old.fragment (told_to output) mid.fragment m →
+    IsWrittenBy r session mid.fragment m last new.fragment u → GotLinesOf output u later → last.cause ≡ cause.Turns → may false →
     WritesOut may r session old output end.Closed new later
 writes_absent may r session old output mid m last new u later h k got turns absent =
-    let written = written_last r session old.part (told_to output) mid.part m last new.part u h k in
+    let written = written_last r session old.fragment (told_to output) mid.fragment m last new.fragment u h k in
     record {
       end = record { cause = last.cause; sent = length (h.accepted ++ k.accepted); unsent = last.unsent };
       last = u;

@@ -6,7 +6,7 @@ use Rattle.netchange_core.specs.declared.reply.Reply.TheVariants as reply
 use Rattle.route_history.specs.declared.fault.CallFault.{CallFault}
 use Rattle.route_history.specs.declared.fault.CallFault.TheVariants as fault
 use Rattle.slot_lock.specs.Calls.{Answered, Refused}
-use Rattle.slot_lock.specs.Held.{PassView, RouterView}
+use Rattle.slot_lock.specs.Passes.{PassView, RouterView}
 use Rattle.slot_lock.specs.declared.answer.Answer.{Answer}
 use Rattle.neighbour_session.specs.declared.ends.SessionEnd.{SessionEnd}
 use Rattle.neighbour_session.specs.declared.ends.SessionEnd.TheVariants as end

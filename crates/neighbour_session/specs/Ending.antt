@@ -1,6 +1,6 @@
 -- Who ends a session. (This project's own choice.)
 use Rattle.std.specs.Prelude.{◌≡◌, ◌⊎◌, ℕ, Bool, MatchBool}
-use Rattle.slot_lock.specs.Held.{PassView, RouterView}
+use Rattle.slot_lock.specs.Passes.{PassView, RouterView}
 use Rattle.slot_lock.specs.declared.answer.Answer.{Answer}
 use Rattle.neighbour_session.specs.Calls.{Closes, IsUnclosed}
 use Rattle.neighbour_session.specs.declared.ends.SessionEnd.{SessionEnd}

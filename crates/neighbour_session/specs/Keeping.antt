@@ -1,7 +1,7 @@
 -- A session with a neighbour, from the greeting to the Down. (This project's own choice.)
 use Rattle.std.specs.Prelude.{◌≡◌, ◌⊎◌, ℕ, ◌-◌, ◌≤◌, Bool}
 use Rattle.message_streams.specs.Views.{ReaderView, WriterView}
-use Rattle.slot_lock.specs.Held.{PassView, RouterView}
+use Rattle.slot_lock.specs.Passes.{PassView, RouterView}
 use Rattle.slot_lock.specs.declared.answer.Answer.{Answer}
 use Rattle.neighbour_session.specs.Calls.{IsUnopened, Opens}
 use Rattle.neighbour_session.specs.Ending.{GoesDown}
@@ -13,11 +13,11 @@ use Rattle.neighbour_session.specs.declared.greeting.Domain.{Domain}
 
 -- a pass that gave one share away
 abbrev pub one_less : PassView → PassView
-one_less p = record p { part = record p.part { shares = p.part.shares - 1 } }
+one_less p = record p { fragment = record p.fragment { shares = p.fragment.shares - 1 } }
 
 -- the pass has no share that it could give to a writer: no session is begun
 pub record LacksShares (old : PassView) (result : SessionEnd) (new : PassView) : Type 0 where
-  pub few : old.part.shares ≤ 1
+  pub few : old.fragment.shares ≤ 1
   pub result_is : result ≡ end.NotStarted
   pub unchanged : new ≡ old
 

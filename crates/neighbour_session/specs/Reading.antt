@@ -7,7 +7,7 @@ use Rattle.route_session.specs.declared.ends.Cause.TheVariants as cause
 use Rattle.route_session.specs.declared.ends.ReadEnd.{ReadEnd}
 use Rattle.route_session.specs.Reads.{IsReadBy}
 use Rattle.route_session.specs.Told.{Told}
-use Rattle.slot_lock.specs.Held.{PassView, RouterView}
+use Rattle.slot_lock.specs.Passes.{PassView, RouterView}
 use Rattle.stream_link.specs.Views.{new_view}
 use Rattle.neighbour_session.specs.Ending.{Ends}
 use Rattle.neighbour_session.specs.Links.{ReadsLines}
@@ -43,7 +43,7 @@ pub record ReadsOut (may_be_present : Bool → Type 0) (r : RouterView) (session
     (new : PassView) : Type 0 where
   pub end : ReadEnd
   pub last : Told
-  pub read : IsReadBy r session old.part (told_by input) end new.part last
+  pub read : IsReadBy r session old.fragment (told_by input) end new.fragment last
   pub left : ReaderView
   pub lines : ReadsLines input last.handed left
   pub because : IsReaderOver may_be_present end.cause left why

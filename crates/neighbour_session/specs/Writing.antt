@@ -7,7 +7,7 @@ use Rattle.route_session.specs.declared.ends.Cause.TheVariants as cause
 use Rattle.route_session.specs.declared.ends.WriteEnd.{WriteEnd}
 use Rattle.route_session.specs.Told.{Told}
 use Rattle.route_session.specs.Writes.{IsWrittenBy}
-use Rattle.slot_lock.specs.Held.{PassView, RouterView}
+use Rattle.slot_lock.specs.Passes.{PassView, RouterView}
 use Rattle.stream_link.specs.Views.{AreLines, new_view}
 use Rattle.neighbour_session.specs.Ending.{Ends}
 use Rattle.neighbour_session.specs.Links.{TearsLine}
@@ -43,7 +43,7 @@ pub record WritesOut (may_be_present : Bool → Type 0) (r : RouterView) (sessio
     (new : PassView) (later : WriterView) : Type 0 where
   pub end : WriteEnd
   pub last : Told
-  pub written : IsWrittenBy r session old.part (told_to output) end new.part last
+  pub written : IsWrittenBy r session old.fragment (told_to output) end new.fragment last
   pub held : Option (List ℕ)
   pub lines : AreLines (Appends output.held held) last.given
   pub after : GotAfter end.cause held later.held

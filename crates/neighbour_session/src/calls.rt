@@ -2,7 +2,7 @@
 ghost use Rattle.std.specs.Prelude.{◌≡◌, IfErr, IfOk};
 ghost use Rattle.neighbour_session.specs.Calls as spec;
 ghost use Rattle.route_session.specs.Calls.{StaysSound};
-ghost use Rattle.slot_lock.specs.Held.{IsPassOf};
+ghost use Rattle.slot_lock.specs.Passes.{IsPassOf};
 
 use crate::ends::SessionEnd;
 use netchange_core::{Event, Reply};
@@ -29,7 +29,7 @@ pub fn enter_up<R: Wait>(
 ) -> Result<(u32, Answer), SessionEnd>
     requires { IsPassOf router.now pass.old }
     ensures pass { StaysSound router.now pass.old pass.new }
-    ensures shares { pass.new.part.shares ≡ pass.old.part.shares }
+    ensures shares { pass.new.fragment.shares ≡ pass.old.fragment.shares }
     ensures opened { IfOk result (λ r. spec.Opens router.now node pass.old r.0 r.1 pass.new) }
     ensures refused { IfErr result (λ why. spec.IsUnopened why router.now node pass.old pass.new) }
 {
@@ -51,7 +51,7 @@ pub fn enter_down<R: Wait>(
 ) -> Result<Answer, SessionEnd>
     requires { IsPassOf router.now pass.old }
     ensures pass { StaysSound router.now pass.old pass.new }
-    ensures shares { pass.new.part.shares ≡ pass.old.part.shares }
+    ensures shares { pass.new.fragment.shares ≡ pass.old.fragment.shares }
     ensures closed { IfOk result (λ a. spec.Closes router.now session pass.old a pass.new) }
     ensures refused { IfErr result (λ why. spec.IsUnclosed why router.now pass.old pass.new) }
 {

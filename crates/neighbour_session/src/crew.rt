@@ -40,7 +40,7 @@ pub trait Crew: Gate {
 
 /// Who starts a writer for each session of a link.
 pub trait Starter<O: Write> {
-    ghost use Rattle.slot_lock.specs.Held.{IsPassOf, RouterView};
+    ghost use Rattle.slot_lock.specs.Passes.{IsPassOf, RouterView};
 
     // The router whose sessions these are.
     ghost serves: { Self → RouterView };

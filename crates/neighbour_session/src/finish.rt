@@ -2,7 +2,7 @@
 ghost use Rattle.std.specs.Prelude.{◌≡◌};
 ghost use Rattle.neighbour_session.specs.Ending.{Ends, GoesDown};
 ghost use Rattle.route_session.specs.Calls.{StaysSound};
-ghost use Rattle.slot_lock.specs.Held.{IsPassOf};
+ghost use Rattle.slot_lock.specs.Passes.{IsPassOf};
 
 use crate::calls::enter_down;
 use crate::crew::Crew;
@@ -22,7 +22,7 @@ pub(crate) fn end_session<R: Wait + Clock, C: Crew>(
 ) -> SessionEnd
     requires { IsPassOf router.now pass.old }
     ensures pass { StaysSound router.now pass.old pass.new }
-    ensures shares { pass.new.part.shares ≡ pass.old.part.shares }
+    ensures shares { pass.new.fragment.shares ≡ pass.old.fragment.shares }
     ensures ends { Ends (C.may_be_first crew.now) router.now session why pass.old result pass.new }
 {
     if !crew.end(rt) {
@@ -46,7 +46,7 @@ pub fn abandon_session<R: Wait>(
 ) -> SessionEnd
     requires { IsPassOf router.now pass.old }
     ensures pass { StaysSound router.now pass.old pass.new }
-    ensures shares { pass.new.part.shares ≡ pass.old.part.shares }
+    ensures shares { pass.new.fragment.shares ≡ pass.old.fragment.shares }
     ensures down { GoesDown router.now session SessionEnd.NotStarted pass.old result pass.new }
 {
     match enter_down(rt, router, pass, session) {

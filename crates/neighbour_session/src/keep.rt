@@ -2,7 +2,7 @@
 ghost use Rattle.std.specs.Prelude.{◌≡◌, ◌<◌, ◌≤◌};
 ghost use Rattle.neighbour_session.specs.Keeping as spec;
 ghost use Rattle.route_session.specs.Calls.{StaysSound};
-ghost use Rattle.slot_lock.specs.Held.{IsPassOf};
+ghost use Rattle.slot_lock.specs.Passes.{IsPassOf};
 
 use crate::calls::enter_up;
 use crate::crew::Starter;
@@ -29,7 +29,7 @@ fn serve_neighbour<R: Wait + Clock, I: Read + Drop, O: Write + Drop, S: Starter<
 ) -> SessionEnd
     requires of { IsPassOf router.now pass.old }
     requires serves { S.serves starter.old ≡ router.now }
-    requires shares { 1 < pass.old.part.shares }
+    requires shares { 1 < pass.old.fragment.shares }
     ensures pass { StaysSound router.now pass.old pass.new }
     ensures served { spec.IsServed S.Crew.may_be_present S.Crew.may_be_first router.now neighbour input pass.old result pass.new }
 {

@@ -2,7 +2,7 @@
 ghost use Rattle.std.specs.Prelude.{◌≡◌, IfNone, IfSome};
 ghost use Rattle.neighbour_session.specs.Reading as spec;
 ghost use Rattle.route_session.specs.Calls.{StaysSound};
-ghost use Rattle.slot_lock.specs.Held.{IsPassOf};
+ghost use Rattle.slot_lock.specs.Passes.{IsPassOf};
 
 use crate::crew::{Crew, READER};
 use crate::ends::SessionEnd;
@@ -58,7 +58,7 @@ fn read_all<S: Source, R: Wait + Clock, I: Read + Drop, C: Crew>(
     requires of { IsPassOf router.now pass.old }
     requires named { input ≡ S.reader }
     ensures pass { StaysSound router.now pass.old pass.new }
-    ensures shares { pass.new.part.shares ≡ pass.old.part.shares }
+    ensures shares { pass.new.fragment.shares ≡ pass.old.fragment.shares }
     ensures reads { spec.ReadsOut (C.may_be_present crew.now) router.now session pass.old input result pass.new }
 {
     let mut link: InputLink<I, S> = InputLink::new(input);
@@ -86,7 +86,7 @@ pub fn serve_reader<R: Wait + Clock, I: Read + Drop, C: Crew>(
 ) -> SessionEnd
     requires { IsPassOf router.now pass.old }
     ensures pass { StaysSound router.now pass.old pass.new }
-    ensures shares { pass.new.part.shares ≡ pass.old.part.shares }
+    ensures shares { pass.new.fragment.shares ≡ pass.old.fragment.shares }
     ensures hears { spec.Hears (C.may_be_present crew.now) (C.may_be_first crew.now) router.now session pass.old input result pass.new }
 {
     let why = read_all::<Brand, R, I, C>(rt, router, pass, session, input, crew);

@@ -2,7 +2,7 @@
 ghost use Rattle.std.specs.Prelude.{◌≡◌, ◌≢◌, Bool, IfNone, IfSome};
 ghost use Rattle.neighbour_session.specs.Writing as spec;
 ghost use Rattle.route_session.specs.Calls.{StaysSound};
-ghost use Rattle.slot_lock.specs.Held.{IsPassOf};
+ghost use Rattle.slot_lock.specs.Passes.{IsPassOf};
 
 use crate::calls::end_of;
 use crate::crew::{Crew, WRITER};
@@ -49,7 +49,7 @@ fn write_all<T: Target, R: Wait + Clock, O: Write + Drop, C: Crew>(
     requires of { IsPassOf router.now pass.old }
     requires named { output ≡ T.writer }
     ensures pass { StaysSound router.now pass.old pass.new }
-    ensures shares { pass.new.part.shares ≡ pass.old.part.shares }
+    ensures shares { pass.new.fragment.shares ≡ pass.old.fragment.shares }
     ensures writes { spec.WritesOut (C.may_be_present crew.now) router.now session pass.old output result.0 pass.new result.1 }
 {
     let mut link: OutputLink<O, T> = OutputLink::new(output);
@@ -80,7 +80,7 @@ pub fn serve_writer<R: Wait + Clock, O: Write + Drop, C: Crew>(
 ) -> (SessionEnd, MessageWriter<O>)
     requires { IsPassOf router.now pass.old }
     ensures pass { StaysSound router.now pass.old pass.new }
-    ensures shares { pass.new.part.shares ≡ pass.old.part.shares }
+    ensures shares { pass.new.fragment.shares ≡ pass.old.fragment.shares }
     ensures serves { spec.Serves (C.may_be_present crew.now) (C.may_be_first crew.now) router.now session pass.old output result.0 pass.new result.1 }
 {
     let (why, written) = write_all::<Brand, R, O, C>(

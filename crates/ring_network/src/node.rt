@@ -3,14 +3,14 @@
 ghost use Rattle.std.specs.Prelude.{◌≡◌, ◌+◌, ◌<◌, IfOk, vec_len};
 ghost use Rattle.ring_network.specs.Ring.{IsJournalOf, node_prefix, ring_opening};
 ghost use Rattle.route_session.specs.Jobs.{AreFor};
-ghost use Rattle.slot_lock.specs.Held.{IsPassOf, all_shares};
+ghost use Rattle.slot_lock.specs.Passes.{IsPassOf, all_shares};
 
 use crate::fault::NetworkFault;
 use netchange_core::{Event, Opening, Reply};
 use prefix_patterns::{Ip, Prefix};
 use route_history::{CallFault, Journal, LARGEST_LIMIT};
 use route_session::{
-    Cause, ChannelLink, Ending, Finished, Gate, Job, Role, join_passes, run_sessions,
+    Cause, ChannelLink, Ending, Finished, Gate, Job, Role, merge_passes, run_sessions,
 };
 use slot_lock::{Pass, Router};
 use std::alloc::Global;
@@ -85,7 +85,7 @@ fn prefix_of(node: u32) -> Prefix
 fn open(alloc: Global, me: u16) -> Result<(Router, Pass), NetworkFault>
     requires { me < 3 }
     ensures router { IfOk result (λ r. (r.0.opening ≡ ring_opening me) × (r.0.limit ≡ 1000000)) }
-    ensures pass { IfOk result (λ r. IsPassOf r.0 r.1 × (r.1.part.shares ≡ all_shares)) }
+    ensures pass { IfOk result (λ r. IsPassOf r.0 r.1 × (r.1.fragment.shares ≡ all_shares)) }
 {
     let prefixes = vec![in alloc; prefix_of(0), prefix_of(1), prefix_of(2)]?;
     let Some(opening) = Opening::new(SIZE, me, prefixes) else {
@@ -106,9 +106,9 @@ fn bring_up<R: Wait>(
     side: Side,
 ) -> Result<(Job<ChannelLink>, Job<ChannelLink>), NetworkFault>
     requires of { IsPassOf router.now pass.old }
-    requires shares { SHARES + SHARES < pass.old.part.shares }
+    requires shares { SHARES + SHARES < pass.old.fragment.shares }
     ensures pass { IsPassOf router.now pass.new }
-    ensures shares { IfOk result (λ j. pass.new.part.shares + (SHARES + SHARES) ≡ pass.old.part.shares) }
+    ensures shares { IfOk result (λ j. pass.new.fragment.shares + (SHARES + SHARES) ≡ pass.old.fragment.shares) }
     ensures jobs { IfOk result (λ j. IsPassOf router.now j.0.pass × IsPassOf router.now j.1.pass) }
 {
     let session = match router.call(rt, pass, Event::Up(side.neighbour)) {
@@ -176,7 +176,7 @@ fn start_jobs<R: Wait>(
     high: Side,
 ) -> Result<Vec<Job<ChannelLink>>, NetworkFault>
     requires of { IsPassOf router.now pass.old }
-    requires shares { pass.old.part.shares ≡ all_shares }
+    requires shares { pass.old.fragment.shares ≡ all_shares }
     ensures pass { IsPassOf router.now pass.new }
     ensures jobs { IfOk result (λ v. AreFor router.now v.items × (vec_len v ≡ 4)) }
 {
@@ -190,7 +190,7 @@ fn start_jobs<R: Wait>(
     Ok(jobs)
 }
 
-/// Runs a node: brings its neighbours up, runs a reader and a writer for each, joins their passes and closes the journal.
+/// Runs a node: brings its neighbours up, runs a reader and a writer for each, merges their passes and closes the journal.
 pub(crate) fn run_node<R: Threads + Wait + Clock + Sync>(
     rt: &R,
     alloc: Global,
@@ -203,7 +203,7 @@ pub(crate) fn run_node<R: Threads + Wait + Clock + Sync>(
     let jobs = start_jobs(rt, alloc, &router, &mut pass, low, high)?;
     let finished = run_sessions(rt, alloc, &router, jobs, &PacingGate, TURNS)?;
     refused_calls(finished.as_slice())?;
-    join_passes(&router, &mut pass, finished);
+    merge_passes(&router, &mut pass, finished);
     match router.close(pass) {
         Ok(journal) => Ok(journal),
         Err(fault) => Err(NetworkFault::Lock(fault)),

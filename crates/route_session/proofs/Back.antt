@@ -7,7 +7,7 @@ use Rattle.route_session.specs.declared.job.Finished.{Finished}
 use Rattle.route_session.specs.declared.job.Job.{Job}
 use Rattle.route_session.specs.Jobs.{AreBack, IsFinished}
 use Rattle.route_session.specs.Told.{Told}
-use Rattle.slot_lock.specs.Held.{IsPassOf, RouterView}
+use Rattle.slot_lock.specs.Passes.{IsPassOf, RouterView}
 
 -- each job that was done gives back a pass of its router
 pub come_back : {L : Type 0} (told : L → Told) (r : RouterView) (jobs : List (Job L)) (finished : List (Finished L)) →

@@ -12,9 +12,9 @@ use Rattle.route_history.specs.Calls.{entry}
 use Rattle.route_history.specs.History.{IsLegal}
 use Rattle.route_session.specs.Calls.{Gained, IsFresh, StandsAt, StaysSound}
 use Rattle.slot_lock.specs.declared.answer.Answer.{Answer}
-use Rattle.slot_lock.specs.Held.{Part}
+use Rattle.slot_lock.specs.Passes.{Fragment}
 use Rattle.slot_lock.specs.Calls.{Answered, Refused}
-use Rattle.slot_lock.specs.Held.{IsOwn, IsPassOf, PassView, RouterView}
+use Rattle.slot_lock.specs.Passes.{IsOwn, IsPassOf, PassView, RouterView}
 
 pub begins_whole : (xs : List Entry) → Begins xs xs
 begins_whole xs = record { rest = []; is = sym (append-nil xs) }
@@ -52,13 +52,13 @@ zip_more R [] (b ∷ ys) x y h r = absurd h
 zip_more R (a ∷ xs) [] x y h r = absurd h
 zip_more R (a ∷ xs) (b ∷ ys) x y h r = (h.0, zip_more R xs ys x y h.1 r)
 
-pub gained_none : (p : Part) → Gained p [] p
+pub gained_none : (p : Fragment) → Gained p [] p
 gained_none p = record {
   positions = [];
   mine = sym (append-nil p.mine);
   stand = tt;
   begins = begins_whole p.seen;
-  missed = omega arith;
+  failed_tries = omega arith;
   shares = refl;
 }
 
@@ -66,55 +66,55 @@ gained_none p = record {
 -- and it was found taken no less often.
 pub record IsCalled (r : RouterView) (p q : PassView) : Type 0 where
   pub of : IsPassOf r q
-  pub own : IsOwn q.part
-  pub missed : p.part.missed ≤ q.part.missed
-  pub shares : q.part.shares ≡ p.part.shares
+  pub own : IsOwn q.fragment
+  pub failed_tries : p.fragment.failed_tries ≤ q.fragment.failed_tries
+  pub shares : q.fragment.shares ≡ p.fragment.shares
 
-pub called : (r : RouterView) (p q : PassView) → IsPassOf r q × (q.part.shares ≡ p.part.shares) → IsOwn q.part →
-    p.part.missed ≤ q.part.missed → IsCalled r p q
-called r p q pass own missed = record { of = pass.0; own = own; missed = missed; shares = pass.1 }
+pub called : (r : RouterView) (p q : PassView) → IsPassOf r q × (q.fragment.shares ≡ p.fragment.shares) → IsOwn q.fragment →
+    p.fragment.failed_tries ≤ q.fragment.failed_tries → IsCalled r p q
+called r p q pass own failed_tries = record { of = pass.0; own = own; failed_tries = failed_tries; shares = pass.1 }
 
-pub gained_one : (r : RouterView) (old : Part) (calls : List Entry) (p q : PassView) (e : Event) (a : Answer) →
-    Gained old calls p.part → Answered r p e a q → IsCalled r p q → Gained old (calls ++ entry e a.reply ∷ []) q.part
+pub gained_one : (r : RouterView) (old : Fragment) (calls : List Entry) (p q : PassView) (e : Event) (a : Answer) →
+    Gained old calls p.fragment → Answered r p e a q → IsCalled r p q → Gained old (calls ++ entry e a.reply ∷ []) q.fragment
 gained_one r old calls p q e a g h k =
-    let further : Begins p.part.seen q.part.seen = record {
+    let further : Begins p.fragment.seen q.fragment.seen = record {
       rest = h.begins.rest ++ entry e a.reply ∷ [];
       is = h.seen ∙ ap (λ (l : List Entry). l ++ entry e a.reply ∷ []) h.begins.is
-          ∙ append_assoc p.part.seen h.begins.rest (entry e a.reply ∷ []);
+          ∙ append_assoc p.fragment.seen h.begins.rest (entry e a.reply ∷ []);
     } in
-    let last : StandsAt q.part.seen a.at (entry e a.reply) =
+    let last : StandsAt q.fragment.seen a.at (entry e a.reply) =
     subst (λ (l : List Entry). StandsAt l a.at (entry e a.reply)) (sym h.seen)
     (subst (λ (n : ℕ). StandsAt (h.log ++ entry e a.reply ∷ []) n (entry e a.reply)) (sym h.position) (stands_last h.log
     (entry e a.reply))) in
     record {
       positions = g.positions ++ a.at ∷ [];
       mine = h.mine ∙ ap (λ (l : List ℕ). l ++ a.at ∷ []) g.mine ∙ append_assoc old.mine g.positions (a.at ∷ []);
-      stand = zip_more (StandsAt q.part.seen) g.positions calls a.at (entry e a.reply)
-          (stand_longer p.part.seen q.part.seen g.positions calls further g.stand) last;
-      begins = begins_further old.seen p.part.seen q.part.seen g.begins further;
-      missed = omega (arith, g.missed, k.missed);
+      stand = zip_more (StandsAt q.fragment.seen) g.positions calls a.at (entry e a.reply)
+          (stand_longer p.fragment.seen q.fragment.seen g.positions calls further g.stand) last;
+      begins = begins_further old.seen p.fragment.seen q.fragment.seen g.begins further;
+      failed_tries = omega (arith, g.failed_tries, k.failed_tries);
       shares = k.shares ∙ g.shares;
     }
 
 -- a history that was seen to go on, and no call of one's own
-gained_seen : (r : RouterView) (old : Part) (calls : List Entry) (p q : PassView) →
-    Gained old calls p.part → Begins p.part.seen q.part.seen → q.part.mine ≡ p.part.mine → IsCalled r p q → Gained old calls q.part
+gained_seen : (r : RouterView) (old : Fragment) (calls : List Entry) (p q : PassView) →
+    Gained old calls p.fragment → Begins p.fragment.seen q.fragment.seen → q.fragment.mine ≡ p.fragment.mine → IsCalled r p q → Gained old calls q.fragment
 gained_seen r old calls p q g b mine k = record {
   positions = g.positions;
   mine = mine ∙ g.mine;
-  stand = stand_longer p.part.seen q.part.seen g.positions calls b g.stand;
-  begins = begins_further old.seen p.part.seen q.part.seen g.begins b;
-  missed = omega (arith, g.missed, k.missed);
+  stand = stand_longer p.fragment.seen q.fragment.seen g.positions calls b g.stand;
+  begins = begins_further old.seen p.fragment.seen q.fragment.seen g.begins b;
+  failed_tries = omega (arith, g.failed_tries, k.failed_tries);
   shares = k.shares ∙ g.shares;
 }
 
-pub gained_refused : (r : RouterView) (old : Part) (calls : List Entry) (p q : PassView) (f : CallFault) →
-    Gained old calls p.part → Refused f r p q → IsCalled r p q → Gained old calls q.part
+pub gained_refused : (r : RouterView) (old : Fragment) (calls : List Entry) (p q : PassView) (f : CallFault) →
+    Gained old calls p.fragment → Refused f r p q → IsCalled r p q → Gained old calls q.fragment
 gained_refused r old calls p q fault.Full g h k = gained_seen r old calls p q g h.begins h.mine k
 gained_refused r old calls p q fault.Memory g h k =
     gained_seen r old calls p q g
-    (record { rest = []; is = ap (λ (v : PassView). v.part.seen) h.1 ∙ sym (append-nil p.part.seen) })
-    (ap (λ (v : PassView). v.part.mine) h.1) k
+    (record { rest = []; is = ap (λ (v : PassView). v.fragment.seen) h.1 ∙ sym (append-nil p.fragment.seen) })
+    (ap (λ (v : PassView). v.fragment.mine) h.1) k
 
 -- a pass that is as right as it was, after a call
 pub sound_one : (r : RouterView) (old p q : PassView) (e : Event) (a : Answer) → Answered r p e a q → IsCalled r p q → StaysSound r old q
@@ -126,7 +126,7 @@ sound_refused r old p q fault.Full s h k = record { of = k.of; own = λ x. k.own
 sound_refused r old p q fault.Memory s h k = record {
   of = k.of;
   own = λ x. k.own;
-  legal = λ x. subst (λ (l : List Entry). IsLegal r.opening l) (sym (ap (λ (v : PassView). v.part.seen) h.1)) (s.legal x);
+  legal = λ x. subst (λ (l : List Entry). IsLegal r.opening l) (sym (ap (λ (v : PassView). v.fragment.seen) h.1)) (s.legal x);
 }
 
 -- one more call that was not refused because the session is over

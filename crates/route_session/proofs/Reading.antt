@@ -19,14 +19,14 @@ use Rattle.route_session.specs.Told.{Rose, Told, ended_now, grown}
 use Rattle.route_session.proofs.Gaining.{IsCalled, fresh_more, gained_none, gained_one, gained_refused, sound_one, zip_more}
 use Rattle.route_session.proofs.Told.{grown_none, grown_more}
 use Rattle.slot_lock.specs.declared.answer.Answer.{Answer}
-use Rattle.slot_lock.specs.Held.{Part}
+use Rattle.slot_lock.specs.Passes.{Fragment}
 use Rattle.slot_lock.specs.Calls.{Answered, Refused}
-use Rattle.slot_lock.specs.Held.{IsPassOf, PassView, RouterView}
+use Rattle.slot_lock.specs.Passes.{IsPassOf, PassView, RouterView}
 
 -- so many messages were entered so far, and none was lost
 pub record IsReading (r : RouterView) (session : ℕ) (old : PassView) (t : Told) (n : ℕ) (new : PassView) (u : Told) : Type 0 where
   pub calls : List Entry
-  pub reads : Reads session old.part t calls [] new.part u
+  pub reads : Reads session old.fragment t calls [] new.fragment u
   pub entered : length calls ≡ n
   pub fresh : All IsFresh calls
   pub ended : u.ended ≡ t.ended
@@ -37,7 +37,7 @@ pub begins_reading : (r : RouterView) (session : ℕ) (p : PassView) (t : Told) 
 begins_reading r session p t of = record {
   calls = [];
   reads = record {
-    gained = gained_none p.part;
+    gained = gained_none p.fragment;
     messages = [];
     received = tt;
     handed = grown_none t.handed;
@@ -52,7 +52,7 @@ begins_reading r session p t of = record {
 }
 
 -- the link told something else than messages
-told_else : (session : ℕ) (old : Part) (t u v : Told) (calls : List Entry) (p : Part) →
+told_else : (session : ℕ) (old : Fragment) (t u v : Told) (calls : List Entry) (p : Fragment) →
     v.handed ≡ u.handed → v.given ≡ u.given → v.closed ≡ u.closed → Reads session old t calls [] p u → Reads session old t calls [] p v
 told_else session old t u v calls p handed given is_closed i = record {
   gained = i.gained;
@@ -67,7 +67,7 @@ pub reads_nothing : (r : RouterView) (session : ℕ) (old : PassView) (t : Told)
     IsReading r session old t n p u → Received u (Ok got.Nothing) v → IsReading r session old t n p v
 reads_nothing r session old t n p u v i g = record {
   calls = i.calls;
-  reads = told_else session old.part t u v i.calls p.part
+  reads = told_else session old.fragment t u v i.calls p.fragment
       (ap (λ (w : Told). w.handed) g.1) (ap (λ (w : Told). w.given) g.1) (ap (λ (w : Told). w.closed) g.1) i.reads;
   entered = i.entered;
   fresh = i.fresh;
@@ -86,9 +86,9 @@ handed_on t u v ms m a b =
 -- a message was entered
 entered_one : (r : RouterView) (session : ℕ) (old : PassView) (t : Told) (n : ℕ) (p q : PassView) (u v : Told) (m : Message) (a : Answer)
     (i : IsReading r session old t n p u) → Received u (Ok (got.Message m)) v → Answered r p (receive session m) a q → IsCalled r p q →
-    Reads session old.part t (i.calls ++ entry (receive session m) a.reply ∷ []) [] q.part v
+    Reads session old.fragment t (i.calls ++ entry (receive session m) a.reply ∷ []) [] q.fragment v
 entered_one r session old t n p q u v m a i g h k = record {
-  gained = gained_one r old.part i.calls p q (receive session m) a i.reads.gained h k;
+  gained = gained_one r old.fragment i.calls p q (receive session m) a i.reads.gained h k;
   messages = i.reads.messages ++ m ∷ [];
   received = zip_more (Receives session) i.calls i.reads.messages (entry (receive session m) a.reply) m i.reads.received refl;
   handed = handed_on t u v i.reads.messages m i.reads.handed (ap (λ (w : Told). w.handed) g.1)
@@ -118,7 +118,7 @@ abbrev pub read_end : Cause → ℕ → Option Message → ReadEnd
 read_end why n lost = record { cause = why; entered = n; lost = lost }
 
 pub ends_by_turns : (r : RouterView) (session : ℕ) (old : PassView) (t : Told) (n : ℕ) (p : PassView) (u : Told) →
-    IsReading r session old t n p u → IsReadBy r session old.part t (read_end cause.Turns n None) p.part u
+    IsReading r session old t n p u → IsReadBy r session old.fragment t (read_end cause.Turns n None) p.fragment u
 ends_by_turns r session old t n p u i = record {
   calls = i.calls;
   lost = [];
@@ -130,11 +130,11 @@ ends_by_turns r session old t n p u i = record {
 }
 
 pub ends_with_link : (r : RouterView) (session : ℕ) (old : PassView) (t : Told) (n : ℕ) (p : PassView) (u v : Told) →
-    IsReading r session old t n p u → Received u (Ok got.Ended) v → IsReadBy r session old.part t (read_end cause.LinkEnded n None) p.part v
+    IsReading r session old t n p u → Received u (Ok got.Ended) v → IsReadBy r session old.fragment t (read_end cause.LinkEnded n None) p.fragment v
 ends_with_link r session old t n p u v i g = record {
   calls = i.calls;
   lost = [];
-  reads = told_else session old.part t u v i.calls p.part
+  reads = told_else session old.fragment t u v i.calls p.fragment
       (ap (λ (w : Told). w.handed) g) (ap (λ (w : Told). w.given) g) (ap (λ (w : Told). w.closed) g) i.reads;
   entered = i.entered;
   loses = record { is_told = refl; none = refl };
@@ -143,11 +143,11 @@ ends_with_link r session old t n p u v i g = record {
 }
 
 pub ends_by_failure : (r : RouterView) (session : ℕ) (old : PassView) (t : Told) (n : ℕ) (p : PassView) (u v : Told) (f : LinkFault) →
-    IsReading r session old t n p u → Received u (Err f) v → IsReadBy r session old.part t (read_end cause.LinkFault n None) p.part v
+    IsReading r session old t n p u → Received u (Err f) v → IsReadBy r session old.fragment t (read_end cause.LinkFault n None) p.fragment v
 ends_by_failure r session old t n p u v f i g = record {
   calls = i.calls;
   lost = [];
-  reads = told_else session old.part t u v i.calls p.part
+  reads = told_else session old.fragment t u v i.calls p.fragment
       (ap (λ (w : Told). w.handed) g.1.only) (ap (λ (w : Told). w.given) g.1.only) (ap (λ (w : Told). w.closed) g.1.only) i.reads;
   entered = i.entered;
   loses = record { is_told = refl; none = refl };
@@ -158,7 +158,7 @@ ends_by_failure r session old t n p u v f i g = record {
 pub ends_stale : (r : RouterView) (session : ℕ) (old : PassView) (t : Told) (n : ℕ) (p q : PassView) (u v : Told) (m : Message)
     (a : Answer) →
     IsReading r session old t n p u → Received u (Ok (got.Message m)) v → Answered r p (receive session m) a q → IsCalled r p q →
-    a.reply ≡ stale → IsReadBy r session old.part t (read_end cause.Stale (n + 1) None) q.part v
+    a.reply ≡ stale → IsReadBy r session old.fragment t (read_end cause.Stale (n + 1) None) q.fragment v
 ends_stale r session old t n p q u v m a i g h k is_stale = record {
   calls = i.calls ++ entry (receive session m) a.reply ∷ [];
   lost = [];
@@ -178,9 +178,9 @@ ends_stale r session old t n p q u v m a i g h k is_stale = record {
 -- a message was handed out and refused
 lost_one : (r : RouterView) (session : ℕ) (old : PassView) (t : Told) (n : ℕ) (p q : PassView) (u v : Told) (m : Message) (f : CallFault)
     (i : IsReading r session old t n p u) → Received u (Ok (got.Message m)) v → Refused f r p q → IsCalled r p q →
-    Reads session old.part t i.calls (m ∷ []) q.part v
+    Reads session old.fragment t i.calls (m ∷ []) q.fragment v
 lost_one r session old t n p q u v m f i g h k = record {
-  gained = gained_refused r old.part i.calls p q f i.reads.gained h k;
+  gained = gained_refused r old.fragment i.calls p q f i.reads.gained h k;
   messages = i.reads.messages;
   received = i.reads.received;
   handed = handed_on t u v i.reads.messages m i.reads.handed (ap (λ (w : Told). w.handed) g.1);
@@ -196,7 +196,7 @@ cause_of fault.Memory = cause.Memory
 pub ends_refused : (r : RouterView) (session : ℕ) (old : PassView) (t : Told) (n : ℕ) (p q : PassView) (u v : Told) (m : Message)
     (f : CallFault) →
     IsReading r session old t n p u → Received u (Ok (got.Message m)) v → Refused f r p q → IsCalled r p q →
-    IsReadBy r session old.part t (read_end (cause_of f) n (Some m)) q.part v
+    IsReadBy r session old.fragment t (read_end (cause_of f) n (Some m)) q.fragment v
 ends_refused r session old t n p q u v m fault.Full i g h k = record {
   calls = i.calls;
   lost = m ∷ [];

@@ -8,7 +8,7 @@ use Rattle.route_session.specs.Told.{Told, counted}
 use Rattle.route_session.specs.Turns.{Asked, ReadsByTurns, TakesByTurns}
 use Rattle.slot_lock.specs.declared.answer.Answer.{Answer}
 use Rattle.slot_lock.specs.Calls.{Answered}
-use Rattle.slot_lock.specs.Held.{Part, PassView, RouterView}
+use Rattle.slot_lock.specs.Passes.{Fragment, PassView, RouterView}
 
 counted_none : (told : Option ℕ) → told ≡ counted told 0
 counted_none None = refl
@@ -70,17 +70,17 @@ read_message may turn entered t u v m r goes_on g =
     }
 
 -- a writer
-pub no_turn_taken : (may : ℕ → Bool → Type 0) (p : Part) → TakesByTurns may 0 p p
+pub no_turn_taken : (may : ℕ → Bool → Type 0) (p : Fragment) → TakesByTurns may 0 p p
 no_turn_taken may p = record { takes = 0; calls = omega arith; asked = asked_none may }
 
-pub take_held_back : (may : ℕ → Bool → Type 0) (turn : ℕ) (old p : Part) → TakesByTurns may turn old p → may turn false →
+pub take_held_back : (may : ℕ → Bool → Type 0) (turn : ℕ) (old p : Fragment) → TakesByTurns may turn old p → may turn false →
     TakesByTurns may (turn + 1) old p
 take_held_back may turn old p r held = record { takes = r.takes; calls = r.calls; asked = held_back may turn r.takes r.asked held }
 
-pub take_made : (may : ℕ → Bool → Type 0) (turn : ℕ) (old : Part) (r : RouterView) (p q : PassView) (e : Event) (a : Answer) →
-    TakesByTurns may turn old p.part → may turn true → Answered r p e a q → TakesByTurns may (turn + 1) old q.part
+pub take_made : (may : ℕ → Bool → Type 0) (turn : ℕ) (old : Fragment) (r : RouterView) (p q : PassView) (e : Event) (a : Answer) →
+    TakesByTurns may turn old p.fragment → may turn true → Answered r p e a q → TakesByTurns may (turn + 1) old q.fragment
 take_made may turn old r p q e a before goes_on h =
-    let more = ap length h.mine ∙ length-append p.part.mine (a.at ∷ []) in
+    let more = ap length h.mine ∙ length-append p.fragment.mine (a.at ∷ []) in
     let so_far = before.calls in
     record {
       takes = before.takes + 1;

@@ -25,13 +25,13 @@ use Rattle.route_session.proofs.Gaining.{IsCalled, fresh_more, gained_none, gain
 use Rattle.route_session.proofs.Told.{grown_none, grown_more}
 use Rattle.slot_lock.specs.declared.answer.Answer.{Answer}
 use Rattle.slot_lock.specs.Calls.{Answered, Refused}
-use Rattle.slot_lock.specs.Held.{IsPassOf, PassView, RouterView}
+use Rattle.slot_lock.specs.Passes.{IsPassOf, PassView, RouterView}
 
 -- so many messages were accepted so far, and none is left
 pub record IsWriting (r : RouterView) (session : ℕ) (old : PassView) (t : Told) (n : ℕ) (new : PassView) (u : Told) : Type 0 where
   pub calls : List Entry
   pub accepted : List Message
-  pub writes : Writes session old.part t calls accepted [] new.part u
+  pub writes : Writes session old.fragment t calls accepted [] new.fragment u
   pub sent : length accepted ≡ n
   pub fresh : All IsFresh calls
   pub ended : u.ended ≡ t.ended
@@ -43,7 +43,7 @@ begins_writing r session p t of = record {
   calls = [];
   accepted = [];
   writes = record {
-    gained = gained_none p.part;
+    gained = gained_none p.fragment;
     takes = All-nil (Takes session);
     taken = refl;
     given = grown_none t.given;
@@ -69,9 +69,9 @@ taken_more calls e accepted h =
 taken_one : (r : RouterView) (session : ℕ) (old : PassView) (t : Told) (n : ℕ) (p q : PassView) (u v : Told) (a : Answer)
     (unsent : List Message)
     (i : IsWriting r session old t n p u) → Answered r p (take session) a q → IsCalled r p q → (h : Hands u (carried a.reply) unsent v) →
-    Writes session old.part t (i.calls ++ entry (take session) a.reply ∷ []) (i.accepted ++ h.accepted) unsent q.part v
+    Writes session old.fragment t (i.calls ++ entry (take session) a.reply ∷ []) (i.accepted ++ h.accepted) unsent q.fragment v
 taken_one r session old t n p q u v a unsent i answered k h = record {
-  gained = gained_one r old.part i.calls p q (take session) a i.writes.gained answered k;
+  gained = gained_one r old.fragment i.calls p q (take session) a i.writes.gained answered k;
   takes = All-append (Takes session) i.calls (entry (take session) a.reply ∷ []) i.writes.takes
       (All-cons (Takes session) (entry (take session) a.reply) [] refl (All-nil (Takes session)));
   taken = taken_more i.calls (entry (take session) a.reply) i.accepted i.writes.taken
@@ -97,8 +97,8 @@ writes_on r session old t n p q u v a unsent i answered k fresh h none = record 
   calls = i.calls ++ entry (take session) a.reply ∷ [];
   accepted = i.accepted ++ h.accepted;
   writes = subst
-      (λ (l : List Message). Writes session old.part t (i.calls ++ entry (take session) a.reply ∷ [])
-      (i.accepted ++ h.accepted) l q.part v) none
+      (λ (l : List Message). Writes session old.fragment t (i.calls ++ entry (take session) a.reply ∷ [])
+      (i.accepted ++ h.accepted) l q.fragment v) none
       (taken_one r session old t n p q u v a unsent i answered k h);
   sent = counted i.accepted h.accepted (carried a.reply) unsent n i.sent h.in_order;
   fresh = fresh_more i.calls (entry (take session) a.reply) i.fresh fresh;
@@ -112,7 +112,7 @@ abbrev pub write_end : Cause → ℕ → List Message → WriteEnd
 write_end why n unsent = record { cause = why; sent = n; unsent = unsent }
 
 pub ends_by_turns : (r : RouterView) (session : ℕ) (old : PassView) (t : Told) (n : ℕ) (p : PassView) (u : Told) →
-    IsWriting r session old t n p u → IsWrittenBy r session old.part t (write_end cause.Turns n []) p.part u
+    IsWriting r session old t n p u → IsWrittenBy r session old.fragment t (write_end cause.Turns n []) p.fragment u
 ends_by_turns r session old t n p u i = record {
   calls = i.calls;
   accepted = i.accepted;
@@ -127,7 +127,7 @@ pub ends_by_failure : (r : RouterView) (session : ℕ) (old : PassView) (t : Tol
     (unsent : List Message) →
     IsWriting r session old t n p u → Answered r p (take session) a q → IsCalled r p q → (a.reply ≡ stale → ⊥) →
     Hands u (carried a.reply) unsent v → (unsent ≡ [] → ⊥) →
-    IsWrittenBy r session old.part t (write_end cause.LinkFault (n + (length (carried a.reply) - length unsent)) unsent) q.part v
+    IsWrittenBy r session old.fragment t (write_end cause.LinkFault (n + (length (carried a.reply) - length unsent)) unsent) q.fragment v
 ends_by_failure r session old t n p q u v a unsent i answered k fresh h some = record {
   calls = i.calls ++ entry (take session) a.reply ∷ [];
   accepted = i.accepted ++ h.accepted;
@@ -153,7 +153,7 @@ hands_none u messages none = record {
 
 pub ends_stale : (r : RouterView) (session : ℕ) (old : PassView) (t : Told) (n : ℕ) (p q : PassView) (u : Told) (a : Answer) →
     IsWriting r session old t n p u → Answered r p (take session) a q → IsCalled r p q → a.reply ≡ stale →
-    IsWrittenBy r session old.part t (write_end cause.Stale n []) q.part u
+    IsWrittenBy r session old.fragment t (write_end cause.Stale n []) q.fragment u
 unfolding hands_none
 ends_stale r session old t n p q u a i answered k is_stale = record {
   calls = i.calls ++ entry (take session) a.reply ∷ [];
@@ -173,9 +173,9 @@ ends_stale r session old t n p q u a i answered k is_stale = record {
 
 -- a call was refused, which gains nothing
 refused_one : (r : RouterView) (session : ℕ) (old : PassView) (t : Told) (n : ℕ) (p q : PassView) (u : Told) (f : CallFault)
-    (i : IsWriting r session old t n p u) → Refused f r p q → IsCalled r p q → Writes session old.part t i.calls i.accepted [] q.part u
+    (i : IsWriting r session old t n p u) → Refused f r p q → IsCalled r p q → Writes session old.fragment t i.calls i.accepted [] q.fragment u
 refused_one r session old t n p q u f i h k = record {
-  gained = gained_refused r old.part i.calls p q f i.writes.gained h k;
+  gained = gained_refused r old.fragment i.calls p q f i.writes.gained h k;
   takes = i.writes.takes;
   taken = i.writes.taken;
   given = i.writes.given;
@@ -185,7 +185,7 @@ refused_one r session old t n p q u f i h k = record {
 
 pub ends_full : (r : RouterView) (session : ℕ) (old : PassView) (t : Told) (n : ℕ) (p q : PassView) (u : Told) →
     IsWriting r session old t n p u → Refused fault.Full r p q → IsCalled r p q →
-    IsWrittenBy r session old.part t (write_end cause.Full n []) q.part u
+    IsWrittenBy r session old.fragment t (write_end cause.Full n []) q.fragment u
 ends_full r session old t n p q u i h k = record {
   calls = i.calls;
   accepted = i.accepted;
@@ -198,7 +198,7 @@ ends_full r session old t n p q u i h k = record {
 
 pub ends_without_memory : (r : RouterView) (session : ℕ) (old : PassView) (t : Told) (n : ℕ) (p q : PassView) (u : Told) →
     IsWriting r session old t n p u → Refused fault.Memory r p q → IsCalled r p q →
-    IsWrittenBy r session old.part t (write_end cause.Memory n []) q.part u
+    IsWrittenBy r session old.fragment t (write_end cause.Memory n []) q.fragment u
 ends_without_memory r session old t n p q u i h k = record {
   calls = i.calls;
   accepted = i.accepted;

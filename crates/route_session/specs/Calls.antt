@@ -13,8 +13,8 @@ use Rattle.route_history.specs.History.{IsLegal}
 use Rattle.route_session.specs.declared.ends.Cause.{Cause}
 use Rattle.route_session.specs.declared.ends.Cause.TheVariants as cause
 use Rattle.route_session.specs.Told.{Rose, Told, ended_now}
-use Rattle.slot_lock.specs.Held.{Part}
-use Rattle.slot_lock.specs.Held.{IsOwn, IsPassOf, PassView, RouterView}
+use Rattle.slot_lock.specs.Passes.{Fragment}
+use Rattle.slot_lock.specs.Passes.{IsOwn, IsPassOf, PassView, RouterView}
 
 -- the event of a message that came in a session, and of taking at most 16 messages from its queue
 abbrev pub receive : ℕ → Message → Event
@@ -29,19 +29,19 @@ StandsAt seen position e = slice_get seen position ≡ Some e
 
 -- These calls, in this order, are what the caller's own calls grew by. What it has seen goes on from before, and its shares are
 -- the same.
-pub record Gained (old : Part) (calls : List Entry) (new : Part) : Type 0 where
+pub record Gained (old : Fragment) (calls : List Entry) (new : Fragment) : Type 0 where
   pub positions : List ℕ
   pub mine : new.mine ≡ old.mine ++ positions
   pub stand : AllZip (StandsAt new.seen) positions calls
   pub begins : Begins old.seen new.seen
-  pub missed : old.missed ≤ new.missed
+  pub failed_tries : old.failed_tries ≤ new.failed_tries
   pub shares : new.shares ≡ old.shares
 
 -- what was right of a pass stays right: it is one of the router, its positions are its own, and what it has seen is legal
 pub record StaysSound (r : RouterView) (old new : PassView) : Type 0 where
   pub of : IsPassOf r new
-  pub own : IsOwn old.part → IsOwn new.part
-  pub legal : IsLegal r.opening old.part.seen → IsLegal r.opening new.part.seen
+  pub own : IsOwn old.fragment → IsOwn new.fragment
+  pub legal : IsLegal r.opening old.fragment.seen → IsLegal r.opening new.fragment.seen
 
 -- the reply does not say that the session is over, and neither does that of a call
 abbrev pub stale : Reply
@@ -59,7 +59,7 @@ pub record EndsStale (calls : List Entry) : Type 0 where
   pub fresh_before : All IsFresh before
 
 -- what a cause says of the calls, and of the history that the pass has seen
-abbrev pub IsCauseIn : Cause → RouterView → List Entry → Part → Type 0
+abbrev pub IsCauseIn : Cause → RouterView → List Entry → Fragment → Type 0
 IsCauseIn cause.Stale r calls new = EndsStale calls
 IsCauseIn cause.Full r calls new = All IsFresh calls × (length new.seen ≡ r.limit)
 IsCauseIn _ r calls new = All IsFresh calls

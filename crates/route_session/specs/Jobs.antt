@@ -11,8 +11,8 @@ use Rattle.route_session.specs.Calls.{StaysSound}
 use Rattle.route_session.specs.Reads.{IsReadBy}
 use Rattle.route_session.specs.Told.{Told, closed}
 use Rattle.route_session.specs.Writes.{IsWrittenBy}
-use Rattle.slot_lock.specs.Held.{Part}
-use Rattle.slot_lock.specs.Held.{IsPassOf, RouterView}
+use Rattle.slot_lock.specs.Passes.{Fragment}
+use Rattle.slot_lock.specs.Passes.{IsPassOf, RouterView}
 
 -- each job has a pass of this router
 abbrev pub AreFor : {L : Type 0} → RouterView → List (Job L) → Type 0
@@ -23,25 +23,25 @@ abbrev pub AreBack : {L : Type 0} → RouterView → List (Finished L) → Type 
 AreBack r finished = All (λ f. IsPassOf r f.pass) finished
 
 abbrev pub shares_back : {L : Type 0} → Finished L → ℕ
-shares_back f = f.pass.part.shares
+shares_back f = f.pass.fragment.shares
 
-abbrev pub missed_back : {L : Type 0} → Finished L → ℕ
-missed_back f = f.pass.part.missed
+abbrev pub failed_tries_back : {L : Type 0} → Finished L → ℕ
+failed_tries_back f = f.pass.fragment.failed_tries
 
 abbrev pub mine_back : {L : Type 0} → Finished L → List ℕ
-mine_back f = f.pass.part.mine
+mine_back f = f.pass.fragment.mine
 
--- a pass and those of jobs that were done, in one: the shares and the tries that missed add up, the positions of the jobs' calls
+-- a pass and those of jobs that were done, in one: the shares and the failed tries add up, the positions of the jobs' calls
 -- follow the pass's own, in the order of the jobs, and what each of the passes had seen begins what the one has seen
-pub record Gathered {L : Type 0} (old : Part) (finished : List (Finished L)) (new : Part) : Type 0 where
+pub record Gathered {L : Type 0} (old : Fragment) (finished : List (Finished L)) (new : Fragment) : Type 0 where
   pub shares : new.shares ≡ old.shares + sum_by shares_back finished
-  pub missed : new.missed ≡ old.missed + sum_by missed_back finished
+  pub failed_tries : new.failed_tries ≡ old.failed_tries + sum_by failed_tries_back finished
   pub mine : new.mine ≡ old.mine ++ flat_map mine_back finished
   pub begins : Begins old.seen new.seen
-  pub each_begins : All (λ f. Begins f.pass.part.seen new.seen) finished
+  pub each_begins : All (λ f. Begins f.pass.fragment.seen new.seen) finished
 
 -- a reader ended as one, and a writer as one
-abbrev pub Did : RouterView → Role → ℕ → Part → Told → Ending → Part → Told → Type 0
+abbrev pub Did : RouterView → Role → ℕ → Fragment → Told → Ending → Fragment → Told → Type 0
 Did r role.Reader session old t (ending.Read end) new u = IsReadBy r session old t end new u
 Did r role.Writer session old t (ending.Write end) new u = IsWrittenBy r session old t end new u
 Did r _ session old t _ new u = ⊥
@@ -49,6 +49,6 @@ Did r _ session old t _ new u = ⊥
 -- a job was done, and its link is closed
 pub record IsFinished {L : Type 0} (told : L → Told) (r : RouterView) (j : Job L) (f : Finished L) : Type 0 where
   pub last : Told
-  pub did : Did r j.role j.session j.pass.part (told j.link) f.ending f.pass.part last
+  pub did : Did r j.role j.session j.pass.fragment (told j.link) f.ending f.pass.fragment last
   pub link : told f.link ≡ closed last
   pub pass : StaysSound r j.pass f.pass

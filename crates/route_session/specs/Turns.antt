@@ -3,7 +3,7 @@ use Rattle.std.specs.Prelude.{◌≡◌, ℕ, suc, ◌+◌, Bool, true, false, L
 use Rattle.route_session.specs.declared.ends.Cause.{Cause}
 use Rattle.route_session.specs.declared.ends.Cause.TheVariants as cause
 use Rattle.route_session.specs.Told.{Told, counted}
-use Rattle.slot_lock.specs.Held.{Part}
+use Rattle.slot_lock.specs.Passes.{Fragment}
 
 -- what a gate answered, the last turn first, is what it may answer at each turn
 abbrev pub AreAnswers : (ℕ → Bool → Type 0) → List Bool → Type 0
@@ -30,7 +30,7 @@ pub record ReadsByTurns (may : ℕ → Bool → Type 0) (turns entered : ℕ) (t
   pub asked : Asked may turns (entered + nothings)
 
 -- a writer's turns: at each that the gate let go it made one call, which is one position more that is the caller's own
-pub record TakesByTurns (may : ℕ → Bool → Type 0) (turns : ℕ) (old new : Part) : Type 0 where
+pub record TakesByTurns (may : ℕ → Bool → Type 0) (turns : ℕ) (old new : Fragment) : Type 0 where
   pub takes : ℕ
   pub calls : length new.mine ≡ length old.mine + takes
   pub asked : Asked may turns takes

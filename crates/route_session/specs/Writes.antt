@@ -8,8 +8,8 @@ use Rattle.route_session.specs.declared.ends.Cause.TheVariants as cause
 use Rattle.route_session.specs.declared.ends.WriteEnd.{WriteEnd}
 use Rattle.route_session.specs.Calls.{Gained, IsCauseAt, IsCauseIn, take}
 use Rattle.route_session.specs.Told.{Rose, Told, grown}
-use Rattle.slot_lock.specs.Held.{Part}
-use Rattle.slot_lock.specs.Held.{RouterView}
+use Rattle.slot_lock.specs.Passes.{Fragment}
+use Rattle.slot_lock.specs.Passes.{RouterView}
 
 -- the call takes messages of this session
 abbrev pub Takes : ℕ → Entry → Type 0
@@ -19,7 +19,7 @@ abbrev pub carried_by : Entry → List Message
 carried_by e = carried e.reply
 
 -- Each call takes messages of the session. What the replies carried is what the link accepted, and then what is left unsent.
-pub record Writes (session : ℕ) (old : Part) (t : Told) (calls : List Entry) (accepted unsent : List Message) (new : Part)
+pub record Writes (session : ℕ) (old : Fragment) (t : Told) (calls : List Entry) (accepted unsent : List Message) (new : Fragment)
     (u : Told) : Type 0 where
   pub gained : Gained old calls new
   pub takes : All (Takes session) calls
@@ -35,7 +35,7 @@ LeavesBy cause.LinkEnded unsent = ⊥
 LeavesBy _ unsent = unsent ≡ []
 
 -- a writer ended so
-pub record IsWrittenBy (r : RouterView) (session : ℕ) (old : Part) (t : Told) (end : WriteEnd) (new : Part) (u : Told) : Type 0 where
+pub record IsWrittenBy (r : RouterView) (session : ℕ) (old : Fragment) (t : Told) (end : WriteEnd) (new : Fragment) (u : Told) : Type 0 where
   pub calls : List Entry
   pub accepted : List Message
   pub writes : Writes session old t calls accepted end.unsent new u

@@ -2,7 +2,7 @@
 
 ghost use Rattle.std.specs.Prelude.{◌≡◌};
 ghost use Rattle.route_session.specs.Jobs.{IsFinished};
-ghost use Rattle.slot_lock.specs.Held.{IsPassOf};
+ghost use Rattle.slot_lock.specs.Passes.{IsPassOf};
 
 use crate::ends::{ReadEnd, WriteEnd};
 use crate::gate::Gate;

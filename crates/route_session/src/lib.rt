@@ -19,7 +19,7 @@ pub use channel_link::ChannelLink;
 pub use ends::{Cause, ReadEnd, WriteEnd};
 pub use fault::RunFault;
 pub use gate::Gate;
-pub use gather::join_passes;
+pub use gather::merge_passes;
 pub use job::{Ending, Finished, Job, Role};
 pub use link::{Got, Link, LinkFault};
 pub use memory_link::MemoryLink;

@@ -4,7 +4,7 @@ ghost use Rattle.std.specs.Prelude.{◌≡◌, ◌↔◌, IsTrue};
 ghost use Rattle.route_session.specs.Calls.{StaysSound, stale};
 ghost use Rattle.route_session.specs.Reads.{IsReadBy};
 ghost use Rattle.route_session.specs.Turns.{IfTurns, ReadsByTurns};
-ghost use Rattle.slot_lock.specs.Held.{IsPassOf};
+ghost use Rattle.slot_lock.specs.Passes.{IsPassOf};
 
 use crate::ends::{Cause, ReadEnd};
 use crate::gate::Gate;
@@ -39,7 +39,7 @@ pub fn read_session<R: Wait + Clock, L: Link, G: Gate>(
 ) -> ReadEnd
     requires { IsPassOf router.now pass.old }
     ensures pass { StaysSound router.now pass.old pass.new }
-    ensures read { IsReadBy router.now session pass.old.part (L.told link.old) result pass.new.part (L.told link.new) }
+    ensures read { IsReadBy router.now session pass.old.fragment (L.told link.old) result pass.new.fragment (L.told link.new) }
     ensures turns { IfTurns result.cause (ReadsByTurns (G.may_answer gate.now job) turns result.entered (L.told link.old) (L.told link.new)) }
 {
     let mut entered = 0;

@@ -5,7 +5,7 @@ ghost use Rattle.netchange_core.specs.Calls.{carried};
 ghost use Rattle.route_session.specs.Calls.{StaysSound};
 ghost use Rattle.route_session.specs.Turns.{IfTurns, TakesByTurns};
 ghost use Rattle.route_session.specs.Writes.{Hands, IsWrittenBy};
-ghost use Rattle.slot_lock.specs.Held.{IsPassOf};
+ghost use Rattle.slot_lock.specs.Passes.{IsPassOf};
 
 use crate::ends::{Cause, WriteEnd};
 use crate::gate::Gate;
@@ -38,8 +38,8 @@ pub fn write_session<R: Wait + Clock, L: Link, G: Gate>(
 ) -> WriteEnd
     requires { IsPassOf router.now pass.old }
     ensures pass { StaysSound router.now pass.old pass.new }
-    ensures written { IsWrittenBy router.now session pass.old.part (L.told link.old) result pass.new.part (L.told link.new) }
-    ensures turns { IfTurns result.cause (TakesByTurns (G.may_answer gate.now job) turns pass.old.part pass.new.part) }
+    ensures written { IsWrittenBy router.now session pass.old.fragment (L.told link.old) result pass.new.fragment (L.told link.new) }
+    ensures turns { IfTurns result.cause (TakesByTurns (G.may_answer gate.now job) turns pass.old.fragment pass.new.fragment) }
 {
     // So that the number of messages cannot overflow: a reply has at most as many as were asked for.
     taken_begins_sent();

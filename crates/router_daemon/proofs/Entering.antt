@@ -13,7 +13,7 @@ use Rattle.route_history.specs.declared.fault.CallFault.TheVariants as fault
 use Rattle.router_operator.specs.OperatorView.{Names, filter_of}
 use Rattle.router_options.specs.declared.parts.FilterUse.{FilterUse}
 use Rattle.slot_lock.specs.Calls.{Answered, Refused}
-use Rattle.slot_lock.specs.Held.{IsPassOf, PassView, RouterView}
+use Rattle.slot_lock.specs.Passes.{IsPassOf, PassView, RouterView}
 use Rattle.slot_lock.specs.declared.answer.Answer.{Answer}
 use Rattle.router_daemon.specs.Passes.{IsLegalPass}
 use Rattle.router_daemon.specs.Uses.{SetsEach, SetsOne}
@@ -27,7 +27,7 @@ pub legal_refused : (why : CallFault) (r : RouterView) (old new : PassView) → 
     Refused why r old new → IsLegalPass r new
 legal_refused fault.Full r old new of before h = record { of = of; legal = h.legal }
 legal_refused fault.Memory r old new of before h =
-    record { of = of; legal = subst (λ (p : PassView). IsLegal r.opening p.part.seen) (sym h.1) before.legal }
+    record { of = of; legal = subst (λ (p : PassView). IsLegal r.opening p.fragment.seen) (sym h.1) before.legal }
 
 -- the filters of these uses were set, and then one more
 pub sets_more : (r : RouterView) (way : Direction) (names : Names) (uses : List FilterUse) (used : FilterUse) (old mid new : PassView) →

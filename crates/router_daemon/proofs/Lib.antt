@@ -1,7 +1,7 @@
-pub mod Dividing
 pub mod Entering
 pub mod Lines
 pub mod Looking
 pub mod Passes
 pub mod Running
 pub mod Serving
+pub mod Splitting

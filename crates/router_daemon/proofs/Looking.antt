@@ -1,6 +1,6 @@
 -- How a history is saved from one look to the next.
 use Rattle.history_saver.specs.Looking.{Looks}
-use Rattle.slot_lock.specs.Held.{PassView, RouterView}
+use Rattle.slot_lock.specs.Passes.{PassView, RouterView}
 use Rattle.router_daemon.specs.Passes.{IsLegalPass}
 
 -- a pass that looks stays legal

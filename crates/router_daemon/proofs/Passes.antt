@@ -4,8 +4,8 @@ use Rattle.netchange_core.specs.OpeningView.{OpeningView}
 use Rattle.route_history.specs.History.{IsLegal}
 use Rattle.route_history.specs.declared.entry.Entry.{Entry}
 use Rattle.route_session.specs.Calls.{StaysSound}
-use Rattle.slot_lock.specs.Calls.{Joined}
-use Rattle.slot_lock.specs.Held.{IsFirst, IsPassOf, Part, PassView, RouterView}
+use Rattle.slot_lock.specs.Calls.{Merged}
+use Rattle.slot_lock.specs.Passes.{Fragment, IsFirst, IsPassOf, PassView, RouterView}
 use Rattle.router_daemon.specs.Passes.{IsLegalPass}
 
 pub legal_if : (o : OpeningView) (a b : List Entry) (c : Bool) → IsLegal o a → IsLegal o b → IsLegal o (if c then b else a)
@@ -13,14 +13,14 @@ legal_if o a b true la lb = lb
 legal_if o a b false la lb = la
 
 -- of two legal histories the longer one is legal
-pub legal_joined : (o : OpeningView) (p q new : Part) → Joined p q new → IsLegal o p.seen → IsLegal o q.seen → IsLegal o new.seen
-legal_joined o p q new j lp lq = subst (λ (x : Part). IsLegal o x.seen) (sym j.part)
+pub legal_merged : (o : OpeningView) (p q new : Fragment) → Merged p q new → IsLegal o p.seen → IsLegal o q.seen → IsLegal o new.seen
+legal_merged o p q new j lp lq = subst (λ (x : Fragment). IsLegal o x.seen) (sym j.fragment)
     (legal_if o p.seen q.seen (nat_lt (length p.seen) (length q.seen)) lp lq)
 
 -- a pass that took another one in
-pub legal_after_join : (r : RouterView) (p q new : PassView) → IsLegalPass r p → IsLegalPass r q → IsPassOf r new
-    → Joined p.part q.part new.part → IsLegalPass r new
-legal_after_join r p q new hp hq of j = record { of = of; legal = legal_joined r.opening p.part q.part new.part j hp.legal hq.legal }
+pub legal_after_merge : (r : RouterView) (p q new : PassView) → IsLegalPass r p → IsLegalPass r q → IsPassOf r new
+    → Merged p.fragment q.fragment new.fragment → IsLegalPass r new
+legal_after_merge r p q new hp hq of j = record { of = of; legal = legal_merged r.opening p.fragment q.fragment new.fragment j hp.legal hq.legal }
 
 -- what a session does to a pass
 pub legal_sound : (r : RouterView) (old new : PassView) → IsLegalPass r old → StaysSound r old new → IsLegalPass r new
@@ -28,4 +28,4 @@ legal_sound r old new h s = record { of = s.of; legal = s.legal h.legal }
 
 -- the first pass has seen nothing
 pub legal_first : (r : RouterView) (p : PassView) → IsFirst r p → IsLegalPass r p
-legal_first r p h = record { of = h.of; legal = subst (λ (x : Part). IsLegal r.opening x.seen) (sym h.part) tt }
+legal_first r p h = record { of = h.of; legal = subst (λ (x : Fragment). IsLegal r.opening x.seen) (sym h.fragment) tt }

@@ -8,7 +8,7 @@ use Rattle.route_history.specs.declared.entry.Entry.{Entry}
 use Rattle.router_operator.specs.OperatorView.{Names, OperatorView}
 use Rattle.router_operator.specs.Running.{IsBrokenOff, IsServed}
 use Rattle.router_options.specs.PlanView.{PlanView}
-use Rattle.slot_lock.specs.Held.{PassView, RouterView}
+use Rattle.slot_lock.specs.Passes.{PassView, RouterView}
 use Rattle.router_daemon.specs.Passes.{IsLegalPass}
 use Rattle.router_daemon.specs.Running.{Fails, HasOperator, IsEarly, IsOpened, IsWhy, Operated, Operates, RunsAsOne, RunsOperator, Saves, SavesTo, operator_of}
 use Rattle.router_daemon.specs.Uses.{BeginsWithFilters}
@@ -27,15 +27,15 @@ operated before after now (Err why) (Some input) left held holds is served broke
 
 -- the operator has a pass that was handed on
 pub has_operator : (r : RouterView) (given p : PassView) (names : Names) (links : List ℕ) (answered : Result ℕ StreamFault)
-    (known left held holds : Option (List ℕ)) (now : PassView) → p ≡ given → given.part.mine ≡ [] → IsLegalPass r p →
+    (known left held holds : Option (List ℕ)) (now : PassView) → p ≡ given → given.fragment.mine ≡ [] → IsLegalPass r p →
     IfSome known (λ input. (end : OperatorView) × (end.pass ≡ now) × Operates (operator_of r p names links) end answered input left held holds) →
-    IfSome known (λ input. HasOperator r given.part.seen names links answered input left held holds now)
+    IfSome known (λ input. HasOperator r given.fragment.seen names links answered input left held holds now)
 has_operator r given p names links answered None left held holds now same no_calls legal h = tt
 has_operator r given p names links answered (Some input) left held holds now same no_calls legal (end, now_is, operates) = record {
   pass = p;
   legal = legal;
-  seen = ap (λ (v : PassView). v.part.seen) same;
-  no_calls = ap (λ (v : PassView). v.part.mine) same ∙ no_calls;
+  seen = ap (λ (v : PassView). v.fragment.seen) same;
+  no_calls = ap (λ (v : PassView). v.fragment.mine) same ∙ no_calls;
   after = end;
   operates = operates;
   now_is = now_is;
@@ -79,7 +79,7 @@ from_none r entries (Some first) None h = absurd h
 
 -- The router is opened as the plan says, and the pass of who opened it has set the filters.
 module _ (plan : PlanView) (names : Names) (r : RouterView) (first : PassView) (nodes : List ℕ) (known left held holds : Option (List ℕ))
-    (is_opened : IsOpened plan r) (sets : BeginsWithFilters r plan names first) (entries : List Entry) (seen : entries ≡ first.part.seen)
+    (is_opened : IsOpened plan r) (sets : BeginsWithFilters r plan names first) (entries : List Entry) (seen : entries ≡ first.fragment.seen)
     (are : nodes ≡ map (λ link. link.node) plan.links) where
   -- its operator, said of the plan
   runs_operator : (answered : Result ℕ StreamFault) (input : List ℕ) (now : PassView) → HasOperator r entries names nodes answered input left held holds now
@@ -88,7 +88,7 @@ module _ (plan : PlanView) (names : Names) (r : RouterView) (first : PassView) (
     is_opened = is_opened;
     first = first;
     sets = sets;
-    operator = subst (λ (l : List ℕ). HasOperator r first.part.seen names l answered input left held holds now) are
+    operator = subst (λ (l : List ℕ). HasOperator r first.fragment.seen names l answered input left held holds now) are
         (subst (λ (l : List Entry). HasOperator r l names nodes answered input left held holds now) seen h);
   }
 
@@ -105,7 +105,7 @@ module _ (plan : PlanView) (names : Names) (r : RouterView) (first : PassView) (
       split (Some input) g = (r, now, runs_operator answered input now g)
 
   as_one : (answered : Result ℕ StreamFault) (refused : ℕ) (now : PassView) (given : Option (Option (List ℕ))) (saved : Option SaverView) →
-      answered ≡ Ok refused → SavesTo r now.part.seen given saved → Kept answered now →
+      answered ≡ Ok refused → SavesTo r now.fragment.seen given saved → Kept answered now →
       IfSome known (λ input. RunsAsOne plan names given saved refused input left held holds)
   as_one answered refused now given saved is saves h = split known h
     where
@@ -119,20 +119,20 @@ module _ (plan : PlanView) (names : Names) (r : RouterView) (first : PassView) (
   module _ {O : Type 0} (answered_of : O → Result ℕ StreamFault) (pass_of : O → PassView) where
     pub run_is_one : (ran : Result O AllocError) (refused : ℕ) (begun given : Option (Option (List ℕ))) (saved : Option SaverView) → begun ≡ given →
         IfOk ran (λ o. Kept (answered_of o) (pass_of o)) →
-        IsOkAnd ran (λ o. (answered_of o ≡ Ok refused) × SavesTo r (pass_of o).part.seen begun saved) →
+        IsOkAnd ran (λ o. (answered_of o ≡ Ok refused) × SavesTo r (pass_of o).fragment.seen begun saved) →
         IfSome known (λ input. RunsAsOne plan names given saved refused input left held holds)
     run_is_one (Ok o) refused begun given saved same h (is, saves) =
         as_one (answered_of o) refused (pass_of o) given saved is
-        (subst (λ (f : Option (Option (List ℕ))). SavesTo r (pass_of o).part.seen f saved) same saves) h
+        (subst (λ (f : Option (Option (List ℕ))). SavesTo r (pass_of o).fragment.seen f saved) same saves) h
     run_is_one (Err why) refused begun given saved same h ends = absurd ends
 
     pub run_saves : (ran : Result O AllocError) (refused : ℕ) (begun given : Option (Option (List ℕ))) (saved : Option SaverView) → begun ≡ given →
-        IsOkAnd ran (λ o. (answered_of o ≡ Ok refused) × SavesTo r (pass_of o).part.seen begun saved) → Saves plan given saved
+        IsOkAnd ran (λ o. (answered_of o ≡ Ok refused) × SavesTo r (pass_of o).fragment.seen begun saved) → Saves plan given saved
     run_saves (Ok o) refused begun given saved same (is, saves) = (
       r,
       is_opened,
-      from_none r (pass_of o).part.seen given saved
-          (subst (λ (f : Option (Option (List ℕ))). SavesTo r (pass_of o).part.seen f saved) same saves),
+      from_none r (pass_of o).fragment.seen given saved
+          (subst (λ (f : Option (Option (List ℕ))). SavesTo r (pass_of o).fragment.seen f saved) same saves),
     )
     run_saves (Err why) refused begun given saved same ends = absurd ends
 

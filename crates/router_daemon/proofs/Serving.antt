@@ -7,8 +7,8 @@ use Rattle.neighbour_session.specs.Ending.{GoesDown}
 use Rattle.neighbour_session.specs.Keeping.{IsHeard, one_less}
 use Rattle.neighbour_session.specs.declared.ends.SessionEnd.{SessionEnd}
 use Rattle.neighbour_session.specs.declared.ends.SessionEnd.TheVariants as end
-use Rattle.slot_lock.specs.Calls.{Joined}
-use Rattle.slot_lock.specs.Held.{Part, PassView, RouterView}
+use Rattle.slot_lock.specs.Calls.{Merged}
+use Rattle.slot_lock.specs.Passes.{Fragment, PassView, RouterView}
 use Rattle.slot_lock.specs.declared.answer.Answer.{Answer}
 use Rattle.router_daemon.specs.Links.{IsOver, ServesNeighbour}
 
@@ -20,9 +20,9 @@ by_anybody r session input old why new h = elim h [ inl down ↦ inl down | inr 
 
 -- its Up was entered at a router that is this one, a share was cut off, the session was served, and the pass of who wrote came back
 pub serves : (at r : RouterView) (neighbour : ℕ) (input : ReaderView) (old : PassView) (session : ℕ) (a : Answer) (up cut mid new : PassView)
-    (why : SessionEnd) (other : Part) → at ≡ r → Opens at neighbour old session a up → cut ≡ one_less up → IsOver r session input cut why mid →
-    Joined mid.part other new.part → ServesNeighbour r neighbour input old why new
-serves at r neighbour input old session a up cut mid new why other named opens is over joined = record {
+    (why : SessionEnd) (other : Fragment) → at ≡ r → Opens at neighbour old session a up → cut ≡ one_less up → IsOver r session input cut why mid →
+    Merged mid.fragment other new.fragment → ServesNeighbour r neighbour input old why new
+serves at r neighbour input old session a up cut mid new why other named opens is over merged = record {
   mid = mid;
   served = inr (record {
     session = session;
@@ -31,5 +31,5 @@ serves at r neighbour input old session a up cut mid new why other named opens i
     opens = subst (λ (x : RouterView). Opens x neighbour old session a up) named opens;
     after = by_anybody r session input (one_less up) why mid (subst (λ (p : PassView). IsOver r session input p why mid) is over);
   });
-  back = inr (other, joined);
+  back = inr (other, merged);
 }

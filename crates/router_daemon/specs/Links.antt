@@ -10,7 +10,7 @@ use Rattle.neighbour_session.specs.declared.ends.SessionEnd.{SessionEnd}
 use Rattle.neighbour_session.specs.declared.ends.SessionEnd.TheVariants as end
 use Rattle.neighbour_session.specs.declared.greeting.Domain.{Domain}
 use Rattle.router_options.specs.declared.parts.LinkFiles.{LinkFiles}
-use Rattle.slot_lock.specs.Held.{PassView, RouterView}
+use Rattle.slot_lock.specs.Passes.{PassView, RouterView}
 use Rattle.router_daemon.specs.Passes.{TakesBack}
 
 -- A session whose Up was entered is over: it went down with nobody to serve it; or anybody entered what the neighbour said, and its Down.

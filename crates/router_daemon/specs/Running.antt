@@ -9,7 +9,7 @@ use Rattle.route_history.specs.declared.entry.Entry.{Entry}
 use Rattle.router_operator.specs.OperatorView.{Names, OperatorView}
 use Rattle.router_operator.specs.Running.{IsBrokenOff, IsServed}
 use Rattle.router_options.specs.PlanView.{PlanView}
-use Rattle.slot_lock.specs.Held.{PassView, RouterView}
+use Rattle.slot_lock.specs.Passes.{PassView, RouterView}
 use Rattle.router_daemon.specs.Passes.{IsLegalPass}
 use Rattle.router_daemon.specs.Uses.{BeginsWithFilters}
 use Rattle.router_daemon.specs.declared.fault.DaemonFault.{DaemonFault}
@@ -31,8 +31,8 @@ pub record HasOperator (r : RouterView) (entries : List Entry) (names : Names) (
     (input : List ℕ) (left held holds : Option (List ℕ)) (now : PassView) : Type 0 where
   pub pass : PassView
   pub legal : IsLegalPass r pass
-  pub seen : pass.part.seen ≡ entries
-  pub no_calls : pass.part.mine ≡ []
+  pub seen : pass.fragment.seen ≡ entries
+  pub no_calls : pass.fragment.mine ≡ []
   pub after : OperatorView
   pub operates : Operates (operator_of r pass names links) after answered input left held holds
   pub now_is : after.pass ≡ now
@@ -48,7 +48,7 @@ pub record RunsOperator (plan : PlanView) (names : Names) (answered : Result ℕ
   pub is_opened : IsOpened plan r
   pub first : PassView
   pub sets : BeginsWithFilters r plan names first
-  pub operator : HasOperator r first.part.seen names (map (λ link. link.node) plan.links) answered input left held holds now
+  pub operator : HasOperator r first.fragment.seen names (map (λ link. link.node) plan.links) answered input left held holds now
 
 -- there was such a router, and such an operator of it
 abbrev pub Operated : PlanView → Names → Result ℕ StreamFault → List ℕ → Option (List ℕ) → Option (List ℕ) → Option (List ℕ) → Type 0
@@ -80,7 +80,7 @@ Saves plan first saved = (r : RouterView) × IsOpened plan r × SavesTo r [] fir
 abbrev pub RunsAsOne : PlanView → Names → Option (Option (List ℕ)) → Option SaverView → ℕ → List ℕ → Option (List ℕ) → Option (List ℕ)
     → Option (List ℕ) → Type 0
 RunsAsOne plan names first saved refused input left held holds = (r : RouterView) × (now : PassView)
-    × RunsOperator plan names (Ok refused) input left held holds r now × SavesTo r now.part.seen first saved
+    × RunsOperator plan names (Ok refused) input left held holds r now × SavesTo r now.fragment.seen first saved
 
 -- Why a router was not run to its end: a fault broke the operator's lines off; or they were answered to their end, and the history is not
 -- saved whole; or no line was read.

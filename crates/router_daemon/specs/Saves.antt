@@ -1,7 +1,7 @@
 -- What who saves a history leaves. (This project's own choice.)
 use Rattle.std.specs.Prelude.{◌≡◌, Some, None, length}
 use Rattle.history_saver.specs.Saved.{HasSaved, SaverView, seen_by}
-use Rattle.slot_lock.specs.Held.{PassView, RouterView}
+use Rattle.slot_lock.specs.Passes.{PassView, RouterView}
 use Rattle.router_daemon.specs.Passes.{IsLegalPass}
 
 -- who saves a history, and the pass by which it is read
@@ -13,4 +13,4 @@ pub record SavedView : Type 0 where
 pub record IsSaved (r : RouterView) (s : SaverView) (p : PassView) : Type 0 where
   pub legal : IsLegalPass r p
   pub has : HasSaved s (seen_by r p)
-  pub all : s.fault ≡ None → s.saved ≡ Some (length p.part.seen)
+  pub all : s.fault ≡ None → s.saved ≡ Some (length p.fragment.seen)

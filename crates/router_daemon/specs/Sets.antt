@@ -3,7 +3,7 @@ use Rattle.std.specs.Prelude.{◌≡◌, refl, ℕ, Bool, List, Option, Some}
 use Rattle.std.specs.Coded.{Coded, Coded-set, code_by, coded×, coded_ℕ, coded_bool, coded_list, coded_option}
 use Rattle.atomic_table.specs.Seated.{table_id_coded, TableId}
 use Rattle.netchange_core.specs.OpeningView.{OpeningView}
-use Rattle.slot_lock.specs.Held.{IsPassOf, PassView, RouterView}
+use Rattle.slot_lock.specs.Passes.{IsPassOf, PassView, RouterView}
 
 abbrev opening_coded : Coded OpeningView
 opening_coded = code_by (ℕ × (ℕ × List (List Bool))) (coded× coded_ℕ (coded× coded_ℕ (coded_list (coded_list coded_bool))))

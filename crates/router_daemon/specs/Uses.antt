@@ -10,7 +10,7 @@ use Rattle.router_operator.specs.OperatorView.{Names, filter_of}
 use Rattle.router_options.specs.PlanView.{PlanView}
 use Rattle.router_options.specs.declared.parts.FilterUse.{FilterUse}
 use Rattle.slot_lock.specs.Calls.{Answered}
-use Rattle.slot_lock.specs.Held.{IsFirst, PassView, RouterView}
+use Rattle.slot_lock.specs.Passes.{IsFirst, PassView, RouterView}
 use Rattle.slot_lock.specs.declared.answer.Answer.{Answer}
 
 -- The filter of a name is set at a neighbour, in a direction, by one call. Where nothing has the name, nothing is called.

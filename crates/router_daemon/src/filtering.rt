@@ -19,7 +19,7 @@ use std::sync::{Arc, Wait};
 fn enter<R: Wait>(rt: &R, router: &Router, pass: &mut Pass, event: Event) -> Result<(), DaemonFault>
     requires { IsLegalPass router.now pass.old }
     ensures legal { IsLegalPass router.now pass.new }
-    ensures shares { pass.new.part.shares ≡ pass.old.part.shares }
+    ensures shares { pass.new.fragment.shares ≡ pass.old.fragment.shares }
     ensures entered { OnOk result ((answer : Answer) × Answered router.now pass.old event answer pass.new) }
     ensures early { IfErr result IsEarly }
 {
@@ -40,7 +40,7 @@ fn set_one<R: Wait>(
 ) -> Result<(), DaemonFault>
     requires { IsLegalPass router.now pass.old }
     ensures legal { IsLegalPass router.now pass.new }
-    ensures shares { pass.new.part.shares ≡ pass.old.part.shares }
+    ensures shares { pass.new.fragment.shares ≡ pass.old.fragment.shares }
     ensures set { OnOk result (spec.SetsOne router.now direction (filter_of filters.now.entries (string_bytes used.now.name)) used.now.node
         pass.old pass.new) }
     ensures early { IfErr result IsEarly }
@@ -65,7 +65,7 @@ fn set_each<R: Wait>(
 ) -> Result<(), DaemonFault>
     requires { IsLegalPass router.now pass.old }
     ensures legal { IsLegalPass router.now pass.new }
-    ensures shares { pass.new.part.shares ≡ pass.old.part.shares }
+    ensures shares { pass.new.fragment.shares ≡ pass.old.fragment.shares }
     ensures set { OnOk result (spec.SetsEach router.now direction filters.now.entries uses.now pass.old pass.new) }
     ensures early { IfErr result IsEarly }
 {
@@ -85,7 +85,7 @@ pub(crate) fn set_filters<R: Wait>(
 ) -> Result<(), DaemonFault>
     requires { IsLegalPass router.now pass.old }
     ensures legal { IsLegalPass router.now pass.new }
-    ensures shares { pass.new.part.shares ≡ pass.old.part.shares }
+    ensures shares { pass.new.fragment.shares ≡ pass.old.fragment.shares }
     ensures set { OnOk result (spec.SetsFilters router.now plan.now filters.now.entries pass.old pass.new) }
     ensures early { IfErr result IsEarly }
 {

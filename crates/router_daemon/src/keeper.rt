@@ -1,6 +1,6 @@
 //! Who keeps a link.
 ghost use Rattle.std.specs.Prelude.{◌≡◌, ◌<◌, ⊤, false, IfErr, IfOk};
-ghost use Rattle.slot_lock.specs.Held.{IsPassOf};
+ghost use Rattle.slot_lock.specs.Passes.{IsPassOf};
 ghost use Rattle.router_daemon.specs.Links.{AreFresh, IsOver, IsUnopened, IsUnreadable, KeepsOnce, Serves, ServesNeighbour};
 ghost use Rattle.neighbour_session.specs.Reading.{Hears};
 
@@ -212,7 +212,7 @@ fn serve_neighbour<R: Wait + Clock, I: Read + Drop, O: Write + Drop, J: Naming, 
     pass: &mut Pass,
 ) -> SessionEnd
     requires of { IsPassOf J.router pass.old }
-    requires shares { 1 < pass.old.part.shares }
+    requires shares { 1 < pass.old.fragment.shares }
     ensures of { IsPassOf J.router pass.new }
     ensures served { ServesNeighbour J.router link.now.files.node input pass.old result pass.new }
 {
@@ -229,7 +229,7 @@ fn serve_neighbour<R: Wait + Clock, I: Read + Drop, O: Write + Drop, J: Naming, 
         ticket: Ticket::new(shared.router.split(pass, 1)),
     };
     let (why, ticket) = serve_opened(rt, alloc, shared, room, link, input, order, &answer, pass);
-    shared.router.join(pass, ticket.pass());
+    shared.router.merge(pass, ticket.pass());
     why
 }
 

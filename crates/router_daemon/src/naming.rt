@@ -1,6 +1,6 @@
 //! Passes of the one router that all threads of a program call.
 ghost use Rattle.std.specs.Prelude.{◌≡◌};
-ghost use Rattle.slot_lock.specs.Held.{IsPassOf};
+ghost use Rattle.slot_lock.specs.Passes.{IsPassOf};
 ghost use Rattle.router_daemon.specs.Passes.{IsLegalPass};
 ghost use Rattle.router_daemon.specs.Sets.{IsPassOf-prop};
 
@@ -46,7 +46,7 @@ pub(crate) struct LegalTicket<J: Naming> {
 }
 
 impl<J: Naming> Model for LegalTicket<J> {
-    ghost use Rattle.slot_lock.specs.Held.{PassView};
+    ghost use Rattle.slot_lock.specs.Passes.{PassView};
     ghost use Rattle.router_daemon.specs.Passes.{IsLegalPass};
 
     ghost Value = { PassView };

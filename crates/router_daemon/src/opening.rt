@@ -3,7 +3,7 @@ ghost use Rattle.std.specs.Prelude.{◌≡◌, IfErr, IfOk};
 ghost use Rattle.router_daemon.specs.Passes.{IsLegalPass};
 ghost use Rattle.router_daemon.specs.Running.{IsEarly};
 ghost use Rattle.router_daemon.specs.Uses.{BeginsWithFilters};
-ghost use Rattle.slot_lock.specs.Held.{IsFirst};
+ghost use Rattle.slot_lock.specs.Passes.{IsFirst};
 
 use crate::fault::DaemonFault;
 use crate::filtering::set_filters;

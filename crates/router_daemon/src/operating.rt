@@ -85,9 +85,9 @@ pub(crate) fn serve_lines<R: Wait + Clock, I: Read, W: Write, J: Naming, E: Writ
 ) -> OperatorEnd<J>
     requires size { figures.size ≡ J.router.opening.size }
     requires limit { figures.limit ≡ J.router.limit }
-    requires no_calls { ticket.part.mine ≡ [] }
+    requires no_calls { ticket.fragment.mine ≡ [] }
     ensures { IfSome (I.remaining reader.old) (λ input.
-        HasOperator J.router ticket.part.seen filters.entries shared.now.nodes.items result.answered input (I.remaining reader.new)
+        HasOperator J.router ticket.fragment.seen filters.entries shared.now.nodes.items result.answered input (I.remaining reader.new)
         (W.contents writer.old) (W.contents writer.new) result.ticket.pass) }
 {
     let pass = ticket.pass();

@@ -48,7 +48,7 @@ fn begin_saving<
 ) -> Result<Option<Saving<V, J>>, DaemonFault>
     requires { IsLegalPass J.router pass.old }
     ensures legal { IsLegalPass J.router pass.new }
-    ensures same { (pass.new.part.seen ≡ pass.old.part.seen) × (pass.new.part.mine ≡ pass.old.part.mine) }
+    ensures same { (pass.new.fragment.seen ≡ pass.old.fragment.seen) × (pass.new.fragment.mine ≡ pass.old.fragment.mine) }
     ensures file { IfOk result (λ saving. option_map (λ thread. V.contents thread.promise.0.value) saving ≡ option_map (λ file. V.contents file) save) }
     ensures early { IfErr result IsEarly }
 {
@@ -70,7 +70,7 @@ fn end_saving<R: Threads + Wait, V: Write + Drop, J: Naming, E: Write>(
     saving: Option<Saving<V, J>>,
     ticket: Ticket<J>,
 ) -> Result<Option<Saver<V>>, SaveFault>
-    ensures { IfOk result (SavesTo J.router ticket.pass.part.seen (option_map (λ thread. V.contents thread.promise.0.value) saving)) }
+    ensures { IfOk result (SavesTo J.router ticket.pass.fragment.seen (option_map (λ thread. V.contents thread.promise.0.value) saving)) }
 {
     let Some(saving) = saving else {
         return Ok(None);
@@ -109,7 +109,7 @@ fn serve_all<
     requires limit { figures.limit ≡ J.router.limit }
     ensures legal { IsLegalPass J.router pass.new }
     ensures operated { IfOk result (λ operated. IfSome (I.remaining reader.old) (λ input.
-        HasOperator J.router pass.old.part.seen filters.entries shared.now.value.nodes.items operated.answered input (I.remaining reader.new)
+        HasOperator J.router pass.old.fragment.seen filters.entries shared.now.value.nodes.items operated.answered input (I.remaining reader.new)
         (W.contents writer.old) (W.contents writer.new) operated.ticket.pass)) }
     ensures untouched { OnErr result ((reader.new ≡ reader.old) × (writer.new ≡ writer.old)) }
 {
@@ -149,7 +149,7 @@ fn end_run<R: Threads + Wait, V: Write + Drop, J: Naming, E: Write>(
     ran: Result<OperatorEnd<J>, AllocError>,
 ) -> Result<RouterEnd<V>, DaemonFault>
     ensures ok { IfOk result (λ end. IsOkAnd ran (λ operated. (operated.answered ≡ Ok end.refused)
-        × SavesTo J.router operated.ticket.pass.part.seen (option_map (λ thread. V.contents thread.promise.0.value) saving) end.saved)) }
+        × SavesTo J.router operated.ticket.pass.fragment.seen (option_map (λ thread. V.contents thread.promise.0.value) saving) end.saved)) }
     ensures err { IfErr result (λ why. MatchResult ran (λ operated. spec.IsWhy operated.answered why) (λ _. why ≡ fault.Memory)) }
 {
     match ran {

@@ -49,14 +49,14 @@ impl<V: Write + Drop, J: Naming> Saved<V, J> {
         shared: &Shared<J, E>,
         other: Ticket<J>,
     ) -> Result<Saver<V>, SaveFault>
-        ensures { IfOk result (HasWhole J.router other.pass.part.seen self.saver.first) }
+        ensures { IfOk result (HasWhole J.router other.pass.fragment.seen self.saver.first) }
     {
         let Saved { mut saver, ticket } = self;
         let mut pass = ticket.pass();
         if let Some(fault) = saver.fault() {
             return Err(fault);
         }
-        shared.router.join(&mut pass, other.pass());
+        shared.router.merge(&mut pass, other.pass());
         match saver.save(rt, alloc, &shared.router, &mut pass) {
             Ok(_) => Ok(saver),
             Err(fault) => {
@@ -117,7 +117,7 @@ fn save_all<R: Wait + Clock, V: Write, J: Naming, E: Write>(
     ensures legal { IsLegalPass J.router pass.new }
     ensures saved { HasSaved saver.new (seen_by J.router pass.new) }
     ensures first { saver.new.first ≡ saver.old.first }
-    ensures all { saver.new.fault ≡ None → saver.new.saved ≡ Some (length pass.new.part.seen) }
+    ensures all { saver.new.fault ≡ None → saver.new.saved ≡ Some (length pass.new.fragment.seen) }
 {
     let mut is_closing = false;
     for _ in rt.forever() {

@@ -16,8 +16,8 @@ use Rattle.route_history.specs.History.{IsLegal, IsLegalFrom, world_after}
 use Rattle.route_history.specs.declared.entry.Entry.{Entry}
 use Rattle.route_history.specs.declared.fault.CallFault.{CallFault}
 use Rattle.route_history.specs.declared.fault.CallFault.TheVariants as call_fault
-use Rattle.slot_lock.specs.Calls.{Answered, IsAtLimit, Refused, missing}
-use Rattle.slot_lock.specs.Held.{PassView, RouterView}
+use Rattle.slot_lock.specs.Calls.{Answered, IsAtLimit, Refused, pass_with_failed_tries}
+use Rattle.slot_lock.specs.Passes.{PassView, RouterView}
 use Rattle.slot_lock.specs.declared.answer.Answer.{Answer as CallAnswer}
 use Rattle.router_operator.specs.Looking.{AnswersCall}
 use Rattle.router_operator.specs.OperatorView.{IsAt, Names, OperatorView, journal_with}
@@ -55,7 +55,7 @@ module _ (before : OperatorView) (happened : Event) (a : CallAnswer) (pass : Pas
         answers = e ∙ ap (λ (n : ℕ). reply_answer n a.reply) h.position ∙ ap (λ (r : Reply). reply_answer (length h.log) r) (sym reply_is);
         seen = ap (λ (es : List Entry). journal_with before.router es)
             (h.seen ∙ ap (λ (r : Reply). h.log ++ entry happened r ∷ []) (sym reply_is));
-        mine = h.mine ∙ ap (λ (n : ℕ). before.pass.part.mine ++ n ∷ []) h.position;
+        mine = h.mine ∙ ap (λ (n : ℕ). before.pass.fragment.mine ++ n ∷ []) h.position;
       }
 
   pub entered_event : (answer : Answer) → answer ≡ reply_answer a.at a.reply → AnswersEvent before happened answer (record before { pass = pass })
@@ -69,7 +69,7 @@ module _ (before : OperatorView) (happened : Event) (a : CallAnswer) (pass : Pas
   pub entered_breaks : BreaksOff before (record before { pass = pass })
   entered_breaks = record {
     only = refl;
-    begins = begins_more before.pass.part.seen h.log (entry happened a.reply ∷ []) pass.part.seen h.begins h.seen;
+    begins = begins_more before.pass.fragment.seen h.log (entry happened a.reply ∷ []) pass.fragment.seen h.begins h.seen;
     mine = inr (a.at, h.mine);
   }
 
@@ -77,7 +77,7 @@ module _ (before : OperatorView) (happened : Event) (pass : PassView) (h : IsAtL
   pub full_event : (answer : Answer) → answer ≡ refused (codes "J1") before.router.limit
       → AnswersEvent before happened answer (record before { pass = pass })
   full_event answer e = record {
-    log = pass.part.seen;
+    log = pass.fragment.seen;
     found = record { begins = h.begins; legal = h.legal };
     does = inr (record { full = h.full; answers = e; seen = refl; mine = h.mine });
     only = refl;
@@ -87,19 +87,19 @@ module _ (before : OperatorView) (happened : Event) (pass : PassView) (h : IsAtL
   full_breaks = record { only = refl; begins = h.begins; mine = inl h.mine }
 
 -- a call that was refused memory
-pub missed_breaks : (before : OperatorView) (pass : PassView) (n : ℕ) → pass ≡ missing n before.pass
+pub failed_tries_break : (before : OperatorView) (pass : PassView) (n : ℕ) → pass ≡ pass_with_failed_tries n before.pass
     → BreaksOff before (record before { pass = pass })
-missed_breaks before pass n e = record {
+failed_tries_break before pass n e = record {
   only = refl;
-  begins = begins_same before.pass.part.seen pass.part.seen (ap (λ (p : PassView). p.part.seen) e);
-  mine = inl (ap (λ (p : PassView). p.part.mine) e);
+  begins = begins_same before.pass.fragment.seen pass.fragment.seen (ap (λ (p : PassView). p.fragment.seen) e);
+  mine = inl (ap (λ (p : PassView). p.fragment.mine) e);
 }
 
 -- nothing changed
 pub same_breaks : (before after : OperatorView) → after ≡ before → BreaksOff before after
 same_breaks before after e =
     subst (λ (o : OperatorView). BreaksOff before o) (sym e)
-    (record { only = refl; begins = begins_same before.pass.part.seen before.pass.part.seen refl; mine = inl refl })
+    (record { only = refl; begins = begins_same before.pass.fragment.seen before.pass.fragment.seen refl; mine = inl refl })
 
 -- what became of a call, and the answer to it
 module _ (before : OperatorView) (happened : Event) (pass : PassView) where
@@ -114,7 +114,7 @@ module _ (before : OperatorView) (happened : Event) (pass : PassView) where
       → IfErr r (λ f. Refused f before.router before.pass pass) → BreaksOff before (record before { pass = pass })
   breaks_call (Ok a) good bad = entered_breaks before happened a pass good
   breaks_call (Err call_fault.Full) good bad = full_breaks before happened pass bad
-  breaks_call (Err call_fault.Memory) good bad = missed_breaks before pass bad.0 bad.1
+  breaks_call (Err call_fault.Memory) good bad = failed_tries_break before pass bad.0 bad.1
 
 -- the same of an operator whose fields are these; `old` is how they were
 module _ (old : OperatorView) (router : RouterView) (was pass : PassView) (names : Names) (links : List ℕ) (quit : Bool) (size limit : ℕ)

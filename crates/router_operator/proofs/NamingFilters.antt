@@ -13,7 +13,7 @@ use Rattle.operator_cmds.specs.State.{filter_at}
 use Rattle.operator_cmds.specs.declared.filter.Source.{Source}
 use Rattle.operator_cmds.specs.declared.filter.Source.TheVariants as source
 use Rattle.operator_cmds.proofs.Naming.{Key}
-use Rattle.slot_lock.specs.Held.{PassView, RouterView}
+use Rattle.slot_lock.specs.Passes.{PassView, RouterView}
 use Rattle.router_operator.specs.OperatorView.{IsAt, OperatorView, script_of}
 use Rattle.router_operator.specs.Operators.{AnswersEvent, AnswersUse, AsScript, loading}
 use Rattle.operator_cmds.proofs.Answering.{answers}

@@ -7,7 +7,7 @@ use Rattle.operator_cmds.specs.Replies.{Adds, Answers}
 use Rattle.operator_cmds.specs.Stages.{Open, session_in}
 use Rattle.route_history.specs.JournalView.{JournalView}
 use Rattle.slot_lock.specs.Calls.{Observed}
-use Rattle.slot_lock.specs.Held.{PassView}
+use Rattle.slot_lock.specs.Passes.{PassView}
 use Rattle.router_operator.specs.OperatorView.{OperatorView, journal_seen}
 use Rattle.router_operator.specs.Operators.{AnswersDown, AnswersEvent, AnswersLook, BreaksOff, GrowsByOne, Looks}
 use Rattle.operator_cmds.proofs.Answering.{added}
@@ -39,6 +39,6 @@ downs node session before mid after answer looks is h =
 pub breaks_after : (before mid after : OperatorView) → Looks before mid → BreaksOff mid after → BreaksOff before after
 breaks_after before mid after looks breaks = record {
   only = breaks.only ∙ ap (λ (o : OperatorView). record o { pass = after.pass }) looks.only;
-  begins = begins_then before.pass.part.seen mid.pass.part.seen after.pass.part.seen looks.found.begins breaks.begins;
-  mine = subst (λ (xs : List ℕ). GrowsByOne xs after.pass.part.mine) looks.mine breaks.mine;
+  begins = begins_then before.pass.fragment.seen mid.pass.fragment.seen after.pass.fragment.seen looks.found.begins breaks.begins;
+  mine = subst (λ (xs : List ℕ). GrowsByOne xs after.pass.fragment.mine) looks.mine breaks.mine;
 }

@@ -25,10 +25,10 @@ by_same : (before after : OperatorView) → after ≡ before → Stays before af
 by_same before after e = record {
   router = ap (λ (o : OperatorView). o.router) e;
   links = ap (λ (o : OperatorView). o.links) e;
-  begins = begins_same before.pass.part.seen after.pass.part.seen (ap (λ (o : OperatorView). o.pass.part.seen) e);
+  begins = begins_same before.pass.fragment.seen after.pass.fragment.seen (ap (λ (o : OperatorView). o.pass.fragment.seen) e);
 }
 
-by_pass : (before after : OperatorView) → OnlyPass before after → Begins before.pass.part.seen after.pass.part.seen → Stays before after
+by_pass : (before after : OperatorView) → OnlyPass before after → Begins before.pass.fragment.seen after.pass.fragment.seen → Stays before after
 by_pass before after only begins = record {
   router = ap (λ (o : OperatorView). o.router) only;
   links = ap (λ (o : OperatorView). o.links) only;
@@ -39,18 +39,18 @@ pub stays_then : (a b c : OperatorView) → Stays a b → Stays b c → Stays a 
 stays_then a b c p q = record {
   router = q.router ∙ p.router;
   links = q.links ∙ p.links;
-  begins = begins_then a.pass.part.seen b.pass.part.seen c.pass.part.seen p.begins q.begins;
+  begins = begins_then a.pass.fragment.seen b.pass.fragment.seen c.pass.fragment.seen p.begins q.begins;
 }
 
 by_event : (before : OperatorView) (happened : Event) (answer : Answer) (after : OperatorView)
     → AnswersEvent before happened answer after → Stays before after
 by_event before happened answer after h = by_pass before after h.only (grown h.does)
   where
-    grown : Enters before h.log happened answer after ⊎ IsFull before h.log answer after → Begins before.pass.part.seen after.pass.part.seen
-    grown (inl e) = begins_more before.pass.part.seen h.log _ after.pass.part.seen h.found.begins (ap (λ (j : JournalView). j.entries) e.seen)
+    grown : Enters before h.log happened answer after ⊎ IsFull before h.log answer after → Begins before.pass.fragment.seen after.pass.fragment.seen
+    grown (inl e) = begins_more before.pass.fragment.seen h.log _ after.pass.fragment.seen h.found.begins (ap (λ (j : JournalView). j.entries) e.seen)
     grown (inr e) =
-        begins_then before.pass.part.seen h.log after.pass.part.seen h.found.begins
-        (begins_same h.log after.pass.part.seen (ap (λ (j : JournalView). j.entries) e.seen))
+        begins_then before.pass.fragment.seen h.log after.pass.fragment.seen h.found.begins
+        (begins_same h.log after.pass.fragment.seen (ap (λ (j : JournalView). j.entries) e.seen))
 
 by_look : (before after : OperatorView) → Looks before after → Stays before after
 by_look before after h = by_pass before after h.only h.found.begins
@@ -60,7 +60,7 @@ by_script : (before : OperatorView) (number : ℕ) (command : CommandView) (answ
 by_script before number command answer after h = record {
   router = ap (λ (o : OperatorView). o.router) h.names;
   links = ap (λ (o : OperatorView). o.links) h.names;
-  begins = begins_same before.pass.part.seen after.pass.part.seen (ap (λ (o : OperatorView). o.pass.part.seen) h.names);
+  begins = begins_same before.pass.fragment.seen after.pass.fragment.seen (ap (λ (o : OperatorView). o.pass.fragment.seen) h.names);
 }
 
 by_use : (found : Option VerifiedView) (happens : Arc VerifiedView Global → Event) (number : ℕ) (before : OperatorView) (answer : Answer)
@@ -101,7 +101,7 @@ by_quit : (before : OperatorView) (answer : Answer) (after : OperatorView) → Q
 by_quit before answer after h = record {
   router = ap (λ (o : OperatorView). o.router) h.1;
   links = ap (λ (o : OperatorView). o.links) h.1;
-  begins = begins_same before.pass.part.seen after.pass.part.seen (ap (λ (o : OperatorView). o.pass.part.seen) h.1);
+  begins = begins_same before.pass.fragment.seen after.pass.fragment.seen (ap (λ (o : OperatorView). o.pass.fragment.seen) h.1);
 }
 
 by_line : (before : OperatorView) (number : ℕ) (line : List ℕ) (answer : Answer) (after : OperatorView)

@@ -1,6 +1,6 @@
 -- The router that is called where no call picks another. (This project's own choice.)
 use Rattle.std.specs.Prelude.{[]}
-use Rattle.slot_lock.specs.Held.{RouterView}
+use Rattle.slot_lock.specs.Passes.{RouterView}
 
 -- a router that nobody has
 abbrev pub nobodys : RouterView

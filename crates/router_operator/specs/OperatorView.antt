@@ -12,7 +12,7 @@ use Rattle.operator_cmds.specs.Script.{ScriptView}
 use Rattle.operator_cmds.specs.Stages.{Open}
 use Rattle.route_history.specs.JournalView.{JournalView}
 use Rattle.route_history.specs.declared.entry.Entry.{Entry}
-use Rattle.slot_lock.specs.Held.{IsPassOf, PassView, RouterView}
+use Rattle.slot_lock.specs.Passes.{IsPassOf, PassView, RouterView}
 
 -- names, in their order, each with its filter
 abbrev pub Names : Type 0
@@ -33,7 +33,7 @@ journal_with r log = record { opening = r.opening; limit = r.limit; entries = lo
 
 -- the journal as the operator has seen it
 abbrev pub journal_seen : OperatorView → JournalView
-journal_seen o = journal_with o.router o.pass.part.seen
+journal_seen o = journal_with o.router o.pass.fragment.seen
 
 -- the filter of a name
 abbrev pub filter_of : Names → List ℕ → Option VerifiedView

@@ -70,21 +70,21 @@ loading name (source.File bytes) = Code name bytes.now
 
 -- the router's history as an event found it: others may have made entries since the pass saw it
 pub record IsFound (before : OperatorView) (log : List Entry) : Type 0 where
-  pub begins : Begins before.pass.part.seen log
+  pub begins : Begins before.pass.fragment.seen log
   pub legal : IsLegal before.router.opening log
 
 -- The event is the new last entry of that history, with the world's reply; that is answered, and the entry is the operator's.
 pub record Enters (before : OperatorView) (log : List Entry) (happened : Event) (answer : Answer) (after : OperatorView) : Type 0 where
   pub answers : answer ≡ reply_answer (length log) (told_of (journal_with before.router log) happened)
   pub seen : journal_seen after ≡ entered (journal_with before.router log) happened (told_of (journal_with before.router log) happened)
-  pub mine : after.pass.part.mine ≡ before.pass.part.mine ++ length log ∷ []
+  pub mine : after.pass.fragment.mine ≡ before.pass.fragment.mine ++ length log ∷ []
 
 -- that history is full: nothing is entered
 pub record IsFull (before : OperatorView) (log : List Entry) (answer : Answer) (after : OperatorView) : Type 0 where
   pub full : length log ≡ before.router.limit
   pub answers : answer ≡ refused (codes "J1") before.router.limit
   pub seen : journal_seen after ≡ journal_with before.router log
-  pub mine : after.pass.part.mine ≡ before.pass.part.mine
+  pub mine : after.pass.fragment.mine ≡ before.pass.fragment.mine
 
 -- a line enters exactly one event, or none where the history is full
 pub record AnswersEvent (before : OperatorView) (happened : Event) (answer : Answer) (after : OperatorView) : Type 0 where
@@ -108,9 +108,9 @@ UnlessLinked node number Otherwise before answer after =
 
 -- The operator has seen the whole history of a moment, which goes on from what they had seen; nothing is entered.
 pub record Looks (before after : OperatorView) : Type 0 where
-  pub found : IsFound before after.pass.part.seen
-  pub room : length after.pass.part.seen ≤ before.router.limit
-  pub mine : after.pass.part.mine ≡ before.pass.part.mine
+  pub found : IsFound before after.pass.fragment.seen
+  pub room : length after.pass.fragment.seen ≤ before.router.limit
+  pub mine : after.pass.fragment.mine ≡ before.pass.fragment.mine
   pub only : OnlyPass before after
 
 -- a look is answered from that one history
@@ -168,5 +168,5 @@ GrowsByOne old new = (new ≡ old) ⊎ ((last : ℕ) × (new ≡ old ++ last ∷
 -- a line that was refused memory may have entered its event, and changed no name
 pub record BreaksOff (before after : OperatorView) : Type 0 where
   pub only : OnlyPass before after
-  pub begins : Begins before.pass.part.seen after.pass.part.seen
-  pub mine : GrowsByOne before.pass.part.mine after.pass.part.mine
+  pub begins : Begins before.pass.fragment.seen after.pass.fragment.seen
+  pub mine : GrowsByOne before.pass.fragment.mine after.pass.fragment.mine

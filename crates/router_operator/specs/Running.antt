@@ -14,7 +14,7 @@ input_limit = 4294967200
 pub record Stays (before after : OperatorView) : Type 0 where
   pub router : after.router ≡ before.router
   pub links : after.links ≡ before.links
-  pub begins : Begins before.pass.part.seen after.pass.part.seen
+  pub begins : Begins before.pass.fragment.seen after.pass.fragment.seen
 
 -- The operator's lines were answered to their end, or to `quit`. `input` is all that the reader had, `left` what it has now; `held`
 -- and `holds` are what the writer held before and holds now; `refused` is the number that was returned.

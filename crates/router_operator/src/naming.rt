@@ -4,7 +4,7 @@ use std::marker::Brand;
 
 /// Which router it is that threads call. What one thread hands another is of that router, as its type says.
 pub trait Naming {
-    ghost use Rattle.slot_lock.specs.Held.{RouterView};
+    ghost use Rattle.slot_lock.specs.Passes.{RouterView};
 
     ghost router: { RouterView };
 }

@@ -9,7 +9,7 @@ ghost use Rattle.router_operator.specs.Looking.{told};
 ghost use Rattle.router_operator.specs.OperatorView.{IsAt, filter_of};
 ghost use Rattle.router_operator.specs.Operators as spec;
 ghost use Rattle.router_operator.specs.Running.{IsBrokenOff, IsServed};
-ghost use Rattle.slot_lock.specs.Held.{IsPassOf};
+ghost use Rattle.slot_lock.specs.Passes.{IsPassOf};
 
 use crate::calls::{answer_call, exported_by};
 use crate::listener::Listener;

@@ -36,7 +36,8 @@ here_once y ys = grind (arith, nat_tests)
 below_each : (n : ℕ) (xs : List ℕ) → ((x : ℕ) → 0 < times x xs → x < n) → below n xs ≡ length xs
 below_each n [] within = refl
 below_each n (y ∷ ys) within =
-    let rest = below_each n ys (λ x h. within x (omega arith)) in let here = within y (here_once y ys) in one_more y n (below n ys) (length ys) rest here
+    let rest = below_each n ys (λ x h. within x (omega arith)) in let here = within y (here_once y ys) in
+    one_more y n (below n ys) (length ys) rest here
   where
     one_more : (y n a b : ℕ) → a ≡ b → y < n → (if nat_lt y n then 1 else 0) + a ≡ suc b
     one_more y n a b e h = grind (arith, nat_tests)

@@ -1,4 +1,4 @@
 mod Counting
 mod Sound
-mod SoundJoined
+mod SoundMerged
 mod Trying

@@ -8,14 +8,14 @@ use Rattle.route_history.specs.declared.fault.CallFault.TheVariants as fault
 use Rattle.route_history.specs.Calls.{entry}
 use Rattle.route_history.specs.Positions.{times}
 use Rattle.netchange_core.specs.declared.reply.Reply.{Reply}
-use Rattle.lock_rule.specs.declared.rule.Part.{Part}
+use Rattle.lock_rule.specs.declared.rule.Fragment.{Fragment}
 use Rattle.lock_rule.specs.declared.rule.View.{View}
 use Rattle.lock_rule.specs.Entering.{Enters, EntersNot}
-use Rattle.slot_lock.specs.Held.{IsOwn, IsSound}
-use Rattle.slot_lock.specs.Trying.{TookLate}
-use Rattle.lock_rule.specs.Steps.{Seated, Took}
-use Rattle.lock_rule.specs.Views.{missing_by, noted, seeing, unnoted}
-use Rattle.lock_rule.proofs.Giving.{more_within, single, zero_or_more}
+use Rattle.slot_lock.specs.Passes.{IsOwn, IsSound}
+use Rattle.slot_lock.specs.Trying.{AcquiredAfterTries}
+use Rattle.lock_rule.specs.Steps.{Acquired, Seated}
+use Rattle.lock_rule.specs.Views.{held_history, released, released_with, with_failed_tries}
+use Rattle.lock_rule.proofs.Releasing.{more_within, single, zero_or_more}
 use Rattle.lock_rule.proofs.Keeping.{times_append}
 use Rattle.lock_rule.proofs.Prefixes.{shorter}
 
@@ -23,7 +23,7 @@ at_most_once : (x n : ℕ) → times x (n ∷ []) ≤ 1
 at_most_once x n = grind (arith, nat_tests)
 
 -- a new position, above all that the caller has seen, is its own too
-own_more : (p : Part) (log : List Entry) (e : Entry) → IsOwn p → length p.seen ≤ length log →
+own_more : (p : Fragment) (log : List Entry) (e : Entry) → IsOwn p → length p.seen ≤ length log →
     IsOwn (record p { seen = log ++ e ∷ []; mine = p.mine ++ length log ∷ [] })
 own_more p log e own le = record {
   within = more_within p.mine p.seen log (log ++ e ∷ []) own.within le (length-append log (e ∷ []));
@@ -36,71 +36,73 @@ own_more p log e own le = record {
       (zero_or_more (times x (length log ∷ [])));
 }
 
-own_longer : (p : Part) (log : List Entry) → IsOwn p → length p.seen ≤ length log → IsOwn (record p { seen = log })
+own_longer : (p : Fragment) (log : List Entry) → IsOwn p → length p.seen ≤ length log → IsOwn (record p { seen = log })
 own_longer p log own le = record { within = λ x there. let below = own.within x there in omega arith; once = own.once }
 
-entered : (m mid new : Seated) (event : Event) (at : ℕ) (reply : Reply) (n : ℕ) → IsSound m n → Took m mid → Enters mid event at reply new →
+entered : (m mid new : Seated) (event : Event) (at : ℕ) (reply : Reply) (n : ℕ) → IsSound m n → Acquired m mid → Enters mid event at reply new →
     IsSound new n
-entered m mid new event at reply n s took h =
-    let log = took.taken.entries in
+entered m mid new event at reply n s acquired h =
+    let log = acquired.journal.entries in
     let e = entry event reply in
-    let view : mid.0 ≡ record m.0 { note = Some log } = took.view in
-    let is_at : at ≡ length log = h.position ∙ ap (λ (v : View). length (noted v)) view in
-    let is : new ≡ (seeing m.0 (log ++ e ∷ []) (m.0.own.mine ++ length log ∷ []), []) =
-    h.after ∙ (λ i. (seeing (view i) (noted (view i) ++ e ∷ []) ((view i).own.mine ++ is_at i ∷ []), [])) in
+    let view : mid.0 ≡ record m.0 { held = Some log } = acquired.view in
+    let is_at : at ≡ length log = h.position ∙ ap (λ (v : View). length (held_history v)) view in
+    let is : new ≡ (released_with m.0 (log ++ e ∷ []) (m.0.fragment.mine ++ length log ∷ []), []) =
+    h.after ∙ (λ i. (released_with (view i) (held_history (view i) ++ e ∷ []) ((view i).fragment.mine ++ is_at i ∷ []), [])) in
     subst (λ (u : Seated). IsSound u n) (sym is) (record {
       slots = refl;
-      note = refl;
-      guest = s.guest;
+      held = refl;
+      incoming = s.incoming;
       shares = s.shares;
       some_shares = s.some_shares;
       at_most = s.at_most;
-      own = own_more m.0.own log e s.own (shorter m.0.own.seen log took.begins);
+      own = own_more m.0.fragment log e s.own (shorter m.0.fragment.seen log acquired.begins);
     })
 
-shown : (m mid new : Seated) (n : ℕ) → IsSound m n → Took m mid → new ≡ (seeing mid.0 (noted mid.0) mid.0.own.mine, []) → IsSound new n
-shown m mid new n s took h =
-    let log = took.taken.entries in
-    let view : mid.0 ≡ record m.0 { note = Some log } = took.view in
-    let is : new ≡ (seeing m.0 log m.0.own.mine, []) = h ∙ (λ i. (seeing (view i) (noted (view i)) (view i).own.mine, [])) in
+shown : (m mid new : Seated) (n : ℕ) → IsSound m n → Acquired m mid → new ≡ (released_with mid.0 (held_history mid.0) mid.0.fragment.mine, []) →
+    IsSound new n
+shown m mid new n s acquired h =
+    let log = acquired.journal.entries in
+    let view : mid.0 ≡ record m.0 { held = Some log } = acquired.view in
+    let is : new ≡ (released_with m.0 log m.0.fragment.mine, []) =
+    h ∙ (λ i. (released_with (view i) (held_history (view i)) (view i).fragment.mine, [])) in
     subst (λ (u : Seated). IsSound u n) (sym is) (record {
       slots = refl;
-      note = refl;
-      guest = s.guest;
+      held = refl;
+      incoming = s.incoming;
       shares = s.shares;
       some_shares = s.some_shares;
       at_most = s.at_most;
-      own = own_longer m.0.own log s.own (shorter m.0.own.seen log took.begins);
+      own = own_longer m.0.fragment log s.own (shorter m.0.fragment.seen log acquired.begins);
     })
 
-left : (m mid new : Seated) (n : ℕ) → IsSound m n → Took m mid → new ≡ (unnoted mid.0, []) → IsSound new n
-left m mid new n s took h =
-    let view : mid.0 ≡ record m.0 { note = Some took.taken.entries } = took.view in
-    let is : new ≡ (unnoted m.0, []) = h ∙ (λ i. (unnoted (view i), [])) in
+left : (m mid new : Seated) (n : ℕ) → IsSound m n → Acquired m mid → new ≡ (released mid.0, []) → IsSound new n
+left m mid new n s acquired h =
+    let view : mid.0 ≡ record m.0 { held = Some acquired.journal.entries } = acquired.view in
+    let is : new ≡ (released m.0, []) = h ∙ (λ i. (released (view i), [])) in
     subst (λ (u : Seated). IsSound u n) (sym is) (record {
       slots = refl;
-      note = refl;
-      guest = s.guest;
+      held = refl;
+      incoming = s.incoming;
       shares = s.shares;
       some_shares = s.some_shares;
       at_most = s.at_most;
       own = s.own;
     })
 
-pub sound_after : (m mid new : Seated) (event : Event) (r : Result (ℕ × Reply) CallFault) (n : ℕ) → IsSound m n → Took m mid →
+pub sound_after : (m mid new : Seated) (event : Event) (r : Result (ℕ × Reply) CallFault) (n : ℕ) → IsSound m n → Acquired m mid →
     IfOk r (λ a. Enters mid event a.0 a.1 new) → IfErr r (λ f. EntersNot f mid new) → IsSound new n
-sound_after m mid new event (Ok a) n s took ok err = entered m mid new event a.0 a.1 n s took ok
-sound_after m mid new event (Err fault.Full) n s took ok err = shown m mid new n s took err.0
-sound_after m mid new event (Err fault.Memory) n s took ok err = left m mid new n s took err
+sound_after m mid new event (Ok a) n s acquired ok err = entered m mid new event a.0 a.1 n s acquired ok
+sound_after m mid new event (Err fault.Full) n s acquired ok err = shown m mid new n s acquired err.0
+sound_after m mid new event (Err fault.Memory) n s acquired ok err = left m mid new n s acquired err
 
-pub sound_after_tries : (m mid new : Seated) (event : Event) (r : Result (ℕ × Reply) CallFault) (n : ℕ) → IsSound m n → TookLate m mid →
+pub sound_after_tries : (m mid new : Seated) (event : Event) (r : Result (ℕ × Reply) CallFault) (n : ℕ) → IsSound m n → AcquiredAfterTries m mid →
     IfOk r (λ a. Enters mid event a.0 a.1 new) → IfErr r (λ f. EntersNot f mid new) → IsSound new n
-sound_after_tries m mid new event r n s late = sound_after (missing_by late.tries m.0, []) mid new event r n (record {
+sound_after_tries m mid new event r n s late = sound_after (with_failed_tries late.tries m.0, []) mid new event r n (record {
   slots = refl;
-  note = s.note;
-  guest = s.guest;
+  held = s.held;
+  incoming = s.incoming;
   shares = s.shares;
   some_shares = s.some_shares;
   at_most = s.at_most;
   own = record { within = s.own.within; once = s.own.once };
-}) late.took
+}) late.acquired

@@ -2,6 +2,6 @@
 pub mod Calls
 pub mod Codes
 pub mod Counts
-pub mod Held
+pub mod Passes
 -- what only bodies are proved against
 pub mod Trying

@@ -1,9 +1,9 @@
--- Tries to take the journal, one after another. (This project's own choice.)
+-- Tries to acquire the lock, one after another. (This project's own choice.)
 use Rattle.std.specs.Prelude.{ℕ, []}
-use Rattle.lock_rule.specs.Steps.{Seated, Took}
-use Rattle.lock_rule.specs.Views.{missing_by}
+use Rattle.lock_rule.specs.Steps.{Acquired, Seated}
+use Rattle.lock_rule.specs.Views.{with_failed_tries}
 
--- the seat has the journal, after it found the lock taken so many times
-pub record TookLate (m w : Seated) : Type 0 where
+-- the seat has acquired the lock, after so many failed tries
+pub record AcquiredAfterTries (m w : Seated) : Type 0 where
   pub tries : ℕ
-  pub took : Took (missing_by tries m.0, []) w
+  pub acquired : Acquired (with_failed_tries tries m.0, []) w

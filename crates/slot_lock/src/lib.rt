@@ -1,12 +1,12 @@
 //! The lock: many threads call one router, and all their answers stand in one history.
 #![tactic(auto)]
 
+mod acquire;
 mod answer;
 mod fault;
 mod laws;
 mod pass;
 mod router;
-mod waiting;
 
 pub use answer::Answer;
 pub use fault::{LockFault, TryFault};

@@ -1,7 +1,7 @@
 //! Who calls a router in a test.
 
 ghost use Rattle.std.specs.Prelude.{◌<◌};
-ghost use Rattle.slot_lock.specs.Held.{IsFirst, IsPassOf};
+ghost use Rattle.slot_lock.specs.Passes.{IsFirst, IsPassOf};
 
 use crate::asserts::{Host, RouterHost, done, some};
 use netchange_core::{Event, Opening};
@@ -45,7 +45,7 @@ pub fn close<R: Host>(rt: &R, router: Router, pass: Pass) -> Journal
 pub enum Way {
     /// It tries once.
     Try,
-    /// It tries again and again, as long as the lock is taken.
+    /// It tries again and again, as long as the lock is held.
     TryAgain,
     /// It waits for the lock.
     Call,
@@ -60,7 +60,7 @@ pub struct Caller<'a> {
 }
 
 impl<'a> Model for Caller<'a> {
-    ghost use Rattle.slot_lock.specs.Held.{IsPassOf, PassView};
+    ghost use Rattle.slot_lock.specs.Passes.{IsPassOf, PassView};
 
     ghost Value = { PassView };
 
@@ -73,7 +73,7 @@ impl<'a> Caller<'a> {
     /// A caller by 30,000 shares of a pass.
     pub fn of(router: &'a Router, pass: &mut Pass) -> Caller<'a>
         requires of { IsPassOf router.now pass.old }
-        requires shares { 30000 < pass.old.part.shares }
+        requires shares { 30000 < pass.old.fragment.shares }
         ensures { IsPassOf router.now pass.new }
     {
         Caller {

@@ -2,7 +2,7 @@
 
 use crate::asserts::{RouterHost, some};
 use crate::callers::Caller;
-use route_session::{Finished, Gate, Job, Link, Role, RunFault, join_passes, run_sessions};
+use route_session::{Finished, Gate, Job, Link, Role, RunFault, merge_passes, run_sessions};
 use slot_lock::{Pass, Router};
 use std::marker::Model;
 use std::process::Abort;
@@ -21,7 +21,7 @@ pub struct Crew<'a, L: Link + Send + Drop> {
 impl<'a, L: Link + Send + Drop> Model for Crew<'a, L> {
     ghost use Rattle.std.specs.Prelude.{◌≤◌, vec_len};
     ghost use Rattle.route_session.specs.Jobs.{AreFor};
-    ghost use Rattle.slot_lock.specs.Held.{IsPassOf, PassView};
+    ghost use Rattle.slot_lock.specs.Passes.{IsPassOf, PassView};
 
     ghost Value = { PassView };
 
@@ -62,7 +62,7 @@ impl<'a, L: Link + Send + Drop> Crew<'a, L> {
         some(rt, added.ok(), "memory");
     }
 
-    /// Runs the sessions, shows what each came to, and joins their passes with the one that they were split off from: how many shares that has
+    /// Runs the sessions, shows what each came to, and merges their passes with the one that they were split off from: how many shares that has
     /// in the end.
     pub fn run<R: RouterHost, G: Gate + Sync, A: Auditor<L>>(
         self,
@@ -78,7 +78,7 @@ impl<'a, L: Link + Send + Drop> Crew<'a, L> {
         } = self;
         let finished = run_sessions(rt, rt.alloc(), router, jobs, gate, turns)?;
         look_at_all(rt, finished.as_slice(), auditor);
-        join_passes(router, &mut pass, finished);
+        merge_passes(router, &mut pass, finished);
         Ok(pass.shares())
     }
 }

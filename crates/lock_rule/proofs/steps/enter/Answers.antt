@@ -1,14 +1,14 @@
 use Rattle.std.proofs.Common.{arith}
 use Rattle.route_history.specs.Calls.{entry}
-use Rattle.lock_rule.proofs.Held.{giving_held, leaving_held, showing_held}
+use Rattle.lock_rule.proofs.Seats.{releasing_entered_seated, releasing_seated, releasing_seen_seated}
 use Rattle.lock_rule.proofs.steps.enter.Goals as goal
 
 pub store-requires : goal.store-requires
 store-requires c =
-    let words = c.requires.desk.words in (
-      c.requires.desk.same,
+    let words = c.requires.table.words in (
+      c.requires.table.same,
       omega arith,
-      giving_held c.args.desk.now.shared.key.value.opening c.args.desk.now.shared.key.value.limit c.args.desk.now.shared.table_id.slots
+      releasing_entered_seated c.args.table.now.shared.key.value.opening c.args.table.now.shared.key.value.limit c.args.table.now.shared.table_id.slots
           c.args.seat.now.id c.args.seat.now.me c.requires.holding c.slot_mut-journal.result.now c.apply.new.self (entry c.args.event c.in-Ok.reply)
           (record {
             before = c.slot_mut-journal.ensures.value;
@@ -22,11 +22,11 @@ store-requires c =
 
 pub store-requires-in-Err-Full : goal.store-requires-in-Err-Full
 store-requires-in-Err-Full c =
-    let words = c.requires.desk.words in
+    let words = c.requires.table.words in
     let refused = rw c.in-Err-Full.field-0-is at c.in-Err-Full.ensures.refused in (
-      c.requires.desk.same,
+      c.requires.table.same,
       omega arith,
-      showing_held c.args.desk.now.shared.key.value.opening c.args.desk.now.shared.key.value.limit c.args.desk.now.shared.table_id.slots
+      releasing_seen_seated c.args.table.now.shared.key.value.opening c.args.table.now.shared.key.value.limit c.args.table.now.shared.table_id.slots
           c.args.seat.now.id c.args.seat.now.me c.requires.holding c.slot_mut-journal.result.now c.apply.new.self
           (record {
             before = c.slot_mut-journal.ensures.value;
@@ -39,11 +39,11 @@ store-requires-in-Err-Full c =
 
 pub store-requires-in-Err-Memory : goal.store-requires-in-Err-Memory
 store-requires-in-Err-Memory c =
-    let words = c.requires.desk.words in
+    let words = c.requires.table.words in
     let refused = rw c.in-Err-Memory.field-0-is at c.in-Err-Memory.ensures.refused in (
-      c.requires.desk.same,
+      c.requires.table.same,
       omega arith,
-      leaving_held c.args.desk.now.shared.key.value.opening c.args.desk.now.shared.key.value.limit c.args.desk.now.shared.table_id.slots
+      releasing_seated c.args.table.now.shared.key.value.opening c.args.table.now.shared.key.value.limit c.args.table.now.shared.table_id.slots
           c.args.seat.now.id c.args.seat.now.me c.requires.holding c.slot_mut-journal.result.now c.apply.new.self
           (record {
             before = c.slot_mut-journal.ensures.value;

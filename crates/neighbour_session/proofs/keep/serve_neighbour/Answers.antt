@@ -1,5 +1,5 @@
 use Rattle.std.proofs.Common.{inr, subst}
-use Rattle.slot_lock.specs.Held.{PassView}
+use Rattle.slot_lock.specs.Passes.{PassView}
 use Rattle.neighbour_session.specs.Reading.{Hears}
 use Rattle.neighbour_session.proofs.keep.serve_neighbour.Goals as goal
 

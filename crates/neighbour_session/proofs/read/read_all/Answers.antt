@@ -12,8 +12,8 @@ loop-init g c = record {
   finite = tt;
   pass = sound_same c.args.router.now c.args.pass.now c.requires.of;
   shares = refl;
-  read = subst (λ (v : InputView). HasRead c.args.session c.args.pass.now.part (told_by c.args.input) c.args.pass.now.part v.told)
-      (sym c.new-link.ensures) (read_none c.args.session c.args.pass.now.part (told_by c.args.input));
+  read = subst (λ (v : InputView). HasRead c.args.session c.args.pass.now.fragment (told_by c.args.input) c.args.pass.now.fragment v.told)
+      (sym c.new-link.ensures) (read_none c.args.session c.args.pass.now.fragment (told_by c.args.input));
 }
 
 pub returns-in-Some-end_of_reader-clause-reads : goal.returns-in-Some-end_of_reader-clause-reads
@@ -41,7 +41,7 @@ loop-preserved g c = record {
   pass = sound_both c.args.router.now c.args.pass.now c.loop.pass c.read_session-read.new.pass c.loop.invariant.pass
       c.read_session-read.ensures.pass;
   shares = c.read_session-read.ensures.read.reads.gained.shares ∙ c.loop.invariant.shares;
-  read = reads_on c.args.router.now c.args.session c.args.pass.now.part (told_by c.args.input) c.loop.pass.part c.loop.link.told
-      c.read_session-read.result c.read_session-read.new.pass.part c.read_session-read.new.link.told c.loop.invariant.read
+  read = reads_on c.args.router.now c.args.session c.args.pass.now.fragment (told_by c.args.input) c.loop.pass.fragment c.loop.link.told
+      c.read_session-read.result c.read_session-read.new.pass.fragment c.read_session-read.new.link.told c.loop.invariant.read
       c.in_default.ensures.goes_on c.read_session-read.ensures.read;
 }

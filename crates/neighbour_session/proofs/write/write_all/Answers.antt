@@ -12,8 +12,8 @@ loop-init g c = record {
   finite = tt;
   pass = sound_same c.args.router.now c.args.pass.now c.requires.of;
   shares = refl;
-  written = subst (λ (v : OutputView). HasWritten c.args.session c.args.pass.now.part (told_to c.args.output) c.args.pass.now.part v.told)
-      (sym c.new-link.ensures) (written_none c.args.session c.args.pass.now.part (told_to c.args.output));
+  written = subst (λ (v : OutputView). HasWritten c.args.session c.args.pass.now.fragment (told_to c.args.output) c.args.pass.now.fragment v.told)
+      (sym c.new-link.ensures) (written_none c.args.session c.args.pass.now.fragment (told_to c.args.output));
 }
 
 pub returns-in-Some-end_of_writer-clause-writes : goal.returns-in-Some-end_of_writer-clause-writes
@@ -43,7 +43,7 @@ loop-preserved g c = record {
   pass = sound_both c.args.router.now c.args.pass.now c.loop.pass c.write_session-end.new.pass c.loop.invariant.pass
       c.write_session-end.ensures.pass;
   shares = c.write_session-end.ensures.written.writes.gained.shares ∙ c.loop.invariant.shares;
-  written = writes_on c.args.router.now c.args.session c.args.pass.now.part (told_to c.args.output) c.loop.pass.part c.loop.link.told
-      c.write_session-end.result c.write_session-end.new.pass.part c.write_session-end.new.link.told c.loop.invariant.written
+  written = writes_on c.args.router.now c.args.session c.args.pass.now.fragment (told_to c.args.output) c.loop.pass.fragment c.loop.link.told
+      c.write_session-end.result c.write_session-end.new.pass.fragment c.write_session-end.new.link.told c.loop.invariant.written
       c.in_default.ensures.goes_on c.write_session-end.ensures.written;
 }

@@ -10,6 +10,6 @@ invariant-loop g l = record {
   next : (goal.iterator-loop g).can_next l.iterator';
   finite : (goal.iterator-loop g).is_finite l.iterator';
   pass : StaysSound l.router l.fn.pass l.pass;
-  shares : l.pass.part.shares ≡ l.fn.pass.part.shares;
-  written : HasWritten l.session l.fn.pass.part (told_to l.fn.output) l.pass.part l.link.told;
+  shares : l.pass.fragment.shares ≡ l.fn.pass.fragment.shares;
+  written : HasWritten l.session l.fn.pass.fragment (told_to l.fn.output) l.pass.fragment l.link.told;
 }

@@ -31,7 +31,7 @@ loop-turn-preserved g c =
           c.loop-turn.pass c.call.new.pass (g.L.Link.told c.loop-turn.link)
           (g.L.Link.told c.recv.new.self) c.in-Ok-Message.message c.in-Ok.answer
           c.loop-turn.invariant.reading handed answered
-          (called c.args.router.now c.loop-turn.pass c.call.new.pass c.call.ensures.pass c.call.ensures.own c.call.ensures.missed)
+          (called c.args.router.now c.loop-turn.pass c.call.new.pass c.call.ensures.pass c.call.ensures.own c.call.ensures.failed_tries)
           fresh;
       turned = read_message (g.G.Gate.may_answer c.args.gate.now c.args.job) c.loop-turn.turn c.loop-turn.entered
           (g.L.Link.told c.args.link.now) (g.L.Link.told c.loop-turn.link) (g.L.Link.told c.recv.new.self) c.in-Ok-Message.message
@@ -73,7 +73,7 @@ returns-then-is_stale-clause-read g c =
     (ends_stale c.args.router.now c.args.session c.args.pass.now (g.L.Link.told c.args.link.now) c.loop-turn.entered
     c.loop-turn.pass c.call.new.pass (g.L.Link.told c.loop-turn.link) (g.L.Link.told c.recv.new.self) c.in-Ok-Message.message c.in-Ok.answer
     c.loop-turn.invariant.reading handed answered
-    (called c.args.router.now c.loop-turn.pass c.call.new.pass c.call.ensures.pass c.call.ensures.own c.call.ensures.missed)
+    (called c.args.router.now c.loop-turn.pass c.call.new.pass c.call.ensures.pass c.call.ensures.own c.call.ensures.failed_tries)
     is_stale)
 
 pub returns-in-Err-Full-clause-read : goal.returns-in-Err-Full-clause-read
@@ -86,7 +86,7 @@ returns-in-Err-Full-clause-read g c =
     (ends_refused c.args.router.now c.args.session c.args.pass.now (g.L.Link.told c.args.link.now) c.loop-turn.entered
     c.loop-turn.pass c.call.new.pass (g.L.Link.told c.loop-turn.link) (g.L.Link.told c.recv.new.self) c.in-Ok-Message.message fault.Full
     c.loop-turn.invariant.reading handed refused
-    (called c.args.router.now c.loop-turn.pass c.call.new.pass c.call.ensures.pass c.call.ensures.own c.call.ensures.missed))
+    (called c.args.router.now c.loop-turn.pass c.call.new.pass c.call.ensures.pass c.call.ensures.own c.call.ensures.failed_tries))
 
 pub returns-in-Err-Memory-clause-read : goal.returns-in-Err-Memory-clause-read
 returns-in-Err-Memory-clause-read g c =
@@ -98,4 +98,4 @@ returns-in-Err-Memory-clause-read g c =
     (ends_refused c.args.router.now c.args.session c.args.pass.now (g.L.Link.told c.args.link.now) c.loop-turn.entered
     c.loop-turn.pass c.call.new.pass (g.L.Link.told c.loop-turn.link) (g.L.Link.told c.recv.new.self) c.in-Ok-Message.message fault.Memory
     c.loop-turn.invariant.reading handed refused
-    (called c.args.router.now c.loop-turn.pass c.call.new.pass c.call.ensures.pass c.call.ensures.own c.call.ensures.missed))
+    (called c.args.router.now c.loop-turn.pass c.call.new.pass c.call.ensures.pass c.call.ensures.own c.call.ensures.failed_tries))

@@ -1,5 +1,5 @@
 use Rattle.std.proofs.Common.{◌≤◌}
-use Rattle.slot_lock.specs.Held.{IsPassOf}
+use Rattle.slot_lock.specs.Passes.{IsPassOf}
 use Rattle.route_session.specs.Turns.{ReadsByTurns}
 use Rattle.route_session.proofs.Reading.{IsReading}
 use Rattle.route_session.proofs.reader.read_session.Given as goal

@@ -14,7 +14,7 @@ pub loop-turn-init : goal.loop-turn-init
 loop-turn-init g c = record {
   pass = c.requires;
   writing = begins_writing c.args.router.now c.args.session c.args.pass.now (g.L.Link.told c.args.link.now) c.requires;
-  turned = no_turn_taken (g.G.Gate.may_answer c.args.gate.now c.args.job) c.args.pass.now.part;
+  turned = no_turn_taken (g.G.Gate.may_answer c.args.gate.now c.args.job) c.args.pass.now.fragment;
   room = omega arith;
 }
 
@@ -25,7 +25,7 @@ returns-in-Err-Full-clause-written g c =
     rw c.ended.ensures
     (ends_full c.args.router.now c.args.session c.args.pass.now (g.L.Link.told c.args.link.now) c.loop-turn.sent
     c.loop-turn.pass c.call.new.pass (g.L.Link.told c.loop-turn.link) c.loop-turn.invariant.writing refused
-    (called c.args.router.now c.loop-turn.pass c.call.new.pass c.call.ensures.pass c.call.ensures.own c.call.ensures.missed))
+    (called c.args.router.now c.loop-turn.pass c.call.new.pass c.call.ensures.pass c.call.ensures.own c.call.ensures.failed_tries))
 
 pub returns-then-is_stale-clause-written : goal.returns-then-is_stale-clause-written
 returns-then-is_stale-clause-written g c =
@@ -35,7 +35,7 @@ returns-then-is_stale-clause-written g c =
     rw c.ended-then-is_stale.ensures
     (ends_stale c.args.router.now c.args.session c.args.pass.now (g.L.Link.told c.args.link.now) c.loop-turn.sent
     c.loop-turn.pass c.call.new.pass (g.L.Link.told c.loop-turn.link) c.in-Ok.answer c.loop-turn.invariant.writing answered
-    (called c.args.router.now c.loop-turn.pass c.call.new.pass c.call.ensures.pass c.call.ensures.own c.call.ensures.missed) is_stale)
+    (called c.args.router.now c.loop-turn.pass c.call.new.pass c.call.ensures.pass c.call.ensures.own c.call.ensures.failed_tries) is_stale)
 
 pub returns-then-not-is_empty-clause-written : goal.returns-then-not-is_empty-clause-written
 returns-then-not-is_empty-clause-written g c =
@@ -54,7 +54,7 @@ returns-then-not-is_empty-clause-written g c =
     (ends_by_failure c.args.router.now c.args.session c.args.pass.now (g.L.Link.told c.args.link.now) c.loop-turn.sent
     c.loop-turn.pass c.call.new.pass (g.L.Link.told c.loop-turn.link) (g.L.Link.told c.send_each-unsent.new.link) c.in-Ok.answer
     c.send_each-unsent.result.items c.loop-turn.invariant.writing answered
-    (called c.args.router.now c.loop-turn.pass c.call.new.pass c.call.ensures.pass c.call.ensures.own c.call.ensures.missed) fresh handed
+    (called c.args.router.now c.loop-turn.pass c.call.new.pass c.call.ensures.pass c.call.ensures.own c.call.ensures.failed_tries) fresh handed
     some)
 
 pub loop-turn-preserved : goal.loop-turn-preserved
@@ -80,9 +80,9 @@ loop-turn-preserved g c =
           (writes_on c.args.router.now c.args.session c.args.pass.now (g.L.Link.told c.args.link.now) c.loop-turn.sent
           c.loop-turn.pass c.call.new.pass (g.L.Link.told c.loop-turn.link) (g.L.Link.told c.send_each-unsent.new.link) c.in-Ok.answer
           c.send_each-unsent.result.items c.loop-turn.invariant.writing answered
-          (called c.args.router.now c.loop-turn.pass c.call.new.pass c.call.ensures.pass c.call.ensures.own c.call.ensures.missed) fresh
+          (called c.args.router.now c.loop-turn.pass c.call.new.pass c.call.ensures.pass c.call.ensures.own c.call.ensures.failed_tries) fresh
           handed none);
-      turned = take_made (g.G.Gate.may_answer c.args.gate.now c.args.job) c.loop-turn.turn c.args.pass.now.part c.args.router.now
+      turned = take_made (g.G.Gate.may_answer c.args.gate.now c.args.job) c.loop-turn.turn c.args.pass.now.fragment c.args.router.now
           c.loop-turn.pass c.call.new.pass (take c.args.session) c.in-Ok.answer c.loop-turn.invariant.turned (search rules) answered;
       room = omega arith;
     }
@@ -91,7 +91,7 @@ pub loop-turn-preserved-then-not-may_go : goal.loop-turn-preserved-then-not-may_
 loop-turn-preserved-then-not-may_go g c = record {
   pass = c.loop-turn.invariant.pass;
   writing = c.loop-turn.invariant.writing;
-  turned = take_held_back (g.G.Gate.may_answer c.args.gate.now c.args.job) c.loop-turn.turn c.args.pass.now.part
-      c.loop-turn.pass.part c.loop-turn.invariant.turned c.if-not-may_go.ensures;
+  turned = take_held_back (g.G.Gate.may_answer c.args.gate.now c.args.job) c.loop-turn.turn c.args.pass.now.fragment
+      c.loop-turn.pass.fragment c.loop-turn.invariant.turned c.if-not-may_go.ensures;
   room = omega arith;
 }

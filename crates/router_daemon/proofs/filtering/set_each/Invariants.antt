@@ -7,6 +7,6 @@ use Rattle.router_daemon.proofs.filtering.set_each.Given as goal
 abbrev pub invariant-loop-used : goal.invariant-loop-used
 invariant-loop-used g l = record {
   legal : IsLegalPass l.router l.pass;
-  shares : l.pass.part.shares ≡ l.fn.pass.part.shares;
+  shares : l.pass.fragment.shares ≡ l.fn.pass.fragment.shares;
   set : SetsEach l.router l.direction l.filters.entries (take l.used-index l.uses) l.fn.pass l.pass;
 }

@@ -1,4 +1,4 @@
-use Rattle.slot_lock.specs.Held.{IsPassOf}
+use Rattle.slot_lock.specs.Passes.{IsPassOf}
 use Rattle.router_daemon.proofs.keeper.keep_link.Given as goal
 
 abbrev pub invariant-loop : goal.invariant-loop

@@ -4,7 +4,7 @@ use Rattle.router_operator.specs.OperatorView.{OperatorView}
 use Rattle.router_daemon.specs.Running.{Operates, operator_of}
 use Rattle.router_daemon.proofs.Running.{operated}
 use Rattle.router_daemon.proofs.operating.serve_operator.Goals as goal
-use Rattle.slot_lock.specs.Held.{RouterView}
+use Rattle.slot_lock.specs.Passes.{RouterView}
 
 pub returns : goal.returns
 returns g c =

@@ -1,5 +1,5 @@
 use Rattle.std.proofs.Common.{subst, sym}
-use Rattle.slot_lock.specs.Held.{PassView}
+use Rattle.slot_lock.specs.Passes.{PassView}
 use Rattle.router_daemon.specs.Saves.{IsSaved}
 use Rattle.router_daemon.proofs.saving.save_history.Goals as goal
 
