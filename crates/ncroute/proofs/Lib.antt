@@ -11,4 +11,5 @@ mod Loaded
 mod MadeTexts
 mod PlanAdded
 mod Routed
+mod Taken
 mod WrongRows

@@ -1,5 +1,5 @@
 -- What the program does for a script, and its exit status. (This project's own choice.)
-use Rattle.std.specs.Prelude.{◌≡◌, ◌⊎◌, ℕ, Bool, true, List, Option, Some, IfSome, Result}
+use Rattle.std.specs.Prelude.{◌≡◌, ◌⊎◌, ℕ, Bool, true, List, Option, None, Some, IfSome, Result}
 use Rattle.std.specs.declared.io.Error.{Error}
 use Rattle.line_protocol.specs.Limits.{input_limit}
 use Rattle.line_protocol.specs.declared.faults.StreamFault.{StreamFault}
@@ -12,6 +12,19 @@ use Rattle.command_line.specs.declared.requests.Source.TheVariants.{Input, File}
 use Rattle.ncroute.specs.Ending.{status_of}
 use Rattle.ncroute.specs.Reading.{Reads, SkipsUnread, StopsReading}
 use Rattle.ncroute.specs.Streaming.{Streams}
+use Rattle.ncroute.specs.declared.script.Lines.{Lines}
+use Rattle.ncroute.specs.declared.script.Lines.TheVariants as lines
+
+-- the text that lines come from, where it is not standard input that has them
+abbrev pub text_of : Lines → Option (List ℕ)
+text_of lines.Input = None
+text_of (lines.Text text) = Some text.now
+
+-- `Answered input left` says how the lines of all that there was to read were answered, of which `left` is left. They are those that standard
+-- input had, or those of a text, and then nothing was read of standard input. `known` is what that had before, `remains` what it has now.
+abbrev pub TakesLines : Option (List ℕ) → (List ℕ → Option (List ℕ) → Type 0) → Option (List ℕ) → Option (List ℕ) → Type 0
+TakesLines None Answered known remains = IfSome known (λ input. Answered input remains)
+TakesLines (Some text) Answered known remains = ((left : Option (List ℕ)) × Answered text left) × (remains ≡ known)
 
 -- A script was answered to its end, with so many refused lines. `input` is all that the reader had, `left` what it has now; `held` and
 -- `holds` are what the writer held before and holds now.
@@ -34,16 +47,16 @@ abbrev pub script_fault : Engine → ℕ
 script_fault Router = 1
 script_fault Domain = 3
 
--- A script was carried out, and the exit status says whether a line was refused.
-pub record RunsScript (engine : Engine) (is_explained : Bool) (before after : Streams) (status : ℕ) : Type 0 where
+-- A script was carried out, and the exit status says whether a line was refused. Its lines are those of this text, or else of standard input.
+pub record RunsScript (engine : Engine) (is_explained : Bool) (text : Option (List ℕ)) (before after : Streams) (status : ℕ) : Type 0 where
   pub refused : ℕ
-  pub carried_out : IfSome before.reads (λ input. IsAnswered engine input after.reads before.holds after.holds refused)
+  pub carried_out : TakesLines text (λ input left. IsAnswered engine input left before.holds after.holds refused) before.reads after.reads
   pub quiet : IsQuiet is_explained before.tells after.tells
   pub ends : status ≡ status_of refused
 
 -- A fault broke it off.
-pub record StopsScript (fault : StreamFault) (engine : Engine) (is_explained : Bool) (before after : Streams) : Type 0 where
-  pub left_off : IfSome before.reads (λ input. IsLeftOff engine fault input after.reads before.holds after.holds)
+pub record StopsScript (fault : StreamFault) (engine : Engine) (is_explained : Bool) (text : Option (List ℕ)) (before after : Streams) : Type 0 where
+  pub left_off : TakesLines text (λ input left. IsLeftOff engine fault input left before.holds after.holds) before.reads after.reads
   pub quiet : IsQuiet is_explained before.tells after.tells
 
 -- `opens name` says what may come of opening a file of this name.
@@ -51,24 +64,22 @@ module _ (opens : List ℕ → Result (Option (List ℕ)) Error → Type 0) wher
   -- The script of a file was read to its end, or to the limit, and carried out; or it was not read.
   abbrev pub RunsFile : Engine → Source → Bool → Streams → Streams → ℕ → Type 0
   RunsFile engine source is_explained before after status =
-      ((script : List ℕ) × (mid : Streams) × (left : Option (List ℕ)) × Reads opens input_limit source script before mid
-      × RunsScript engine is_explained (record { reads = Some script; holds = mid.holds; tells = mid.tells })
-      (record { reads = left; holds = after.holds; tells = after.tells }) status × (after.reads ≡ mid.reads))
+      ((script : List ℕ) × (mid : Streams) × Reads opens input_limit source script before mid
+      × RunsScript engine is_explained (Some script) mid after status)
       ⊎ (SkipsUnread opens input_limit source before after × (status ≡ script_fault engine))
 
   -- A fault ended it.
   abbrev pub StopsFile : StreamFault → Engine → Source → Bool → Streams → Streams → Type 0
   StopsFile fault engine source is_explained before after = StopsReading opens fault input_limit source before after
-      ⊎ ((script : List ℕ) × (mid : Streams) × (left : Option (List ℕ)) × Reads opens input_limit source script before mid
-      × StopsScript fault engine is_explained (record { reads = Some script; holds = mid.holds; tells = mid.tells })
-      (record { reads = left; holds = after.holds; tells = after.tells }) × (after.reads ≡ mid.reads))
+      ⊎ ((script : List ℕ) × (mid : Streams) × Reads opens input_limit source script before mid
+      × StopsScript fault engine is_explained (Some script) mid after)
 
   -- A script was carried out: line by line as standard input has it, or from a file.
   abbrev pub RunsSource : Engine → Source → Bool → Streams → Streams → ℕ → Type 0
-  RunsSource engine Input is_explained before after status = RunsScript engine is_explained before after status
+  RunsSource engine Input is_explained before after status = RunsScript engine is_explained None before after status
   RunsSource engine (File name) is_explained before after status = RunsFile engine (File name) is_explained before after status
 
   -- A fault ended it.
   abbrev pub StopsSource : StreamFault → Engine → Source → Bool → Streams → Streams → Type 0
-  StopsSource fault engine Input is_explained before after = StopsScript fault engine is_explained before after
+  StopsSource fault engine Input is_explained before after = StopsScript fault engine is_explained None before after
   StopsSource fault engine (File name) is_explained before after = StopsFile fault engine (File name) is_explained before after

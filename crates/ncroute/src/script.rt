@@ -2,7 +2,7 @@
 ghost use Rattle.std.specs.Prelude.{◌≡◌, IfErr, IfOk, IfSome};
 ghost use Rattle.filter_commands.specs.Faults.{stream_fault};
 ghost use Rattle.ncroute.specs.Scripts.{IsAnswered, IsLeftOff, IsQuiet, RunsFile, RunsScript, RunsSource, StopsFile, StopsScript, StopsSource};
-ghost use Rattle.ncroute.specs.Scripts.{script_fault};
+ghost use Rattle.ncroute.specs.Scripts.{TakesLines, script_fault, text_of};
 
 use crate::console::{Console, Loaded};
 use crate::ending::{FAILED, FAULT, status_of};
@@ -15,6 +15,15 @@ use line_protocol::{INPUT_LIMIT, StreamFault};
 use router_script::{run_script, run_watched_script};
 use std::alloc::Global;
 use std::io::{Read, Write};
+
+/// Where the lines of a script come from.
+#[derive(Clone, Copy)]
+pub enum Lines<'a> {
+    /// Standard input, as they come.
+    Input,
+    /// This text, which was read before the first of them is answered.
+    Text(&'a [u8]),
+}
 
 /// The exit status where a fault of the machine ends a script. That of a router has had 1 from the first.
 pub fn script_fault(engine: Engine) -> u8
@@ -69,6 +78,43 @@ fn answer<R: Read, W: Write, E: Write>(
     }
 }
 
+/// Answers lines as `answer` does, wherever they come from.
+fn answer_lines<R: Read, W: Write, E: Write>(
+    alloc: Global,
+    engine: Engine,
+    name: &[u8],
+    is_explained: bool,
+    lines: Lines<'_>,
+    console: &mut Console<R, W, E>,
+) -> Result<u32, StreamFault>
+    ensures finished { IfOk result (λ refused. TakesLines (text_of lines.entry) (λ input left.
+        IsAnswered engine input left console.old.holds console.new.holds refused) console.old.reads console.new.reads) }
+    ensures left_off { IfErr result (λ fault. TakesLines (text_of lines.entry) (λ input left.
+        IsLeftOff engine fault input left console.old.holds console.new.holds) console.old.reads console.new.reads) }
+    ensures quiet { IsQuiet is_explained console.old.tells console.new.tells }
+{
+    match lines {
+        Lines::Input => answer(
+            alloc,
+            engine,
+            name,
+            is_explained,
+            &mut console.reader,
+            &mut console.writer,
+            &mut console.errors,
+        ),
+        Lines::Text(mut text) => answer(
+            alloc,
+            engine,
+            name,
+            is_explained,
+            &mut text,
+            &mut console.writer,
+            &mut console.errors,
+        ),
+    }
+}
+
 /// Carries out a script that people know by a name, and returns the exit status. Where `is_explained` says so, it is told in words why
 /// a filter is refused.
 fn carry_out<R: Read, W: Write, E: Write>(
@@ -76,18 +122,13 @@ fn carry_out<R: Read, W: Write, E: Write>(
     engine: Engine,
     name: &[u8],
     is_explained: bool,
-    reader: &mut R,
-    writer: &mut W,
-    errors: &mut E,
+    lines: Lines<'_>,
+    console: &mut Console<R, W, E>,
 ) -> Result<u8, ProgramFault>
-    ensures finished { IfOk result (RunsScript engine is_explained
-        (record { reads = R.remaining reader.old; holds = W.contents writer.old; tells = E.contents errors.old })
-        (record { reads = R.remaining reader.new; holds = W.contents writer.new; tells = E.contents errors.new })) }
-    ensures stopped { IfErr result (λ fault. StopsScript (stream_fault fault) engine is_explained
-        (record { reads = R.remaining reader.old; holds = W.contents writer.old; tells = E.contents errors.old })
-        (record { reads = R.remaining reader.new; holds = W.contents writer.new; tells = E.contents errors.new })) }
+    ensures finished { IfOk result (RunsScript engine is_explained (text_of lines.entry) console.old console.new) }
+    ensures stopped { IfErr result (λ fault. StopsScript (stream_fault fault) engine is_explained (text_of lines.entry) console.old console.new) }
 {
-    let refused = answer(alloc, engine, name, is_explained, reader, writer, errors)?;
+    let refused = answer_lines(alloc, engine, name, is_explained, lines, console)?;
     Ok(status_of(refused))
 }
 
@@ -110,9 +151,8 @@ fn run_file<F: Folder, R: Read, W: Write, E: Write>(
             engine,
             name_of(source),
             is_explained,
-            &mut text.as_slice(),
-            &mut console.writer,
-            &mut console.errors,
+            Lines::Text(text.as_slice()),
+            console,
         ),
         Loaded::Skipped => Ok(script_fault(engine)),
         Loaded::Stopped(fault) => Err(fault),
@@ -138,9 +178,8 @@ pub fn run_source<F: Folder, R: Read, W: Write, E: Write>(
             engine,
             name_of(source),
             is_explained,
-            &mut console.reader,
-            &mut console.writer,
-            &mut console.errors,
+            Lines::Input,
+            console,
         ),
         Source::File(_) => run_file(files, alloc, engine, source, is_explained, console),
     }
