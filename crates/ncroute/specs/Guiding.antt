@@ -1,5 +1,5 @@
 -- What the program does for a router's script whose history is kept, that is started with filters, or that ends at its first refused line. (This project's own choice.)
-use Rattle.std.specs.Prelude.{◌≡◌, ◌⊎◌, ◌||◌, ℕ, List, Option, Some, None, IfSome, Result, Ok, Err, string_bytes, ⊤}
+use Rattle.std.specs.Prelude.{◌≡◌, ◌⊎◌, ◌||◌, ℕ, List, Option, Some, None, Result, Ok, Err, string_bytes, ⊤}
 use Rattle.std.specs.Io.KnownBytes.{Appends}
 use Rattle.std.specs.declared.io.Error.{Error}
 use Rattle.std.specs.declared.string.String.{String}
@@ -15,45 +15,45 @@ use Rattle.command_line.specs.declared.requests.Source.{Source}
 use Rattle.command_line.specs.declared.requests.Source.TheVariants.{Input, File}
 use Rattle.ncroute.specs.Filters.{IsCutUnfit, ReadsThem, SkipsFilter, StopsAtFault, TellsUnfit}
 use Rattle.ncroute.specs.Reading.{Reads, SkipsUnread, StopsReading, unmade_line}
-use Rattle.ncroute.specs.Scripts.{IsQuiet}
+use Rattle.ncroute.specs.Scripts.{IsQuiet, TakesLines}
 use Rattle.ncroute.specs.Ending.{status_of}
 use Rattle.ncroute.specs.Streaming.{Streams}
 
--- A script that was started with these filters was carried out, and the exit status says whether a line was refused. `kept` and `keeps`
--- are what the saver held before and holds now. Standard error is told nothing where people asked for no words, and the script does not end
--- at a refused line; at last it is told of the filter that is refused, if one is.
-pub record RunsSaved (how : Running) (filters : List NamedFilter) (kept keeps : Option (List ℕ)) (before after : Streams) (status : ℕ)
+-- A script that was started with these filters was carried out, and the exit status says whether a line was refused. Its lines are those of
+-- this text, or else of standard input. `kept` and `keeps` are what the saver held before and holds now. Standard error is told nothing where
+-- people asked for no words, and the script does not end at a refused line; at last it is told of the filter that is refused, if one is.
+pub record RunsSaved (how : Running) (filters : List NamedFilter) (text kept keeps : Option (List ℕ)) (before after : Streams) (status : ℕ)
     : Type 0 where
   pub refused : ℕ
   pub unfit : Option Unfit
   pub mid : Option (List ℕ)
-  pub carried_out : IfSome before.reads (λ input.
-      IsSaved how.stops filters input after.reads before.holds after.holds refused kept keeps unfit)
+  pub carried_out : TakesLines text (λ input left.
+      IsSaved how.stops filters input left before.holds after.holds refused kept keeps unfit) before.reads after.reads
   pub quiet : IsQuiet (how.is_explained || how.stops) before.tells mid
   pub told : TellsUnfit filters unfit mid after.tells
   pub ends : status ≡ status_of refused
 
 -- A fault broke it off.
-pub record BreaksSaved (fault : StreamFault) (how : Running) (filters : List NamedFilter) (kept keeps : Option (List ℕ))
+pub record BreaksSaved (fault : StreamFault) (how : Running) (filters : List NamedFilter) (text kept keeps : Option (List ℕ))
     (before after : Streams) : Type 0 where
-  pub left_off : IfSome before.reads (λ input.
-      IsSavedInPart fault how.stops filters input after.reads before.holds after.holds kept keeps)
+  pub left_off : TakesLines text (λ input left.
+      IsSavedInPart fault how.stops filters input left before.holds after.holds kept keeps) before.reads after.reads
   pub quiet : IsQuiet (how.is_explained || how.stops) before.tells after.tells
 
 -- A fault cut what was told of the filter that is refused.
-pub record CutsSaved (fault : StreamFault) (how : Running) (filters : List NamedFilter) (kept keeps : Option (List ℕ))
+pub record CutsSaved (fault : StreamFault) (how : Running) (filters : List NamedFilter) (text kept keeps : Option (List ℕ))
     (before after : Streams) : Type 0 where
   pub refused : ℕ
   pub unfit : Option Unfit
   pub mid : Option (List ℕ)
-  pub carried_out : IfSome before.reads (λ input.
-      IsSaved how.stops filters input after.reads before.holds after.holds refused kept keeps unfit)
+  pub carried_out : TakesLines text (λ input left.
+      IsSaved how.stops filters input left before.holds after.holds refused kept keeps unfit) before.reads after.reads
   pub quiet : IsQuiet (how.is_explained || how.stops) before.tells mid
   pub cut : IsCutUnfit fault filters unfit mid after.tells
 
-abbrev pub StopsSaved : StreamFault → Running → List NamedFilter → Option (List ℕ) → Option (List ℕ) → Streams → Streams → Type 0
-StopsSaved fault how filters kept keeps before after =
-    BreaksSaved fault how filters kept keeps before after ⊎ CutsSaved fault how filters kept keeps before after
+abbrev pub StopsSaved : StreamFault → Running → List NamedFilter → Option (List ℕ) → Option (List ℕ) → Option (List ℕ) → Streams → Streams → Type 0
+StopsSaved fault how filters text kept keeps before after =
+    BreaksSaved fault how filters text kept keeps before after ⊎ CutsSaved fault how filters text kept keeps before after
 
 -- `creates name` says what may come of making a file of this name: what it holds at first, or why there is none.
 module _ (creates : List ℕ → Result (Option (List ℕ)) Error → Type 0) where
@@ -70,19 +70,19 @@ module _ (creates : List ℕ → Result (Option (List ℕ)) Error → Type 0) (l
   IsSaver (Some name) kept keeps = creates (string_bytes name) (Ok kept) × leaves (string_bytes name) keeps
 
   -- A script was carried out, and its history saved; or the file of the history was not made, which standard error was told, and no line
-  -- was answered.
-  unfoldable pub GuidesScript : Running → List NamedFilter → Streams → Streams → ℕ → Type 0
-  GuidesScript how filters before after status =
+  -- was answered. Its lines are those of this text, or else of standard input.
+  unfoldable pub GuidesScript : Running → List NamedFilter → Option (List ℕ) → Streams → Streams → ℕ → Type 0
+  GuidesScript how filters text before after status =
       ((kept : Option (List ℕ)) × (keeps : Option (List ℕ)) × IsSaver how.save kept keeps
-      × RunsSaved how filters kept keeps before after status)
+      × RunsSaved how filters text kept keeps before after status)
       ⊎ ((name : List ℕ) × (words : List ℕ) × IsUnmade creates how.save name words × Appends before.tells after.tells (unmade_line name words)
       × (after.reads ≡ before.reads) × (after.holds ≡ before.holds) × (status ≡ 1))
 
   -- A fault ended it.
-  unfoldable pub StopsGuided : StreamFault → Running → List NamedFilter → Streams → Streams → Type 0
-  StopsGuided fault how filters before after =
+  unfoldable pub StopsGuided : StreamFault → Running → List NamedFilter → Option (List ℕ) → Streams → Streams → Type 0
+  StopsGuided fault how filters text before after =
       ((kept : Option (List ℕ)) × (keeps : Option (List ℕ)) × IsSaver how.save kept keeps
-      × StopsSaved fault how filters kept keeps before after)
+      × StopsSaved fault how filters text kept keeps before after)
       ⊎ ((name : List ℕ) × (words : List ℕ) × IsUnmade creates how.save name words × IsCut fault before.tells after.tells (unmade_line name words)
       × (after.reads ≡ before.reads) × (after.holds ≡ before.holds))
 
@@ -90,20 +90,18 @@ module _ (creates : List ℕ → Result (Option (List ℕ)) Error → Type 0) (l
   module _ (opens : List ℕ → Result (Option (List ℕ)) Error → Type 0) where
     -- The script of standard input was carried out line by line, or that of a file, which was read first; or the file was not read.
     abbrev pub RunsNamed : Running → List NamedFilter → Source → Streams → Streams → ℕ → Type 0
-    RunsNamed how filters Input before after status = GuidesScript how filters before after status
+    RunsNamed how filters Input before after status = GuidesScript how filters None before after status
     RunsNamed how filters (File name) before after status =
-        ((script : List ℕ) × (mid : Streams) × (left : Option (List ℕ)) × Reads opens input_limit (File name) script before mid
-        × GuidesScript how filters (record { reads = Some script; holds = mid.holds; tells = mid.tells })
-        (record { reads = left; holds = after.holds; tells = after.tells }) status × (after.reads ≡ mid.reads))
+        ((script : List ℕ) × (mid : Streams) × Reads opens input_limit (File name) script before mid
+        × GuidesScript how filters (Some script) mid after status)
         ⊎ (SkipsUnread opens input_limit (File name) before after × (status ≡ 1))
 
     -- A fault ended it.
     abbrev pub StopsNamed : StreamFault → Running → List NamedFilter → Source → Streams → Streams → Type 0
-    StopsNamed fault how filters Input before after = StopsGuided fault how filters before after
+    StopsNamed fault how filters Input before after = StopsGuided fault how filters None before after
     StopsNamed fault how filters (File name) before after = StopsReading opens fault input_limit (File name) before after
-        ⊎ ((script : List ℕ) × (mid : Streams) × (left : Option (List ℕ)) × Reads opens input_limit (File name) script before mid
-        × StopsGuided fault how filters (record { reads = Some script; holds = mid.holds; tells = mid.tells })
-        (record { reads = left; holds = after.holds; tells = after.tells }) × (after.reads ≡ mid.reads))
+        ⊎ ((script : List ℕ) × (mid : Streams) × Reads opens input_limit (File name) script before mid
+        × StopsGuided fault how filters (Some script) mid after)
 
     -- The filters were read, in order, and then the script was carried out; or one of them was not read, and no line was answered.
     abbrev pub RunsGuided : Running → Source → Streams → Streams → ℕ → Type 0

@@ -66,24 +66,28 @@ module _ (opens : List ℕ → Result (Option (List ℕ)) Error → Type 0) wher
     pub first : JoinsFirst sources n earlier known mid
     pub leaves : LeavesNext source why mid left
 
+  -- The sources were read, in order, the script is their texts, one after another, and nothing was written or told.
+  pub record JoinsThem (sources : List Source) (script : List ℕ) (before after : Streams) : Type 0 where
+    pub joins : JoinsAll sources script before.reads after.reads
+    pub holds : after.holds ≡ before.holds
+    pub tells : after.tells ≡ before.tells
+
 -- `creates name` says what may come of making a file of this name, and `leaves name` what a new one held when it was closed.
 module _ (creates : List ℕ → Result (Option (List ℕ)) Error → Type 0) (leaves : List ℕ → Option (List ℕ) → Type 0)
     (opens : List ℕ → Result (Option (List ℕ)) Error → Type 0) where
   -- The sources were read, and the script that they are was carried out; or one of them was not read, and no line was answered.
   unfoldable pub RunsTexts : Running → List NamedFilter → List Source → Streams → Streams → ℕ → Type 0
   RunsTexts how filters sources before after status =
-      ((script : List ℕ) × (remains : Option (List ℕ)) × JoinsAll opens sources script before.reads after.reads
-      × GuidesScript creates leaves how filters (record { reads = Some script; holds = before.holds; tells = before.tells })
-      (record { reads = remains; holds = after.holds; tells = after.tells }) status)
+      ((script : List ℕ) × (mid : Streams) × JoinsThem opens sources script before mid
+      × GuidesScript creates leaves how filters (Some script) mid after status)
       ⊎ ((source : Source) × (why : Unread) × StopsAtSource opens sources source why before.reads after.reads
       × TellsUnread source why before.tells after.tells × (after.holds ≡ before.holds) × (status ≡ 1))
 
   -- A fault ended it.
   unfoldable pub StopsTexts : StreamFault → Running → List NamedFilter → List Source → Streams → Streams → Type 0
   StopsTexts fault how filters sources before after =
-      ((script : List ℕ) × (remains : Option (List ℕ)) × JoinsAll opens sources script before.reads after.reads
-      × StopsGuided creates leaves fault how filters (record { reads = Some script; holds = before.holds; tells = before.tells })
-      (record { reads = remains; holds = after.holds; tells = after.tells }))
+      ((script : List ℕ) × (mid : Streams) × JoinsThem opens sources script before mid
+      × StopsGuided creates leaves fault how filters (Some script) mid after)
       ⊎ ((source : Source) × (why : Unread) × StopsAtSource opens sources source why before.reads after.reads
       × StopsTelling fault source why before.tells after.tells × (after.holds ≡ before.holds))
 

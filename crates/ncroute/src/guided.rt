@@ -2,12 +2,13 @@
 ghost use Rattle.std.specs.Prelude.{◌≡◌, ◌||◌, IfErr, IfOk, IfSome};
 ghost use Rattle.filter_commands.specs.Faults.{stream_fault};
 ghost use Rattle.ncroute.specs.Guiding.{GuidesScript, RunsGuided, RunsNamed, RunsSaved, StopsGuided, StopsNamed, StopsRun, StopsSaved};
-ghost use Rattle.ncroute.specs.Scripts.{IsQuiet};
+ghost use Rattle.ncroute.specs.Scripts.{IsQuiet, TakesLines, text_of};
 ghost use Rattle.script_runs.specs.Running.{IsSaved, IsSavedInPart};
 
 use crate::console::{Console, Loaded};
 use crate::ending::{FAILED, status_of};
 use crate::filters::{LoadedFilters, read_given, tell_unfit};
+use crate::script::Lines;
 use crate::texts::{Folder, name_of, tell_unmade};
 use crate::watcher::{Guide, Part, whole};
 use command_line::{Running, Source};
@@ -52,6 +53,48 @@ fn answer<R: Read, W: Write, V: Write + Drop, E: Write>(
     }
 }
 
+/// Answers lines as `answer` does, wherever they come from.
+fn answer_lines<R: Read, W: Write, V: Write + Drop, E: Write>(
+    alloc: Global,
+    how: &Running,
+    parts: &[Part<'_>],
+    filters: &[NamedFilter],
+    saver: V,
+    lines: Lines<'_>,
+    console: &mut Console<R, W, E>,
+) -> (Result<u32, StreamFault>, V, Option<Unfit>)
+    ensures finished { IfOk result.0 (λ refused. TakesLines (text_of lines.entry) (λ input left.
+        IsSaved how.now.stops filters.now input left console.old.holds console.new.holds refused (V.contents saver) (V.contents result.1) result.2)
+        console.old.reads console.new.reads) }
+    ensures left_off { IfErr result.0 (λ fault. TakesLines (text_of lines.entry) (λ input left.
+        IsSavedInPart fault how.now.stops filters.now input left console.old.holds console.new.holds (V.contents saver) (V.contents result.1))
+        console.old.reads console.new.reads) }
+    ensures quiet { IsQuiet (how.now.is_explained || how.now.stops) console.old.tells console.new.tells }
+{
+    match lines {
+        Lines::Input => answer(
+            alloc,
+            how,
+            parts,
+            filters,
+            saver,
+            &mut console.reader,
+            &mut console.writer,
+            &mut console.errors,
+        ),
+        Lines::Text(mut text) => answer(
+            alloc,
+            how,
+            parts,
+            filters,
+            saver,
+            &mut text,
+            &mut console.writer,
+            &mut console.errors,
+        ),
+    }
+}
+
 /// Carries out a script whose history goes to a saver. Returns the exit status, and the saver.
 fn save_to<R: Read, W: Write, V: Write + Drop, E: Write>(
     alloc: Global,
@@ -59,20 +102,17 @@ fn save_to<R: Read, W: Write, V: Write + Drop, E: Write>(
     parts: &[Part<'_>],
     filters: &[NamedFilter],
     saver: V,
-    reader: &mut R,
-    writer: &mut W,
-    errors: &mut E,
+    lines: Lines<'_>,
+    console: &mut Console<R, W, E>,
 ) -> (Result<u8, ProgramFault>, V)
-    ensures finished { IfOk result.0 (RunsSaved how.now filters.now (V.contents saver) (V.contents result.1)
-        (record { reads = R.remaining reader.old; holds = W.contents writer.old; tells = E.contents errors.old })
-        (record { reads = R.remaining reader.new; holds = W.contents writer.new; tells = E.contents errors.new })) }
-    ensures stopped { IfErr result.0 (λ fault. StopsSaved (stream_fault fault) how.now filters.now (V.contents saver) (V.contents result.1)
-        (record { reads = R.remaining reader.old; holds = W.contents writer.old; tells = E.contents errors.old })
-        (record { reads = R.remaining reader.new; holds = W.contents writer.new; tells = E.contents errors.new })) }
+    ensures finished { IfOk result.0 (RunsSaved how.now filters.now (text_of lines.entry) (V.contents saver) (V.contents result.1)
+        console.old console.new) }
+    ensures stopped { IfErr result.0 (λ fault. StopsSaved (stream_fault fault) how.now filters.now (text_of lines.entry)
+        (V.contents saver) (V.contents result.1) console.old console.new) }
 {
-    let (ended, saver, unfit) = answer(alloc, how, parts, filters, saver, reader, writer, errors);
+    let (ended, saver, unfit) = answer_lines(alloc, how, parts, filters, saver, lines, console);
     match ended {
-        Ok(refused) => match tell_unfit(alloc, errors, filters, &unfit) {
+        Ok(refused) => match tell_unfit(alloc, &mut console.errors, filters, &unfit) {
             Ok(()) => (Ok(status_of(refused)), saver),
             Err(fault) => (Err(fault), saver),
         },
@@ -88,42 +128,27 @@ pub fn guide_script<F: Folder, R: Read, W: Write, E: Write>(
     how: &Running,
     parts: &[Part<'_>],
     filters: &[NamedFilter],
-    reader: &mut R,
-    writer: &mut W,
-    errors: &mut E,
+    lines: Lines<'_>,
+    console: &mut Console<R, W, E>,
 ) -> Result<u8, ProgramFault>
-    ensures finished { IfOk result (GuidesScript (F.creates files.now) (F.leaves files.now) how.now filters.now
-        (record { reads = R.remaining reader.old; holds = W.contents writer.old; tells = E.contents errors.old })
-        (record { reads = R.remaining reader.new; holds = W.contents writer.new; tells = E.contents errors.new })) }
+    ensures finished { IfOk result (GuidesScript (F.creates files.now) (F.leaves files.now) how.now filters.now (text_of lines.entry)
+        console.old console.new) }
     ensures stopped { IfErr result (λ fault. StopsGuided (F.creates files.now) (F.leaves files.now) (stream_fault fault) how.now filters.now
-        (record { reads = R.remaining reader.old; holds = W.contents writer.old; tells = E.contents errors.old })
-        (record { reads = R.remaining reader.new; holds = W.contents writer.new; tells = E.contents errors.new })) }
+        (text_of lines.entry) console.old console.new) }
 {
     match &how.save {
         Some(file) => match files.create(file.as_str()) {
             Ok(saver) => {
-                let (ended, saver) = save_to(
-                    alloc, how, parts, filters, saver, reader, writer, errors,
-                );
+                let (ended, saver) = save_to(alloc, how, parts, filters, saver, lines, console);
                 files.close(file.as_str(), saver);
                 ended
             }
             Err(error) => {
-                tell_unmade(alloc, errors, file.as_str(), &error)?;
+                tell_unmade(alloc, &mut console.errors, file.as_str(), &error)?;
                 Ok(FAILED)
             }
         },
-        None => save_to(
-            alloc,
-            how,
-            parts,
-            filters,
-            io::sink(),
-            reader,
-            writer,
-            errors,
-        )
-        .0,
+        None => save_to(alloc, how, parts, filters, io::sink(), lines, console).0,
     }
 }
 
@@ -150,9 +175,8 @@ fn guide_named<F: Folder, R: Read, W: Write, E: Write>(
             how,
             parts.as_slice(),
             filters,
-            &mut console.reader,
-            &mut console.writer,
-            &mut console.errors,
+            Lines::Input,
+            console,
         ),
         Source::File(_) => match console.read(files, alloc, source, INPUT_LIMIT) {
             Loaded::Text(text) => guide_script(
@@ -161,9 +185,8 @@ fn guide_named<F: Folder, R: Read, W: Write, E: Write>(
                 how,
                 parts.as_slice(),
                 filters,
-                &mut text.as_slice(),
-                &mut console.writer,
-                &mut console.errors,
+                Lines::Text(text.as_slice()),
+                console,
             ),
             Loaded::Skipped => Ok(FAILED),
             Loaded::Stopped(fault) => Err(fault),

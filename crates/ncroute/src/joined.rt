@@ -8,6 +8,7 @@ use crate::console::Console;
 use crate::ending::FAILED;
 use crate::filters::{LoadedFilters, read_given};
 use crate::guided::guide_script;
+use crate::script::Lines;
 use crate::texts::{Folder, Unread, name_of, read_source, tell_unread};
 use crate::watcher::Part;
 use command_line::{Running, Source};
@@ -132,34 +133,28 @@ fn guide_texts<F: Folder, R: Read, W: Write, E: Write>(
     how: &Running,
     filters: &[NamedFilter],
     sources: &[Source],
-    reader: &mut R,
-    writer: &mut W,
-    errors: &mut E,
+    console: &mut Console<R, W, E>,
 ) -> Result<u8, ProgramFault>
     ensures finished { IfOk result (RunsTexts (F.creates files.now) (F.leaves files.now) (F.opens files.now) how.now filters.now sources.now
-        (record { reads = R.remaining reader.old; holds = W.contents writer.old; tells = E.contents errors.old })
-        (record { reads = R.remaining reader.new; holds = W.contents writer.new; tells = E.contents errors.new })) }
+        console.old console.new) }
     ensures stopped { IfErr result (λ fault. StopsTexts (F.creates files.now) (F.leaves files.now) (F.opens files.now) (stream_fault fault) how.now filters.now
-        sources.now
-        (record { reads = R.remaining reader.old; holds = W.contents writer.old; tells = E.contents errors.old })
-        (record { reads = R.remaining reader.new; holds = W.contents writer.new; tells = E.contents errors.new })) }
+        sources.now console.old console.new) }
 {
-    match read_texts(files, alloc, sources, reader) {
+    match read_texts(files, alloc, sources, &mut console.reader) {
         Ok(joined) => {
-            let (mut script, parts) = (joined.text.as_slice(), joined.parts.as_slice());
+            let (script, parts) = (joined.text.as_slice(), joined.parts.as_slice());
             guide_script(
                 files,
                 alloc,
                 how,
                 parts,
                 filters,
-                &mut script,
-                writer,
-                errors,
+                Lines::Text(script),
+                console,
             )
         }
         Err(unread) => {
-            tell_unread(alloc, errors, unread.source, unread.why)?;
+            tell_unread(alloc, &mut console.errors, unread.source, unread.why)?;
             Ok(FAILED)
         }
     }
@@ -180,16 +175,9 @@ pub fn guide_sources<F: Folder, R: Read, W: Write, E: Write>(
         console.old console.new) }
 {
     match read_given(files, alloc, how.filters.as_slice(), console) {
-        LoadedFilters::All(filters) => guide_texts(
-            files,
-            alloc,
-            how,
-            filters.as_slice(),
-            sources,
-            &mut console.reader,
-            &mut console.writer,
-            &mut console.errors,
-        ),
+        LoadedFilters::All(filters) => {
+            guide_texts(files, alloc, how, filters.as_slice(), sources, console)
+        }
         LoadedFilters::Skipped => Ok(FAILED),
         LoadedFilters::Stopped(fault) => Err(fault),
     }
