@@ -58,44 +58,48 @@ module _ (creates : List ℕ → Result (Option (List ℕ)) Error → Type 0) wh
   -- `opens name` says what may come of opening a file of this name.
   module _ (opens : List ℕ → Result (Option (List ℕ)) Error → Type 0) where
     -- What a router of this plan is run with is there: its filters were read, in order, and are verified, and then the file of its history
-    -- was made. Nothing was told.
-    pub record FitsOut (words : RouterWords) (plan : PlanView) (names : Names) (kept : Option (Option (List ℕ)))
-        (known left told tells : Option (List ℕ)) : Type 0 where
-      pub loads : LoadsFilters opens words.filters.items plan.opening.size names known left
+    -- was made. Nothing was written or told.
+    pub record FitsOut (words : RouterWords) (plan : PlanView) (names : Names) (kept : Option (Option (List ℕ))) (before after : Streams)
+        : Type 0 where
+      pub loads : LoadsFilters opens words.filters.items plan.opening.size names before.reads after.reads
       pub makes : MakesSave words.save kept
-      pub quiet : tells ≡ told
+      pub holds : after.holds ≡ before.holds
+      pub tells : after.tells ≡ before.tells
 
-    -- One of its filters was not read or is refused; or the file was not made. Standard error was told.
-    abbrev pub LacksParts : RouterWords → PlanView → Option (List ℕ) → Option (List ℕ) → Option (List ℕ) → Option (List ℕ) → Type 0
-    LacksParts words plan known left told tells = LacksFilters opens words.filters.items plan.opening.size known left told tells
-        ⊎ ((names : Names) × LoadsFilters opens words.filters.items plan.opening.size names known left × LacksSave words.save told tells)
+    -- One of its filters was not read or is refused; or the file was not made. Standard error was told, and nothing was written.
+    abbrev pub LacksParts : RouterWords → PlanView → Streams → Streams → Type 0
+    LacksParts words plan before after = (after.holds ≡ before.holds)
+        × (LacksFilters opens words.filters.items plan.opening.size before.reads after.reads before.tells after.tells
+        ⊎ ((names : Names) × LoadsFilters opens words.filters.items plan.opening.size names before.reads after.reads
+        × LacksSave words.save before.tells after.tells))
 
-    -- A fault ended it.
-    abbrev pub StopsParts : StreamFault → RouterWords → PlanView → Option (List ℕ) → Option (List ℕ) → Option (List ℕ) → Option (List ℕ) → Type 0
-    StopsParts fault words plan known left told tells = StopsLoading opens fault words.filters.items plan.opening.size known left told tells
-        ⊎ ((names : Names) × LoadsFilters opens words.filters.items plan.opening.size names known left × CutsSave fault words.save told tells)
+    -- A fault ended it, and nothing was written.
+    abbrev pub StopsParts : StreamFault → RouterWords → PlanView → Streams → Streams → Type 0
+    StopsParts fault words plan before after = (after.holds ≡ before.holds)
+        × (StopsLoading opens fault words.filters.items plan.opening.size before.reads after.reads before.tells after.tells
+        ⊎ ((names : Names) × LoadsFilters opens words.filters.items plan.opening.size names before.reads after.reads
+        × CutsSave fault words.save before.tells after.tells))
 
     -- The words tell this plan, and what it is run with is there.
-    pub record SetsUp (words : RouterWords) (plan : PlanView) (names : Names) (kept : Option (Option (List ℕ)))
-        (known left told tells : Option (List ℕ)) : Type 0 where
+    pub record SetsUp (words : RouterWords) (plan : PlanView) (names : Names) (kept : Option (Option (List ℕ))) (before after : Streams)
+        : Type 0 where
       pub planned : IsPlanOf words plan
-      pub fits : FitsOut words plan names kept known left told tells
+      pub fits : FitsOut words plan names kept before after
 
     -- The words tell a plan, but something that it is run with is not there, which standard error was told.
-    abbrev pub LacksSetting : RouterWords → Option (List ℕ) → Option (List ℕ) → Option (List ℕ) → Option (List ℕ) → Type 0
-    LacksSetting words known left told tells = (plan : PlanView) × IsPlanOf words plan × LacksParts words plan known left told tells
+    abbrev pub LacksSetting : RouterWords → Streams → Streams → Type 0
+    LacksSetting words before after = (plan : PlanView) × IsPlanOf words plan × LacksParts words plan before after
 
     -- A fault of the program ended it.
-    abbrev pub StopsProgram : StreamFault → RouterWords → Option (List ℕ) → Option (List ℕ) → Option (List ℕ) → Option (List ℕ) → Type 0
-    StopsProgram fault words known left told tells =
-        ((why : PlanFault) × LacksPlan words why × (is_memory why ≡ true) × (fault ≡ Memory) × (left ≡ known) × (tells ≡ told))
-        ⊎ ((plan : PlanView) × IsPlanOf words plan × StopsParts fault words plan known left told tells)
+    abbrev pub StopsProgram : StreamFault → RouterWords → Streams → Streams → Type 0
+    StopsProgram fault words before after =
+        ((why : PlanFault) × LacksPlan words why × (is_memory why ≡ true) × (fault ≡ Memory) × (after ≡ before))
+        ⊎ ((plan : PlanView) × IsPlanOf words plan × StopsParts fault words plan before after)
 
     -- The words tell no plan, and memory is not why: nothing was read, and nothing told yet. Or a fault of the program ended it.
-    abbrev pub StopsSettingUp : SetupFault → RouterWords → Option (List ℕ) → Option (List ℕ) → Option (List ℕ) → Option (List ℕ) → Type 0
-    StopsSettingUp (Words why) words known left told tells =
-        LacksPlan words why × (is_memory why ≡ false) × (left ≡ known) × (tells ≡ told)
-    StopsSettingUp (Program fault) words known left told tells = StopsProgram (stream_fault fault) words known left told tells
+    abbrev pub StopsSettingUp : SetupFault → RouterWords → Streams → Streams → Type 0
+    StopsSettingUp (Words why) words before after = LacksPlan words why × (is_memory why ≡ false) × (after ≡ before)
+    StopsSettingUp (Program fault) words before after = StopsProgram (stream_fault fault) words before after
 
 -- The operator's lines ended so, at a router of this plan.
 abbrev pub Operated : PlanView → Names → Streams → Streams → Result ℕ StreamFault → Type 0
@@ -141,20 +145,18 @@ CutsPlan cut plan names before after status = EndsInFault (IsCut cut) plan names
 module _ (opens creates : List ℕ → Result (Option (List ℕ)) Error → Type 0) (leaves : List ℕ → Option (List ℕ) → Type 0) where
   -- It was set up as words say, all of it, and then ran so: `Ran plan names kept before after`.
   abbrev pub SetUpRan : (PlanView → Names → Option (Option (List ℕ)) → Streams → Streams → Type 0) → RouterWords → Streams → Streams → Type 0
-  SetUpRan Ran words before after = (plan : PlanView) × (names : Names) × (kept : Option (Option (List ℕ))) × (left : Option (List ℕ))
-      × (tells : Option (List ℕ)) × SetsUp creates opens words plan names kept before.reads left before.tells tells
-      × Ran plan names kept (record { reads = left; holds = before.holds; tells = tells }) after
+  SetUpRan Ran words before after = (plan : PlanView) × (names : Names) × (kept : Option (Option (List ℕ))) × (mid : Streams)
+      × SetsUp creates opens words plan names kept before mid × Ran plan names kept mid after
 
   -- It was not set up, for want of something that it is run with.
   abbrev pub LacksRouter : RouterWords → Streams → Streams → ℕ → Type 0
-  LacksRouter words before after status =
-      LacksSetting creates opens words before.reads after.reads before.tells after.tells × (after.holds ≡ before.holds) × (status ≡ 1)
+  LacksRouter words before after status = LacksSetting creates opens words before after × (status ≡ 1)
 
   -- A fault kept it from being set up, and `TellsLine told tells line` says what standard error was told of the line of the fault.
   abbrev pub StopsRouter : (Option (List ℕ) → Option (List ℕ) → List ℕ → Type 0) → RouterWords → Streams → Streams → ℕ → Type 0
-  StopsRouter TellsLine words before after status = (fault : SetupFault) × (tells : Option (List ℕ))
-      × StopsSettingUp creates opens fault words before.reads after.reads before.tells tells
-      × TellsLine tells after.tells (setup_line fault) × (after.holds ≡ before.holds) × (status ≡ setup_status fault)
+  StopsRouter TellsLine words before after status = (fault : SetupFault) × (mid : Streams)
+      × StopsSettingUp creates opens fault words before mid × TellsLine mid.tells after.tells (setup_line fault)
+      × (after.reads ≡ mid.reads) × (after.holds ≡ mid.holds) × (status ≡ setup_status fault)
 
   -- A router was run as words say: it was set up first, all of it, and then run; or it was not set up, and no line was answered. Standard
   -- error was told why, the whole line.

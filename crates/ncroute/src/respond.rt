@@ -69,15 +69,7 @@ where
     ensures { ServesRouter (R.opens rt.now) (R.creates rt.now) (R.leaves rt.now) words.now console.old console.new result
         ⊎ ((cut : StreamFault) × CutsRouter (R.opens rt.now) (R.creates rt.now) (R.leaves rt.now) cut words.now console.old console.new result) }
 {
-    match serve_router::<R, FI, FO, T, I, W, E>(
-        rt,
-        alloc,
-        words,
-        &mut console.reader,
-        &mut console.writer,
-        &mut console.errors,
-        voice,
-    ) {
+    match serve_router::<R, FI, FO, T, I, W, E>(rt, alloc, words, console, voice) {
         Ok(status) => status,
         Err(untold) => untold.status,
     }

@@ -7,6 +7,7 @@ ghost use Rattle.filter_commands.specs.Faults.{stream_fault};
 ghost use Rattle.ncroute.specs.Routing as spec;
 ghost use Rattle.ncroute.specs.WrongWords.{wrong_line};
 
+use crate::console::Console;
 use crate::ending::{FAILED, fault_line};
 use crate::loading::load_filters;
 use crate::planning::{PlanFault, is_memory, plan_of};
@@ -149,27 +150,31 @@ fn size_of(plan: &RouterPlan) -> u16
 
 /// What a router of this plan is run with: its filters are read and verified, and then the file of its history is made. There is none
 /// where something is not there, which people are told.
-fn fit_out<F: Folder, R: Read, E: Write>(
+fn fit_out<F: Folder, R: Read, W: Write, E: Write>(
     files: &F,
     alloc: Global,
     words: &RouterWords,
     plan: RouterPlan,
-    reader: &mut R,
-    errors: &mut E,
+    console: &mut Console<R, W, E>,
 ) -> Result<Option<Setting<F::New>>, ProgramFault>
     ensures finished { IfOk result (λ set. MatchOption set
-        (spec.LacksParts (F.creates files.now) (F.opens files.now) words.now plan (R.remaining reader.old) (R.remaining reader.new)
-        (E.contents errors.old) (E.contents errors.new))
+        (spec.LacksParts (F.creates files.now) (F.opens files.now) words.now plan console.old console.new)
         (λ setting. spec.FitsOut (F.creates files.now) (F.opens files.now) words.now plan setting.filters.entries
-        (option_map (λ new. F.New.contents new) setting.save) (R.remaining reader.old) (R.remaining reader.new)
-        (E.contents errors.old) (E.contents errors.new) × (setting.plan ≡ plan))) }
+        (option_map (λ new. F.New.contents new) setting.save) console.old console.new × (setting.plan ≡ plan))) }
     ensures stopped { IfErr result (λ fault. spec.StopsParts (F.creates files.now) (F.opens files.now) (stream_fault fault) words.now plan
-        (R.remaining reader.old) (R.remaining reader.new) (E.contents errors.old) (E.contents errors.new)) }
+        console.old console.new) }
 {
     let size = size_of(&plan);
     let named = words.filters.as_slice();
-    match load_filters(files, alloc, named, size, reader, errors) {
-        Ok(Some(filters)) => match make_save(files, alloc, &words.save, errors) {
+    match load_filters(
+        files,
+        alloc,
+        named,
+        size,
+        &mut console.reader,
+        &mut console.errors,
+    ) {
+        Ok(Some(filters)) => match make_save(files, alloc, &words.save, &mut console.errors) {
             Ok(Some(save)) => Ok(Some(Setting {
                 plan,
                 filters,
@@ -184,24 +189,21 @@ fn fit_out<F: Folder, R: Read, E: Write>(
 }
 
 /// What a router is run with. There is none where something of it is not there, which people were told.
-fn set_up<'a, F: Folder, R: Read, E: Write>(
+fn set_up<'a, F: Folder, R: Read, W: Write, E: Write>(
     files: &F,
     alloc: Global,
     words: &'a RouterWords,
-    reader: &mut R,
-    errors: &mut E,
+    console: &mut Console<R, W, E>,
 ) -> Result<Option<Setting<F::New>>, SetupFault<'a>>
     ensures finished { IfOk result (λ set. MatchOption set
-        (spec.LacksSetting (F.creates files.now) (F.opens files.now) words.now (R.remaining reader.old) (R.remaining reader.new)
-        (E.contents errors.old) (E.contents errors.new))
+        (spec.LacksSetting (F.creates files.now) (F.opens files.now) words.now console.old console.new)
         (λ setting. spec.SetsUp (F.creates files.now) (F.opens files.now) words.now setting.plan setting.filters.entries
-        (option_map (λ new. F.New.contents new) setting.save) (R.remaining reader.old) (R.remaining reader.new)
-        (E.contents errors.old) (E.contents errors.new))) }
+        (option_map (λ new. F.New.contents new) setting.save) console.old console.new)) }
     ensures stopped { IfErr result (λ fault. spec.StopsSettingUp (F.creates files.now) (F.opens files.now) fault words.now
-        (R.remaining reader.old) (R.remaining reader.new) (E.contents errors.old) (E.contents errors.new)) }
+        console.old console.new) }
 {
     match plan_of(alloc, words) {
-        Ok(plan) => match fit_out(files, alloc, words, plan, reader, errors) {
+        Ok(plan) => match fit_out(files, alloc, words, plan, console) {
             Ok(Some(setting)) => Ok(Some(setting)),
             Ok(None) => Ok(None),
             Err(fault) => Err(SetupFault::Program(fault)),
@@ -234,29 +236,30 @@ fn run_setting<
     alloc: Global,
     save: &Option<String>,
     setting: Setting<R::New>,
-    reader: &mut I,
-    writer: &mut W,
-    errors: &mut E,
+    console: &mut Console<I, W, E>,
     voice: T,
 ) -> Result<u8, Untold>
 where
     R::New: Send + 'static,
     ensures finished { IfOk result (spec.RunsPlan (R.leaves rt.now) save.now setting.plan setting.filters.entries
-        (option_map (λ file. R.New.contents file) setting.save)
-        (record { reads = I.remaining reader.old; holds = W.contents writer.old; tells = E.contents errors.old })
-        (record { reads = I.remaining reader.new; holds = W.contents writer.new; tells = E.contents errors.new })) }
+        (option_map (λ file. R.New.contents file) setting.save) console.old console.new) }
     ensures untold { IfErr result (λ untold. spec.CutsPlan (stream_fault untold.why) setting.plan setting.filters.entries
-        (record { reads = I.remaining reader.old; holds = W.contents writer.old; tells = E.contents errors.old })
-        (record { reads = I.remaining reader.new; holds = W.contents writer.new; tells = E.contents errors.new }) untold.status) }
+        console.old console.new untold.status) }
 {
     match run_router::<R, FI, FO, R, R::New, T, I, W>(
-        rt, alloc, *rt, setting, voice, reader, writer,
+        rt,
+        alloc,
+        *rt,
+        setting,
+        voice,
+        &mut console.reader,
+        &mut console.writer,
     ) {
         Ok(end) => {
             close_save(rt, save, end.saved);
             Ok(0)
         }
-        Err(fault) => end_by_fault(errors, fault),
+        Err(fault) => end_by_fault(&mut console.errors, fault),
     }
 }
 
@@ -275,32 +278,25 @@ pub fn serve_router<
     rt: &R,
     alloc: Global,
     words: &RouterWords,
-    reader: &mut I,
-    writer: &mut W,
-    errors: &mut E,
+    console: &mut Console<I, W, E>,
     voice: T,
 ) -> Result<u8, Untold>
 where
     R::New: Send + 'static,
-    ensures served { IfOk result (spec.ServesRouter (R.opens rt.now) (R.creates rt.now) (R.leaves rt.now) words.now
-        (record { reads = I.remaining reader.old; holds = W.contents writer.old; tells = E.contents errors.old })
-        (record { reads = I.remaining reader.new; holds = W.contents writer.new; tells = E.contents errors.new })) }
+    ensures served { IfOk result (spec.ServesRouter (R.opens rt.now) (R.creates rt.now) (R.leaves rt.now) words.now console.old console.new) }
     ensures untold { IfErr result (λ untold. spec.CutsRouter (R.opens rt.now) (R.creates rt.now) (R.leaves rt.now) (stream_fault untold.why) words.now
-        (record { reads = I.remaining reader.old; holds = W.contents writer.old; tells = E.contents errors.old })
-        (record { reads = I.remaining reader.new; holds = W.contents writer.new; tells = E.contents errors.new }) untold.status) }
+        console.old console.new untold.status) }
 {
-    match set_up(rt, alloc, words, reader, errors) {
+    match set_up(rt, alloc, words, console) {
         Ok(Some(setting)) => run_setting::<R, FI, FO, T, I, W, E>(
             rt,
             alloc,
             &words.save,
             setting,
-            reader,
-            writer,
-            errors,
+            console,
             voice,
         ),
         Ok(None) => Ok(FAILED),
-        Err(fault) => end_unset(alloc, errors, fault),
+        Err(fault) => end_unset(alloc, &mut console.errors, fault),
     }
 }

@@ -3,7 +3,7 @@ use Rattle.std.proofs.Common.{inl, refl}
 use Rattle.ncroute.proofs.routing.run_setting.Goals as goal
 
 pub returns-in-Ok-clause-finished : goal.returns-in-Ok-clause-finished
-returns-in-Ok-clause-finished g c = inl (
+returns-in-Ok-clause-finished g c = rw (← c.console.view_is) (inl (
   record {
     refused = c.in-Ok.end.refused;
     saver = c.in-Ok.end.saved;
@@ -13,4 +13,4 @@ returns-in-Ok-clause-finished g c = inl (
     quiet = refl;
   },
   refl,
-)
+))
