@@ -42,7 +42,7 @@ use Rattle.operator_cmds.specs.Replies.{answered, refused, reply_answer}
 use Rattle.operator_cmds.specs.Running.{IsCarriedOut}
 use Rattle.operator_cmds.specs.Script
 use Rattle.operator_cmds.specs.Script.{ScriptView, AnswersLine, fresh, Keeps, MovesTo, GivesFile, GivesText, IsRefusedFile, told_of, tables_of, with_prefix}
-use Rattle.operator_cmds.specs.Stages.{StageView, Empty, Setting, Open, journal_in, new_journal, session_in}
+use Rattle.operator_cmds.specs.Stages.{StageView, Empty, Setting, Open, journal_in, new_journal, session_in, session_number}
 
 -- ---- what a world makes of an event is told by what a text shows of the event
 
@@ -236,10 +236,11 @@ same_look (Setting opening limit) (Setting o l) number look alike same =
 same_look (Open j) (Open k) number look alike same = same j k alike
 same_look s t number look alike same = absurd alike
 
-same_session : (s t : StageView) (node : ℕ) → AreAlikeStages s t → session_in s node ≡ session_in t node
+same_session : (s t : StageView) (node : ℕ) → AreAlikeStages s t →
+    session_number (session_in s node) ≡ session_number (session_in t node)
 same_session Empty Empty node alike = refl
 same_session (Setting opening limit) (Setting o l) node alike = refl
-same_session (Open j) (Open k) node alike = ap (λ (w : World). session_of w node) (same_tables j k alike)
+same_session (Open j) (Open k) node alike = ap (λ (w : World). session_number (session_of w node)) (same_tables j k alike)
 same_session s t node alike = absurd alike
 
 moved_stages : (s t u v : StageView) → AreAlikeStages s t → u ≡ s → v ≡ t → AreAlikeStages u v

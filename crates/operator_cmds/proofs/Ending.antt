@@ -21,7 +21,7 @@ use Rattle.operator_cmds.specs.Limits.{number_limit}
 use Rattle.operator_cmds.specs.Looks.{can_look, look_text}
 use Rattle.operator_cmds.specs.Script
 use Rattle.operator_cmds.specs.Script.{AnswersLine, ScriptView, fresh}
-use Rattle.operator_cmds.specs.Stages.{StageView, Empty, Setting, Open, journal_in, new_journal, session_in}
+use Rattle.operator_cmds.specs.Stages.{StageView, Empty, Setting, Open, journal_in, new_journal, session_in, session_number}
 use Rattle.operator_cmds.specs.State.{filter_at}
 use Rattle.operator_cmds.proofs.Naming.{Key}
 use Rattle.operator_cmds.proofs.Unended.{GoesOn, either, given, like, replied, source}
@@ -79,10 +79,10 @@ module _ (before : ScriptView) (answer : Answer) (after : ScriptView) where
   command number (Import node name) h = by_name (before.filters name) (λ f. event.SetImport node f) number h
   command number (Export node name) h = by_name (before.filters name) (λ f. event.SetExport node f) number h
   command number (Up node) h = happening before.stage number (event.Up node) h
-  command number (Down node) h = happening before.stage number (event.Down (session_in before.stage node)) h
+  command number (Down node) h = happening before.stage number (event.Down (session_number (session_in before.stage node))) h
   command number (Receive node dest dist) h =
-      happening before.stage number (event.Receive (session_in before.stage node) dest dist) h
-  command number (Take node) h = happening before.stage number (event.Take (session_in before.stage node) number_limit) h
+      happening before.stage number (event.Receive (session_number (session_in before.stage node)) dest dist) h
+  command number (Take node) h = happening before.stage number (event.Take (session_number (session_in before.stage node)) number_limit) h
   command number (Show node) h = happening before.stage number (event.Show node) h
   command number (Look look) h =
       like answer _ h.0

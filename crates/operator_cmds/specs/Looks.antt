@@ -1,5 +1,5 @@
 -- What is told of a router to who looks at it. (This project's own choice.)
-use Rattle.std.specs.Prelude.{ℕ, suc, zero, ◌+◌, ◌<◌, ◌==◌, nat_lt, Bool, true, if◌then◌else◌, List, [], ◌∷◌, ◌++◌, map, take, drop, slice_index, codes, decimal}
+use Rattle.std.specs.Prelude.{ℕ, suc, zero, ◌+◌, ◌<◌, ◌==◌, Bool, true, if◌then◌else◌, List, [], ◌∷◌, ◌++◌, map, take, drop, slice_index, codes, decimal, Option, Some, None, is_some}
 use Rattle.history_file.specs.Text.{entry_line}
 use Rattle.history_file.specs.Views.{EntryView, entry_view}
 use Rattle.line_protocol.specs.Answers.{Answer}
@@ -33,9 +33,9 @@ abbrev pub route_text : ℕ → BestRoute → List ℕ
 route_text v route = pair_text v route.dist ++ hop_text route.via
 
 -- ` W:S`, or nothing where the node has no session
-abbrev pub session_text : ℕ → ℕ → List ℕ
-session_text w zero = []
-session_text w (suc s) = pair_text w (suc s)
+abbrev pub session_text : ℕ → Option ℕ → List ℕ
+session_text w None = []
+session_text w (Some s) = pair_text w s
 
 -- what the import filter made of a distance, where that is another
 abbrev pub filtered_text : ℕ → ℕ → List ℕ
@@ -70,7 +70,7 @@ look_text w look = look_word look ++ nodes_text w look
 abbrev pub can_look : World → Look → Bool
 can_look w Routes = true
 can_look w Neighbours = true
-can_look w (Told k) = nat_lt 0 (session_of w k)
+can_look w (Told k) = is_some (session_of w k)
 
 -- the node at which is looked is one of so many
 abbrev pub IsLook : ℕ → Look → Type 0

@@ -33,7 +33,7 @@ use Rattle.operator_cmds.specs.Faults.{fault_code}
 use Rattle.operator_cmds.specs.Limits.{number_limit}
 use Rattle.operator_cmds.specs.Looks.{history_text, looked}
 use Rattle.operator_cmds.specs.Replies.{answered, refused, reply_answer}
-use Rattle.operator_cmds.specs.Stages.{StageView, Empty, Setting, Open, journal_in, new_journal, session_in}
+use Rattle.operator_cmds.specs.Stages.{StageView, Empty, Setting, Open, journal_in, new_journal, session_in, session_number}
 use Rattle.operator_cmds.specs.declared.event.Direction.{Direction}
 use Rattle.operator_cmds.specs.declared.event.Direction.TheVariants as direction
 use Rattle.operator_cmds.specs.declared.filter.Source.{Source}
@@ -263,11 +263,11 @@ AnswersCommand before number (Export node name) answer after =
     AnswersUse (before.filters name) (λ filter. event.SetExport node filter) number before answer after
 AnswersCommand before number (Up node) answer after = AnswersEvent before.stage number (event.Up node) before answer after
 AnswersCommand before number (Down node) answer after =
-    AnswersEvent before.stage number (event.Down (session_in before.stage node)) before answer after
+    AnswersEvent before.stage number (event.Down (session_number (session_in before.stage node))) before answer after
 AnswersCommand before number (Receive node dest dist) answer after =
-    AnswersEvent before.stage number (event.Receive (session_in before.stage node) dest dist) before answer after
+    AnswersEvent before.stage number (event.Receive (session_number (session_in before.stage node)) dest dist) before answer after
 AnswersCommand before number (Take node) answer after =
-    AnswersEvent before.stage number (event.Take (session_in before.stage node) number_limit) before answer after
+    AnswersEvent before.stage number (event.Take (session_number (session_in before.stage node)) number_limit) before answer after
 AnswersCommand before number (Show node) answer after = AnswersEvent before.stage number (event.Show node) before answer after
 AnswersCommand before number (Look look) answer after =
     AnswersLook number (λ journal. looked (tables_of journal) number look) before answer after

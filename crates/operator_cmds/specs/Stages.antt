@@ -33,8 +33,13 @@ size_in Empty = None
 size_in (Setting opening limit) = Some opening.size
 size_in (Open journal) = Some journal.opening.size
 
--- the present session of a node: 0 where it is no up neighbour, as each node is before the first event
-abbrev pub session_in : StageView → ℕ → ℕ
-session_in Empty node = 0
-session_in (Setting opening limit) node = 0
+-- the present session of a node, if it is an up neighbour; before the first event none is
+abbrev pub session_in : StageView → ℕ → Option ℕ
+session_in Empty node = None
+session_in (Setting opening limit) node = None
 session_in (Open journal) node = session_of (world_of journal.opening journal.entries) node
+
+-- the number by which an event of a script names a session: 0, which no session has, where the node is no up neighbour
+abbrev pub session_number : Option ℕ → ℕ
+session_number None = 0
+session_number (Some session) = session

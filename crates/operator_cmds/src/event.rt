@@ -2,6 +2,7 @@
 ghost use Rattle.std.specs.Prelude.{◌≡◌, IfOk, OnErr};
 ghost use Rattle.std.specs.Io.{StartsWith};
 ghost use Rattle.operator_cmds.specs.Script.{AnswersIn};
+ghost use Rattle.operator_cmds.specs.Stages.{session_number};
 ghost use Rattle.operator_cmds.specs.Replies.{Answers};
 
 use crate::reply::{answer_reply, refuse};
@@ -33,6 +34,14 @@ impl Direction {
             Direction::Export => Event::SetExport(node, filter),
         }
     }
+}
+
+/// The number by which an event of a script names a node's session: 0, which no session has, where the node is no up neighbour.
+#[inline(always)]
+pub fn session_number(session: Option<u32>) -> u32
+    ensures { result ≡ session_number session }
+{
+    session.unwrap_or(0)
 }
 
 /// Enters an event in the journal, and answers it. A full journal refuses it with the number of its entries.

@@ -18,7 +18,7 @@ mod words;
 
 pub use command::{Command, Look, Network};
 pub use domain::default_prefixes;
-pub use event::{Direction, enter};
+pub use event::{Direction, enter, session_number};
 pub use fault::{CommandFault, StateFault};
 pub use filter::{NamedFilters, Source, give_name, name_source, verify_text};
 pub use laws::{one_line_one_entry, two_runs_are_answered_alike};

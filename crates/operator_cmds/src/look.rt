@@ -31,14 +31,14 @@ fn push_route(out: &mut Vec<u8>, node: u16, route: BestRoute) -> Result<(), Allo
 }
 
 /// Adds a node with its present session, if it has one.
-fn push_session(out: &mut Vec<u8>, node: u16, session: u32) -> Result<(), AllocError>
+fn push_session(out: &mut Vec<u8>, node: u16, session: Option<u32>) -> Result<(), AllocError>
     ensures ok { OnOk result (out.new.items ≡ out.old.items ++ spec.session_text node session) }
     ensures err { OnErr result (StartsWith out.new.items out.old.items) }
 {
-    if session == 0 {
-        return Ok(());
+    match session {
+        Some(session) => push_pair(out, node, session),
+        None => Ok(()),
     }
-    push_pair(out, node, session)
 }
 
 /// Adds the distance to a node that a neighbour told, and what its import filter made of it where that is another.
@@ -99,7 +99,7 @@ fn can_look(tables: &Tables, look: Look) -> bool
 {
     match look {
         Look::Routes | Look::Neighbours => true,
-        Look::Told(from) => tables.session(from) > 0,
+        Look::Told(from) => tables.session(from).is_some(),
     }
 }
 

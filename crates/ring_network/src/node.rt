@@ -10,7 +10,7 @@ use netchange_core::{Event, Opening, Reply};
 use prefix_patterns::{Ip, Prefix};
 use route_history::{CallFault, Journal, LARGEST_LIMIT};
 use route_session::{
-    Cause, ChannelLink, Ending, Finished, Gate, Job, Role, merge_passes, run_sessions,
+    Cause, ChannelLink, Ending, Finished, Gate, Job, Role, RunFault, merge_passes, run_sessions,
 };
 use slot_lock::{Pass, Router};
 use std::alloc::Global;
@@ -111,9 +111,14 @@ fn bring_up<R: Wait>(
     ensures shares { IfOk result (λ j. pass.new.fragment.shares + (SHARES + SHARES) ≡ pass.old.fragment.shares) }
     ensures jobs { IfOk result (λ j. IsPassOf router.now j.0.pass × IsPassOf router.now j.1.pass) }
 {
-    let session = match router.call(rt, pass, Event::Up(side.neighbour)) {
-        Ok(answer) => session_in(answer.reply),
+    let reply = match router.call(rt, pass, Event::Up(side.neighbour)) {
+        Ok(answer) => answer.reply,
         Err(fault) => return Err(NetworkFault::Call(fault)),
+    };
+    // The neighbours of a new router are down, so an Up of theirs opens a session; but a pass with some of the shares does not know that
+    // nobody else entered something.
+    let Reply::Opened(session) = reply else {
+        return Err(NetworkFault::Run(RunFault::NotStarted));
     };
     let reading = router.split(pass, SHARES);
     let writing = router.split(pass, SHARES);
@@ -135,14 +140,6 @@ fn bring_up<R: Wait>(
         pass: writing,
     };
     Ok((reader, writer))
-}
-
-/// The session that a reply to an Up opened; 0, which is never present, where it was refused.
-fn session_in(reply: Reply) -> u32 {
-    match reply {
-        Reply::Opened(session) => session,
-        _ => 0,
-    }
 }
 
 /// The fault of a call that ended a session, if one did.

@@ -14,7 +14,7 @@ use Rattle.operator_cmds.specs.CommandView.{CommandView, Network, Prefix, Load, 
 use Rattle.operator_cmds.specs.Commands.{Read, command_in}
 use Rattle.operator_cmds.specs.Looks.{can_look, look_text}
 use Rattle.operator_cmds.specs.Script as script
-use Rattle.operator_cmds.specs.Stages.{Open, session_in}
+use Rattle.operator_cmds.specs.Stages.{Open, session_in, session_number}
 use Rattle.router_operator.specs.OperatorView.{OperatorView, filter_of, journal_seen, journal_with, script_of}
 use Rattle.router_operator.specs.Operators.{AnswersCommand, AnswersEvent, AnswersLine, AnswersRead, AnswersUse, BreaksOff, Enters, IsFull, has_link, is_quit}
 use Rattle.router_operator.specs.Running.{IsBrokenOff, IsServed, input_limit}
@@ -50,7 +50,7 @@ command before answer after number (Up node) h =
     either (has_link before.links node) _ _ (λ p. like answer _ p.0 refl) (λ q. happening before answer after (event.Up node) q) h
 command before answer after number (Down node) h =
     either (has_link before.links node) _ _ (λ p. like answer _ p.0 refl)
-    (λ q. happening q.0 answer after (event.Down (session_in (Open (journal_seen q.0)) node)) q.2) h
+    (λ q. happening q.0 answer after (event.Down (session_number (session_in (Open (journal_seen q.0)) node))) q.2) h
 command before answer after number (Receive node dest dist) h = like answer _ h.0 refl
 command before answer after number (Take node) h = like answer _ h.0 refl
 command before answer after number (Show node) h = happening before answer after (event.Show node) h

@@ -1,10 +1,10 @@
 -- A look, and an event after it.
-use Rattle.std.proofs.Common.{◌≡◌, ℕ, List, Result, IfOk, refl, subst, ap, ◌∙◌, inl}
+use Rattle.std.proofs.Common.{◌≡◌, ℕ, Option, List, Result, IfOk, refl, subst, ap, ◌∙◌, inl}
 use Rattle.line_protocol.specs.Answers.{Answer}
 use Rattle.line_protocol.specs.declared.answers.Reply.{Reply as LineReply}
 use Rattle.netchange_core.specs.declared.event.Event.TheVariants as event
 use Rattle.operator_cmds.specs.Replies.{Adds, Answers}
-use Rattle.operator_cmds.specs.Stages.{Open, session_in}
+use Rattle.operator_cmds.specs.Stages.{Open, session_in, session_number}
 use Rattle.route_history.specs.JournalView.{JournalView}
 use Rattle.slot_lock.specs.Calls.{Observed}
 use Rattle.slot_lock.specs.Passes.{PassView}
@@ -29,11 +29,11 @@ looked look before after r old new looks h =
     added r (look (journal_seen after)) (λ answer. AnswersLook look before answer after) old new (λ answer e. (looks, e)) h
 
 -- a look for the session, and then its Down
-pub downs : (node session : ℕ) (before mid after : OperatorView) (answer : Answer) → Looks before mid
-    → session ≡ session_in (Open (journal_seen mid)) node → AnswersEvent mid (event.Down session) answer after
+pub downs : (node : ℕ) (session : Option ℕ) (before mid after : OperatorView) (answer : Answer) → Looks before mid
+    → session ≡ session_in (Open (journal_seen mid)) node → AnswersEvent mid (event.Down (session_number session)) answer after
     → AnswersDown node before answer after
 downs node session before mid after answer looks is h =
-    (mid, looks, subst (λ (s : ℕ). AnswersEvent mid (event.Down s) answer after) is h)
+    (mid, looks, subst (λ (s : Option ℕ). AnswersEvent mid (event.Down (session_number s)) answer after) is h)
 
 -- what broke off after a look
 pub breaks_after : (before mid after : OperatorView) → Looks before mid → BreaksOff mid after → BreaksOff before after

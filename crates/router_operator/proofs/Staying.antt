@@ -12,7 +12,7 @@ use Rattle.netchange_core.specs.declared.event.Event.{Event}
 use Rattle.netchange_core.specs.declared.event.Event.TheVariants as event
 use Rattle.operator_cmds.specs.CommandView.{CommandView, Network, Prefix, Load, Code, Import, Export, Up, Down, Receive, Take, Show, Look, History}
 use Rattle.operator_cmds.specs.Commands.{Read as ReadCommand, command_in}
-use Rattle.operator_cmds.specs.Stages.{Open, session_in}
+use Rattle.operator_cmds.specs.Stages.{Open, session_in, session_number}
 use Rattle.route_history.specs.Beginning.{Begins}
 use Rattle.route_history.specs.JournalView.{JournalView}
 use Rattle.router_operator.specs.OperatorView.{OperatorView, filter_of, journal_seen}
@@ -70,7 +70,7 @@ by_use (Some f) happens number before answer after h = by_event before (happens 
 
 by_down : (node : ℕ) (before : OperatorView) (answer : Answer) (after : OperatorView) → AnswersDown node before answer after → Stays before after
 by_down node before answer after (mid, looks, h) =
-    stays_then before mid after (by_look before mid looks) (by_event mid (event.Down (session_in (Open (journal_seen mid)) node)) answer after h)
+    stays_then before mid after (by_look before mid looks) (by_event mid (event.Down (session_number (session_in (Open (journal_seen mid)) node))) answer after h)
 
 by_command : (before : OperatorView) (number : ℕ) (command : CommandView) (answer : Answer) (after : OperatorView)
     → AnswersCommand before number command answer after → Stays before after

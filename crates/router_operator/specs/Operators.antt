@@ -18,7 +18,7 @@ use Rattle.operator_cmds.specs.Looks.{history_text, looked}
 use Rattle.operator_cmds.specs.Replies.{answered, refused, reply_answer}
 use Rattle.operator_cmds.specs.Script as script
 use Rattle.operator_cmds.specs.Script.{entered, tables_of, told_of}
-use Rattle.operator_cmds.specs.Stages.{Open, session_in}
+use Rattle.operator_cmds.specs.Stages.{Open, session_in, session_number}
 use Rattle.operator_cmds.specs.WordLists.{one_of}
 use Rattle.operator_cmds.specs.declared.fault.CommandFault.TheVariants as fault
 use Rattle.operator_cmds.specs.declared.filter.Source.{Source}
@@ -120,7 +120,7 @@ AnswersLook look before answer after = Looks before after × (answer ≡ look (j
 -- a look for the node's present session, and then its Down
 abbrev pub AnswersDown : ℕ → OperatorView → Answer → OperatorView → Type 0
 AnswersDown node before answer after = (mid : OperatorView) × Looks before mid
-    × AnswersEvent mid (event.Down (session_in (Open (journal_seen mid)) node)) answer after
+    × AnswersEvent mid (event.Down (session_number (session_in (Open (journal_seen mid)) node))) answer after
 
 -- ---- a line
 

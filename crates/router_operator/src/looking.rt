@@ -58,11 +58,11 @@ impl Observer for Looking {
     }
 }
 
-/// The present session of a node; 0 where it is not up.
+/// The present session of a node, if it is up.
 #[derive(Drop)]
 pub(crate) struct FindingSession {
     pub(crate) node: u16,
-    pub(crate) session: u32,
+    pub(crate) session: Option<u32>,
 }
 
 impl Observer for FindingSession {

@@ -21,6 +21,7 @@ use line_protocol::{Reply, Service, StreamFault, answer_lines_within};
 use netchange_core::Event;
 use operator_cmds::{
     Command, CommandFault, Direction, Source, confirm, name_source, read_command, refuse,
+    session_number,
 };
 use slot_lock::{Pass, Router};
 use std::alloc::{AllocError, Global};
@@ -283,9 +284,12 @@ impl<'a, R: Wait + Clock, L: Listener, J: Naming> Operator<'a, R, L, J> {
         if has_link(self.links, node) {
             return refuse(out, LINK_DOES_IT, u64::from(number));
         }
-        let mut finding = FindingSession { node, session: 0 };
+        let mut finding = FindingSession {
+            node,
+            session: None,
+        };
         self.router.observe(self.rt, &mut self.pass, &mut finding);
-        self.enter(Event::Down(finding.session), out)
+        self.enter(Event::Down(session_number(finding.session)), out)
     }
 
     /// Enters an event, and answers it by the router's reply.

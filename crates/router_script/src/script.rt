@@ -11,7 +11,7 @@ use netchange_core::Event;
 use operator_cmds::{
     Command, CommandFault, Direction, Look, NamedFilters, Network, Nobody, PlainCommand,
     RefusedLine, Source, StateFault, answer_history, answer_look, confirm, enter, give_name,
-    name_source, read_command, read_plain, refuse,
+    name_source, read_command, read_plain, refuse, session_number,
 };
 use prefix_patterns::Prefix;
 use route_history::Journal;
@@ -162,11 +162,11 @@ impl Script {
     {
         match plain {
             PlainCommand::Receive(node, dest, dist) => {
-                let event = Event::Receive(self.stage.session(node), dest, dist);
+                let event = Event::Receive(session_number(self.stage.session(node)), dest, dist);
                 self.enter(alloc, number, event, out)
             }
             PlainCommand::Take(node) => {
-                let event = Event::Take(self.stage.session(node), u16::MAX);
+                let event = Event::Take(session_number(self.stage.session(node)), u16::MAX);
                 self.enter(alloc, number, event, out)
             }
             PlainCommand::Show(node) => self.enter(alloc, number, Event::Show(node), out),
@@ -222,15 +222,15 @@ impl Script {
             }
             Command::Up(node) => self.enter_any(alloc, number, Event::Up(node), out),
             Command::Down(node) => {
-                let event = Event::Down(self.stage.session(node));
+                let event = Event::Down(session_number(self.stage.session(node)));
                 self.enter_any(alloc, number, event, out)
             }
             Command::Receive { node, dest, dist } => {
-                let event = Event::Receive(self.stage.session(node), dest, dist);
+                let event = Event::Receive(session_number(self.stage.session(node)), dest, dist);
                 self.enter_any(alloc, number, event, out)
             }
             Command::Take(node) => {
-                let event = Event::Take(self.stage.session(node), u16::MAX);
+                let event = Event::Take(session_number(self.stage.session(node)), u16::MAX);
                 self.enter_any(alloc, number, event, out)
             }
             Command::Show(node) => self.enter_any(alloc, number, Event::Show(node), out),

@@ -85,13 +85,13 @@ impl Stage {
         }
     }
 
-    /// The present session of a node; 0 where it is no up neighbour.
-    pub fn session(&self, node: u16) -> u32
+    /// The present session of a node, if it is an up neighbour.
+    pub fn session(&self, node: u16) -> Option<u32>
         ensures { result ≡ session_in (stage_of self.now) node }
     {
         match self {
             Stage::Open(journal) => journal.session(node),
-            _ => 0,
+            _ => None,
         }
     }
 

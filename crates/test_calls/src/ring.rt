@@ -1,6 +1,6 @@
 //! Three routers in a ring: what their network prints, and their journals.
 
-use crate::asserts::{RouterHost, done, must};
+use crate::asserts::{RouterHost, done, must, some};
 use crate::histories::said;
 use line_protocol::StreamFault;
 use netchange_core::{Event, Message, Reply, ReplyRef, Via};
@@ -40,8 +40,10 @@ fn must_hear<R: RouterHost>(
     };
     let is_near = done(rt, tables.apply(&Event::Show(neighbour))).is_same(&route);
     must(rt, is_near, "a node has its neighbours");
-    let came = said(rt, here, here.session(neighbour)).entered;
-    let went = said(rt, there, there.session(me)).taken;
+    let hearing = some(rt, here.session(neighbour), "a session with a neighbour");
+    let sending = some(rt, there.session(me), "a neighbour's session");
+    let came = said(rt, here, hearing).entered;
+    let went = said(rt, there, sending).taken;
     let near = Message {
         dest: neighbour,
         dist: 0,
