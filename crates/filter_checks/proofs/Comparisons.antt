@@ -2,14 +2,14 @@
 use Rattle.std.proofs.Common.{◌≡◌, inl, inr, ℕ, Bool, false, List, Option, Some, None, Result, Ok, Err, IfOk, IfErr, MatchResult, sym, subst}
 use Rattle.std.specs.Result.{result_err}
 use Rattle.filter_code.specs.CodeView.{CodeView}
-use Rattle.filter_commands.specs.Checking.{IsDiagnosis}
-use Rattle.filter_commands.specs.Faults.{stream_fault}
-use Rattle.filter_commands.specs.declared.fault.ProgramFault.{ProgramFault}
+use Rattle.filter_reports.specs.Checking.{IsDiagnosis}
+use Rattle.filter_reports.specs.Faults.{stream_fault}
+use Rattle.filter_reports.specs.declared.fault.ProgramFault.{ProgramFault}
 use Rattle.filter_diff.specs.declared.part.Part.{Part}
 use Rattle.filter_source.specs.declared.diagnosis.Diagnosis.{Diagnosis}
-use Rattle.filter_tools.proofs.Endings.{is_filter, keeps_self}
-use Rattle.filter_tools.specs.Filtering.{IsVerifiedOf}
-use Rattle.filter_tools.specs.Naming.{Named}
+use Rattle.filter_reports.proofs.VerifiedFilters.{is_filter, keeps_self}
+use Rattle.filter_reports.specs.VerifiedFilters.{IsVerifiedOf}
+use Rattle.filter_reports.specs.Naming.{Named}
 use Rattle.filter_verifier.specs.VerifiedView.{VerifiedView}
 use Rattle.line_protocol.specs.Runs.{AppendsFront}
 use Rattle.line_protocol.specs.declared.faults.StreamFault.{StreamFault}

@@ -8,7 +8,7 @@ use Rattle.filter_code.specs.CodeView.{CodeView}
 use Rattle.filter_code.specs.Machine.{outcome_of}
 use Rattle.filter_code.specs.RouteView.{RouteView}
 use Rattle.filter_code.specs.declared.outcome.Outcome.{Outcome}
-use Rattle.filter_commands.specs.Saying.{Says, SaysTheSame}
+use Rattle.filter_reports.specs.Saying.{Says, SaysTheSame}
 use Rattle.filter_compiler.specs.Verdicts.{Verdict, meaning}
 use Rattle.filter_diff.proofs.Witness.{has_route}
 use Rattle.filter_diff.specs.Answers.{answer_of, differs}

@@ -2,8 +2,8 @@
 use Rattle.std.specs.Prelude.{◌≡◌, ◌≢◌, ◌⊎◌, ℕ, Bool, false, List, [], All, Option, Some, None}
 use Rattle.std.specs.Io.KnownBytes.{Appends, Keeps}
 use Rattle.filter_code.specs.CodeView.{CodeView}
-use Rattle.filter_commands.specs.Checking.{IsDiagnosis}
-use Rattle.filter_commands.specs.Evaluation.{IsCut}
+use Rattle.filter_reports.specs.Checking.{IsDiagnosis}
+use Rattle.filter_reports.specs.Cuts.{IsCut}
 use Rattle.filter_diff.specs.Answers.{answer_of}
 use Rattle.filter_diff.specs.Parts.{Cover, IsReal, IsTrueOf}
 use Rattle.filter_diff.specs.declared.answer.Answer.{Answer}
@@ -11,8 +11,8 @@ use Rattle.filter_diff.specs.declared.answer.Answer.TheVariants as answer
 use Rattle.filter_diff.specs.declared.part.Part.{Part}
 use Rattle.filter_parser.specs.SyntaxText.{FilterView}
 use Rattle.filter_source.specs.declared.diagnosis.Diagnosis.{Diagnosis}
-use Rattle.filter_tools.specs.Filtering.{IsFilterOf}
-use Rattle.filter_tools.specs.Naming.{IsCutTelling, Named, TellsOf}
+use Rattle.filter_reports.specs.VerifiedFilters.{IsFilterOf}
+use Rattle.filter_reports.specs.Naming.{IsCutTelling, Named, TellsOf}
 use Rattle.line_protocol.specs.declared.faults.StreamFault.{StreamFault}
 use Rattle.line_protocol.specs.declared.faults.StreamFault.TheVariants.{Memory}
 use Rattle.filter_checks.specs.PartLines.{parts_text}

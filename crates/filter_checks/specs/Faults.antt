@@ -1,6 +1,6 @@
 -- How it is told that a text is no test file. (This project's own choice.)
 use Rattle.std.specs.Prelude.{ℕ, Bool, true, false, List, [], ◌∷◌, ◌++◌, codes, decimal}
-use Rattle.filter_tools.specs.Shown.{shown}
+use Rattle.filter_reports.specs.Shown.{shown}
 use Rattle.filter_checks.specs.declared.test_file.FileFault.{FileFault}
 use Rattle.filter_checks.specs.declared.test_file.FileFault.TheVariants as fault
 

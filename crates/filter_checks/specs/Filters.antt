@@ -2,7 +2,7 @@
 use Rattle.std.specs.Prelude.{◌≡◌, ◌≢◌, ◌⊎◌, ℕ, List, All}
 use Rattle.filter_code.specs.RouteView.{RouteView}
 use Rattle.filter_code.specs.declared.outcome.Outcome.{Outcome}
-use Rattle.filter_commands.specs.Saying.{Says}
+use Rattle.filter_reports.specs.Saying.{Says}
 use Rattle.filter_compiler.specs.Verdicts.{meaning}
 use Rattle.filter_diff.specs.Endings.{outcome_at}
 use Rattle.filter_diff.specs.Parts.{Has, HasRoute, InOne}

@@ -2,12 +2,12 @@
 use Rattle.std.specs.Prelude.{◌≡◌, ◌⊎◌, ℕ, Bool, false, List, [], ◌∷◌, Option, Some, count_by, ⊤}
 use Rattle.std.specs.Io.KnownBytes.{Appends, Keeps}
 use Rattle.filter_code.specs.CodeView.{CodeView}
-use Rattle.filter_commands.specs.Checking.{IsDiagnosis}
+use Rattle.filter_reports.specs.Checking.{IsDiagnosis}
 use Rattle.filter_diff.specs.Expectations.{IsFoundOf}
 use Rattle.filter_parser.specs.SyntaxText.{FilterView}
 use Rattle.filter_source.specs.declared.diagnosis.Diagnosis.{Diagnosis}
-use Rattle.filter_tools.specs.Filtering.{IsFilterOf}
-use Rattle.filter_tools.specs.Naming.{IsCutTelling, Named, TellsOf}
+use Rattle.filter_reports.specs.VerifiedFilters.{IsFilterOf}
+use Rattle.filter_reports.specs.Naming.{IsCutTelling, Named, TellsOf}
 use Rattle.line_protocol.specs.Runs.{AppendsFront}
 use Rattle.line_protocol.specs.declared.faults.StreamFault.{StreamFault}
 use Rattle.line_protocol.specs.declared.faults.StreamFault.TheVariants.{Memory, Write}

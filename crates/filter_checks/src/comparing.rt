@@ -1,19 +1,18 @@
 //! `ncroute diff`: on which routes two filters differ.
 ghost use Rattle.std.specs.Prelude.{◌≡◌, ◌≤◌, false, IfErr, IfOk, MatchResult};
 ghost use Rattle.filter_code.specs.Limits.{largest_size};
-ghost use Rattle.filter_commands.specs.Checking.{IsDiagnosis};
-ghost use Rattle.filter_commands.specs.Faults.{stream_fault};
-ghost use Rattle.filter_tools.specs.Filtering.{IsVerifiedOf};
-ghost use Rattle.filter_tools.specs.Naming.{named};
+ghost use Rattle.filter_reports.specs.Checking.{IsDiagnosis};
+ghost use Rattle.filter_reports.specs.Faults.{stream_fault};
+ghost use Rattle.filter_reports.specs.VerifiedFilters.{IsVerifiedOf};
+ghost use Rattle.filter_reports.specs.Naming.{named};
 ghost use Rattle.filter_checks.specs.Comparing as spec;
 ghost use Rattle.filter_checks.specs.declared.comparing.Compared.TheVariants as compared;
 
 use crate::part_lines::parts_text;
 use filter_code::Code;
-use filter_commands::ProgramFault;
 use filter_diff::{Answer, Part, answer_of, compare, join_all};
+use filter_reports::{NamedText, ProgramFault, tell_refusal, verified_filter};
 use filter_source::{Diagnosis, Failure};
-use filter_tools::{NamedText, tell_refusal, verified_filter};
 use filter_verifier::Verified;
 use line_protocol::write_text;
 use std::alloc::{AllocError, Global};

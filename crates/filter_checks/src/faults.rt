@@ -3,7 +3,7 @@ ghost use Rattle.std.specs.Prelude.{◌≡◌, ◌++◌, IfOk, OnOk};
 ghost use Rattle.filter_checks.specs.Faults as spec;
 
 use crate::test_file::FileFault;
-use filter_tools::push_shown;
+use filter_reports::push_shown;
 use line_protocol::push_decimal;
 use std::alloc::{AllocError, Global};
 

@@ -2,7 +2,7 @@
 ghost use Rattle.std.specs.Prelude.{◌≡◌, ◌≢◌, ℕ, List};
 ghost use Rattle.filter_code.specs.CodeView.{CodeView};
 ghost use Rattle.filter_code.specs.RouteView.{RouteView};
-ghost use Rattle.filter_commands.specs.Saying.{Says, SaysTheSame};
+ghost use Rattle.filter_reports.specs.Saying.{Says, SaysTheSame};
 ghost use Rattle.filter_compiler.specs.Verdicts.{meaning};
 ghost use Rattle.filter_diff.specs.Answers.{answer_of};
 ghost use Rattle.filter_diff.specs.Endings.{outcome_at};

@@ -4,7 +4,7 @@ ghost use Rattle.filter_checks.specs.PartLines as spec;
 
 use filter_code::Outcome;
 use filter_diff::{Ending, Finding, Part, count_undecided};
-use filter_tools::push_prefix;
+use filter_reports::push_prefix;
 use line_protocol::push_decimal;
 use std::alloc::{AllocError, Global};
 

@@ -6,7 +6,7 @@ ghost use Rattle.filter_checks.specs.Tap as spec;
 use crate::part_lines::push_outcome;
 use crate::testing::Ran;
 use filter_diff::{Checked, Counterexample};
-use filter_tools::{push_prefix, push_shown};
+use filter_reports::{push_prefix, push_shown};
 use line_protocol::push_decimal;
 use std::alloc::{AllocError, Global};
 

@@ -2,8 +2,8 @@
 ghost use Rattle.std.specs.Prelude.{◌≡◌, ◌+◌, ◌<◌, ◌≤◌, ◌^◌, IfErr, IfOk, OnOk, count_by, length, map, vec_len};
 ghost use Rattle.std.specs.Io.KnownBytes.{Appends};
 ghost use Rattle.filter_code.specs.Limits.{largest_size};
-ghost use Rattle.filter_commands.specs.Faults.{stream_fault};
-ghost use Rattle.filter_tools.specs.Naming.{named};
+ghost use Rattle.filter_reports.specs.Faults.{stream_fault};
+ghost use Rattle.filter_reports.specs.Naming.{named};
 ghost use Rattle.filter_checks.specs.Files.{file_view, test_view};
 ghost use Rattle.filter_checks.specs.Tap.{is_failure, all_lines as lines_of, told_of_all as words_of};
 ghost use Rattle.filter_checks.specs.Testing as spec;
@@ -12,10 +12,9 @@ ghost use Rattle.filter_checks.specs.declared.testing.Tested.TheVariants as test
 use crate::tap::{all_lines, count_failures, told_of_all};
 use crate::test_file::{Test, TestFile};
 use filter_code::Code;
-use filter_commands::ProgramFault;
 use filter_diff::{Checked, check_expectation};
+use filter_reports::{NamedText, ProgramFault, tell_refusal, verified_filter};
 use filter_source::Failure;
-use filter_tools::{NamedText, tell_refusal, verified_filter};
 use filter_verifier::Verified;
 use line_protocol::{StreamFault, write_text};
 use std::alloc::{AllocError, Global};

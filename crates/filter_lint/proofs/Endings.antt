@@ -3,9 +3,9 @@ use Rattle.std.proofs.Common.{◌≡◌, inr, ℕ, ◌+◌, Bool, List, length, 
 use Rattle.std.specs.Prelude.{All}
 use Rattle.filter_code.specs.CodeView.{CodeView}
 use Rattle.filter_source.specs.TextPlaces.{ArePlacesOf}
-use Rattle.filter_tools.proofs.Endings.{is_filter, keeps_self}
-use Rattle.filter_tools.specs.Filtering.{IsVerifiedOf}
-use Rattle.filter_tools.specs.Naming.{Named}
+use Rattle.filter_reports.proofs.VerifiedFilters.{is_filter, keeps_self}
+use Rattle.filter_reports.specs.VerifiedFilters.{IsVerifiedOf}
+use Rattle.filter_reports.specs.Naming.{Named}
 use Rattle.filter_verifier.specs.VerifiedView.{VerifiedView}
 use Rattle.line_protocol.specs.declared.faults.StreamFault.{StreamFault}
 use Rattle.filter_lint.specs.Linting.{CutsWarnings, IsReport, LintsNamed, LintsNamedOff, WarnsNamed, WarnsNamedOff, WritesWarnings}

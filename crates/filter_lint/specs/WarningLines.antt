@@ -4,9 +4,9 @@ use Rattle.prefix_patterns.specs.Bits.{address_length}
 use Rattle.prefix_patterns.specs.Matching.{PrefixPattern}
 use Rattle.prefix_patterns.specs.Spelling.{prefix_text}
 use Rattle.filter_tokens.specs.Lexemes.{covered}
-use Rattle.filter_tools.specs.Explanations.{message, position}
-use Rattle.filter_tools.specs.Places.{column_at, line_at}
-use Rattle.filter_tools.specs.Shown.{shown}
+use Rattle.filter_reports.specs.Explanations.{message, position}
+use Rattle.filter_reports.specs.Places.{column_at, line_at}
+use Rattle.filter_reports.specs.Shown.{shown}
 use Rattle.filter_lint.specs.declared.host_bits.HostBits.{HostBits}
 use Rattle.filter_lint.specs.declared.site.Site.{Site}
 use Rattle.filter_lint.specs.declared.site.Site.TheVariants as site

@@ -1,8 +1,8 @@
 //! `ncroute lint`: what is plainly wrong with a filter that is verified.
 ghost use Rattle.std.specs.Prelude.{◌≡◌, ◌+◌, ◌≤◌, All, IfErr, IfOk, OnOk, length};
 ghost use Rattle.std.specs.Io.KnownBytes.{Appends};
-ghost use Rattle.filter_commands.specs.Faults.{stream_fault};
-ghost use Rattle.filter_tools.specs.Naming.{named};
+ghost use Rattle.filter_reports.specs.Faults.{stream_fault};
+ghost use Rattle.filter_reports.specs.Naming.{named};
 ghost use Rattle.line_protocol.specs.Runs.{AppendsFront};
 ghost use Rattle.filter_lint.specs.Linting as spec;
 ghost use Rattle.filter_lint.specs.Rules.{AreFound};
@@ -12,9 +12,8 @@ ghost use Rattle.filter_lint.specs.WarningLines.{warnings_text as warnings_text_
 use crate::host_bits::{HostBits, find_host_bits};
 use crate::rules::{Warnings, find_warnings};
 use crate::warning_lines::{host_bits_text, warnings_text};
-use filter_commands::ProgramFault;
+use filter_reports::{NamedText, PlacedCode, ProgramFault, placed_code, tell_refusal};
 use filter_source::Failure;
-use filter_tools::{NamedText, PlacedCode, placed_code, tell_refusal};
 use filter_verifier::Verified;
 use line_protocol::{StreamFault, write_text};
 use std::alloc::{AllocError, Global};

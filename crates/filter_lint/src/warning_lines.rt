@@ -1,13 +1,13 @@
 //! The lines of warnings.
 ghost use Rattle.std.specs.Prelude.{◌≡◌, ◌++◌, IfOk, OnOk, codes, flat_map};
-ghost use Rattle.filter_tools.specs.Explanations.{message};
-ghost use Rattle.filter_tools.specs.Shown.{shown};
+ghost use Rattle.filter_reports.specs.Explanations.{message};
+ghost use Rattle.filter_reports.specs.Shown.{shown};
 ghost use Rattle.filter_lint.specs.WarningLines as spec;
 
 use crate::host_bits::{HostBits, bytes_of};
 use crate::site::Site;
 use crate::warning::{Bounds, Cause, Operation, Warning};
-use filter_tools::{place_in, push_position, push_prefix, push_shown};
+use filter_reports::{place_in, push_position, push_prefix, push_shown};
 use line_protocol::push_decimal;
 use prefix_patterns::{ADDRESS_LENGTH, Pattern, PatternSet};
 use std::alloc::{AllocError, Global};

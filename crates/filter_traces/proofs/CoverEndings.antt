@@ -8,11 +8,12 @@ use Rattle.filter_source.specs.declared.diagnosis.Diagnosis.{Diagnosis}
 use Rattle.line_protocol.specs.Lines.{numbered}
 use Rattle.line_protocol.specs.declared.faults.StreamFault.{StreamFault}
 use Rattle.line_protocol.specs.declared.faults.StreamFault.TheVariants as stream
-use Rattle.filter_commands.proofs.Endings.{if_known}
-use Rattle.filter_commands.specs.Checking.{IsDiagnosis}
-use Rattle.filter_commands.specs.Evaluation.{IsCut}
-use Rattle.filter_tools.specs.Filtering.{AnswersEach, AnswersFirst, refusal_line, routes_limit}
-use Rattle.filter_tools.specs.declared.filter.Filtered.TheVariants as filtered
+use Rattle.route_answers.proofs.EvalEndings.{if_known}
+use Rattle.filter_reports.specs.Checking.{IsDiagnosis}
+use Rattle.filter_reports.specs.Cuts.{IsCut}
+use Rattle.filter_reports.specs.VerifiedFilters.{refusal_line}
+use Rattle.route_answers.specs.Filtering.{AnswersEach, AnswersFirst, routes_limit}
+use Rattle.route_answers.specs.declared.filter.Filtered.TheVariants as filtered
 use Rattle.filter_traces.proofs.Counts.{below, few_lines}
 use Rattle.filter_traces.proofs.Lists.{same_lines}
 use Rattle.filter_traces.specs.Commands.{chosen_lines, coverage_text, lines_among}

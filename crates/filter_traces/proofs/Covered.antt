@@ -8,11 +8,11 @@ use Rattle.line_protocol.specs.Answers.{Answer, is_end}
 use Rattle.line_protocol.specs.Lines.{numbered}
 use Rattle.line_protocol.specs.Runs.{Finishes, Stops}
 use Rattle.line_protocol.specs.declared.faults.StreamFault.{StreamFault}
-use Rattle.filter_commands.specs.Eval.{Line}
-use Rattle.filter_commands.specs.declared.line_fault.LineFault.{LineFault}
-use Rattle.filter_tools.specs.Filtering.{AnswersEach, AnswersFirst, routes_limit}
-use Rattle.filter_commands.specs.RouteLine.{route_in}
-use Rattle.filter_tools.proofs.Answered as answered
+use Rattle.route_answers.specs.Eval.{Line}
+use Rattle.route_answers.specs.declared.line_fault.LineFault.{LineFault}
+use Rattle.route_answers.specs.Filtering.{AnswersEach, AnswersFirst, routes_limit}
+use Rattle.route_answers.specs.RouteLine.{route_in}
+use Rattle.route_answers.proofs.Answered as answered
 use Rattle.filter_traces.proofs.Counts.{capped_more, count_more}
 use Rattle.filter_traces.specs.Coverage.{HasCounted, IsCounted, cover_answer, cover_read, hits, line_comes_to}
 use Rattle.filter_traces.specs.Hits.{counted_up}

@@ -3,8 +3,8 @@ use Rattle.std.proofs.Common.{◌≡◌, ℕ, [], Some, None, Result, Ok, Err, r
 use Rattle.filter_code.specs.RouteView.{RouteView}
 use Rattle.line_protocol.specs.Answers.{Answer, refusal}
 use Rattle.line_protocol.specs.declared.answers.Reply.TheVariants as reply
-use Rattle.filter_commands.specs.RouteLine.{line_code}
-use Rattle.filter_commands.specs.declared.line_fault.LineFault.{LineFault}
+use Rattle.route_answers.specs.RouteLine.{line_code}
+use Rattle.route_answers.specs.declared.line_fault.LineFault.{LineFault}
 use Rattle.filter_traces.specs.Coverage.{cover_read, fault_in}
 
 -- the answer to a line that is refused, and to one that is not

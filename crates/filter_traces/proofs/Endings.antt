@@ -5,13 +5,14 @@ use Rattle.filter_source.specs.declared.diagnosis.Diagnosis.{Diagnosis}
 use Rattle.filter_verifier.specs.Safe.{IsSafe}
 use Rattle.line_protocol.specs.declared.faults.StreamFault.{StreamFault}
 use Rattle.line_protocol.specs.declared.faults.StreamFault.TheVariants as stream
-use Rattle.filter_commands.proofs.Endings.{if_known}
-use Rattle.filter_commands.specs.Checking.{IsDiagnosis}
-use Rattle.filter_commands.specs.Eval.{Line}
-use Rattle.filter_commands.specs.Evaluation.{IsCut}
-use Rattle.filter_tools.proofs.Answered.{each_alike, first_alike}
-use Rattle.filter_tools.specs.Filtering.{AnswersEach, AnswersFirst, refusal_line}
-use Rattle.filter_tools.specs.declared.filter.Filtered.TheVariants as filtered
+use Rattle.route_answers.proofs.EvalEndings.{if_known}
+use Rattle.filter_reports.specs.Checking.{IsDiagnosis}
+use Rattle.route_answers.specs.Eval.{Line}
+use Rattle.filter_reports.specs.Cuts.{IsCut}
+use Rattle.route_answers.proofs.Answered.{each_alike, first_alike}
+use Rattle.filter_reports.specs.VerifiedFilters.{refusal_line}
+use Rattle.route_answers.specs.Filtering.{AnswersEach, AnswersFirst}
+use Rattle.route_answers.specs.declared.filter.Filtered.TheVariants as filtered
 use Rattle.filter_traces.proofs.Meant.{why_as_meant}
 use Rattle.filter_traces.specs.TracedView.{TracedView}
 use Rattle.filter_traces.specs.Whys.{IsTraceOf, Whys, WhysOff, code_why, why_answer}

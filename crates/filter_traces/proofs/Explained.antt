@@ -5,11 +5,11 @@ use Rattle.filter_code.specs.RouteView.{RouteView}
 use Rattle.line_protocol.specs.Answers.{Answer, is_end}
 use Rattle.line_protocol.specs.Runs.{Finishes, Stops}
 use Rattle.line_protocol.specs.declared.faults.StreamFault.{StreamFault}
-use Rattle.filter_commands.specs.Eval.{Line}
-use Rattle.filter_commands.specs.declared.line_fault.LineFault.{LineFault}
-use Rattle.filter_tools.specs.Filtering.{AnswersEach, AnswersFirst, routes_limit}
-use Rattle.filter_commands.specs.RouteLine.{route_in}
-use Rattle.filter_tools.proofs.Answered as answered
+use Rattle.route_answers.specs.Eval.{Line}
+use Rattle.route_answers.specs.declared.line_fault.LineFault.{LineFault}
+use Rattle.route_answers.specs.Filtering.{AnswersEach, AnswersFirst, routes_limit}
+use Rattle.route_answers.specs.RouteLine.{route_in}
+use Rattle.route_answers.proofs.Answered as answered
 use Rattle.filter_traces.specs.TracedView.{TracedView}
 use Rattle.filter_traces.specs.Whys.{code_why, why_run}
 use Rattle.filter_traces.specs.declared.why.Explainer.{Explainer}

@@ -10,12 +10,12 @@ use Rattle.filter_parser.specs.SyntaxText.{FilterView}
 use Rattle.filter_verifier.specs.Safe.{IsSafe}
 use Rattle.line_protocol.specs.Answers.{Answer}
 use Rattle.line_protocol.specs.declared.answers.Reply.TheVariants as reply
-use Rattle.filter_commands.proofs.Saying.{says_the_same}
-use Rattle.filter_commands.specs.Eval.{Line}
-use Rattle.filter_commands.specs.Saying.{Says, SaysTheSame}
-use Rattle.filter_commands.specs.declared.line_fault.LineFault.{LineFault}
-use Rattle.filter_tools.proofs.Meant.{read_of_size}
-use Rattle.filter_commands.specs.RouteLine.{route_in}
+use Rattle.filter_reports.proofs.Saying.{says_the_same}
+use Rattle.route_answers.specs.Eval.{Line}
+use Rattle.filter_reports.specs.Saying.{Says, SaysTheSame}
+use Rattle.route_answers.specs.declared.line_fault.LineFault.{LineFault}
+use Rattle.route_answers.proofs.Meant.{read_of_size}
+use Rattle.route_answers.specs.RouteLine.{route_in}
 use Rattle.filter_traces.specs.TracedView.{TracedView}
 use Rattle.filter_traces.specs.Whys.{code_why, outcome_words, verdict_words, why_answer, why_meant, why_run, why_text}
 

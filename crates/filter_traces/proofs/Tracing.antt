@@ -4,7 +4,7 @@ use Rattle.filter_code.specs.CodeView.{CodeView}
 use Rattle.filter_parser.specs.SyntaxText.{FilterView}
 use Rattle.filter_source.specs.Sources.{Translates}
 use Rattle.filter_source.specs.TextPlaces.{ArePlacesOf}
-use Rattle.filter_tools.specs.Filtering.{IsVerifiedOf}
+use Rattle.filter_reports.specs.VerifiedFilters.{IsVerifiedOf}
 use Rattle.filter_verifier.specs.Safe.{IsSafe}
 use Rattle.filter_verifier.specs.VerifiedView.{VerifiedView}
 use Rattle.filter_traces.specs.TracedView.{TracedView}

@@ -15,14 +15,15 @@ use Rattle.filter_verifier.specs.Safe.{IsSafe}
 use Rattle.line_protocol.specs.Answers.{Answer, refusal}
 use Rattle.line_protocol.specs.declared.answers.Reply.TheVariants as reply
 use Rattle.line_protocol.specs.declared.faults.StreamFault.{StreamFault}
-use Rattle.filter_commands.specs.Checking.{IsDiagnosis}
-use Rattle.filter_commands.specs.Eval.{Line}
-use Rattle.filter_commands.specs.RouteLine.{line_code, route_in}
-use Rattle.filter_commands.specs.declared.line_fault.LineFault.{LineFault}
-use Rattle.filter_tools.specs.Filtering.{AnswersEach, AnswersFirst, BreaksOff, refusal_line}
-use Rattle.filter_tools.specs.Places.{column_at, line_at}
-use Rattle.filter_tools.specs.declared.filter.Filtered.{Filtered}
-use Rattle.filter_tools.specs.declared.filter.Filtered.TheVariants.{Refused, Answered}
+use Rattle.filter_reports.specs.Checking.{IsDiagnosis}
+use Rattle.route_answers.specs.Eval.{Line}
+use Rattle.route_answers.specs.RouteLine.{line_code, route_in}
+use Rattle.route_answers.specs.declared.line_fault.LineFault.{LineFault}
+use Rattle.filter_reports.specs.VerifiedFilters.{refusal_line}
+use Rattle.route_answers.specs.Filtering.{AnswersEach, AnswersFirst, BreaksOff}
+use Rattle.filter_reports.specs.Places.{column_at, line_at}
+use Rattle.route_answers.specs.declared.filter.Filtered.{Filtered}
+use Rattle.route_answers.specs.declared.filter.Filtered.TheVariants.{Refused, Answered}
 use Rattle.filter_traces.specs.Sites.{site_text}
 use Rattle.filter_traces.specs.Steps.{all_lines, deciding_place}
 use Rattle.filter_traces.specs.TracedView.{TracedView}

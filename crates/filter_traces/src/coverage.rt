@@ -1,19 +1,19 @@
 //! `ncroute filter --coverage`: how many routes come to each command of a filter.
 ghost use Rattle.std.specs.Prelude.{◌≡◌, ◌≤◌, ◌⊎◌, ℕ, [], length, slice_index, IfErr, IfOk, IfSome, OnOk};
 ghost use Rattle.std.specs.Io.KnownBytes.{Appends};
-ghost use Rattle.filter_commands.specs.Evaluation.{IsCut};
-ghost use Rattle.filter_commands.specs.Faults.{stream_fault};
-ghost use Rattle.filter_tools.specs.Filtering.{AnswersEach, AnswersFirst, routes_limit};
+ghost use Rattle.filter_reports.specs.Cuts.{IsCut};
+ghost use Rattle.filter_reports.specs.Faults.{stream_fault};
+ghost use Rattle.route_answers.specs.Filtering.{AnswersEach, AnswersFirst, routes_limit};
 ghost use Rattle.filter_traces.specs.Commands.{lines_among};
 ghost use Rattle.filter_traces.specs.Coverage.{Covers, CoversCut, CoversEach, CoversOff, HasCounted, IsCounted, cover_answer, fault_in};
-ghost use Rattle.filter_commands.specs.RouteLine.{route_in};
+ghost use Rattle.route_answers.specs.RouteLine.{route_in};
 ghost use Rattle.line_protocol.specs.Lines.{numbered};
 
 use crate::traced::{Traced, trace_filter};
-use filter_commands::{LineFault, ProgramFault, read_route};
+use filter_reports::{ProgramFault, write_refusal};
 use filter_source::Failure;
-use filter_tools::{Filtered, ROUTES_LIMIT, write_refusal};
 use line_protocol::{Reply, Service, answer_lines_within, push_refusal, write_text};
+use route_answers::{Filtered, LineFault, ROUTES_LIMIT, read_route};
 use std::alloc::{AllocError, Global};
 use std::io::{Read, Write};
 

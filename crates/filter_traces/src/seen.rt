@@ -8,7 +8,7 @@ ghost use Rattle.filter_traces.specs.Told.{sign, step_line, told, told_line, tru
 use crate::site::{Site, push_site, word_of};
 use crate::traced::Traced;
 use filter_code::{Instr, Value};
-use filter_tools::push_prefix;
+use filter_reports::push_prefix;
 use line_protocol::push_decimal;
 use std::alloc::{AllocError, Global};
 

@@ -1,15 +1,15 @@
 //! A verified filter, and where in its text each instruction comes from.
 ghost use Rattle.std.specs.Prelude.{◌≡◌, ◌≤◌, false, map, slice_get, IfErr, IfOk, IfSome};
 ghost use Rattle.filter_code.specs.Limits.{instruction_limit};
-ghost use Rattle.filter_commands.specs.Checking.{IsDiagnosis};
+ghost use Rattle.filter_reports.specs.Checking.{IsDiagnosis};
 ghost use Rattle.filter_parser.specs.SyntaxText.{FilterView};
 ghost use Rattle.filter_source.specs.Failures.{OnDiagnosis};
 ghost use Rattle.filter_traces.specs.Whys.{IsTraceOf, site_in};
 
 use crate::site::Site;
 use filter_code::{Code, Instr};
+use filter_reports::{PlacedCode, Positions, placed_code};
 use filter_source::Failure;
-use filter_tools::{PlacedCode, Positions, placed_code};
 use filter_verifier::Verified;
 use std::alloc::{AllocError, Global};
 use std::marker::Model;

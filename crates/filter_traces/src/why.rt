@@ -2,8 +2,8 @@
 ghost use Rattle.std.specs.Prelude.{◌≡◌, ◌++◌, [], ◌∷◌, IfErr, IfOk, IfSome, OnErr, OnOk, slice_get};
 ghost use Rattle.std.specs.Io.{StartsWith};
 ghost use Rattle.filter_code.specs.Machine.{outcome_of};
-ghost use Rattle.filter_commands.specs.Faults.{stream_fault};
-ghost use Rattle.filter_tools.specs.Filtering.{AnswersEach, AnswersFirst};
+ghost use Rattle.filter_reports.specs.Faults.{stream_fault};
+ghost use Rattle.route_answers.specs.Filtering.{AnswersEach, AnswersFirst};
 ghost use Rattle.filter_traces.specs.Sites.{site_text};
 ghost use Rattle.filter_traces.specs.Whys.{Whys, WhysOff, code_why, outcome_words, route_text, why_text};
 
@@ -11,10 +11,10 @@ use crate::run::ToldRun;
 use crate::site::push_site;
 use crate::traced::{Traced, trace_filter};
 use filter_code::{Outcome, Route};
-use filter_commands::{ProgramFault, read_route};
+use filter_reports::{ProgramFault, push_prefix, write_refusal};
 use filter_source::Failure;
-use filter_tools::{Filtered, ROUTES_LIMIT, push_prefix, write_refusal};
 use line_protocol::{Reply, Service, answer_lines_within, push_decimal, push_refusal};
+use route_answers::{Filtered, ROUTES_LIMIT, read_route};
 use std::alloc::{AllocError, Global};
 use std::io::{Read, Write};
 

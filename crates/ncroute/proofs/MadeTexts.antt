@@ -9,12 +9,12 @@ use Rattle.bird_import.specs.declared.text.Fate.{Fate}
 use Rattle.bird_import.specs.declared.text.Fate.TheVariants as fate
 use Rattle.bird_import.specs.declared.text.Origin.{Origin}
 use Rattle.bird_import.specs.declared.word.Word.{Word}
-use Rattle.filter_commands.specs.Checking.{IsDiagnosis}
+use Rattle.filter_reports.specs.Checking.{IsDiagnosis}
 use Rattle.filter_source.specs.Failures.{OnDiagnosis}
 use Rattle.filter_source.specs.declared.diagnosis.Diagnosis.{Diagnosis}
 use Rattle.filter_source.specs.declared.failure.Failure.{Failure}
 use Rattle.filter_source.specs.declared.failure.Failure.TheVariants as failure
-use Rattle.filter_tools.specs.Explanations.{AreRefusalWords}
+use Rattle.filter_reports.specs.Explanations.{AreRefusalWords}
 use Rattle.ncroute.specs.Importing.{IsLeftFor, IsMadeOfText, IsMadeOfWords, IsRefusedText, IsToldFor, IsToldUnset, KeepsText, KeepsWords, place_from, text_in}
 use Rattle.ncroute.specs.declared.importing.Made.{Made}
 

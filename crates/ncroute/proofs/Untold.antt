@@ -1,7 +1,7 @@
 -- What standard error holds where memory is refused before a line is made.
 use Rattle.std.proofs.Common.{◌≡◌, ℕ, List, [], ◌++◌, Option, Some, None, rules}
 use Rattle.std.specs.Io.KnownBytes.{Appends}
-use Rattle.filter_commands.specs.Evaluation.{IsCut}
+use Rattle.filter_reports.specs.Cuts.{IsCut}
 use Rattle.line_protocol.specs.declared.faults.StreamFault.TheVariants.{Memory}
 use Rattle.ncroute.specs.Reading.{told_line}
 

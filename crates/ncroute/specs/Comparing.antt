@@ -3,7 +3,7 @@ use Rattle.std.specs.Prelude.{◌≡◌, ◌⊎◌, ℕ, List, Option, Result}
 use Rattle.std.specs.declared.io.Error.{Error}
 use Rattle.filter_source.specs.Limits.{source_limit}
 use Rattle.filter_checks.specs.Comparing.{ComparesNamed, ComparesNamedOff}
-use Rattle.filter_tools.specs.Naming.{Named}
+use Rattle.filter_reports.specs.Naming.{Named}
 use Rattle.filter_checks.specs.declared.comparing.Compared.{Compared}
 use Rattle.filter_checks.specs.declared.comparing.Compared.TheVariants.{Refused, Same, Differ, Undecided}
 use Rattle.line_protocol.specs.declared.faults.StreamFault.{StreamFault}

@@ -1,7 +1,7 @@
 -- How a run of the program ends. (This project's own choice.)
 use Rattle.std.specs.Prelude.{◌==◌, ℕ, Bool, List, [], ◌∷◌, ◌++◌, codes, if◌then◌else◌}
-use Rattle.filter_commands.specs.Faults.{program_code}
-use Rattle.filter_commands.specs.declared.fault.ProgramFault.{ProgramFault}
+use Rattle.filter_reports.specs.Faults.{program_code}
+use Rattle.filter_reports.specs.declared.fault.ProgramFault.{ProgramFault}
 
 -- the exit status by the number of refused lines
 abbrev pub status_of : ℕ → ℕ

@@ -1,10 +1,10 @@
 -- How the filters that a script is started with are read, and how it is told that one of them is refused. (This project's own choice.)
 use Rattle.std.specs.Prelude.{◌≡◌, ◌⊎◌, ◌<◌, ◌≤◌, ◌++◌, ℕ, zero, suc, List, [], ◌∷◌, Option, Some, None, Result, length, slice_get, string_bytes}
 use Rattle.std.specs.declared.io.Error.{Error}
-use Rattle.filter_commands.specs.Faults.{stream_fault}
+use Rattle.filter_reports.specs.Faults.{stream_fault}
 use Rattle.filter_source.specs.Limits.{source_limit}
 use Rattle.filter_source.specs.declared.diagnosis.Diagnosis.{Diagnosis}
-use Rattle.filter_tools.specs.Telling.{Explains, IsCutExplanation}
+use Rattle.filter_reports.specs.Telling.{Explains, IsCutExplanation}
 use Rattle.line_protocol.specs.declared.faults.StreamFault.{StreamFault}
 use Rattle.script_runs.specs.declared.naming.NamedFilter.{NamedFilter}
 use Rattle.script_runs.specs.declared.naming.Unfit.{Unfit}

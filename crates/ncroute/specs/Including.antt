@@ -3,7 +3,7 @@
 use Rattle.std.specs.Prelude.{◌≡◌, ◌⊎◌, ◌<◌, ◌≤◌, ◌-◌, ◌&&◌, ◌++◌, ℕ, zero, suc, nat_le, true, false, if◌then◌else◌, List, [], ◌∷◌, Option, Some, None, Result}
 use Rattle.std.specs.Prelude.{codes, drop, length, map, slice_get, take}
 use Rattle.std.specs.declared.io.Error.{Error}
-use Rattle.filter_tools.specs.Shown.{shown}
+use Rattle.filter_reports.specs.Shown.{shown}
 use Rattle.line_protocol.specs.Limits.{input_limit}
 use Rattle.bird_import.specs.Including.{Includes, view_of as view_of_include}
 use Rattle.bird_import.specs.declared.includes.Include.{Include}

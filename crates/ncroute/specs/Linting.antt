@@ -5,7 +5,7 @@ use Rattle.filter_source.specs.Limits.{source_limit}
 use Rattle.filter_lint.specs.Linting.{CutsHostBits, LintsNamed, LintsNamedOff, TellsHostBits, WarnsNamed, WarnsNamedOff}
 use Rattle.filter_lint.specs.declared.linting.Linted.{Linted}
 use Rattle.filter_lint.specs.declared.linting.Linted.TheVariants.{Refused, Warned}
-use Rattle.filter_tools.specs.Naming.{Named}
+use Rattle.filter_reports.specs.Naming.{Named}
 use Rattle.line_protocol.specs.declared.faults.StreamFault.{StreamFault}
 use Rattle.command_line.specs.declared.requests.Checking.{Checking}
 use Rattle.command_line.specs.declared.requests.Source.{Source}

@@ -1,12 +1,12 @@
 -- The report on a source where each line begins with the source's name, or where only refusals are written. (This project's own choice.)
 use Rattle.std.specs.Prelude.{◌≡◌, ◌⊎◌, ◌==◌, ℕ, Bool, true, false, if◌then◌else◌, is_some, List, [], ◌∷◌, ◌++◌, Option, Some, None, codes}
 use Rattle.std.specs.Io.KnownBytes.{Appends}
-use Rattle.filter_commands.specs.Checking.{IsCutOff, Reports}
-use Rattle.filter_commands.specs.Evaluation.{IsCut}
+use Rattle.filter_reports.specs.Checking.{IsCutOff, Reports}
+use Rattle.filter_reports.specs.Cuts.{IsCut}
 use Rattle.filter_source.specs.declared.diagnosis.Diagnosis.{Diagnosis}
-use Rattle.filter_tools.specs.Filtering.{refusal_line}
-use Rattle.filter_tools.specs.Naming.{ChecksNamed, ChecksNamedOff}
-use Rattle.filter_tools.specs.Shown.{shown}
+use Rattle.filter_reports.specs.VerifiedFilters.{refusal_line}
+use Rattle.filter_reports.specs.Naming.{ChecksNamed, ChecksNamedOff}
+use Rattle.filter_reports.specs.Shown.{shown}
 use Rattle.line_protocol.specs.declared.faults.StreamFault.{StreamFault}
 use Rattle.command_line.specs.declared.requests.Checking.{Checking}
 use Rattle.ncroute.specs.Streaming.{Streams}

@@ -1,8 +1,8 @@
 -- Where the bytes of a configuration come from: its files, and the stretches of it that are theirs. (This project's own choice.)
 use Rattle.std.specs.Prelude.{◌≡◌, ℕ, ◌+◌, ◌-◌, nat_le, List, [], ◌∷◌, ◌++◌, Bool, Option, Some, None, decimal, map, min, reverse, slice_get, string_bytes}
 use Rattle.std.specs.List.{find}
-use Rattle.filter_tools.specs.Places.{column_at, line_at}
-use Rattle.filter_tools.specs.Shown.{shown}
+use Rattle.filter_reports.specs.Places.{column_at, line_at}
+use Rattle.filter_reports.specs.Shown.{shown}
 use Rattle.command_line.specs.declared.requests.Source.{Source}
 use Rattle.command_line.specs.declared.requests.Source.TheVariants.{Input, File}
 use Rattle.ncroute.specs.Reading.{name_of}

@@ -4,12 +4,12 @@ use Rattle.std.specs.Prelude.{is_some, string_bytes, ⊤}
 use Rattle.std.specs.declared.io.Error.{Error}
 use Rattle.filter_source.specs.Limits.{source_limit}
 use Rattle.filter_source.specs.declared.diagnosis.Diagnosis.{Diagnosis}
-use Rattle.filter_commands.specs.Evaluation.{Breaks, Evaluates}
-use Rattle.filter_commands.specs.Faults.{stream_fault}
-use Rattle.filter_commands.specs.Rewriting.{Rewrites, RewritesOff}
-use Rattle.filter_commands.specs.declared.fault.ProgramFault.{ProgramFault}
-use Rattle.filter_tools.specs.Naming.{ListsNamed, ListsNamedOff}
-use Rattle.filter_tools.specs.ToldRoutes.{IsQuiet}
+use Rattle.route_answers.specs.Evaluation.{Breaks, Evaluates}
+use Rattle.filter_reports.specs.Faults.{stream_fault}
+use Rattle.filter_reports.specs.Rewriting.{Rewrites, RewritesOff}
+use Rattle.filter_reports.specs.declared.fault.ProgramFault.{ProgramFault}
+use Rattle.filter_reports.specs.Naming.{ListsNamed, ListsNamedOff}
+use Rattle.route_answers.specs.ToldRoutes.{IsQuiet}
 use Rattle.line_protocol.specs.declared.faults.StreamFault.{StreamFault}
 use Rattle.command_line.specs.declared.requests.Request.{Request}
 use Rattle.command_line.specs.declared.requests.Request.TheVariants as request

@@ -3,7 +3,7 @@ use Rattle.std.specs.Prelude.{◌≡◌, ◌⊎◌, ℕ, List, Option, Result, O
 use Rattle.std.specs.declared.io.Error.{Error}
 use Rattle.command_line.specs.declared.words.Words.{Words}
 use Rattle.command_line.specs.declared.words.Words.TheVariants.{Asked, Network, Router, Shown}
-use Rattle.filter_commands.specs.declared.fault.ProgramFault.TheVariants.{Stream}
+use Rattle.filter_reports.specs.declared.fault.ProgramFault.TheVariants.{Stream}
 use Rattle.line_protocol.specs.declared.faults.StreamFault.{StreamFault}
 use Rattle.ncroute.specs.Ending.{fault_line}
 use Rattle.ncroute.specs.Networking.{FailsToReportNetwork, ServesNetwork}

@@ -1,7 +1,7 @@
 -- The streams of the program. (This project's own choice.)
 use Rattle.std.specs.Prelude.{◌≡◌, ℕ, List, Option}
 use Rattle.std.specs.Io.KnownBytes.{Appends}
-use Rattle.filter_commands.specs.Evaluation.{IsCut}
+use Rattle.filter_reports.specs.Cuts.{IsCut}
 use Rattle.line_protocol.specs.Runs.{AppendsFront}
 use Rattle.line_protocol.specs.declared.faults.StreamFault.{StreamFault}
 

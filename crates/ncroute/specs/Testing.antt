@@ -12,7 +12,7 @@ use Rattle.filter_checks.specs.declared.test_file.FileFault.TheVariants.{Name}
 use Rattle.filter_checks.specs.declared.testing.Tested.{Tested}
 use Rattle.filter_checks.specs.declared.testing.Tested.TheVariants.{Ran, Refused}
 use Rattle.filter_source.specs.Limits.{source_limit}
-use Rattle.filter_tools.specs.Naming.{Named}
+use Rattle.filter_reports.specs.Naming.{Named}
 use Rattle.line_protocol.specs.declared.faults.StreamFault.{StreamFault}
 use Rattle.line_protocol.specs.declared.faults.StreamFault.TheVariants.{Memory, TooLong}
 use Rattle.command_line.specs.declared.requests.Source.{Source}

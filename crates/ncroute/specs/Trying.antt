@@ -3,11 +3,11 @@ use Rattle.std.specs.Prelude.{◌≡◌, ◌⊎◌, ℕ, Bool, true, false, List
 use Rattle.std.specs.declared.io.Error.{Error}
 use Rattle.filter_source.specs.Limits.{source_limit}
 use Rattle.filter_source.specs.declared.diagnosis.Diagnosis.{Diagnosis}
-use Rattle.filter_tools.specs.Filtering.{Filters}
-use Rattle.filter_tools.specs.Telling.{Explains, IsCutExplanation}
-use Rattle.filter_tools.specs.ToldRoutes.{FiltersNamedOff, TellsFiltered}
-use Rattle.filter_tools.specs.declared.filter.Filtered.{Filtered}
-use Rattle.filter_tools.specs.declared.filter.Filtered.TheVariants.{Refused, Answered}
+use Rattle.route_answers.specs.Filtering.{Filters}
+use Rattle.filter_reports.specs.Telling.{Explains, IsCutExplanation}
+use Rattle.route_answers.specs.ToldRoutes.{FiltersNamedOff, TellsFiltered}
+use Rattle.route_answers.specs.declared.filter.Filtered.{Filtered}
+use Rattle.route_answers.specs.declared.filter.Filtered.TheVariants.{Refused, Answered}
 use Rattle.filter_traces.specs.Coverage.{Covers, CoversOff}
 use Rattle.filter_traces.specs.Whys.{Whys, WhysOff}
 use Rattle.line_protocol.specs.declared.faults.StreamFault.{StreamFault}

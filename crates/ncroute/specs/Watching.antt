@@ -4,7 +4,7 @@ use Rattle.std.specs.Prelude.{◌≡◌, ◌⊎◌, ℕ, ◌-◌, ◌++◌, nat_
 use Rattle.line_protocol.specs.Runs.{AppendsFront}
 use Rattle.command_line.specs.declared.requests.Engine.{Engine}
 use Rattle.command_line.specs.declared.requests.Engine.TheVariants as engine
-use Rattle.filter_tools.specs.Shown.{shown}
+use Rattle.filter_reports.specs.Shown.{shown}
 use Rattle.operator_cmds.specs.declared.watch.RefusedLine.{RefusedLine}
 use Rattle.script_words.specs.Telling.{Tells}
 use Rattle.script_words.specs.declared.forms.ScriptKind.{ScriptKind}

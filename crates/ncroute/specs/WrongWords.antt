@@ -1,6 +1,6 @@
 -- What people are told of wrong words of `router`: which option has which value, and why it is refused. (This project's own choice.)
 use Rattle.std.specs.Prelude.{ℕ, List, [], ◌∷◌, ◌++◌, codes, decimal}
-use Rattle.filter_tools.specs.Shown.{shown}
+use Rattle.filter_reports.specs.Shown.{shown}
 use Rattle.router_options.specs.declared.fault.NodeFault.{NodeFault}
 use Rattle.router_options.specs.declared.fault.NodeFault.TheVariants.{Outside, Itself}
 use Rattle.router_options.specs.declared.fault.NumberFault.{NumberFault}

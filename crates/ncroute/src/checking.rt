@@ -1,6 +1,6 @@
 //! How filters and code files are checked.
 ghost use Rattle.std.specs.Prelude.{◌≡◌, ◌||◌, IfErr, IfOk};
-ghost use Rattle.filter_commands.specs.Faults.{stream_fault};
+ghost use Rattle.filter_reports.specs.Faults.{stream_fault};
 ghost use Rattle.ncroute.specs.Checking.{ChecksAll, ChecksBy, ChecksOne, ChecksSome, ChecksText, ChecksWhole, CutsBy, CutsText, CutsWhole, IsCutOne};
 
 use crate::console::{Console, Loaded};
@@ -9,7 +9,7 @@ use crate::lines::{check_lines, report_on};
 use crate::linting::warn;
 use crate::texts::{Folder, name_of};
 use command_line::{Checking, Source};
-use filter_commands::ProgramFault;
+use filter_reports::ProgramFault;
 use filter_source::SOURCE_LIMIT;
 use std::alloc::Global;
 use std::io::{Read, Write};

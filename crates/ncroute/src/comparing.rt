@@ -1,7 +1,7 @@
 //! How the filters of two sources are compared.
 ghost use Rattle.std.specs.Prelude.{◌≡◌, IfErr, IfOk};
-ghost use Rattle.filter_commands.specs.Faults.{stream_fault};
-ghost use Rattle.filter_tools.specs.Naming.{named};
+ghost use Rattle.filter_reports.specs.Faults.{stream_fault};
+ghost use Rattle.filter_reports.specs.Naming.{named};
 ghost use Rattle.ncroute.specs.Comparing.{ComparesSources, ComparesTexts, ComparesWith, StopsComparing, StopsComparison, StopsWith};
 ghost use Rattle.ncroute.specs.Comparing.{status_of_comparison};
 
@@ -10,9 +10,8 @@ use crate::ending::{FAILED, FAULT};
 use crate::texts::{Folder, name_of};
 use command_line::{Comparing, Source};
 use filter_checks::{Compared, compare_named};
-use filter_commands::ProgramFault;
+use filter_reports::{NamedText, ProgramFault};
 use filter_source::SOURCE_LIMIT;
-use filter_tools::NamedText;
 use std::alloc::Global;
 use std::io::{Read, Write};
 

@@ -1,6 +1,6 @@
 //! The streams of the program.
 ghost use Rattle.std.specs.Prelude.{◌≡◌, ◌<◌, ◌^◌, IfErr, OnOk};
-ghost use Rattle.filter_commands.specs.Faults.{stream_fault};
+ghost use Rattle.filter_reports.specs.Faults.{stream_fault};
 ghost use Rattle.ncroute.specs.Ending.{fault_line};
 ghost use Rattle.ncroute.specs.Reading.{IsLoaded, IsWithin};
 ghost use Rattle.ncroute.specs.Streaming.{CutsTelling, CutsWriting, Tells, TellsFront, Writes};
@@ -8,7 +8,7 @@ ghost use Rattle.ncroute.specs.Streaming.{CutsTelling, CutsWriting, Tells, Tells
 use crate::ending::report_fault;
 use crate::texts::{Folder, read_source, tell_unread, write_line};
 use command_line::Source;
-use filter_commands::ProgramFault;
+use filter_reports::ProgramFault;
 use line_protocol::StreamFault;
 use std::alloc::Global;
 use std::io::{Read, Write};

@@ -4,7 +4,7 @@ ghost use Rattle.std.specs.Io.KnownBytes.{Appends};
 ghost use Rattle.line_protocol.specs.Runs.{AppendsFront};
 ghost use Rattle.ncroute.specs.Ending.{fault_line, status_of, status_of_found};
 
-use filter_commands::ProgramFault;
+use filter_reports::ProgramFault;
 use line_protocol::{StreamFault, write_text};
 use std::io::Write;
 

@@ -1,16 +1,15 @@
 //! The filters that a script is started with: they are read before its first line is answered, and people are told if one is refused.
 ghost use Rattle.std.specs.Option.{option_map};
 ghost use Rattle.std.specs.Prelude.{◌≡◌, [], ◌∷◌, ◌++◌, IfErr, IfOk, OnOk, slice_get};
-ghost use Rattle.filter_commands.specs.Faults.{stream_fault};
+ghost use Rattle.filter_reports.specs.Faults.{stream_fault};
 ghost use Rattle.script_runs.specs.declared.naming.NamedFilter.{NamedFilter as TheFilter};
 ghost use Rattle.ncroute.specs.Filters.{AreLoaded, IsCutFilter, IsCutUnfit, LeavesFilter, ReadsFilter, ReadsFilters, StopsAtFilter, TellsOfFilter, TellsUnfit};
 
 use crate::console::Console;
 use crate::texts::{Folder, Unread, name_of, read_source, tell_unread};
 use command_line::{NamedFile, Source};
-use filter_commands::ProgramFault;
+use filter_reports::{ProgramFault, tell};
 use filter_source::{Diagnosis, SOURCE_LIMIT};
-use filter_tools::tell;
 use script_runs::{NamedFilter, Unfit};
 use std::alloc::Global;
 use std::io::{Read, Write};

@@ -1,6 +1,6 @@
 //! The script of a router whose history is kept in a file, that is started with filters, or that ends at its first refused line.
 ghost use Rattle.std.specs.Prelude.{◌≡◌, ◌||◌, IfErr, IfOk, IfSome};
-ghost use Rattle.filter_commands.specs.Faults.{stream_fault};
+ghost use Rattle.filter_reports.specs.Faults.{stream_fault};
 ghost use Rattle.ncroute.specs.Guiding.{GuidesScript, RunsGuided, RunsNamed, RunsSaved, StopsGuided, StopsNamed, StopsRun, StopsSaved};
 ghost use Rattle.ncroute.specs.Scripts.{IsQuiet, TakesLines, text_of};
 ghost use Rattle.script_runs.specs.Running.{IsSaved, IsSavedInPart};
@@ -12,7 +12,7 @@ use crate::script::Lines;
 use crate::texts::{Folder, name_of, tell_unmade};
 use crate::watcher::{Guide, Part, whole};
 use command_line::{Running, Source};
-use filter_commands::ProgramFault;
+use filter_reports::ProgramFault;
 use line_protocol::{INPUT_LIMIT, StreamFault};
 use operator_cmds::Nobody;
 use script_runs::{NamedFilter, Unfit, run_saved_script};

@@ -6,12 +6,12 @@ ghost use Rattle.ncroute.specs.Importing.{AreWordsFor, ImportsConfig, ImportsCut
 ghost use Rattle.ncroute.specs.Importing.{SavesFilter, SavesText, TellsEnd, TellsStrange, TellsWord, byte_line, end_words, ends_in_slash, fate_words, file_name, file_path, head_of, is_outside, made_line, origin_line, origins_for, outside_line, path_words, place_from, slash_behind, strange_words, text_for, text_in};
 ghost use Rattle.ncroute.specs.Places.{config_of, place_of};
 ghost use Rattle.ncroute.specs.Streaming.{Tells, Writes};
-ghost use Rattle.filter_commands.specs.Check.{IsRefused};
+ghost use Rattle.filter_reports.specs.Check.{IsRefused};
 ghost use Rattle.filter_parser.specs.Surroundings.{TellsRound};
 ghost use Rattle.filter_parser.specs.Unspelled.{IsUnspelled};
 ghost use Rattle.filter_source.specs.Diagnoses.{TellsOfText};
 ghost use Rattle.filter_source.specs.VerifiedLine.{verified_line};
-ghost use Rattle.filter_tools.specs.Explanations.{AreRefusalWords};
+ghost use Rattle.filter_reports.specs.Explanations.{AreRefusalWords};
 
 use crate::checking::is_any;
 use crate::console::Console;
@@ -23,11 +23,10 @@ use bird_import::{
     find_definitions, find_items, make_drafts, origin_of, reason_words, write_filter,
 };
 use command_line::{Importing, Source};
-use filter_commands::ProgramFault;
 use filter_parser::{Around, Unparsed};
+use filter_reports::{ProgramFault, push_shown, refusal_words, verified_filter};
 use filter_source::{Diagnosis, Failure, Refusal, SOURCE_LIMIT, push_verified};
 use filter_tokens::TokenFault;
-use filter_tools::{push_shown, refusal_words, verified_filter};
 use filter_verifier::Verified;
 use line_protocol::write_text;
 use std::alloc::{AllocError, Global};

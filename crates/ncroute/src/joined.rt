@@ -1,7 +1,7 @@
 //! The script of a router that several sources are, one after another.
 ghost use Rattle.std.specs.Option.{option_map};
 ghost use Rattle.std.specs.Prelude.{◌≡◌, ◌++◌, [], ◌∷◌, IfErr, IfOk, OnErr, OnOk};
-ghost use Rattle.filter_commands.specs.Faults.{stream_fault};
+ghost use Rattle.filter_reports.specs.Faults.{stream_fault};
 ghost use Rattle.ncroute.specs.Joining.{AddsPart, JoinsAll, JoinsNext, LeavesNext, RunsJoined, RunsTexts, StopsAtSource, StopsJoined, StopsTexts, ended, ends_line, lines_of};
 
 use crate::console::Console;
@@ -12,8 +12,7 @@ use crate::script::Lines;
 use crate::texts::{Folder, Unread, name_of, read_source, tell_unread};
 use crate::watcher::Part;
 use command_line::{Running, Source};
-use filter_commands::ProgramFault;
-use filter_tools::place_in;
+use filter_reports::{ProgramFault, place_in};
 use line_protocol::INPUT_LIMIT;
 use script_runs::NamedFilter;
 use std::alloc::{AllocError, Global};

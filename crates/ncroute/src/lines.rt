@@ -1,15 +1,14 @@
 //! The report on a source where each line begins with the source's name, or where only refusals are written.
 ghost use Rattle.std.specs.Prelude.{◌≡◌, ◌++◌, IfErr, IfOk, OnOk};
 ghost use Rattle.std.specs.Io.KnownBytes.{Appends};
-ghost use Rattle.filter_commands.specs.Evaluation.{IsCut};
-ghost use Rattle.filter_commands.specs.Faults.{stream_fault};
+ghost use Rattle.filter_reports.specs.Cuts.{IsCut};
+ghost use Rattle.filter_reports.specs.Faults.{stream_fault};
 ghost use Rattle.ncroute.specs.Marking.{ChecksLines, CutsLines, CutsReport, ReportsOn, kept_lines, mark_behind, marked, name_mark, refusals_in, written_of};
 
 use crate::console::Console;
 use command_line::Checking;
-use filter_commands::{ProgramFault, write_report};
+use filter_reports::{ProgramFault, check_named, push_shown, write_report};
 use filter_source::Diagnosis;
-use filter_tools::{check_named, push_shown};
 use line_protocol::{push_refusal, write_text};
 use std::alloc::{AllocError, Global};
 use std::io::{Read, Write};

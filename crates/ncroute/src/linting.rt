@@ -1,7 +1,7 @@
 //! How filters are looked through for what is plainly wrong.
 ghost use Rattle.std.specs.Prelude.{◌≡◌, IfErr, IfOk, OnOk};
-ghost use Rattle.filter_commands.specs.Faults.{stream_fault};
-ghost use Rattle.filter_tools.specs.Naming.{named};
+ghost use Rattle.filter_reports.specs.Faults.{stream_fault};
+ghost use Rattle.filter_reports.specs.Naming.{named};
 ghost use Rattle.ncroute.specs.Linting.{CutsHostBitsText, CutsLint, CutsLintText, CutsWarning, CutsWarningText, LintsAll, LintsOne, LintsText};
 ghost use Rattle.ncroute.specs.Linting.{StopsLinting, Warns, WarnsOfHostBits, WarnsText, is_said, wanted_of};
 
@@ -10,10 +10,9 @@ use crate::console::{Console, Loaded};
 use crate::ending::status_of_found;
 use crate::texts::{Folder, name_of};
 use command_line::{Checking, Linting, Source};
-use filter_commands::ProgramFault;
 use filter_lint::{Linted, lint_named, tell_host_bits, warn_named};
+use filter_reports::{NamedText, ProgramFault};
 use filter_source::SOURCE_LIMIT;
-use filter_tools::NamedText;
 use std::alloc::Global;
 use std::io::{Read, Write};
 

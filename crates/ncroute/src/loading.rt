@@ -1,12 +1,12 @@
 //! The filters of a router are read and verified, before any of its links is opened.
 ghost use Rattle.std.specs.Prelude.{◌≡◌, IfErr, IfOk, MatchOption, MatchResult};
-ghost use Rattle.filter_commands.specs.Faults.{stream_fault};
+ghost use Rattle.filter_reports.specs.Faults.{stream_fault};
 ghost use Rattle.ncroute.specs.Loading as spec;
 
 use crate::filters::{read_filters, tell_unfit};
 use crate::texts::{Folder, tell_unread};
 use command_line::NamedFile;
-use filter_commands::ProgramFault;
+use filter_reports::ProgramFault;
 use router_daemon::Filters;
 use router_script::Script;
 use script_runs::{NamedFilter, Unfit, name_filters};

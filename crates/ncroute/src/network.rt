@@ -4,7 +4,7 @@ ghost use Rattle.ncroute.specs.Networking.{FailsToReportNetwork, ServesNetwork, 
 
 use crate::console::Console;
 use crate::ending::{FAILED, fault_line};
-use filter_commands::ProgramFault;
+use filter_reports::ProgramFault;
 use line_protocol::{StreamFault, write_text};
 use ring_network::{NetworkFault, net_lines};
 use route_history::CallFault;

@@ -1,8 +1,8 @@
 //! The command `replay`: from the text of a history to the line of its verdict.
 ghost use Rattle.std.specs.Prelude.{◌≡◌, ◌+◌, ◌≤◌, IfErr, IfOk, OnOk, length};
 ghost use Rattle.std.specs.Io.KnownBytes.{Appends};
-ghost use Rattle.filter_commands.specs.Evaluation.{IsCut};
-ghost use Rattle.filter_commands.specs.Faults.{stream_fault};
+ghost use Rattle.filter_reports.specs.Cuts.{IsCut};
+ghost use Rattle.filter_reports.specs.Faults.{stream_fault};
 ghost use Rattle.history_file.specs.Replays.{verdict_line};
 ghost use Rattle.ncroute.specs.Replaying.{CutsReplay, ReplaysSource, ReplaysText, StopsReplay};
 
@@ -10,7 +10,7 @@ use crate::console::{Console, Loaded};
 use crate::ending::{FAILED, FAULT};
 use crate::texts::Folder;
 use command_line::Source;
-use filter_commands::ProgramFault;
+use filter_reports::ProgramFault;
 use history_file::{Verdict, judge, push_verdict};
 use line_protocol::{StreamFault, write_text};
 use std::alloc::Global;

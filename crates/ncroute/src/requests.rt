@@ -1,6 +1,6 @@
 //! From what is asked for to an exit status.
 ghost use Rattle.std.specs.Prelude.{◌≡◌, IfErr, IfOk};
-ghost use Rattle.filter_commands.specs.Faults.{stream_fault};
+ghost use Rattle.filter_reports.specs.Faults.{stream_fault};
 ghost use Rattle.ncroute.specs.Requests.{Answers, EvaluatesTold, FailsToReport, ListsSource, ListsText, RewritesInput, Serves, StopsAnswer, StopsEvaluating};
 ghost use Rattle.ncroute.specs.Requests.{StopsList, StopsListing, StopsRewriting, fault_status};
 ghost use Rattle.ncroute.specs.Streaming.{CutsWriting, Writes};
@@ -19,10 +19,10 @@ use crate::testing::test_sources;
 use crate::texts::{Folder, name_of};
 use crate::trying::try_filter;
 use command_line::{Request, Source};
-use filter_commands::{ProgramFault, rewrite_text};
+use filter_reports::{ProgramFault, list_named, rewrite_text};
 use filter_source::SOURCE_LIMIT;
-use filter_tools::{Routes, eval_named, list_named};
 use line_protocol::StreamFault;
+use route_answers::{Routes, eval_named};
 use std::alloc::Global;
 use std::io::{Read, Write};
 

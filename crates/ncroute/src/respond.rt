@@ -1,6 +1,6 @@
 //! From the words of the command line to the exit status.
 ghost use Rattle.std.specs.Prelude.{◌≡◌, ◌⊎◌};
-ghost use Rattle.filter_commands.specs.declared.fault.ProgramFault.TheVariants.{Stream};
+ghost use Rattle.filter_reports.specs.declared.fault.ProgramFault.TheVariants.{Stream};
 ghost use Rattle.ncroute.specs.Ending.{fault_line};
 ghost use Rattle.ncroute.specs.Networking.{FailsToReportNetwork, ServesNetwork};
 ghost use Rattle.ncroute.specs.Requests.{FailsToReport, Serves, fault_status};
@@ -15,7 +15,7 @@ use crate::requests::{fault_status, serve};
 use crate::routing::serve_router;
 use crate::texts::Folder;
 use command_line::{Request, RouterWords, Words};
-use filter_commands::ProgramFault;
+use filter_reports::ProgramFault;
 use line_protocol::StreamFault;
 use router_daemon::LinkFolder;
 use std::alloc::Global;

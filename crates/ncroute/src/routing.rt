@@ -2,8 +2,8 @@
 ghost use Rattle.std.specs.Option.{option_map};
 ghost use Rattle.std.specs.Prelude.{◌≡◌, ◌++◌, IfErr, IfOk, MatchOption, OnOk};
 ghost use Rattle.std.specs.Io.KnownBytes.{Appends};
-ghost use Rattle.filter_commands.specs.Evaluation.{IsCut};
-ghost use Rattle.filter_commands.specs.Faults.{stream_fault};
+ghost use Rattle.filter_reports.specs.Cuts.{IsCut};
+ghost use Rattle.filter_reports.specs.Faults.{stream_fault};
 ghost use Rattle.ncroute.specs.Routing as spec;
 ghost use Rattle.ncroute.specs.WrongWords.{wrong_line};
 
@@ -14,7 +14,7 @@ use crate::planning::{PlanFault, is_memory, plan_of};
 use crate::texts::{Folder, tell_unmade, write_line};
 use crate::wrong_words::wrong_line;
 use command_line::RouterWords;
-use filter_commands::ProgramFault;
+use filter_reports::ProgramFault;
 use history_saver::{SaveFault, Saver};
 use line_protocol::StreamFault;
 use route_history::CallFault;

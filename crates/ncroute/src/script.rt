@@ -1,6 +1,6 @@
 //! Scripts: a router or a whole domain carries one out, and its refusals are told.
 ghost use Rattle.std.specs.Prelude.{◌≡◌, IfErr, IfOk, IfSome};
-ghost use Rattle.filter_commands.specs.Faults.{stream_fault};
+ghost use Rattle.filter_reports.specs.Faults.{stream_fault};
 ghost use Rattle.ncroute.specs.Scripts.{IsAnswered, IsLeftOff, IsQuiet, RunsFile, RunsScript, RunsSource, StopsFile, StopsScript, StopsSource};
 ghost use Rattle.ncroute.specs.Scripts.{TakesLines, script_fault, text_of};
 
@@ -10,7 +10,7 @@ use crate::texts::{Folder, name_of};
 use crate::watcher::Teller;
 use command_line::{Engine, Source};
 use domain_cmds::{run_domain, run_watched_domain};
-use filter_commands::ProgramFault;
+use filter_reports::ProgramFault;
 use line_protocol::{INPUT_LIMIT, StreamFault};
 use router_script::{run_script, run_watched_script};
 use std::alloc::Global;

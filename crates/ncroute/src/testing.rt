@@ -1,8 +1,8 @@
 //! How test files are run.
 ghost use Rattle.std.specs.Prelude.{◌≡◌, ◌+◌, ◌<◌, ◌^◌, IfErr, IfOk, OnOk};
 ghost use Rattle.filter_checks.specs.Files.{file_view};
-ghost use Rattle.filter_commands.specs.Faults.{stream_fault};
-ghost use Rattle.filter_tools.specs.Naming.{named};
+ghost use Rattle.filter_reports.specs.Faults.{stream_fault};
+ghost use Rattle.filter_reports.specs.Naming.{named};
 ghost use Rattle.ncroute.specs.Streaming.{CutsWriting, Writes};
 ghost use Rattle.ncroute.specs.Testing as spec;
 
@@ -13,9 +13,8 @@ use command_line::{Source, Testing};
 use filter_checks::{
     FileFault, TestFile, Tested, fault_text, path_beside, plan_line, read_tests, test_named,
 };
-use filter_commands::ProgramFault;
+use filter_reports::{NamedText, ProgramFault};
 use filter_source::SOURCE_LIMIT;
-use filter_tools::NamedText;
 use line_protocol::StreamFault;
 use std::alloc::{AllocError, Global};
 use std::io::{Read, Write};

@@ -2,14 +2,13 @@
 ghost use Rattle.std.specs.Prelude.{◌≡◌, ◌<◌, ◌+◌, ◌^◌, ℕ, List, Option, Result, Ok, Err, IfOk, IfErr, OnOk, MatchResult, ⊤};
 ghost use Rattle.std.specs.Io.KnownBytes.{Appends};
 ghost use Rattle.std.specs.declared.io.Error.{Error as TheError};
-ghost use Rattle.filter_commands.specs.Evaluation.{IsCut};
-ghost use Rattle.filter_commands.specs.Faults.{stream_fault};
+ghost use Rattle.filter_reports.specs.Cuts.{IsCut};
+ghost use Rattle.filter_reports.specs.Faults.{stream_fault};
 ghost use Rattle.ncroute.specs.Reading.{IsCause, IsOfFile, IsRead, IsUnread, LeavesFile, LeavesInput, ReadsFile, ReadsInput, ReadsWhole};
 ghost use Rattle.ncroute.specs.Reading.{StopsTelling, TellsUnread, long_line, long_words, name_of, told_line, unmade_line, unread_line, unwritten_line, unwritten_words};
 
 use command_line::Source;
-use filter_commands::ProgramFault;
-use filter_tools::push_shown;
+use filter_reports::{ProgramFault, push_shown};
 use history_saver::Saver;
 use line_protocol::{StreamFault, read_input, write_text};
 use std::alloc::{AllocError, Global};

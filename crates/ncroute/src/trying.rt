@@ -1,8 +1,8 @@
 //! How the routes of standard input are taken through the filter of a file.
 ghost use Rattle.std.specs.Prelude.{◌≡◌, IfErr, IfOk, IfSome, OnOk};
-ghost use Rattle.filter_commands.specs.Faults.{stream_fault};
-ghost use Rattle.filter_tools.specs.Telling.{Explains, IsCutExplanation};
-ghost use Rattle.filter_tools.specs.declared.filter.Filtered.TheVariants.{Refused};
+ghost use Rattle.filter_reports.specs.Faults.{stream_fault};
+ghost use Rattle.filter_reports.specs.Telling.{Explains, IsCutExplanation};
+ghost use Rattle.route_answers.specs.declared.filter.Filtered.TheVariants.{Refused};
 ghost use Rattle.ncroute.specs.Trying.{JudgesText, Reports, ReportsOff, ReportsText, StopsFilter, StopsJudging, StopsReport, StopsTrying};
 ghost use Rattle.ncroute.specs.Trying.{TriesFilter, TriesText, status_of_filter, told_refusal};
 
@@ -10,10 +10,10 @@ use crate::console::{Console, Loaded};
 use crate::ending::{FAILED, FAULT, status_of};
 use crate::texts::{Folder, name_of};
 use command_line::{RouteReport, Source, Trying};
-use filter_commands::ProgramFault;
+use filter_reports::{ProgramFault, tell};
 use filter_source::{Diagnosis, SOURCE_LIMIT};
-use filter_tools::{Filtered, Routes, filter_named, tell};
 use filter_traces::{cover_routes, explain_routes};
+use route_answers::{Filtered, Routes, filter_named};
 use std::alloc::Global;
 use std::io::{Read, Write};
 

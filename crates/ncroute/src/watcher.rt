@@ -1,10 +1,10 @@
 //! Who watches a script: people are told in words why a line is refused, and where a script ends.
 ghost use Rattle.std.specs.Prelude.{◌≡◌, ◌++◌, ◌∷◌, IfOk, codes, decimal};
-ghost use Rattle.filter_tools.specs.Shown.{shown};
+ghost use Rattle.filter_reports.specs.Shown.{shown};
 ghost use Rattle.ncroute.specs.Watching.{IsToldOf, kind_of, name_in, number_in, part_of, stopped_line};
 
 use command_line::Engine;
-use filter_tools::push_shown;
+use filter_reports::push_shown;
 use line_protocol::{push_decimal, write_text};
 use operator_cmds::{RefusedLine, Watch};
 use script_words::{ScriptKind, explain_refused};

@@ -1,10 +1,10 @@
 //! What people are told of wrong words of `router`: which option has which value, and why it is refused.
 ghost use Rattle.std.specs.Prelude.{◌≡◌, ◌++◌, IfOk, OnOk, decimal};
-ghost use Rattle.filter_tools.specs.Shown.{shown};
+ghost use Rattle.filter_reports.specs.Shown.{shown};
 ghost use Rattle.ncroute.specs.WrongWords as spec;
 
 use crate::planning::{OptionKind, PlanFault};
-use filter_tools::push_shown;
+use filter_reports::push_shown;
 use line_protocol::push_decimal;
 use router_options::{NodeFault, NumberFault, OptionFault};
 use std::alloc::{AllocError, Global};

@@ -1,6 +1,8 @@
 //! The words of a line, as they are repeated to people.
 
-pub(crate) use filter_tools::{byte_of_word, count_words, from_word, short_text, spelled, word_at};
+pub(crate) use filter_reports::{
+    byte_of_word, count_words, from_word, short_text, spelled, word_at,
+};
 use operator_cmds::read_small;
 use std::alloc::{AllocError, Global};
 

@@ -4,7 +4,7 @@ use crate::cause::Cause;
 use crate::finding::{Finding, found_at};
 use crate::forms::ScriptKind;
 use crate::spelling::{no_such_node, number_at, spelled, word_at};
-use filter_tools::nearest_word;
+use filter_reports::nearest_word;
 use operator_cmds::{NamedFilters, RefusedLine};
 use std::alloc::{AllocError, Global};
 use std::str;

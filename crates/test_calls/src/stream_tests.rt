@@ -3,8 +3,9 @@
 use crate::asserts::{Host, must, must_bytes};
 use crate::line_tests::Echo;
 use crate::streams::{Pieces, Sink, Terminal, Typed};
-use filter_commands::{ProgramFault, check_text, eval_lines};
+use filter_reports::{ProgramFault, check_text};
 use line_protocol::{StreamFault, answer_lines};
+use route_answers::eval_lines;
 use router_script::run_script;
 use std::alloc::Global;
 use std::io::{ErrorKind, Read, Write};

@@ -1,7 +1,8 @@
 //! What no command shows of `filter_tools`: a listing of a text without a name, and words about the lines of `eval`.
 
 use crate::asserts::{done, must, must_bytes};
-use filter_tools::{Routes, eval_named, write_listing};
+use filter_reports::write_listing;
+use route_answers::{Routes, eval_named};
 
 /// A filter and its listing.
 const ACCEPT: &[u8] = b"filter a { accept; }";

@@ -1,7 +1,7 @@
 -- Each exit follows from how the texts were judged, and from what was written or told.
 use Rattle.std.proofs.Common.{None, Some}
 use Rattle.filter_checks.proofs.Comparisons.{both_compared, both_cut, first_refused, refused_cut, refused_told, second_refused}
-use Rattle.filter_tools.specs.Naming.{named}
+use Rattle.filter_reports.specs.Naming.{named}
 use Rattle.filter_checks.proofs.comparing.compare_named.Goals as goal
 
 pub returns-in-Ok-after-clause-finished : goal.returns-in-Ok-after-clause-finished

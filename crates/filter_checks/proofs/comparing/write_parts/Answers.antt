@@ -1,5 +1,5 @@
 use Rattle.std.proofs.Common.{◌∙◌, ap}
-use Rattle.filter_commands.specs.declared.fault.ProgramFault.TheVariants.{Stream}
+use Rattle.filter_reports.specs.declared.fault.ProgramFault.TheVariants.{Stream}
 use Rattle.filter_source.proofs.Refused.{of_error}
 use Rattle.filter_checks.proofs.Comparisons.{parts_cut}
 use Rattle.filter_checks.specs.PartLines.{parts_text}

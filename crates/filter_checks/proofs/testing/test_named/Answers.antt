@@ -1,6 +1,6 @@
 use Rattle.std.proofs.Common.{inr}
 use Rattle.filter_source.proofs.Refused.{of_error}
-use Rattle.filter_tools.proofs.Endings.{is_filter}
+use Rattle.filter_reports.proofs.VerifiedFilters.{is_filter}
 use Rattle.filter_checks.proofs.testing.test_named.Goals as goal
 
 pub returns-in_ok-failed-in-Ok-clause-finished : goal.returns-in_ok-failed-in-Ok-clause-finished

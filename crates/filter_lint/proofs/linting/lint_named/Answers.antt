@@ -1,6 +1,6 @@
-use Rattle.filter_commands.specs.Faults.{stream_fault}
+use Rattle.filter_reports.specs.Faults.{stream_fault}
 use Rattle.filter_source.proofs.Refused.{of_error}
-use Rattle.filter_tools.specs.Naming.{named}
+use Rattle.filter_reports.specs.Naming.{named}
 use Rattle.filter_lint.proofs.Endings.{linted_off, linted_well}
 use Rattle.filter_lint.proofs.linting.lint_named.Goals as goal
 

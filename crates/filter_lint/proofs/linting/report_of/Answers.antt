@@ -1,4 +1,4 @@
-use Rattle.filter_tools.specs.Naming.{named}
+use Rattle.filter_reports.specs.Naming.{named}
 use Rattle.filter_lint.proofs.Endings.{reported}
 use Rattle.filter_lint.proofs.linting.report_of.Goals as goal
 

@@ -1,6 +1,6 @@
 -- The lines were counted and the commands told, or a fault cut one or the other.
 use Rattle.filter_source.proofs.Refused.{of_error}
-use Rattle.filter_commands.specs.Faults.{stream_fault}
+use Rattle.filter_reports.specs.Faults.{stream_fault}
 use Rattle.filter_traces.proofs.CoverEndings.{told, told_off}
 use Rattle.filter_traces.proofs.coverage.cover_lines.Goals as goal
 

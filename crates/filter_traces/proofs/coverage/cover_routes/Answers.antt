@@ -2,9 +2,9 @@
 use Rattle.std.proofs.Common.{false, subst, sym}
 use Rattle.filter_source.proofs.Refused.{of_error}
 use Rattle.filter_source.specs.Failures.{OnDiagnosis}
-use Rattle.filter_commands.specs.Faults.{stream_fault}
-use Rattle.filter_commands.specs.Checking.{IsDiagnosis}
-use Rattle.filter_tools.proofs.Endings.{cut_off}
+use Rattle.filter_reports.specs.Faults.{stream_fault}
+use Rattle.filter_reports.specs.Checking.{IsDiagnosis}
+use Rattle.route_answers.proofs.FilterEndings.{cut_off}
 use Rattle.filter_traces.proofs.CoverEndings.{broken_off, covered}
 use Rattle.filter_traces.specs.TracedView.{TracedView}
 use Rattle.filter_traces.specs.Whys.{IsTraceOf}

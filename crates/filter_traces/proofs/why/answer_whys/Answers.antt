@@ -1,8 +1,8 @@
 -- The run of the service answers each line, or the first of them.
 use Rattle.std.proofs.Common.{refl}
 use Rattle.filter_source.proofs.Refused.{of_error}
-use Rattle.filter_commands.proofs.Endings.{if_known}
-use Rattle.filter_commands.specs.declared.fault.ProgramFault.TheVariants.{Stream}
+use Rattle.route_answers.proofs.EvalEndings.{if_known}
+use Rattle.filter_reports.specs.declared.fault.ProgramFault.TheVariants.{Stream}
 use Rattle.filter_traces.proofs.Explained.{breaks_off, ends_well}
 use Rattle.filter_traces.proofs.why.answer_whys.Goals as goal
 

@@ -2,9 +2,9 @@
 use Rattle.std.proofs.Common.{false, subst}
 use Rattle.filter_source.proofs.Refused.{of_error}
 use Rattle.filter_source.specs.Failures.{OnDiagnosis}
-use Rattle.filter_commands.specs.Faults.{stream_fault}
-use Rattle.filter_commands.specs.Checking.{IsDiagnosis}
-use Rattle.filter_tools.proofs.Endings.{cut_off}
+use Rattle.filter_reports.specs.Faults.{stream_fault}
+use Rattle.filter_reports.specs.Checking.{IsDiagnosis}
+use Rattle.route_answers.proofs.FilterEndings.{cut_off}
 use Rattle.filter_traces.proofs.Endings.{broken_off, explained}
 use Rattle.filter_traces.proofs.why.explain_routes.Goals as goal
 

@@ -1,5 +1,5 @@
 use Rattle.filter_source.proofs.Refused.{of_error}
-use Rattle.filter_commands.specs.Faults.{stream_fault}
+use Rattle.filter_reports.specs.Faults.{stream_fault}
 use Rattle.ncroute.specs.Checking.{ChecksOne, IsCutOne}
 use Rattle.ncroute.proofs.Sources.{none_done, one_more, some_done}
 use Rattle.ncroute.proofs.checking.check_sources.Goals as goal

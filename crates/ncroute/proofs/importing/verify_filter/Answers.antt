@@ -1,5 +1,5 @@
 use Rattle.std.proofs.Common.{ℕ, false, List, subst}
-use Rattle.filter_commands.specs.Checking.{IsDiagnosis}
+use Rattle.filter_reports.specs.Checking.{IsDiagnosis}
 use Rattle.ncroute.proofs.MadeTexts.{of_told, told_of}
 use Rattle.ncroute.proofs.importing.verify_filter.Goals as goal
 

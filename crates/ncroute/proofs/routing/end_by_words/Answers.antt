@@ -1,7 +1,7 @@
 -- The line that is cut is that of the fault.
 use Rattle.std.proofs.Common.{◌≡◌, ℕ, List, IfErr, subst, ◌∙◌}
-use Rattle.filter_commands.specs.Evaluation.{IsCut}
-use Rattle.filter_commands.specs.Faults.{stream_fault}
+use Rattle.filter_reports.specs.Cuts.{IsCut}
+use Rattle.filter_reports.specs.Faults.{stream_fault}
 use Rattle.ncroute.proofs.routing.end_by_words.Goals as goal
 
 pub returns-in-Ok-clause-cut : goal.returns-in-Ok-clause-cut

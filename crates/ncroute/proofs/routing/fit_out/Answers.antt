@@ -1,6 +1,6 @@
 -- The filters that are read and verified are those of the words, for the size of the plan.
 use Rattle.std.proofs.Common.{ℕ, List, subst, inl, refl}
-use Rattle.filter_commands.specs.Faults.{stream_fault}
+use Rattle.filter_reports.specs.Faults.{stream_fault}
 use Rattle.command_line.specs.declared.filter_words.NamedFile.{NamedFile}
 use Rattle.ncroute.specs.Loading.{LacksFilters, StopsLoading}
 use Rattle.ncroute.proofs.routing.fit_out.Goals as goal

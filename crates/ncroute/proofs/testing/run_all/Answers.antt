@@ -1,5 +1,5 @@
 use Rattle.filter_source.proofs.Refused.{of_error}
-use Rattle.filter_commands.specs.Faults.{stream_fault}
+use Rattle.filter_reports.specs.Faults.{stream_fault}
 use Rattle.ncroute.proofs.Tested.{bails, none_tested, one_more_tested, some_stopped}
 use Rattle.ncroute.proofs.testing.run_all.Goals as goal
 

@@ -1,4 +1,4 @@
-use Rattle.filter_commands.specs.declared.fault.ProgramFault.TheVariants.{Stream}
+use Rattle.filter_reports.specs.declared.fault.ProgramFault.TheVariants.{Stream}
 use Rattle.filter_source.proofs.Refused.{of_error}
 use Rattle.line_protocol.specs.declared.faults.StreamFault.TheVariants.{Memory}
 use Rattle.ncroute.proofs.Untold.{nothing_told}

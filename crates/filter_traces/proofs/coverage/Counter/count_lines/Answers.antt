@@ -1,7 +1,7 @@
 -- The run of the service counts each line, or the first of them.
 use Rattle.filter_source.proofs.Refused.{of_error}
-use Rattle.filter_commands.proofs.Endings.{if_known}
-use Rattle.filter_commands.specs.declared.fault.ProgramFault.TheVariants.{Stream}
+use Rattle.route_answers.proofs.EvalEndings.{if_known}
+use Rattle.filter_reports.specs.declared.fault.ProgramFault.TheVariants.{Stream}
 use Rattle.filter_traces.proofs.Covered.{breaks_off, ends_well}
 use Rattle.filter_traces.proofs.coverage.Counter.count_lines.Goals as goal
 

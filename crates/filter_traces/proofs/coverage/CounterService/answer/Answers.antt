@@ -1,7 +1,7 @@
 -- The line was counted, and its answer is that of what was read.
 use Rattle.std.proofs.Common.{ℕ, List, [], ◌++◌, Some, ap, sym, ◌∙◌}
 use Rattle.std.proofs.lemmas.List.{append-nil}
-use Rattle.filter_commands.specs.RouteLine.{line_code, route_in}
+use Rattle.route_answers.specs.RouteLine.{line_code, route_in}
 use Rattle.line_protocol.specs.Answers.{refusal}
 use Rattle.filter_traces.proofs.Covering.{answered_as, refused_as}
 use Rattle.filter_traces.proofs.coverage.CounterService.answer.Goals as goal

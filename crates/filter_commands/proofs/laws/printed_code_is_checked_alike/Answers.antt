@@ -1,5 +1,0 @@
-use Rattle.filter_commands.proofs.Printed.{printed_again}
-use Rattle.filter_commands.proofs.laws.printed_code_is_checked_alike.Goals as goal
-
-pub returns : goal.returns
-returns c = printed_again

@@ -1,8 +1,0 @@
-use Rattle.filter_commands.proofs.RouteLines.{faults, routes}
-use Rattle.filter_commands.proofs.laws.route_lines.Goals as goal
-
-pub returns-clause-found : goal.returns-clause-found
-returns-clause-found c = routes
-
-pub returns-clause-refused : goal.returns-clause-refused
-returns-clause-refused c = faults

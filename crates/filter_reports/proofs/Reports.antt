@@ -1,0 +1,86 @@
+-- The report on what was read of an input is the report on the input.
+use Rattle.std.proofs.Common.{◌≡◌, ◌<◌, ◌≤◌, ◌+◌, ℕ, Bool, List, [], ◌++◌, length, Option, Some, None, IfSome, inl, inr, sym, subst, ap, ◌∙◌, arith, length-append}
+use Rattle.std.proofs.lemmas.Bool.{cases_lt}
+use Rattle.std.proofs.lemmas.List.{append-nil}
+use Rattle.std.specs.Io.KnownBytes.{Appends, Consumes, IsAtEnd}
+use Rattle.line_protocol.specs.declared.faults.StreamFault.{StreamFault}
+use Rattle.line_protocol.specs.declared.faults.StreamFault.TheVariants.{Read, Write, Memory, TooLong}
+use Rattle.filter_source.specs.Limits.{source_limit}
+use Rattle.filter_source.specs.declared.diagnosis.Diagnosis.{Diagnosis}
+use Rattle.filter_reports.specs.Check.{IsReport, ReportView}
+use Rattle.filter_reports.specs.Checking.{Checks, ChecksOff, IsCutOff, Reports, refusals_of}
+
+-- of an input that is longer than the limit, more than the limit was read
+beyond : (size : ℕ) (is_code : Bool) (input left read : List ℕ) (report : ReportView) → input ≡ read ++ left
+    → source_limit < length read → IsReport size is_code read report → IsReport size is_code input report
+beyond size is_code input left read report e long (inl (why, inl (more, is), lines)) =
+    let all : length input ≡ length read + length left = ap length e ∙ length-append read left in
+    let more : source_limit < length input = omega (arith, all, long) in
+    inl (why, inl (more, is), lines)
+beyond size is_code input left read report e long (inl (why, inr (few, is), lines)) = absurd (omega (arith, few, long))
+beyond size is_code input left read report e long (inr (program, (few, is), lines)) = absurd (omega (arith, few, long))
+
+-- what a run has read
+record HasRead (input left read : List ℕ) : Type 0 where
+  all : input ≡ read ++ left
+  to_end : length read ≤ source_limit → left ≡ []
+  within : length read ≤ source_limit + 1
+
+on_input : (size : ℕ) (is_code : Bool) (input left read : List ℕ) (report : ReportView) → HasRead input left read
+    → IsReport size is_code read report → IsReport size is_code input report
+on_input size is_code input left read report h r =
+    elim (cases_lt source_limit (length read)) [
+      | inl long ↦ beyond size is_code input left read report h.all long r
+      | inr few ↦ let whole : read ≡ input = sym (h.all ∙ ap (λ (l : List ℕ). read ++ l) (h.to_end few) ∙ append-nil read) in
+          subst (λ (i : List ℕ). IsReport size is_code i report) whole r
+    ]
+
+-- A report that was written ends the run well.
+finished : (size : ℕ) (is_code : Bool) (known left held holds : Option (List ℕ)) (read : List ℕ) (report : ReportView) (n : ℕ)
+    → Consumes known left read → (length read ≤ source_limit → IsAtEnd left) → length read ≤ source_limit + 1
+    → IsReport size is_code read report → Appends held holds report.text → n ≡ report.refusals
+    → IfSome known (λ input. Checks size is_code input left held holds n)
+finished size is_code None left held holds read report n used end within r w e = tt
+finished size is_code (Some input) None held holds read report n used end within r w e = absurd used
+finished size is_code (Some input) (Some left) held holds read report n used end within r w e =
+    let h : HasRead input left read = record { all = used; to_end = end; within = within } in
+    let all : length input ≡ length read + length left = ap length used ∙ length-append read left in
+    record {
+      report = report;
+      is_report = on_input size is_code input left read report h r;
+      written = w;
+      counted = e;
+      read = read;
+      consumed = used;
+      within = within;
+      to_end = λ few. ap (λ (l : List ℕ). Some l) (end (omega (arith, all, few)));
+    }
+
+pub ends_well : (size : ℕ) (is_code : Bool) (known left held holds : Option (List ℕ)) (shown read : List ℕ) (told : Option Diagnosis) (n : ℕ)
+    → Consumes known left read → (length read ≤ source_limit → IsAtEnd left) → length read ≤ source_limit + 1 → shown ≡ read
+    → Reports size is_code shown held holds told → n ≡ refusals_of told → IfSome known (λ input. Checks size is_code input left held holds n)
+ends_well size is_code known left held holds shown read told n used end within same done count =
+    let all : Reports size is_code read held holds told = subst (λ (s : List ℕ). Reports size is_code s held holds told) same done in
+    finished size is_code known left held holds read all.report n used end within all.is_report all.written (count ∙ all.counted)
+
+-- What a fault cut of the report on what was read is what it cut of the report on the input.
+cut_on_input : (fault : StreamFault) (size : ℕ) (is_code : Bool) (input left read : List ℕ) (held holds : Option (List ℕ))
+    → HasRead input left read → IsCutOff fault size is_code read held holds → IsCutOff fault size is_code input held holds
+cut_on_input Read size is_code input left read held holds h cut = cut
+cut_on_input Write size is_code input left read held holds h (report, r, w) = (report, on_input size is_code input left read report h r, w)
+cut_on_input Memory size is_code input left read held holds h cut = cut
+cut_on_input TooLong size is_code input left read held holds h cut = absurd cut
+
+pub broken_off : (fault : StreamFault) (size : ℕ) (is_code : Bool) (known left held holds : Option (List ℕ)) (read : List ℕ)
+    → Consumes known left read → (length read ≤ source_limit → IsAtEnd left) → length read ≤ source_limit + 1
+    → IsCutOff fault size is_code read held holds → IfSome known (λ input. ChecksOff fault size is_code input left held holds)
+broken_off fault size is_code None left held holds read used end within cut = tt
+broken_off fault size is_code (Some input) None held holds read used end within cut = absurd used
+broken_off fault size is_code (Some input) (Some left) held holds read used end within cut =
+    let h : HasRead input left read = record { all = used; to_end = end; within = within } in
+    record {
+      written = cut_on_input fault size is_code input left read held holds h cut;
+      read = read;
+      consumed = used;
+      within = within;
+    }

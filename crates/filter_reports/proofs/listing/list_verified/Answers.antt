@@ -1,0 +1,45 @@
+use Rattle.std.proofs.Common.{◌≡◌, ℕ, List, Some, length, ap, subst, ◌∙◌, arith}
+use Rattle.std.specs.Prelude.{IfSome}
+use Rattle.filter_source.specs.Diagnoses.{TellsOfCode}
+use Rattle.filter_source.specs.Sources.{IsUnsafe}
+use Rattle.std.proofs.lemmas.Result.{IfOk-weaker}
+use Rattle.filter_verifier.specs.FirstFault.{the_fault}
+use Rattle.filter_verifier.specs.Surveys.{surveyed}
+use Rattle.filter_reports.specs.Listing.{EndsListing, IsListing, Lists, known_before, origin_in, refusal_in}
+use Rattle.filter_reports.proofs.Listings.{listing_ends, listing_told, surveyed_within}
+use Rattle.filter_reports.proofs.listing.list_verified.Goals as goal
+
+pub returns-clause-listing : goal.returns-clause-listing
+returns-clause-listing c =
+    let program = c.args.code.now in
+    let origin : ℕ → List ℕ = origin_in c.args.origins.now.source c.args.origins.now.places.now in
+    let verdict = c.in_ok-survey.survey.verdict in
+    let front = c.in_ok-text.text.items in
+    let counted : length c.as_slice.result.now ≡ surveyed program c.args.size (the_fault program c.args.size) =
+    ap length c.as_slice.ensures.value ∙ c.in_ok-survey.ensures.reach in
+    let lists = subst (λ (n : ℕ). Lists program.instrs (known_before program c.args.size) origin n front) counted c.in_ok-text.ensures in
+    IfOk-weaker c.end_listing.result (λ listing. EndsListing c.args.origins.now.places.now verdict front listing.text.items listing.told)
+    (λ listing. IsListing (Some c.args.size) program origin listing.text.items (refusal_in listing.told))
+    (λ listing ends. listing_ends program c.args.size origin c.args.origins.now.places.now verdict front listing.text.items listing.told
+    c.in_ok-survey.ensures.verdict lists ends)
+    c.end_listing.ensures.listing
+
+pub returns-clause-told : goal.returns-clause-told
+returns-clause-told c =
+    let verdict = c.in_ok-survey.survey.verdict in
+    let front = c.in_ok-text.text.items in
+    let places = c.args.origins.now.places.now in
+    IfOk-weaker c.end_listing.result (λ listing. EndsListing places verdict front listing.text.items listing.told)
+    (λ listing. IfSome listing.told (λ told. IsUnsafe c.args.code.now c.args.size told.refusal × TellsOfCode c.args.code.now places c.args.size told))
+    (λ listing ends. listing_told c.args.code.now c.args.size places verdict front listing.text.items listing.told c.in_ok-survey.ensures.verdict ends)
+    c.end_listing.ensures.listing
+
+pub list_visited-requires-clause-within : goal.list_visited-requires-clause-within
+list_visited-requires-clause-within c =
+    let program = c.args.code.now in
+    omega (
+      arith,
+      ap length c.as_slice.ensures.value,
+      c.in_ok-survey.ensures.reach,
+      surveyed_within program c.args.size (the_fault program c.args.size),
+    )

@@ -1,0 +1,145 @@
+-- The listing of a code: a line for each instruction, with the place in the text that it comes from, and, for domains of a size, a
+-- line before it that says what the verifier knows there. (This project's own choice.)
+use Rattle.std.specs.Prelude.{◌≡◌, ℕ, zero, suc, ◌+◌, ◌⊎◌, Bool, if◌then◌else◌, List, [], ◌∷◌, ◌++◌, Option, Some, None, IfSome, Result, Ok, Err, codes, decimal, length, slice_get}
+use Rattle.std.specs.Option.{option_map}
+use Rattle.std.specs.Io.KnownBytes.{Appends}
+use Rattle.filter_code.specs.CodeView.{CodeView}
+use Rattle.filter_code.specs.Names.{instruction_text}
+use Rattle.filter_code.specs.declared.instruction.Instr.{Instr}
+use Rattle.filter_code.specs.declared.instruction.Instr.TheVariants as instr
+use Rattle.filter_source.specs.Diagnoses.{TellsOfCode, TellsOfSource, of_code}
+use Rattle.filter_source.specs.Sources.{IsUnsafe}
+use Rattle.filter_source.specs.BoundsLine.{bounds_line}
+use Rattle.filter_source.specs.declared.diagnosis.Diagnosis.{Diagnosis}
+use Rattle.filter_source.specs.declared.refusal.Refusal.{Refusal}
+use Rattle.filter_source.specs.declared.refusal.Refusal.TheVariants.{Verify}
+use Rattle.filter_verifier.specs.Faults.{fault_code, fault_place}
+use Rattle.filter_verifier.specs.FirstFault.{the_fault}
+use Rattle.filter_verifier.specs.InStateView.{InStateView, Unreached, UnlikeDepths, Known}
+use Rattle.filter_verifier.specs.InStates.{in_state}
+use Rattle.filter_verifier.specs.Surveys.{surveyed}
+use Rattle.filter_verifier.specs.declared.fact.Fact.{Fact}
+use Rattle.filter_verifier.specs.declared.fact.Fact.TheVariants as fact
+use Rattle.filter_verifier.specs.declared.fault.Unverified.{Unverified}
+use Rattle.filter_verifier.specs.declared.survey.RunBounds.{RunBounds}
+use Rattle.line_protocol.specs.Answers.{refusal}
+use Rattle.line_protocol.specs.Runs.{AppendsFront}
+use Rattle.line_protocol.specs.declared.faults.StreamFault.{StreamFault}
+use Rattle.line_protocol.specs.declared.faults.StreamFault.TheVariants.{Read, Write, Memory, TooLong}
+use Rattle.filter_reports.specs.Check.{GivesCode, IsRefused, verdict_on}
+use Rattle.filter_reports.specs.Checking.{ArePlaces}
+use Rattle.filter_reports.specs.VerifiedFilters.{refusal_line}
+use Rattle.filter_reports.specs.Places.{column_at, line_at}
+
+-- the mark of an int that is at least the metric received
+abbrev pub mark : Bool → List ℕ
+mark is_marked = if is_marked then codes ">=received" else []
+
+-- what is known of a value: an int's range and mark, or another kind
+abbrev pub fact_text : Fact → List ℕ
+fact_text (fact.Int range) = decimal range.low ++ codes ".." ++ decimal range.high ++ mark range.at_least_received
+fact_text fact.Bool = codes "bool"
+fact_text fact.Ip = codes "ip"
+fact_text fact.Prefix = codes "prefix"
+
+-- what is known at a place
+abbrev pub place_text : Option Fact → List ℕ
+place_text None = codes "?"
+place_text (Some known) = fact_text known
+
+-- what is known at each of some places, each behind a space
+abbrev pub places_text : List (Option Fact) → List ℕ
+places_text [] = []
+places_text (place ∷ places) = (32 ∷ [] ++ place_text place) ++ places_text places
+
+-- what is known before an instruction, the top of the stack first
+abbrev pub state_text : InStateView → List ℕ
+state_text Unreached = codes "  no path leads here" ++ 10 ∷ []
+state_text UnlikeDepths = codes "  paths meet here whose stacks differ in depth" ++ 10 ∷ []
+state_text (Known frame) = codes "  stack:" ++ places_text frame.stack ++ codes "; variables:" ++ places_text frame.locals ++ 10 ∷ []
+
+-- where an instruction jumps to
+abbrev pub target_text : ℕ → Instr → List ℕ
+target_text at (instr.Jump skipped) = codes " to " ++ decimal (at + 1 + skipped)
+target_text at (instr.JumpIfNot skipped) = codes " to " ++ decimal (at + 1 + skipped)
+target_text at _ = []
+
+-- the line and the column of a byte of a text that an instruction comes from
+abbrev pub origin_text : List ℕ → Option ℕ → List ℕ
+origin_text source None = []
+origin_text source (Some byte) = codes " ; " ++ decimal (line_at source byte) ++ 58 ∷ [] ++ decimal (column_at source byte)
+
+-- the same of the instruction of an index, where the bytes that the instructions of a code come from are known
+abbrev pub origin_in : List ℕ → List ℕ → ℕ → List ℕ
+origin_in source places at = origin_text source (slice_get places at)
+
+-- the line of an instruction: its index, the instruction itself, where it jumps to, and where it comes from
+abbrev pub instruction_line : ℕ → Instr → List ℕ → List ℕ
+instruction_line at i origin = decimal at ++ 32 ∷ [] ++ instruction_text i ++ target_text at i ++ origin ++ 10 ∷ []
+
+-- a text lists the first n instructions of a code, each behind what is known before it, with where it comes from
+unfoldable pub Lists : List Instr → (ℕ → List ℕ) → (ℕ → List ℕ) → ℕ → List ℕ → Type 0
+Lists instrs known origin zero text = text ≡ []
+Lists instrs known origin (suc n) text = (front : List ℕ) × (i : Instr) × Lists instrs known origin n front
+    × (slice_get instrs n ≡ Some i) × (text ≡ front ++ known n ++ instruction_line n i (origin n))
+
+-- nothing, and what the verifier knows before an instruction in a domain of a size
+abbrev pub nothing_known : ℕ → List ℕ
+nothing_known n = []
+
+abbrev pub known_before : CodeView → ℕ → ℕ → List ℕ
+known_before program size n = state_text (in_state program size n)
+
+-- the listing of a code, and why it is refused: with a size it ends at the instruction that is refused
+abbrev pub IsListing : Option ℕ → CodeView → (ℕ → List ℕ) → List ℕ → Option Refusal → Type 0
+IsListing None program origin text why = Lists program.instrs nothing_known origin (length program.instrs) text × (why ≡ None)
+IsListing (Some size) program origin text why = (front : List ℕ)
+    × Lists program.instrs (known_before program size) origin (surveyed program size (the_fault program size)) front
+    × (text ≡ front ++ (verdict_on program (the_fault program size)).text)
+    × (why ≡ option_map (λ fault. Verify fault) (the_fault program size))
+
+-- A listing ends so: with the bounds that are found, or with the first thing that is not known, and this is told of it.
+abbrev pub EndsListing : List ℕ → Result RunBounds Unverified → List ℕ → List ℕ → Option Diagnosis → Type 0
+EndsListing places (Ok bounds) front text told = (text ≡ front ++ bounds_line bounds.budget bounds.depth) × (told ≡ None)
+EndsListing places (Err found) front text told =
+    (text ≡ front ++ refusal (fault_code found.fault) (fault_place found.fault)) × (told ≡ Some (of_code found.fault found.range places))
+
+-- the listing of a source, or the line that refuses it
+abbrev pub IsListed : Option ℕ → Bool → List ℕ → List ℕ → Option Refusal → Type 0
+IsListed size is_code source text why =
+    ((program : CodeView) × GivesCode is_code source program × (places : List ℕ) × ArePlaces is_code source places
+    × IsListing size program (origin_in source places) text why)
+    ⊎ ((refusal : Refusal) × IsRefused is_code source refusal × (why ≡ Some refusal) × (text ≡ refusal_line refusal))
+
+-- the refusal of what is told
+abbrev pub refusal_in : Option Diagnosis → Option Refusal
+refusal_in told = option_map (λ why. why.refusal) told
+
+-- This is told of code that is listed and refused: the part of the text that gave the instruction, and the range that the verifier
+-- knows there.
+abbrev pub IsToldOfCode : Option ℕ → CodeView → List ℕ → Diagnosis → Type 0
+IsToldOfCode None program places told = ⊥
+IsToldOfCode (Some size) program places told = IsUnsafe program size told.refusal × TellsOfCode program places size told
+
+-- This is told of a source that is listed and refused.
+abbrev pub IsToldOfListing : Option ℕ → Bool → List ℕ → Diagnosis → Type 0
+IsToldOfListing size is_code source told =
+    (IsRefused is_code source told.refusal × TellsOfSource is_code source told)
+    ⊎ ((program : CodeView) × GivesCode is_code source program
+    × ((places : List ℕ) × ArePlaces is_code source places × IsToldOfCode size program places told))
+
+-- A listing was written to its end, and this is told of the refusal with which it ends, if there is one. `held` and `holds` are what
+-- the writer held before and holds now.
+pub record WritesListing (size : Option ℕ) (is_code : Bool) (source : List ℕ) (held holds : Option (List ℕ)) (told : Option Diagnosis) : Type 0 where
+  pub text : List ℕ
+  pub is_listed : IsListed size is_code source text (refusal_in told)
+  pub written : Appends held holds text
+  pub diagnosed : IfSome told (IsToldOfListing size is_code source)
+
+-- what was written where a fault cut a listing
+abbrev pub IsCutListing : StreamFault → Option ℕ → Bool → List ℕ → Option (List ℕ) → Option (List ℕ) → Type 0
+IsCutListing Read size is_code source held holds = ⊥
+IsCutListing Write size is_code source held holds =
+    (text : List ℕ) × (why : Option Refusal) × IsListed size is_code source text why × AppendsFront held holds text
+IsCutListing Memory size is_code source held holds = Appends held holds []
+IsCutListing TooLong size is_code source held holds = ⊥

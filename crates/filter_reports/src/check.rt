@@ -1,0 +1,101 @@
+//! `ncroute check`: a filter's text, or a code file, becomes code, and the code is verified.
+ghost use Rattle.std.specs.Prelude.{◌≡◌, IfErr, IfOk, IfSome};
+ghost use Rattle.filter_source.specs.Diagnoses.{TellsOfSource};
+ghost use Rattle.filter_source.specs.Failures.{OnDiagnosis, OnRefusal};
+ghost use Rattle.filter_tokens.specs.Tokenization.{is_space};
+ghost use Rattle.filter_reports.specs.Check.{GivesCode, IsRefused, IsReport, without_white_end};
+ghost use Rattle.filter_reports.specs.Checking.{ArePlaces, Checks, ChecksOff, EndsWith, IsCutOff, IsDiagnosis, Reports};
+ghost use Rattle.filter_reports.specs.Faults.{stream_fault};
+ghost use Rattle.filter_reports.specs.Steps.{report_of};
+
+use crate::fault::ProgramFault;
+use crate::report::{Report, report_code, report_refusal};
+use filter_compiler::MappedCode;
+use filter_source::{
+    Diagnosis, Failure, SOURCE_LIMIT, check_length, compile_text_mapped, read_hexadecimal,
+};
+use line_protocol::{read_input, write_text};
+use std::alloc::{AllocError, Global};
+use std::io::{Read, Write};
+
+/// A text without the spaces, tabs, carriage returns and line feeds at its end.
+fn trim_white_end(text: &[u8]) -> &[u8]
+    ensures { result.now ≡ without_white_end text.now }
+{
+    let mut end = text.len();
+    while end > 0 && matches!(text[end - 1], b' ' | b'\t' | b'\r' | b'\n') {
+        end -= 1;
+    }
+    &text[..end]
+}
+
+/// The code that an input gives, the translation of a filter's text or what a code file in hexadecimal has, and for each instruction
+/// the place in the text that it comes from. A code file has no such places.
+pub fn code_of(alloc: Global, input: &[u8], is_code: bool) -> Result<MappedCode, Failure>
+    ensures code { IfOk result (λ mapped. GivesCode is_code input.now mapped.code) }
+    ensures places { IfOk result (λ mapped. ArePlaces is_code input.now mapped.places.items) }
+    ensures refused { IfErr result (OnRefusal (IsRefused is_code input.now)) }
+    ensures told { IfErr result (OnDiagnosis (TellsOfSource is_code input.now)) }
+{
+    check_length(input)?;
+    if is_code {
+        let code = read_hexadecimal(alloc, trim_white_end(input))?;
+        return Ok(MappedCode {
+            code,
+            places: Vec::new(alloc),
+        });
+    }
+    compile_text_mapped(alloc, input)
+}
+
+/// The report on an input, for domains of a size.
+fn report_input(alloc: Global, input: &[u8], size: u32, is_code: bool) -> Result<Report, AllocError>
+    ensures lines { IfOk result (λ report. IsReport size is_code input.now (report_of report)) }
+    ensures ends { IfOk result (λ report. EndsWith report.diagnosis report.text.items) }
+    ensures told { IfOk result (λ report. IfSome report.diagnosis (IsDiagnosis size is_code input.now)) }
+{
+    match code_of(alloc, input, is_code) {
+        Ok(mapped) => report_code(alloc, mapped, size),
+        Err(Failure::Refused(told)) => report_refusal(alloc, told),
+        Err(Failure::Memory) => Err(AllocError),
+    }
+}
+
+/// Writes the report on a filter's text, or on a code file in hexadecimal where `is_code` says so, for domains of `size` nodes.
+/// Returns what is told of the refusal in its last line, if there is one.
+pub fn write_report<W: Write>(
+    alloc: Global,
+    source: &[u8],
+    writer: &mut W,
+    size: u32,
+    is_code: bool,
+) -> Result<Option<Diagnosis>, ProgramFault>
+    ensures finished { IfOk result (Reports size is_code source.now (W.contents writer.old) (W.contents writer.new)) }
+    ensures broken_off { IfErr result (λ fault.
+        IsCutOff (stream_fault fault) size is_code source.now (W.contents writer.old) (W.contents writer.new)) }
+{
+    let report = report_input(alloc, source, size, is_code)?;
+    write_text(writer, report.text.as_slice())?;
+    Ok(report.diagnosis)
+}
+
+/// Reads a filter's text, or a code file in hexadecimal where `is_code` says so, and writes the report on it, for domains of
+/// `size` nodes. Returns the number of refusals in the report.
+pub fn check_text<R: Read, W: Write>(
+    alloc: Global,
+    reader: &mut R,
+    writer: &mut W,
+    size: u32,
+    is_code: bool,
+) -> Result<u32, ProgramFault>
+    ensures finished { IfOk result (λ refused. IfSome (R.remaining reader.old) (λ input.
+        Checks size is_code input (R.remaining reader.new) (W.contents writer.old) (W.contents writer.new) refused)) }
+    ensures broken_off { IfErr result (λ fault. IfSome (R.remaining reader.old) (λ input.
+        ChecksOff (stream_fault fault) size is_code input (R.remaining reader.new) (W.contents writer.old) (W.contents writer.new))) }
+{
+    let input = read_input(alloc, reader, SOURCE_LIMIT)?;
+    match write_report(alloc, input.as_slice(), writer, size, is_code)? {
+        Some(_) => Ok(1),
+        None => Ok(0),
+    }
+}

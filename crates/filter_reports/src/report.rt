@@ -1,0 +1,101 @@
+//! What `check` writes on a code or a refusal.
+ghost use Rattle.std.specs.Prelude.{◌≡◌, ◌++◌, ◌∷◌, [], codes, IfOk, IfSome, OnOk, Some};
+ghost use Rattle.code_file.specs.Spelling.{IsCode};
+ghost use Rattle.hex.specs.Hex.{encode_lower};
+ghost use Rattle.filter_source.specs.Diagnoses.{TellsOfCode};
+ghost use Rattle.filter_source.specs.Refusals.{place_in_line, refusal_code};
+ghost use Rattle.filter_source.specs.Sources.{IsUnsafe};
+ghost use Rattle.line_protocol.specs.Answers.{refusal};
+ghost use Rattle.filter_reports.specs.Check.{IsCodeReport, code_line, refusal_report};
+ghost use Rattle.filter_reports.specs.Checking.{EndsWith};
+ghost use Rattle.filter_reports.specs.Steps.{report_of};
+
+use code_file::write_code;
+use filter_code::Code;
+use filter_compiler::MappedCode;
+use filter_source::{Diagnosis, Failure, push_verified, verify_mapped};
+use line_protocol::push_refusal;
+use std::alloc::{AllocError, Global};
+
+/// The number of the line at which `check` reports what is wrong with the input as a whole.
+const FIRST_LINE: u32 = 1;
+
+/// What `check` writes, and what is told of the refusal in its last line, if there is one.
+#[derive(Drop)]
+pub struct Report {
+    /// The lines.
+    pub text: Vec<u8>,
+    /// Why the source is refused.
+    pub diagnosis: Option<Diagnosis>,
+}
+
+/// The report that ends with a refusal, after these lines.
+fn refused(mut text: Vec<u8>, told: Diagnosis) -> Result<Report, AllocError>
+    ensures text { IfOk result (λ report. report.text.items
+        ≡ text.items ++ refusal (refusal_code told.refusal) (place_in_line told.refusal 1)) }
+    ensures diagnosis { IfOk result (λ report. report.diagnosis ≡ Some told) }
+{
+    push_refusal(
+        &mut text,
+        told.refusal.code(),
+        told.refusal.place_in_line(FIRST_LINE),
+    )?;
+    Ok(Report {
+        text,
+        diagnosis: Some(told),
+    })
+}
+
+/// The report on an input that is refused: one line.
+pub fn report_refusal(alloc: Global, told: Diagnosis) -> Result<Report, AllocError>
+    ensures text { IfOk result (λ report. report_of report ≡ refusal_report told.refusal) }
+    ensures ends { IfOk result (λ report. EndsWith report.diagnosis report.text.items) }
+    ensures diagnosis { IfOk result (λ report. report.diagnosis ≡ Some told) }
+{
+    refused(Vec::new(alloc), told)
+}
+
+/// The line of a code file's bytes.
+fn line_of_bytes(alloc: Global, bytes: &[u8]) -> Result<Vec<u8>, AllocError>
+    ensures { IfOk result (λ text. text.items ≡ codes "code " ++ encode_lower bytes.now ++ 10 ∷ []) }
+{
+    let digits = hex::encode(alloc, bytes)?;
+    let mut text = Vec::new(alloc);
+    text.extend_from_slice(b"code ")?;
+    text.extend_from_slice(digits.as_bytes())?;
+    text.push(b'\n')?;
+    Ok(text)
+}
+
+/// The line of a code: its file in hexadecimal.
+fn line_of_code(alloc: Global, code: &Code) -> Result<Vec<u8>, AllocError>
+    ensures line { IfOk result (λ text. text.items ≡ code_line code.now) }
+    ensures readable { OnOk result (IsCode code.now) }
+{
+    match write_code(alloc, code) {
+        Ok(bytes) => line_of_bytes(alloc, bytes.as_slice()),
+        Err(_) => Err(AllocError),
+    }
+}
+
+/// The report on code, for domains of a size: the code's line, and then its bounds or why it is refused.
+pub fn report_code(alloc: Global, mapped: MappedCode, size: u32) -> Result<Report, AllocError>
+    ensures lines { IfOk result (λ report. IsCodeReport size mapped.code (report_of report)) }
+    ensures ends { IfOk result (λ report. EndsWith report.diagnosis report.text.items) }
+    ensures told { IfOk result (λ report. IfSome report.diagnosis (λ told.
+        TellsOfCode mapped.code mapped.places.items size told × IsUnsafe mapped.code size told.refusal)) }
+{
+    let MappedCode { code, places } = mapped;
+    let mut text = line_of_code(alloc, &code)?;
+    match verify_mapped(alloc, code, places.as_slice(), size) {
+        Ok(verified) => {
+            push_verified(&mut text, &verified)?;
+            Ok(Report {
+                text,
+                diagnosis: None,
+            })
+        }
+        Err(Failure::Refused(told)) => refused(text, told),
+        Err(Failure::Memory) => Err(AllocError),
+    }
+}
