@@ -1,12 +1,23 @@
-pub mod Meant
-pub mod Answered
-pub mod Endings
-pub mod Told
-pub mod Listings
+pub mod BestWord
+pub mod CommandsFit
 pub mod Cut
-mod Rows
+pub mod Excerpts
+pub mod FileLength
 pub mod Harmless
 pub mod Indents
-pub mod Excerpts
+pub mod InstructionsFit
+pub mod LexemeLimits
 pub mod LineWords
-pub mod BestWord
+pub mod Listings
+mod PlaceRows
+pub mod Printed
+mod ReportRows
+pub mod Reports
+pub mod Rewritten
+pub mod Saying
+pub mod SetMembers
+pub mod SetsFit
+pub mod TextFiles
+pub mod TextLines
+pub mod TextMembers
+pub mod VerifiedFilters

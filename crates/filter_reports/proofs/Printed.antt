@@ -1,25 +1,19 @@
 -- The hexadecimal of a code's file, as `check` prints it, gives the code back.
-use Rattle.std.proofs.Common.{◌≡◌, ℕ, zero, suc, ◌+◌, ◌-◌, ◌/◌, ◌%◌, ◌<◌, Bool, true, false, not, List, [], ◌∷◌, ◌++◌, Result, Ok, Err, length, take, drop, slice_index, get_or, nat_lt, if◌then◌else◌, inr, refl, ap, ◌∙◌, arith, length-append}
-use Rattle.std.proofs.lemmas.Bool.Decides.{nat_tests}
+use Rattle.std.proofs.Common.{◌≡◌, ℕ, zero, suc, ◌+◌, ◌-◌, ◌/◌, ◌%◌, ◌<◌, Bool, true, false, not, List, [], ◌∷◌, ◌++◌, Ok, length, take, slice_index, get_or, inr, refl, ap, ◌∙◌, arith, length-append}
 use Rattle.std.proofs.Math.ListN.{get_or-append}
 use Rattle.std.proofs.Math.Seq.{get_or-append_seam, take_all}
 use Rattle.std.proofs.lemmas.List.{take-append-le}
-use Rattle.std.proofs.lemmas.List.Sums.{prefix_len_is, suffix_len_is}
-use Rattle.std.specs.List.{list_all, prefix_len, suffix_len}
+use Rattle.std.proofs.lemmas.List.Sums.{suffix_len_is}
+use Rattle.std.specs.List.{list_all, suffix_len}
 use Rattle.hex.proofs.HexLemmas.{decode_of-encode_lower}
 use Rattle.hex.specs.Hex.{encode_lower, encode_with, lower_digits}
 use Rattle.code_file.proofs.FileBytes.{a_file}
 use Rattle.code_file.proofs.Grammar.{file_of_spelling}
 use Rattle.code_file.specs.Spelling.{IsCode, spelling}
 use Rattle.filter_code.specs.CodeView.{CodeView}
-use Rattle.filter_source.specs.Limits.{source_limit}
 use Rattle.filter_source.specs.Sources.{code_in_bytes, code_in_hexadecimal, code_or_fault}
-use Rattle.filter_source.specs.declared.refusal.Refusal.{Refusal}
-use Rattle.filter_source.specs.declared.refusal.Refusal.TheVariants.{TooLong}
 use Rattle.filter_tokens.specs.Tokenization as gaps
-use Rattle.line_protocol.specs.Words as words
 use Rattle.filter_reports.specs.Check.{FitsLine, IsCodeReport, IsReport, ReportView, printed, without_white_end}
-use Rattle.route_answers.specs.Eval.{code_in}
 
 -- no byte of a text of hexadecimal digits has what no digit has
 module _ (p : ℕ → Bool) (digits : list_all (λ x. not (p x)) lower_digits ≡ true) (outside : p 0 ≡ false) where
@@ -51,22 +45,6 @@ trimmed_end bytes =
     ap (λ (n : ℕ). take n (text ++ 10 ∷ [])) kept ∙ take-append-le (length text) text (10 ∷ []) (omega arith)
     ∙ take_all (length text) text (omega arith)
 
--- digits have no blanks at either end
-trimmed_both : (bytes : List ℕ) → words.trimmed (encode_lower bytes) ≡ encode_lower bytes
-trimmed_both bytes =
-    let text = encode_lower bytes in
-    let front : prefix_len words.is_blank text ≡ 0 =
-    prefix_len_is words.is_blank text 0 0 (omega arith) (λ k below. absurd (omega arith))
-    (λ some. none_in words.is_blank refl refl bytes 0)
-    in
-    let end : suffix_len words.is_blank text ≡ length text - length text =
-    suffix_len_is words.is_blank text (length text) 0 (omega arith) (λ k from below. absurd (omega arith))
-    (λ some. none_in words.is_blank refl refl bytes (length text - 1))
-    in
-    let kept : length text - suffix_len words.is_blank text ≡ length text = omega (arith, end) in
-    ap (λ (n : ℕ). words.without_end_blanks (drop n text)) front
-    ∙ ap (λ (n : ℕ). take n text) kept ∙ take_all (length text) text (omega arith)
-
 -- the digits of a code's file are read as that code
 pub digits_again : (program : CodeView) → IsCode program → code_in_hexadecimal (encode_lower (spelling program)) ≡ Ok program
 digits_again program h = ap code_in_bytes (decode_of-encode_lower (spelling program) (a_file program h).each)
@@ -77,12 +55,3 @@ pub printed_again : (size : ℕ) (program : CodeView) (report : ReportView) → 
     → IsReport size true (printed program) report
 printed_again size program report within h =
     inr (program, (within, ap code_in_hexadecimal (trimmed_end (spelling program)) ∙ digits_again program h.is_code), h)
-
--- and read by `eval` it is that code
-pub line_again : (program : CodeView) → FitsLine program → IsCode program → code_in (encode_lower (spelling program)) ≡ Ok program
-line_again program few h =
-    let digits = encode_lower (spelling program) in
-    let all : length (printed program) ≡ length digits + 1 = length-append digits (10 ∷ []) in
-    let within : nat_lt source_limit (length digits) ≡ false = grind (arith, nat_tests) in
-    let read : Bool → Result CodeView Refusal = λ b. if b then Err TooLong else code_in_hexadecimal (words.trimmed digits) in
-    ap read within ∙ ap code_in_hexadecimal (trimmed_both (spelling program)) ∙ digits_again program h

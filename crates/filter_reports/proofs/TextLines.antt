@@ -1,5 +1,5 @@
 -- The printed code of a text is within the limit of a source.
-use Rattle.std.proofs.Common.{◌≡◌, ℕ, ◌+◌, ◌*◌, ◌≤◌, true, false, List, [], ◌∷◌, ◌++◌, length, map, inl, inr, sym, subst, arith, length-append}
+use Rattle.std.proofs.Common.{◌≡◌, ℕ, ◌+◌, ◌*◌, ◌≤◌, true, false, List, [], ◌∷◌, ◌++◌, length, inl, inr, sym, subst, arith, length-append}
 use Rattle.hex.proofs.HexLemmas.{length-encode_with}
 use Rattle.hex.specs.Hex.{encode_lower, lower_digits}
 use Rattle.code_file.specs.Spelling.{spelling, spelling_in}
@@ -10,14 +10,10 @@ use Rattle.filter_parser.specs.SyntaxText.{FilterView}
 use Rattle.filter_compiler.specs.Translation.{code_of}
 use Rattle.filter_source.specs.Sources.{Translates}
 use Rattle.filter_reports.proofs.FileLength.{file_length}
-use Rattle.filter_reports.proofs.TextFiles.{at_most, text_has_file}
+use Rattle.filter_reports.proofs.TextFiles.{at_most}
 use Rattle.filter_reports.proofs.TextMembers.{members_of_text}
-use Rattle.route_answers.proofs.Evaluated.{evaluated}
 use Rattle.filter_reports.proofs.Printed.{printed_again}
 use Rattle.filter_reports.specs.Check.{FitsLine, GivesCode, IsCodeReport, IsReport, ReportView, printed}
-use Rattle.route_answers.specs.Eval.{eval_answers, route_answer}
-use Rattle.line_protocol.specs.Lines.{answerable_from}
-use Rattle.std.specs.Str.Lines.{lines}
 
 -- the file of a translation has at most four times as many bytes as the text, and 6,409
 pub file_of_text : (v : Version) (text : List ℕ) (filter : FilterView) (program : CodeView) → Translates text filter program
@@ -43,9 +39,3 @@ pub text_checked_alike : (size : ℕ) (text : List ℕ) (program : CodeView) (re
     → IsCodeReport size program report → IsReport size true (printed program) report
 text_checked_alike size text program report gives h =
     printed_again size program report (text_fits text gives.1.0 program gives.1.1) h
-
-pub text_evaluated : (text : List ℕ) (program : CodeView) (routes : List ℕ) → GivesCode false text program
-    → eval_answers (printed program ++ routes) ≡ map (route_answer program) (answerable_from 2 (lines routes))
-text_evaluated text program routes gives =
-    let translates = gives.1.1 in
-    evaluated program routes (text_fits text gives.1.0 program translates) (text_has_file text gives.1.0 program translates)

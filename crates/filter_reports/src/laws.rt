@@ -1,6 +1,15 @@
-//! Laws on what is shown, each the contract of a function with an empty body.
-ghost use Rattle.std.specs.Prelude.{◌≡◌, ℕ, ◌+◌, ◌≤◌, List, ◌++◌, All, false, length};
+//! Laws on what is shown and on the code that is printed, each the contract of a function with an empty body.
+ghost use Rattle.std.specs.Prelude.{◌≡◌, ℕ, ◌+◌, ◌*◌, ◌≤◌, List, ◌++◌, All, false, true, length};
+ghost use Rattle.code_file.specs.Spelling.{IsCode, spelling_in};
+ghost use Rattle.code_file.specs.declared.version.Version.{Version};
+ghost use Rattle.filter_code.specs.CodeView.{CodeView};
+ghost use Rattle.filter_compiler.specs.Same.{MeansTheSame};
+ghost use Rattle.filter_parser.specs.SyntaxText.{FilterView};
+ghost use Rattle.filter_source.specs.Sources.{Translates};
+ghost use Rattle.filter_verifier.specs.Safe.{IsSafe};
+ghost use Rattle.filter_reports.specs.Check.{FitsLine, GivesCode, IsCodeReport, IsReport, ReportView, printed};
 ghost use Rattle.filter_reports.specs.Explanations.{dots_for, first_of, front_within, last_of};
+ghost use Rattle.filter_reports.specs.Saying.{SaysTheSame};
 ghost use Rattle.filter_reports.specs.Shown.{columns, is_hidden, shown_characters};
 
 /// Nothing that is shown of any bytes is a control character other than a tab, turns the direction of the text or ends a line.
@@ -13,4 +22,31 @@ pub fn shown_is_harmless()
 pub fn excerpt_is_narrow()
     ensures narrow { (before behind : List ℕ) → length (dots_for before) + columns (last_of before ++ first_of behind) + length (dots_for behind) ≤ 200 }
     ensures longest { (most : ℕ) (front rest : List ℕ) → columns front ≤ most → (more : List ℕ) × (front_within most (front ++ rest) ≡ front ++ more) }
+{}
+
+/// The code that `check` prints is read by `check --code` as the same code, with the same lines: code that is written and read
+/// again has the same verdicts. Its digits have to be within the limit of a source.
+pub fn printed_code_is_checked_alike()
+    ensures { (size : ℕ) (program : CodeView) (report : ReportView) → FitsLine program → IsCodeReport size program report
+        → IsReport size true (printed program) report }
+{}
+
+/// The code of each text has a code file. This has at most four times as many bytes as the text, and 6,409 more, and so has one of the
+/// older form. So what `check` prints of a text is within the limit of a source, whatever the text is, and `check --code` always reads it
+/// as the same code, with the same lines.
+pub fn translations_fit_a_line()
+    ensures has_file { (text : List ℕ) (filter : FilterView) (program : CodeView) → Translates text filter program → IsCode program }
+    ensures size { (version : Version) (text : List ℕ) (filter : FilterView) (program : CodeView) → Translates text filter program
+        → length (spelling_in version program) ≤ 4 * length text + 6409 }
+    ensures fits { (text : List ℕ) (filter : FilterView) (program : CodeView) → Translates text filter program → FitsLine program }
+    ensures checked_alike { (size : ℕ) (text : List ℕ) (program : CodeView) (report : ReportView) → GivesCode false text program
+        → IsCodeReport size program report → IsReport size true (printed program) report }
+{}
+
+/// Code that means what a filter means, and that never goes wrong in domains of a size, says of each route of such a domain
+/// just what the filter says: it accepts it with the same metric, or rejects it. No run of it is divided by zero, and none
+/// meets a full stack.
+pub fn verified_code_says_the_same()
+    ensures { (filter : FilterView) (program : CodeView) (size : ℕ) →
+        MeansTheSame filter program → IsSafe program size → SaysTheSame filter program size }
 {}

@@ -5,7 +5,7 @@ use filter_parser::{Around, Expected};
 use filter_tokens::{Symbol, Token, TokenKind};
 
 /// What to write in place of an address of IPv6.
-pub(crate) const IPV6: &str = "IPv6 is not supported: write prefixes of IPv4, as 10.0.0.0/8";
+pub const IPV6: &str = "IPv6 is not supported: write prefixes of IPv4, as 10.0.0.0/8";
 
 /// What to write in place of a word of BIRD's that is left out by name.
 pub(crate) fn in_place_of(word: &str) -> &'static str {

@@ -10,15 +10,13 @@ ghost use Rattle.filter_reports.specs.Check.{IsCodeReport, code_line, refusal_re
 ghost use Rattle.filter_reports.specs.Checking.{EndsWith};
 ghost use Rattle.filter_reports.specs.Steps.{report_of};
 
+use crate::refusal::FIRST_LINE;
 use code_file::write_code;
 use filter_code::Code;
 use filter_compiler::MappedCode;
 use filter_source::{Diagnosis, Failure, push_verified, verify_mapped};
 use line_protocol::push_refusal;
 use std::alloc::{AllocError, Global};
-
-/// The number of the line at which `check` reports what is wrong with the input as a whole.
-const FIRST_LINE: u32 = 1;
 
 /// What `check` writes, and what is told of the refusal in its last line, if there is one.
 #[derive(Drop)]

@@ -18,9 +18,11 @@ use Rattle.line_protocol.specs.Lines.{answerable_from, is_line_feed, is_skipped}
 use Rattle.line_protocol.specs.declared.answers.Reply.TheVariants as reply
 use Rattle.prefix_patterns.specs.Token.{IsPrefix}
 use Rattle.filter_reports.proofs.Printed.{none_in}
+use Rattle.filter_reports.proofs.TextFiles.{text_has_file}
+use Rattle.filter_reports.proofs.TextLines.{text_fits}
 use Rattle.route_answers.proofs.PrintedLines.{line_again}
 use Rattle.route_answers.proofs.RouteLines.{read_route}
-use Rattle.filter_reports.specs.Check.{FitsLine, printed}
+use Rattle.filter_reports.specs.Check.{FitsLine, GivesCode, printed}
 use Rattle.route_answers.specs.Eval.{all_answers, answer_of, answers_after, eval_answers, route_answer, verdict}
 use Rattle.route_answers.specs.RouteLine.{IsRouteLine}
 use Rattle.filter_reports.specs.Saying.{Says, SaysTheSame}
@@ -63,6 +65,13 @@ evaluated program routes few h =
     ap (λ (all : List (List ℕ)). all_answers (answerable_from 1 all)) (printed_lines (spelling program) routes)
     ∙ ap all_answers first
     ∙ ap (λ (read : Result CodeView Refusal). answers_after 1 read (answerable_from 2 (lines routes))) (line_again program few h)
+
+-- that of a text always is
+pub text_evaluated : (text : List ℕ) (program : CodeView) (routes : List ℕ) → GivesCode false text program
+    → eval_answers (printed program ++ routes) ≡ map (route_answer program) (answerable_from 2 (lines routes))
+text_evaluated text program routes gives =
+    let translates = gives.1.1 in
+    evaluated program routes (text_fits text gives.1.0 program translates) (text_has_file text gives.1.0 program translates)
 
 -- a prefix has at most 32 bits
 pub short_prefix : (text : List ℕ) (bits : List Bool) → IsPrefix text bits → length bits ≤ 32

@@ -1,54 +1,21 @@
 -- How a run of `filter` ends, by its text.
-use Rattle.std.proofs.Common.{◌≡◌, ℕ, false, List, Option, Some, None, IfSome, inl, inr, refl, sym, subst, ◌∙◌, ap}
-use Rattle.std.specs.Io.KnownBytes.{Appends, Keeps}
-use Rattle.filter_code.specs.CodeView.{CodeView}
+use Rattle.std.proofs.Common.{◌≡◌, ℕ, false, List, Option, Some, None, IfSome, inl, inr, refl, ◌∙◌, ap}
+use Rattle.std.specs.Io.KnownBytes.{Appends}
 use Rattle.filter_parser.specs.SyntaxText.{FilterView}
-use Rattle.filter_source.specs.Diagnoses.{TellsOfCode}
-use Rattle.filter_source.specs.Failures.{OnDiagnosis, OnRefusal}
-use Rattle.filter_source.specs.Sources.{IsUnsafe, Translates}
-use Rattle.filter_source.specs.declared.failure.Failure.{Failure}
-use Rattle.filter_source.specs.declared.failure.Failure.TheVariants.{Refused, Memory}
 use Rattle.filter_source.specs.declared.diagnosis.Diagnosis.{Diagnosis}
-use Rattle.filter_verifier.specs.Safe.{IsSafe}
 use Rattle.filter_verifier.specs.VerifiedView.{VerifiedView}
 use Rattle.line_protocol.specs.declared.faults.StreamFault.{StreamFault}
 use Rattle.line_protocol.specs.declared.faults.StreamFault.TheVariants as stream
-use Rattle.route_answers.proofs.EvalEndings.{if_known}
-use Rattle.filter_reports.specs.Check.{GivesCode}
-use Rattle.filter_reports.specs.Checking.{ArePlaces, IsDiagnosis}
-use Rattle.route_answers.specs.Eval.{Line}
+use Rattle.filter_reports.proofs.VerifiedFilters.{is_filter}
+use Rattle.filter_reports.specs.Checking.{IsDiagnosis}
 use Rattle.filter_reports.specs.Cuts.{IsCut}
-use Rattle.route_answers.proofs.Answered.{answer_by, each_alike, first_alike}
-use Rattle.route_answers.proofs.Meant.{as_meant}
 use Rattle.filter_reports.specs.VerifiedFilters.{IsFilterOf, IsVerifiedOf, refusal_line}
+use Rattle.route_answers.proofs.Answered.{answer_by, each_alike, first_alike}
+use Rattle.route_answers.proofs.EvalEndings.{if_known}
+use Rattle.route_answers.proofs.Meant.{as_meant}
+use Rattle.route_answers.specs.Eval.{Line}
 use Rattle.route_answers.specs.Filtering.{AnswersEach, AnswersFirst, BreaksOff, Filters, FiltersOff, filter_answer}
 use Rattle.route_answers.specs.declared.filter.Filtered.TheVariants as filtered
-
--- what is not written to stays as it is
-pub keeps_self : (held : Option (List ℕ)) → Keeps held held
-keeps_self None = tt
-keeps_self (Some bytes) = refl
-
--- verified code is the translation that was verified
-pub verified_of : (size : ℕ) (text : List ℕ) (program : CodeView) (v : VerifiedView) → GivesCode false text program
-    → v ≡ record { program = program; size = size } → IsSafe program size → IsVerifiedOf size text v
-verified_of size text program v gives same safe = record {
-  size_is = ap (λ (w : VerifiedView). w.size) same;
-  filter = gives.1.0;
-  translates = subst (λ (w : VerifiedView). Translates text gives.1.0 w.program) (sym same) gives.1.1;
-  safe = subst (λ (w : VerifiedView). IsSafe w.program w.size) (sym same) safe;
-}
-
--- code that is refused
-pub refused_code : (size : ℕ) (text places : List ℕ) (program : CodeView) (failure : Failure) → GivesCode false text program
-    → ArePlaces false text places → OnRefusal (IsUnsafe program size) failure → OnDiagnosis (TellsOfCode program places size) failure
-    → OnDiagnosis (IsDiagnosis size false text) failure
-refused_code size text places program (Refused told) gives are unsafe is = inr (program, gives, unsafe, (places, are, is))
-refused_code size text places program Memory gives are unsafe is = tt
-
--- verified code is that of its filter
-abbrev pub is_filter : (size : ℕ) (text : List ℕ) (v : VerifiedView) → (is : IsVerifiedOf size text v) → IsFilterOf text size is.filter
-is_filter size text v is = record { program = v.program; translates = is.translates; safe = subst (IsSafe v.program) is.size_is is.safe }
 
 -- the verified code of a text answers as the text means
 module _ (text : List ℕ) (size : ℕ) (v : VerifiedView) (is : IsVerifiedOf size text v) where

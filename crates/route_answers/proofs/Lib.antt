@@ -1,21 +1,13 @@
+pub mod Answered
 pub mod Clipped
-pub mod CommandsFit
+pub mod EvalEndings
 pub mod Evaluated
 pub mod Evaluations
-pub mod Endings
-pub mod FileLength
-pub mod InstructionsFit
-pub mod LexemeLimits
+pub mod FilterEndings
+pub mod Meant
 pub mod PlainLines
-pub mod Printed
+pub mod PrintedLines
 pub mod Reading
-pub mod Reports
-pub mod Rewritten
 pub mod RouteLines
 mod Rows
-pub mod Saying
-pub mod SetMembers
-pub mod SetsFit
-pub mod TextFiles
-pub mod TextLines
-pub mod TextMembers
+pub mod Told

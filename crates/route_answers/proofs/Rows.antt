@@ -1,19 +1,15 @@
--- Worked rows: the definitions compute what `eval` and `check` write.
-use Rattle.std.proofs.Common.{◌≡◌, true, false, [], ◌∷◌, Some, None, Ok, Err, codes, refl, inl, inr, lit≤}
+-- Worked rows: the definitions compute what `eval` writes.
+use Rattle.std.proofs.Common.{◌≡◌, true, false, [], ◌∷◌, Some, None, Ok, Err, codes, refl}
 use Rattle.std.specs.Fmt.{digits}
-use Rattle.hex.specs.Hex.{decode_pairs, encode_with}
+use Rattle.hex.specs.Hex.{decode_pairs}
 use Rattle.code_file.specs.Fields.{form_of}
 use Rattle.code_file.specs.Reading.{a_file, file_of, times}
 use Rattle.filter_code.specs.CodeView.{CodeView}
 use Rattle.filter_code.specs.Machine.{after}
 use Rattle.filter_code.specs.declared.instruction.Instr.TheVariants as instr
-use Rattle.filter_source.specs.declared.refusal.Refusal.TheVariants.{Hexadecimal}
-use Rattle.filter_verifier.specs.FirstFault.{first_fault}
-use Rattle.filter_verifier.specs.InStates.{incoming}
 use Rattle.prefix_patterns.specs.Bits.{bits}
 use Rattle.prefix_patterns.specs.Number.{decimal_value}
 use Rattle.prefix_patterns.specs.Reading.{address_in, groups_in, number_in, parts_at, prefix_in}
-use Rattle.filter_reports.specs.Check.{IsReport, code_report, refusal_report}
 use Rattle.route_answers.specs.Eval.{code_in, eval_out, eval_refusals}
 use Rattle.route_answers.specs.RouteLine.{route_in}
 use Rattle.route_answers.specs.declared.line_fault.LineFault.TheVariants.{Words, Numbers, Prefix}
@@ -21,10 +17,6 @@ use Rattle.route_answers.specs.declared.line_fault.LineFault.TheVariants.{Words,
 -- the code that accepts every route as it is
 abbrev accepts : CodeView
 accepts = record { locals = 0; sets = []; int_sets = []; instrs = instr.Accept ∷ [] }
-
--- the code that divides by 0, once it has the metric
-abbrev divides : CodeView
-divides = record { locals = 0; sets = []; int_sets = []; instrs = instr.Metric ∷ instr.Int 0 ∷ instr.Div ∷ instr.Accept ∷ [] }
 
 -- a route line has a prefix, a metric and a size
 pub a_route : route_in None (codes "10.0.0.0/8 3 8")
@@ -78,21 +70,3 @@ no_line = refl
 pub odd_digits : eval_out (codes "4e4\n10.0.0.0/8 3 8\n") ≡ codes "refused O3 1\n"
 unfolding decode_pairs digits
 odd_digits = refl
-
--- what `check` writes on a code: it is verified, or the size is none, or an instruction may go wrong
-pub verified : (code_report 8 accepts).text ≡ codes "code 4e434632000000000170\nverified 1 0\n"
-unfolding encode_with incoming first_fault digits
-verified = refl
-
-pub bad_size : (code_report 1 accepts).text ≡ codes "code 4e434632000000000170\nrefused V8 0\n"
-unfolding encode_with incoming first_fault digits
-bad_size = refl
-
-pub may_divide : (code_report 8 divides).text ≡ codes "code 4e43463200000000041301000000002370\nrefused V3 2\n"
-unfolding encode_with incoming first_fault digits
-may_divide = refl
-
--- what `check --code` writes where the digits are not hexadecimal
-pub not_digits : IsReport 8 true (codes "filter a{accept;}") (refusal_report Hexadecimal)
-unfolding decode_pairs
-not_digits = inl (Hexadecimal, inr (lit≤ tt, refl), refl)

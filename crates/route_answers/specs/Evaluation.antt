@@ -3,7 +3,7 @@ use Rattle.std.specs.Prelude.{◌≡◌, ◌≤◌, ◌+◌, ℕ, false, List, [
 use Rattle.std.specs.Io.KnownBytes.{Appends, Consumes}
 use Rattle.line_protocol.specs.Answers.{Answer, is_over, text_of}
 use Rattle.line_protocol.specs.Lines.{numbered, whole_lines}
-use Rattle.line_protocol.specs.Runs.{AppendsFront, IsWritten}
+use Rattle.line_protocol.specs.Runs.{IsWritten}
 use Rattle.line_protocol.specs.declared.faults.StreamFault.{StreamFault}
 use Rattle.line_protocol.specs.declared.faults.StreamFault.TheVariants.{Read, Write, Memory, TooLong}
 use Rattle.route_answers.specs.Eval.{eval_answers, eval_out, eval_refusals, line_answers}
@@ -39,10 +39,3 @@ pub record Breaks (fault : StreamFault) (input : List ℕ) (left held holds : Op
   pub read : List ℕ
   pub consumed : Consumes (Some input) left read
   pub reach : ReachesTo fault read given
-
--- How far one text came that a fault kept from being written: where memory is refused it is not begun.
-abbrev pub IsCut : StreamFault → Option (List ℕ) → Option (List ℕ) → List ℕ → Type 0
-IsCut Read held holds text = ⊥
-IsCut Write held holds text = AppendsFront held holds text
-IsCut Memory held holds text = Appends held holds []
-IsCut TooLong held holds text = ⊥

@@ -5,12 +5,7 @@ use Rattle.filter_code.specs.CodeView.{CodeView}
 use Rattle.filter_code.specs.RouteView.{RouteView}
 use Rattle.filter_compiler.specs.Verdicts.{Verdict, accepted, rejected, divided, meaning}
 use Rattle.filter_parser.specs.SyntaxText.{FilterView}
-use Rattle.filter_source.specs.Refusals.{place_in_line, refusal_code}
-use Rattle.filter_source.specs.Sources.{Translates}
 use Rattle.filter_source.specs.declared.diagnosis.Diagnosis.{Diagnosis}
-use Rattle.filter_source.specs.declared.refusal.Refusal.{Refusal}
-use Rattle.filter_verifier.specs.Safe.{IsSafe}
-use Rattle.filter_verifier.specs.VerifiedView.{VerifiedView}
 use Rattle.line_protocol.specs.Answers.{Answer, refusal, refusals, text_of}
 use Rattle.line_protocol.specs.Lines.{numbered, whole_lines}
 use Rattle.line_protocol.specs.Runs.{AppendsFront, IsWritten}
@@ -18,6 +13,7 @@ use Rattle.line_protocol.specs.declared.answers.Reply.TheVariants as reply
 use Rattle.line_protocol.specs.declared.faults.StreamFault.{StreamFault}
 use Rattle.line_protocol.specs.declared.faults.StreamFault.TheVariants.{Read, Write, Memory, TooLong}
 use Rattle.filter_reports.specs.Checking.{IsDiagnosis}
+use Rattle.filter_reports.specs.VerifiedFilters.{IsFilterOf, refusal_line}
 use Rattle.route_answers.specs.Eval.{Line, answer_of}
 use Rattle.route_answers.specs.RouteLine.{line_code, route_in}
 use Rattle.route_answers.specs.declared.line_fault.LineFault.{LineFault}
@@ -72,23 +68,6 @@ pub record AnswersFirst (answer_to : Line → Answer) (fault : StreamFault) (inp
   pub read : List ℕ
   pub consumed : Consumes (Some input) left read
   pub reach : ReachesTo answer_to fault read given
-
--- the line that refuses a filter
-abbrev pub refusal_line : Refusal → List ℕ
-refusal_line why = refusal (refusal_code why) (place_in_line why 1)
-
--- The text spells this filter, and its code never goes wrong in domains of this size.
-pub record IsFilterOf (text : List ℕ) (size : ℕ) (filter : FilterView) : Type 0 where
-  pub program : CodeView
-  pub translates : Translates text filter program
-  pub safe : IsSafe program size
-
--- The text spells a filter, this is its code, and it never goes wrong in domains of this size.
-pub record IsVerifiedOf (size : ℕ) (text : List ℕ) (verified : VerifiedView) : Type 0 where
-  pub size_is : verified.size ≡ size
-  pub filter : FilterView
-  pub translates : Translates text filter verified.program
-  pub safe : IsSafe verified.program verified.size
 
 -- A run was answered to its end. A refused filter answers no route, and no line is read; otherwise each line is answered by what
 -- the text means for its route.

@@ -1,13 +1,10 @@
--- What is between a line and its answer, and between a report and what is written. (This project's own choice.)
+-- What is between a line and its answer. (This project's own choice.)
 use Rattle.std.specs.Prelude.{◌≡◌, ℕ, List, [], Option, Some, None, Result, Ok, Err}
 use Rattle.filter_code.specs.CodeView.{CodeView}
 use Rattle.filter_source.specs.declared.refusal.Refusal.{Refusal}
 use Rattle.line_protocol.specs.Answers.{Answer}
 use Rattle.line_protocol.specs.declared.answers.Reply.TheVariants as reply
-use Rattle.filter_reports.specs.Check.{ReportView}
-use Rattle.filter_reports.specs.Checking.{refusals_of}
 use Rattle.route_answers.specs.Eval.{code_answer, code_in, route_answer}
-use Rattle.filter_reports.specs.declared.report.Report.{Report}
 
 -- The line of the code gets no answer where it is good, and its code is kept. A refusal ends the run.
 abbrev pub TakesCode : ℕ → Result CodeView Refusal → Answer → Option CodeView → Type 0
@@ -18,7 +15,3 @@ TakesCode number (Err found) answer after = (answer ≡ code_answer number found
 abbrev pub AnswersLine : Option CodeView → ℕ → List ℕ → Answer → Option CodeView → Type 0
 AnswersLine None number given answer after = TakesCode number (code_in given) answer after
 AnswersLine (Some program) number given answer after = (answer ≡ route_answer program (number, given)) × (after ≡ Some program)
-
--- what a contract sees of a report
-abbrev pub report_of : Report → ReportView
-report_of r = record { text = r.text.items; refusals = refusals_of r.diagnosis }

@@ -1,31 +1,21 @@
 //! `ncroute filter`: routes through a filter that is verified first.
-ghost use Rattle.std.specs.Prelude.{◌≡◌, ◌++◌, ℕ, [], false, IfErr, IfOk, IfSome, OnErr, OnOk};
+ghost use Rattle.std.specs.Prelude.{◌≡◌, ◌++◌, IfErr, IfOk, IfSome, OnErr, OnOk};
 ghost use Rattle.std.specs.Io.{StartsWith};
-ghost use Rattle.std.specs.Io.KnownBytes.{Appends};
-ghost use Rattle.route_answers.specs.Eval.{verdict};
-ghost use Rattle.filter_reports.specs.Checking.{IsDiagnosis};
-ghost use Rattle.filter_reports.specs.Cuts.{IsCut};
-ghost use Rattle.filter_reports.specs.Faults.{stream_fault};
 ghost use Rattle.filter_machine.specs.Verdicts.{outcome_said};
-ghost use Rattle.filter_source.specs.Failures.{OnDiagnosis};
-ghost use Rattle.filter_source.specs.TextPlaces.{ArePlacesOf};
-ghost use Rattle.filter_reports.specs.VerifiedFilters.{IsVerifiedOf, refusal_line};
+ghost use Rattle.filter_reports.specs.Faults.{stream_fault};
+ghost use Rattle.route_answers.specs.Eval.{verdict};
 ghost use Rattle.route_answers.specs.Filtering.{AnswersEach, AnswersFirst, code_answer};
 
 use crate::route_line::read_route;
 use crate::verdict_line::push_accept;
 use crate::watch::{RefusedRoute, WatchRoutes, WhyRefused};
-use filter_compiler::MappedCode;
 use filter_machine::{Verdict, run};
-use filter_reports::{ProgramFault, code_of};
-use filter_source::{Diagnosis, Failure, Refusal, verify_mapped};
+use filter_reports::ProgramFault;
+use filter_source::Diagnosis;
 use filter_verifier::Verified;
-use line_protocol::{Reply, Service, answer_lines_within, push_refusal, write_text};
+use line_protocol::{Reply, Service, answer_lines_within, push_refusal};
 use std::alloc::{AllocError, Global};
 use std::io::{Read, Write};
-
-/// The number of the line that the refusal of a filter names where it names a line.
-const FIRST_LINE: u32 = 1;
 
 /// How many bytes of routes a run answers at most: about 200 times the routes of the whole Internet. Lines are numbered below 2^32.
 pub const ROUTES_LIMIT: usize = 4_000_000_000;
@@ -115,39 +105,6 @@ fn answer_route<S: WatchRoutes>(
     }
 }
 
-/// The verified code of a text, and for each instruction the byte that it comes from.
-#[derive(Drop)]
-pub struct PlacedCode {
-    /// The code.
-    pub verified: Verified,
-    /// The bytes of the text.
-    pub places: Vec<usize>,
-}
-
-/// The verified code of the filter that a text spells, for domains of `size` nodes, and the bytes that its instructions come from.
-pub fn placed_code(alloc: Global, text: &[u8], size: u32) -> Result<PlacedCode, Failure>
-    ensures verified { IfOk result (λ placed. IsVerifiedOf size text.now placed.verified) }
-    ensures places { IfOk result (λ placed. ArePlacesOf text.now placed.places.items) }
-    ensures refused { IfErr result (OnDiagnosis (IsDiagnosis size false text.now)) }
-{
-    let MappedCode { code, places } = code_of(alloc, text, false)?;
-    match verify_mapped(alloc, code, places.as_slice(), size) {
-        Ok(verified) => Ok(PlacedCode { verified, places }),
-        Err(failure) => Err(failure),
-    }
-}
-
-/// The verified code of the filter that a text spells, for domains of `size` nodes.
-pub fn verified_filter(alloc: Global, text: &[u8], size: u32) -> Result<Verified, Failure>
-    ensures verified { IfOk result (IsVerifiedOf size text.now) }
-    ensures refused { IfErr result (OnDiagnosis (IsDiagnosis size false text.now)) }
-{
-    match placed_code(alloc, text, size) {
-        Ok(placed) => Ok(placed.verified),
-        Err(failure) => Err(failure),
-    }
-}
-
 /// Answers each line of `reader` on `writer` by verified code, and shows each that is refused to who watches.
 pub(crate) fn answer_routes<R: Read, W: Write, S: WatchRoutes + Drop>(
     alloc: Global,
@@ -165,27 +122,4 @@ pub(crate) fn answer_routes<R: Read, W: Write, S: WatchRoutes + Drop>(
 {
     let mut service = RouteFilter { verified, watcher };
     Ok(answer_lines_within(alloc, ROUTES_LIMIT, reader, writer, &mut service)?)
-}
-
-/// The line that refuses a filter.
-pub(crate) fn refusal_line(alloc: Global, why: Refusal) -> Result<Vec<u8>, AllocError>
-    ensures { IfOk result (λ text. text.items ≡ refusal_line why) }
-{
-    let mut text = Vec::new(alloc);
-    push_refusal(&mut text, why.code(), why.place_in_line(FIRST_LINE))?;
-    Ok(text)
-}
-
-/// Writes the line that refuses a filter.
-pub fn write_refusal<W: Write>(
-    alloc: Global,
-    writer: &mut W,
-    why: Refusal,
-) -> Result<(), ProgramFault>
-    ensures ok { OnOk result (Appends (W.contents writer.old) (W.contents writer.new) (refusal_line why)) }
-    ensures err { IfErr result (λ fault. IsCut (stream_fault fault) (W.contents writer.old) (W.contents writer.new) (refusal_line why)) }
-{
-    let line = refusal_line(alloc, why)?;
-    write_text(writer, line.as_slice())?;
-    Ok(())
 }

@@ -1,33 +1,22 @@
-//! Laws on what the commands write and rest on, each the contract of a function with an empty body.
-ghost use Rattle.code_file.specs.Spelling.{IsCode, spelling, spelling_in};
-ghost use Rattle.code_file.specs.declared.version.Version.{Version};
+//! Laws on what answers to routes rest on, each the contract of a function with an empty body.
+ghost use Rattle.std.specs.Prelude.{◌≡◌, ◌≤◌, ◌↔◌, ◌++◌, ℕ, Bool, false, List, None, Ok, Err, map};
+ghost use Rattle.std.specs.Str.Lines.{lines};
+ghost use Rattle.code_file.specs.Spelling.{IsCode, spelling};
 ghost use Rattle.filter_code.specs.CodeView.{CodeView};
 ghost use Rattle.filter_code.specs.Machine.{outcome_of};
 ghost use Rattle.filter_code.specs.RouteView.{RouteView};
-ghost use Rattle.filter_compiler.specs.Same.{MeansTheSame};
 ghost use Rattle.filter_compiler.specs.Verdicts.{meaning};
 ghost use Rattle.filter_machine.specs.Verdicts.{announced};
 ghost use Rattle.filter_parser.specs.SyntaxText.{FilterView};
-ghost use Rattle.filter_source.specs.Sources.{Translates};
-ghost use Rattle.filter_verifier.specs.Safe.{IsSafe};
+ghost use Rattle.filter_reports.specs.Check.{FitsLine, GivesCode, printed};
+ghost use Rattle.filter_reports.specs.Saying.{Says, SaysTheSame};
 ghost use Rattle.hex.specs.Hex.{encode_lower};
 ghost use Rattle.line_protocol.specs.Lines.{answerable_from};
 ghost use Rattle.line_protocol.specs.declared.answers.Reply.TheVariants as reply;
-ghost use Rattle.std.specs.Str.Lines.{lines};
-ghost use Rattle.std.specs.Prelude.{◌≡◌, ◌≤◌, ◌↔◌, ◌+◌, ◌*◌, ◌++◌, ℕ, Bool, true, false, List, None, Ok, Err, length, map};
-ghost use Rattle.filter_reports.specs.Check.{FitsLine, GivesCode, IsCodeReport, IsReport, ReportView, printed};
 ghost use Rattle.route_answers.specs.Eval.{code_in, eval_answers, route_answer, verdict};
 ghost use Rattle.route_answers.specs.RouteLine.{IsLineFault, IsRouteLine, route_in};
-ghost use Rattle.filter_reports.specs.Saying.{Says, SaysTheSame};
 ghost use Rattle.route_answers.specs.Sizes.{ReadsFirst, clipped};
 ghost use Rattle.route_answers.specs.declared.line_fault.LineFault.{LineFault as TheFault};
-
-/// The code that `check` prints is read by `check --code` as the same code, with the same lines: code that is written and read
-/// again has the same verdicts. Its digits have to be within the limit of a source.
-pub fn printed_code_is_checked_alike()
-    ensures { (size : ℕ) (program : CodeView) (report : ReportView) → FitsLine program → IsCodeReport size program report
-        → IsReport size true (printed program) report }
-{}
 
 /// What `check` prints of a code is read by `eval` as that code: each line after it is answered as a route under the code, and
 /// numbered from 2. Where the code says of the routes of a size what a filter says, a line with a route of that size is answered by
@@ -42,26 +31,11 @@ pub fn printed_code_is_evaluated()
         × (route_answer program (number, line) ≡ record { text = verdict (outcome_of program route); reply = reply.Answered }) }
 {}
 
-/// The code of each text has a code file. This has at most four times as many bytes as the text, and 6,409 more, and so has one of the
-/// older form. So what `check` prints of a text is within the limit of a source, whatever the text is: `check --code` always reads it as
-/// the same code, with the same lines, and `eval` reads it as that code.
-pub fn translations_fit_a_line()
-    ensures has_file { (text : List ℕ) (filter : FilterView) (program : CodeView) → Translates text filter program → IsCode program }
-    ensures size { (version : Version) (text : List ℕ) (filter : FilterView) (program : CodeView) → Translates text filter program
-        → length (spelling_in version program) ≤ 4 * length text + 6409 }
-    ensures fits { (text : List ℕ) (filter : FilterView) (program : CodeView) → Translates text filter program → FitsLine program }
-    ensures checked_alike { (size : ℕ) (text : List ℕ) (program : CodeView) (report : ReportView) → GivesCode false text program
-        → IsCodeReport size program report → IsReport size true (printed program) report }
-    ensures evaluated { (text : List ℕ) (program : CodeView) (routes : List ℕ) → GivesCode false text program
+/// What `check` prints of a text is read by `eval` as the code of that text, whatever the text is: each line after it is answered as a
+/// route under the code, and numbered from 2.
+pub fn translations_are_evaluated()
+    ensures { (text : List ℕ) (program : CodeView) (routes : List ℕ) → GivesCode false text program
         → eval_answers (printed program ++ routes) ≡ map (route_answer program) (answerable_from 2 (lines routes)) }
-{}
-
-/// Code that means what a filter means, and that never goes wrong in domains of a size, says of each route of such a domain
-/// just what the filter says: it accepts it with the same metric, or rejects it. No run of it is divided by zero, and none
-/// meets a full stack.
-pub fn verified_code_says_the_same()
-    ensures { (filter : FilterView) (program : CodeView) (size : ℕ) →
-        MeansTheSame filter program → IsSafe program size → SaysTheSame filter program size }
 {}
 
 /// A line of `eval` gives a route if and only if it is within the limit of a line and has three words: a prefix, and two numbers

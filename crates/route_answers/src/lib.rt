@@ -1,30 +1,28 @@
-//! What the commands of `ncroute` do: each is generic over its reader and writer, and its contract says what it reads and writes.
+//! What answers routes: the engines of `eval` and `filter`. Each is generic over its reader and writer, and its contract says what it
+//! reads and writes.
 #![tactic(auto)]
 
 mod all_sizes;
-mod check;
 mod eval;
-mod fault;
+mod filter;
 mod judge;
 mod laws;
 mod line_fault;
-mod report;
-mod rewrite;
 mod route_line;
+mod route_words;
+mod told_routes;
 mod verdict_line;
 mod watch;
 
-pub use check::{check_text, code_of, write_report};
 pub use eval::{eval_lines, eval_watched_lines};
-pub use fault::ProgramFault;
+pub use filter::{Filtered, ROUTES_LIMIT};
 pub use laws::{
-    printed_code_is_checked_alike, printed_code_is_evaluated, route_lines,
-    smaller_domains_clip_the_metric, translations_fit_a_line, verified_code_says_the_same,
+    printed_code_is_evaluated, route_lines, smaller_domains_clip_the_metric,
+    translations_are_evaluated,
 };
 pub use line_fault::LineFault;
-pub use rewrite::rewrite_text;
 pub use route_line::read_route;
-pub use verdict_line::push_accept;
+pub use told_routes::{Routes, eval_named, filter_named};
 pub use watch::{Nobody, RefusedRoute, WatchRoutes, WhyRefused};
 
 /// A number of a route line is at most this.

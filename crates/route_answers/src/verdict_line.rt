@@ -21,7 +21,7 @@ pub(crate) fn push_verdict(out: &mut Vec<u8>, outcome: Outcome) -> Result<(), Al
 
 /// Puts the line `accept METRIC` at the end of `out`.
 #[inline(always)]
-pub fn push_accept(out: &mut Vec<u8>, metric: u32) -> Result<(), AllocError>
+pub(crate) fn push_accept(out: &mut Vec<u8>, metric: u32) -> Result<(), AllocError>
     ensures ok { OnOk result (out.new.items ≡ out.old.items ++ verdict (Outcome.Accept metric)) }
     ensures err { OnErr result (StartsWith out.new.items out.old.items) }
 {

@@ -1,4 +1,4 @@
-//! What no command shows of `filter_tools`: a listing of a text without a name, and words about the lines of `eval`.
+//! What no command shows of `filter_reports` and `route_answers`: a listing of a text without a name, and words about the lines of `eval`.
 
 use crate::asserts::{done, must, must_bytes};
 use filter_reports::write_listing;

@@ -1,6 +1,5 @@
 use Rattle.filter_reports.proofs.TextFiles.{text_has_file}
 use Rattle.filter_reports.proofs.TextLines.{file_of_text, text_checked_alike, text_fits}
-use Rattle.route_answers.proofs.Evaluated.{text_evaluated}
 use Rattle.filter_reports.proofs.laws.translations_fit_a_line.Goals as goal
 
 pub returns-clause-has_file : goal.returns-clause-has_file
@@ -14,6 +13,3 @@ returns-clause-fits c = text_fits
 
 pub returns-clause-checked_alike : goal.returns-clause-checked_alike
 returns-clause-checked_alike c = text_checked_alike
-
-pub returns-clause-evaluated : goal.returns-clause-evaluated
-returns-clause-evaluated c = text_evaluated
