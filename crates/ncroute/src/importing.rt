@@ -148,7 +148,8 @@ fn make_filter(
 {
     let head = head_of(alloc, whole, draft, words)?;
     let written = write_filter(alloc, head.as_slice(), words)?;
-    match written.fate {
+    let fate = written.fate;
+    match fate {
         Fate::Taken => verify_filter(alloc, size, draft.at, written),
         Fate::Refused(why) => refuse_text(alloc, draft.at, &written, why),
         Fate::Garbled => left_out(alloc, draft.at, Why::Unwritten),

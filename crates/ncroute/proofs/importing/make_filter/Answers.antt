@@ -31,10 +31,10 @@ returns-in-Refused c =
     let is_head = c.as_slice.ensures.value ∙ c.in_ok-head.ensures in
     let same = c.in_ok-written.ensures.text ∙ ap (λ (head : List ℕ). text_of head words) is_head in
     let alike = c.in_ok-written.ensures.origins ∙ ap (λ (head : List ℕ). origins_of head words) is_head in
-    let fault = c.in-Refused.fault in
+    let why = c.in-Refused.why in
     let fated = subst (Fated words text) c.in-Refused.is c.in_ok-written.ensures.fate in
     of_same size at words c.refuse_text.result same alike
-    (of_left size at words text origins (fate.Refused fault) c.refuse_text.result fated
+    (of_left size at words text origins (fate.Refused why) c.refuse_text.result fated
     (of_size size at text origins c.refuse_text.result c.refuse_text.ensures.told) c.refuse_text.ensures.text)
 
 pub returns-in-Garbled : goal.returns-in-Garbled
