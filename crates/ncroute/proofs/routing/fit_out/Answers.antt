@@ -4,6 +4,7 @@ use Rattle.filter_reports.specs.Faults.{stream_fault}
 use Rattle.command_line.specs.declared.filter_words.NamedFile.{NamedFile}
 use Rattle.ncroute.specs.Loading.{LacksFilters, StopsLoading}
 use Rattle.ncroute.proofs.routing.fit_out.Goals as goal
+use Rattle.ncroute.proofs.routing.fit_out.Goals.{in-None-1, in-None-2, in-Some-1, in-Some-2}
 
 pub returns-in-Ok-None-clause-finished : goal.returns-in-Ok-None-clause-finished
 returns-in-Ok-None-clause-finished g c =
@@ -13,13 +14,13 @@ returns-in-Ok-None-clause-finished g c =
     let told = g.E.Write.contents c.console.inside.errors in
     let tells = g.E.Write.contents c.load_filters.new.errors in
     let lacks = rw c.in-Ok-None.field-0-is at c.in-Ok-None.ensures.finished in
-    rw (← c.console.view_is) (
-      refl,
-      inl (
-          subst (λ (files : List NamedFile). LacksFilters opens files c.args.plan.opening.size known left told tells) c.as_slice-named.ensures.value
-          (subst (λ (size : ℕ). LacksFilters opens c.as_slice-named.result.now size known left told tells) c.size_of-size.ensures lacks)
-          ),
-    )
+    let all = subst (λ (files : List NamedFile). LacksFilters opens files c.args.plan.opening.size known left told tells)
+    c.as_slice-named.ensures.value
+    (subst (λ (size : ℕ). LacksFilters opens c.as_slice-named.result.now size known left told tells) c.size_of-size.ensures lacks) in
+    elim c.match-plan-3.branch [
+      | in-Some-1 w ↦ rw (w.console-is, ← c.console.view_is) (refl, inl all)
+      | in-None-1 w ↦ rw (w.console-is, ← c.console.view_is) (refl, inl all)
+    ]
 
 pub returns-in-Err-clause-stopped : goal.returns-in-Err-clause-stopped
 returns-in-Err-clause-stopped g c =
@@ -29,12 +30,11 @@ returns-in-Err-clause-stopped g c =
     let left = g.R.Read.remaining c.load_filters.new.reader in
     let told = g.E.Write.contents c.console.inside.errors in
     let tells = g.E.Write.contents c.load_filters.new.errors in
-    rw (← c.console.view_is) (
-      refl,
-      inl (
-          subst (λ (files : List NamedFile). StopsLoading opens fault files c.args.plan.opening.size known left told tells)
-          c.as_slice-named.ensures.value
-          (subst (λ (size : ℕ). StopsLoading opens fault c.as_slice-named.result.now size known left told tells) c.size_of-size.ensures
-          c.in-Err.ensures.stopped)
-          ),
-    )
+    let all = subst (λ (files : List NamedFile). StopsLoading opens fault files c.args.plan.opening.size known left told tells)
+    c.as_slice-named.ensures.value
+    (subst (λ (size : ℕ). StopsLoading opens fault c.as_slice-named.result.now size known left told tells) c.size_of-size.ensures
+    c.in-Err.ensures.stopped) in
+    elim c.match-plan-4.branch [
+      | in-Some-2 w ↦ rw (w.console-is, ← c.console.view_is) (refl, inl all)
+      | in-None-2 w ↦ rw (w.console-is, ← c.console.view_is) (refl, inl all)
+    ]
