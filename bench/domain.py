@@ -1,6 +1,6 @@
 #!/usr/bin/env python3
 """Writes an input of `ncroute domain`, as the plain program answers it too: a domain with random links and filters at both ends of each, for
-what is heard and for what is told; then `table U` for each node.
+what is received and for what is told; then `table U` for each node.
 
 usage: domain.py [NODES [LINKS [SEED]]]
 

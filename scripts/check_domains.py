@@ -9,7 +9,7 @@ standard error with its number, and the exit status is 1.
 
 With NCROUTE=PATH two more things are looked at. Small plans of 2 to 4 nodes: of all distances that there could be, just one choice is a fixed point of
 Bellman's equation, and it is the one that is answered, with the least next hops. And domains whose routers are runs of `ncroute run`: in whatever order
-they send and hear their messages, they come to the routes that `ncroute domain` computes.
+they send and receive their messages, they come to the routes that `ncroute domain` computes.
 """
 import itertools
 import os
@@ -164,7 +164,7 @@ class Node:
 
 
 def play(numbers, nodes, links):
-    """Lets nodes send all that waits for another, and messages be heard, in random order until nothing is left to do."""
+    """Lets nodes send all that waits for another, and messages be received, in random order until nothing is left to do."""
     ways = [way for u, w in links for way in ((u, w), (w, u))]
     sent = {way: [] for way in ways}
     while True:

@@ -69,7 +69,7 @@ class Router:
 
     def __init__(self, domain, me):
         self.domain, self.me, self.size = domain, me, domain.size
-        self.raw, self.queues = {}, {}
+        self.advertised, self.queues = {}, {}
         self.dist = [0 if v == me else self.size for v in range(self.size)]
 
     def tell(self, w, v):
@@ -80,20 +80,20 @@ class Router:
             self.tell(w, v)
 
     def up(self, w):
-        self.raw[w], self.queues[w] = [self.size] * self.size, []
+        self.advertised[w], self.queues[w] = [self.size] * self.size, []
         self.tell_all(w)
 
     def down(self, w):
-        del self.raw[w], self.queues[w]
+        del self.advertised[w], self.queues[w]
         self.recompute()
 
-    def hear(self, w, v, d):
-        self.raw[w][v] = d
+    def receive(self, w, v, d):
+        self.advertised[w][v] = d
         self.recompute()
 
     def recompute(self):
         for v in range(self.size):
-            near = [self.domain.imported(self.me, w, v, told[v]) + 1 for w, told in self.raw.items()]
+            near = [self.domain.imported(self.me, w, v, advertised[v]) + 1 for w, advertised in self.advertised.items()]
             dist = 0 if v == self.me else min(near + [self.size])
             if dist != self.dist[v]:
                 self.dist[v] = dist
@@ -109,14 +109,14 @@ class Domain:
         self.prefixes = [((10 << 24) + (v << 16), 16) for v in range(size)]
         self.routers = [Router(self, u) for u in range(size)]
 
-    def passed(self, named, v, d):
+    def filtered(self, named, v, d):
         return named.apply(self.prefixes[v], d, self.size) if named and d < self.size else d
 
     def exported(self, u, w, v, d):
-        return self.passed(self.exports.get((u, w)), v, d)
+        return self.filtered(self.exports.get((u, w)), v, d)
 
     def imported(self, u, w, v, d):
-        return self.passed(self.imports.get((u, w)), v, d)
+        return self.filtered(self.imports.get((u, w)), v, d)
 
     def neighbours(self, u):
         return [w for w in range(self.size) if (u, w) in self.links]
@@ -141,7 +141,7 @@ class Domain:
         return [self.routes_to(v) for v in range(self.size)]
 
     def settle(self):
-        rounds = heard = 0
+        rounds = received = 0
         while True:
             flights = []
             for u, router in enumerate(self.routers):
@@ -150,11 +150,11 @@ class Domain:
                     router.queues[w] = []
             count = sum(len(messages) for _, _, messages in flights)
             if count == 0:
-                return rounds, heard
-            rounds, heard = rounds + 1, heard + count
+                return rounds, received
+            rounds, received = rounds + 1, received + count
             for u, w, messages in flights:
                 for v, d in messages:
-                    self.routers[w].hear(u, v, d)
+                    self.routers[w].receive(u, v, d)
 
 
 class Script:

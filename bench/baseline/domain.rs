@@ -66,8 +66,8 @@ impl Plan {
                 let to = usize::from(link.node);
                 let told = pass(memory, link.exports.as_deref(), size, net, dist);
                 let imports = self.links[to].iter().find(|back| usize::from(back.node) == from);
-                let heard = pass(memory, imports.and_then(|back| back.imports.as_deref()), size, net, told);
-                let offered = Best { dist: heard + 1, via: from as u8 };
+                let filtered = pass(memory, imports.and_then(|back| back.imports.as_deref()), size, net, told);
+                let offered = Best { dist: filtered + 1, via: from as u8 };
                 let old = best[to];
                 if offered.dist < size && to != usize::from(dest) && (offered.dist, offered.via) < (old.dist, old.via) {
                     best[to] = offered;

@@ -43,8 +43,8 @@ pub enum Reply {
 
 #[derive(Default)]
 struct Neighbour {
-    /// What it told last, by node; nothing before it was up first.
-    raw: Vec<u8>,
+    /// What it advertised last, by node; nothing before it was up first.
+    advertised: Vec<u8>,
     imports: Option<Arc<Code>>,
     exports: Option<Arc<Code>>,
     queue: VecDeque<Message>,
@@ -197,9 +197,9 @@ impl Router {
     fn put_all(&mut self, neighbour: u8) -> u16 {
         let mut changed = 0;
         for node in 0..self.size {
-            let Neighbour { raw, imports, .. } = &self.neighbours[usize::from(neighbour)];
+            let Neighbour { advertised, imports, .. } = &self.neighbours[usize::from(neighbour)];
             let net = self.prefixes[usize::from(node)];
-            let dist = pass(&mut self.memory, imports.as_deref(), self.size, net, raw[usize::from(node)]);
+            let dist = pass(&mut self.memory, imports.as_deref(), self.size, net, advertised[usize::from(node)]);
             changed += u16::from(self.put(node, neighbour, dist));
         }
         changed
@@ -214,9 +214,9 @@ impl Router {
         self.nodes.push(node);
         self.sessions[usize::from(node)] = session;
         self.up.insert(self.up.partition_point(|other| *other < node), node);
-        let raw = &mut self.neighbours[usize::from(node)].raw;
-        raw.clear();
-        raw.resize(usize::from(self.size), self.size);
+        let advertised = &mut self.neighbours[usize::from(node)].advertised;
+        advertised.clear();
+        advertised.resize(usize::from(self.size), self.size);
         self.tell_all(node);
         Ok(Reply::Opened(session))
     }
@@ -243,7 +243,7 @@ impl Router {
         }
         let (dest, dist) = (dest as u8, dist as u8);
         let neighbour = &mut self.neighbours[usize::from(node)];
-        neighbour.raw[usize::from(dest)] = dist;
+        neighbour.advertised[usize::from(dest)] = dist;
         let net = self.prefixes[usize::from(dest)];
         let dist = pass(&mut self.memory, neighbour.imports.as_deref(), self.size, net, dist);
         Ok(Reply::Done(u16::from(self.put(dest, node, dist))))

@@ -96,7 +96,7 @@ AnswersLink linked p number u w answer after = MatchBool (are_a_pair p.plan.size
     (PlansUnless (link_fault (is_linked p.plan u w) linked) (linking linked u w p.plan) p number answer after)
     (Refuses (codes "D1") number (begin p) answer after)
 
--- a plan where what the first node hears from the second, or tells it, passes a filter
+-- a plan where what the first node receives from the second, or tells it, passes a filter
 abbrev pub filtering : Direction → VerifiedView → ℕ → ℕ → PlanView → PlanView
 filtering direction.Import filter u w plan = importing filter u w plan
 filtering direction.Export filter u w plan = exporting filter u w plan

@@ -48,7 +48,7 @@ pub enum Command<'a> {
         /// W.
         w: u16,
     },
-    /// `import U W NAME` and `export U W NAME`: a filter of what the first node hears from the second, or tells it.
+    /// `import U W NAME` and `export U W NAME`: a filter of what the first node receives from the second, or tells it.
     Use {
         /// Which of both.
         direction: Direction,

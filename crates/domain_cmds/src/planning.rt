@@ -203,7 +203,7 @@ impl Planning {
         confirm(out)
     }
 
-    /// Answers `import` and `export`: what the first node hears from the second, or tells it, passes a filter from now on.
+    /// Answers `import` and `export`: what the first node receives from the second, or tells it, passes a filter from now on.
     fn use_filter(
         &mut self,
         number: u32,

@@ -14,11 +14,11 @@ use std::sync::Arc;
 pub(crate) enum Change {
     /// Two nodes are neighbours, or no more.
     Link(u16, u16, bool),
-    /// What the first node hears from the second, or tells it, passes a filter.
+    /// What the first node receives from the second, or tells it, passes a filter.
     Filter(Direction, u16, u16, Arc<Verified>),
 }
 
-/// The routers, if they were played, and what happened since. Nothing is heard but in `settle`, so changes may be entered then.
+/// The routers, if they were played, and what happened since. Nothing is received but in `settle`, so changes may be entered then.
 #[derive(Drop)]
 pub(crate) struct Playing {
     /// The routers, opened when they are first played: their tables take much memory.
@@ -31,7 +31,7 @@ pub(crate) struct Playing {
 enum PlayFault {
     /// Memory was refused.
     Memory,
-    /// They are closed: a router has had all its sessions, or more messages were heard than can be counted, now or before.
+    /// They are closed: a router has had all its sessions, or more messages were received than can be counted, now or before.
     Closed,
 }
 
@@ -86,7 +86,7 @@ fn set_linked(routers: &mut Routers, u: u16, w: u16, linked: bool) -> Result<(),
     }
 }
 
-/// What the first node hears from the second, or tells it, passes a filter from now on.
+/// What the first node receives from the second, or tells it, passes a filter from now on.
 fn set_filter(
     routers: &mut Routers,
     direction: Direction,

@@ -80,7 +80,7 @@ impl RestingPlan {
         }
     }
 
-    /// What the first node hears from the second, or tells it, passes this filter from now on.
+    /// What the first node receives from the second, or tells it, passes this filter from now on.
     pub(crate) fn set_filter(&mut self, direction: Direction, u: u16, w: u16, filter: Arc<Verified>)
         requires u { u < self.old.size }
         requires w { w < self.old.size }

@@ -5,11 +5,11 @@ use Rattle.std.proofs.lemmas.Bool.{cases_eq}
 use Rattle.std.proofs.lemmas.List.{append-nil, get_or_default, get_or_read, nil_from_length}
 use Rattle.netchange_core.specs.declared.event.Event.{Event}
 use Rattle.netchange_core.specs.declared.message.Message.{Message}
-use Rattle.netchange_core.specs.Next.{next, receive, relieved}
+use Rattle.netchange_core.specs.Next.{dequeued, next, receive}
 use Rattle.netchange_core.specs.World.{World, changed}
 use Rattle.routing_domain.specs.Domain.{Domain, IsInOrder, neighbour}
 use Rattle.routing_domain.specs.Events.{enters, enters_in, in_session}
-use Rattle.routing_domain.specs.Steps.{hears, sends, with_flight}
+use Rattle.routing_domain.specs.Steps.{receives, sends, with_flight}
 use Rattle.domain_player.specs.declared.sent.Sent.{Sent}
 use Rattle.domain_player.specs.Play.{AreRouters, domain, domain_of, nowhere, router_at, sent_by, under_way}
 use Rattle.domain_player.proofs.Ways.{other_from, other_to, under_way_other, under_way_sent, under_way_unsent}
@@ -34,7 +34,7 @@ domain_with ws ts u r flight here flights = λ i. record {
   flight = λ a b. flights a b i;
 }
 
--- an event of which nothing is sent or heard
+-- an event of which nothing is sent or received
 pub enters_as : (ws : List World) (ss : List Sent) (u : ℕ) (r : World) (e : Event) → u < length ws → r ≡ (next (router_at ws u) e).world →
     domain_of (slice_set ws u r) ss ≡ enters (domain_of ws ss) u e
 enters_as ws ss u r e here is =
@@ -46,7 +46,7 @@ enters_in_as ws ss u r session e here is =
     ap (λ s. domain_of (slice_set ws u s) ss) is
     ∙ domain_with ws ss u (in_session (router_at ws u) session e) (under_way ss) here (λ a b. refl)
 
--- what is on its way after messages were sent, and after one was heard
+-- what is on its way after messages were sent, and after one was received
 flight_at : (old : ℕ → ℕ → List Message) (u w : ℕ) (ms xs : List Message) (a b : ℕ) → (a ≡ u → b ≡ w → xs ≡ ms) →
     ((a ≡ u → ⊥) → xs ≡ old a b) → ((b ≡ w → ⊥) → xs ≡ old a b) →
     xs ≡ cond (nat_eq a u) (cond (nat_eq b w) ms (old a b)) (old a b)
@@ -86,34 +86,34 @@ sends_as ws ss u w max r ms here router messages =
     taken = take max (neighbour (domain_of ws ss) u w).queue
 
     s : World
-    s = changed (router_at ws u) w (relieved max)
+    s = changed (router_at ws u) w (dequeued max)
 
     stands : e.router u ≡ s
     stands = ap (λ b. cond b s (router_at ws u)) (eq-eqb u u refl)
 
-heard_flight : (s : Sent) (ss : List Sent) (a b : ℕ) →
+received_flight : (s : Sent) (ss : List Sent) (a b : ℕ) →
     under_way ss a b ≡ cond (nat_eq a s.from) (cond (nat_eq b s.to) (under_way ss s.from s.to) (under_way (s ∷ ss) a b)) (under_way (s ∷ ss) a b)
-heard_flight s ss a b =
+received_flight s ss a b =
     flight_at (under_way (s ∷ ss)) s.from s.to (under_way ss s.from s.to) (under_way ss a b) a b
     (λ from to. ap (λ x. under_way ss x b) from ∙ ap (under_way ss s.from) to)
     (λ other. sym (under_way_other a b s ss (other_from s.from s.to a b other)))
     (λ other. sym (under_way_other a b s ss (other_to s.from s.to a b other)))
 
-pub hears_as : (ws : List World) (s : Sent) (ss : List Sent) (r : World) → s.to < length ws →
-    r ≡ (hears (domain_of ws (s ∷ ss)) s.from s.to s.message (under_way ss s.from s.to)).router s.to →
-    domain_of (slice_set ws s.to r) ss ≡ hears (domain_of ws (s ∷ ss)) s.from s.to s.message (under_way ss s.from s.to)
-hears_as ws s ss r here router =
+pub receives_as : (ws : List World) (s : Sent) (ss : List Sent) (r : World) → s.to < length ws →
+    r ≡ (receives (domain_of ws (s ∷ ss)) s.from s.to s.message (under_way ss s.from s.to)).router s.to →
+    domain_of (slice_set ws s.to r) ss ≡ receives (domain_of ws (s ∷ ss)) s.from s.to s.message (under_way ss s.from s.to)
+receives_as ws s ss r here router =
     ap (λ t. domain_of (slice_set ws s.to t) ss) (router ∙ stands)
-    ∙ domain_with ws ss s.to heard e.flight here (λ a b. heard_flight s ss a b)
+    ∙ domain_with ws ss s.to received e.flight here (λ a b. received_flight s ss a b)
   where
     e : Domain
-    e = hears (domain_of ws (s ∷ ss)) s.from s.to s.message (under_way ss s.from s.to)
+    e = receives (domain_of ws (s ∷ ss)) s.from s.to s.message (under_way ss s.from s.to)
 
-    heard : World
-    heard = (receive (router_at ws s.to) (Some s.from) s.message.dest s.message.dist).world
+    received : World
+    received = (receive (router_at ws s.to) (Some s.from) s.message.dest s.message.dist).world
 
-    stands : e.router s.to ≡ heard
-    stands = ap (λ b. cond b heard (router_at ws s.to)) (eq-eqb s.to s.to refl)
+    stands : e.router s.to ≡ received
+    stands = ap (λ b. cond b received (router_at ws s.to)) (eq-eqb s.to s.to refl)
 
 -- nothing is lost where nothing is on its way
 nil_either : (s t : Bool) (xs : List Message) → xs ≡ [] → cond s (cond t [] xs) xs ≡ []

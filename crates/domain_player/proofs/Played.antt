@@ -1,4 +1,4 @@
--- What sending and hearing leave, one after another.
+-- What sending and receiving leave, one after another.
 use Rattle.std.proofs.Common.{◌≡◌, ⊎_elim, ℕ, ◌+◌, ◌<◌, zero, suc, nat_eq, Option, Some, All, List, [], ◌∷◌, length, drop, get_or, slice_set, take, refl, sym, ap, subst, ◌∙◌, arith}
 use Rattle.std.proofs.lemmas.Bool.{cases_eq, cond_both, eqb-true}
 use Rattle.std.proofs.lemmas.List.{drop_more}
@@ -9,25 +9,25 @@ use Rattle.netchange_core.specs.declared.reply.Reply.{Reply}
 use Rattle.netchange_core.specs.declared.reply.Reply.TheVariants as reply
 use Rattle.netchange_core.specs.Best.{distance}
 use Rattle.netchange_core.specs.Calls.{carried, session_of}
-use Rattle.netchange_core.specs.Next.{answered, next, relieved}
+use Rattle.netchange_core.specs.Next.{answered, dequeued, next}
 use Rattle.netchange_core.specs.World.{World, changed, neighbour_at}
 use Rattle.netchange_core.proofs.Change.{changed_at}
 use Rattle.netchange_core.proofs.Holders.{up_in}
 use Rattle.routing_domain.specs.Domain.{Domain, IsInOrder, IsQuiet, neighbour, topology}
 use Rattle.routing_domain.specs.Events.{in_session}
 use Rattle.routing_domain.specs.Rest.{IsRest}
-use Rattle.routing_domain.specs.Steps.{IsNext, hears, sends}
+use Rattle.routing_domain.specs.Steps.{IsNext, receives, sends}
 use Rattle.routing_domain.proofs.Recomputed.{changed_other}
-use Rattle.routing_domain.proofs.Hearing.{hearing_is_lighter}
+use Rattle.routing_domain.proofs.Receiving.{receiving_is_lighter}
 use Rattle.routing_domain.proofs.Lighter.{sending_is_lighter}
-use Rattle.routing_domain.proofs.Occurring.{first_is_next, receive_hears, take_sends}
-use Rattle.routing_domain.proofs.Order.{hearing_keeps_order}
+use Rattle.routing_domain.proofs.Occurring.{first_is_next, receive_receives, take_sends}
+use Rattle.routing_domain.proofs.Order.{receiving_keeps_order}
 use Rattle.routing_domain.proofs.Quiet.{quiet_rests}
 use Rattle.routing_domain.proofs.Sends.{sending_keeps_order}
-use Rattle.routing_domain.proofs.Topologies.{hears_same_topology, sends_same_topology}
+use Rattle.routing_domain.proofs.Topologies.{receives_same_topology, sends_same_topology}
 use Rattle.domain_player.specs.declared.sent.Sent.{Sent}
 use Rattle.domain_player.specs.Play.{AreSent, IsBetween, IsPlayed, domain, domain_of, router_at, under_way}
-use Rattle.domain_player.proofs.Domains.{hears_as, router_place}
+use Rattle.domain_player.proofs.Domains.{receives_as, router_place}
 use Rattle.domain_player.proofs.Ways.{under_way_first}
 
 pub nothing_played : (d : Domain) → IsInOrder d → IsPlayed d d 0
@@ -40,11 +40,11 @@ played_on d e f j k before after = record {
   lighter = omega (arith, before.lighter, after.lighter);
 }
 
-pub hears_played : (d : Domain) (u w : ℕ) (m : Message) (rest : List Message) → IsInOrder d → IsNext d u w m rest → IsPlayed d (hears d u w m rest) 1
-hears_played d u w m rest o n = record {
-  in_order = hearing_keeps_order d u w m rest o n;
-  topology = hears_same_topology d u w m rest;
-  lighter = omega (arith, hearing_is_lighter d u w m rest o n);
+pub receives_played : (d : Domain) (u w : ℕ) (m : Message) (rest : List Message) → IsInOrder d → IsNext d u w m rest → IsPlayed d (receives d u w m rest) 1
+receives_played d u w m rest o n = record {
+  in_order = receiving_keeps_order d u w m rest o n;
+  topology = receives_same_topology d u w m rest;
+  lighter = omega (arith, receiving_is_lighter d u w m rest o n);
 }
 
 pub nothing_sent : (d : Domain) → IsInOrder d → AreSent d d
@@ -65,14 +65,14 @@ drop_nil zero = refl
 drop_nil (suc k) = refl
 
 still_empty_here : (r : World) (w max b : ℕ) → w < length r.neighbours → (neighbour_at r.neighbours b).queue ≡ [] →
-    (neighbour_at (changed r w (relieved max)).neighbours b).queue ≡ []
+    (neighbour_at (changed r w (dequeued max)).neighbours b).queue ≡ []
 still_empty_here r w max b near empty =
     ⊎_elim
-    (λ here. ap (λ y. (neighbour_at (changed r w (relieved max)).neighbours y).queue) here
-    ∙ ap (λ n. n.queue) (changed_at w (relieved max) r.neighbours near)
+    (λ here. ap (λ y. (neighbour_at (changed r w (dequeued max)).neighbours y).queue) here
+    ∙ ap (λ n. n.queue) (changed_at w (dequeued max) r.neighbours near)
     ∙ ap (drop max) (ap (λ y. (neighbour_at r.neighbours y).queue) (sym here) ∙ empty)
     ∙ drop_nil max)
-    (λ other. ap (λ n. n.queue) (changed_other w b (relieved max) r.neighbours near other) ∙ empty)
+    (λ other. ap (λ n. n.queue) (changed_other w b (dequeued max) r.neighbours near other) ∙ empty)
     (cases_eq b w)
 
 pub sends_sent : (d : Domain) (u w max : ℕ) → IsInOrder d → u < d.size → w < d.size →
@@ -84,7 +84,7 @@ sends_sent d u w max o from to some = record {
     lighter = omega (arith, sending_is_lighter d u w max o from to some);
   };
   still_empty = λ a b empty.
-      cond_both (nat_eq a u) (changed (d.router u) w (relieved max)) (d.router a) (λ r. (neighbour_at r.neighbours b).queue ≡ [])
+      cond_both (nat_eq a u) (changed (d.router u) w (dequeued max)) (d.router a) (λ r. (neighbour_at r.neighbours b).queue ≡ [])
       (λ same. still_empty_here (d.router u) w max b near (ap (λ x. (neighbour d x b).queue) (sym (eqb-true a u same)) ∙ empty))
       (λ _. empty);
 }
@@ -92,19 +92,19 @@ sends_sent d u w max o from to some = record {
     near : w < length (d.router u).neighbours
     near = omega (arith, to, (o.tables u from).one_a_node)
 
--- a message is heard in a session
-abbrev pub hearing : Message → ℕ → Event
-hearing m session = event.Receive session m.dest m.dist
+-- a message is received in a session
+abbrev pub receiving : Message → ℕ → Event
+receiving m session = event.Receive session m.dest m.dist
 
--- one message more is heard
-pub hear_on : (d : Domain) (i : ℕ) (ws : List World) (s : Sent) (rest : List Sent) (r : World) → IsPlayed d (domain_of ws (s ∷ rest)) i →
+-- one message more is received
+pub receive_on : (d : Domain) (i : ℕ) (ws : List World) (s : Sent) (rest : List Sent) (r : World) → IsPlayed d (domain_of ws (s ∷ rest)) i →
     IsBetween (length ws) s →
-    r ≡ in_session (router_at ws s.to) (session_of (router_at ws s.to) s.from) (hearing s.message) →
+    r ≡ in_session (router_at ws s.to) (session_of (router_at ws s.to) s.from) (receiving s.message) →
     IsPlayed d (domain_of (slice_set ws s.to r) rest) (i + 1)
-hear_on d i ws s rest r played between router =
+receive_on d i ws s rest r played between router =
     played_on d e (domain_of (slice_set ws s.to r) rest) i 1 played
-    (subst (λ f. IsPlayed e f 1) (sym (hears_as ws s rest r between.to heard))
-    (hears_played e s.from s.to s.message (under_way rest s.from s.to) played.in_order first))
+    (subst (λ f. IsPlayed e f 1) (sym (receives_as ws s rest r between.to received))
+    (receives_played e s.from s.to s.message (under_way rest s.from s.to) played.in_order first))
   where
     e : Domain
     e = domain_of ws (s ∷ rest)
@@ -112,12 +112,12 @@ hear_on d i ws s rest r played between router =
     first : IsNext e s.from s.to s.message (under_way rest s.from s.to)
     first = first_is_next e s.from s.to s.message (under_way rest s.from s.to) played.in_order between.from between.to (under_way_first s rest)
 
-    heard : r ≡ (hears e s.from s.to s.message (under_way rest s.from s.to)).router s.to
-    heard =
+    received : r ≡ (receives e s.from s.to s.message (under_way rest s.from s.to)).router s.to
+    received =
         let there = up_in (neighbour e s.to s.from) first.linked in
-        router ∙ ap (λ (o : Option ℕ). in_session (router_at ws s.to) o (hearing s.message)) there.1
+        router ∙ ap (λ (o : Option ℕ). in_session (router_at ws s.to) o (receiving s.message)) there.1
         ∙ ap (λ a. a.world)
-        (receive_hears e s.from s.to there.0 s.message (under_way rest s.from s.to) played.in_order first there.1).1
+        (receive_receives e s.from s.to there.0 s.message (under_way rest s.from s.to) played.in_order first there.1).1
 
 -- what Take gave was sent
 pub record IsTaken (d : Domain) (u w max : ℕ) (r : World) (ms : List Message) : Type 0 where
@@ -146,15 +146,15 @@ take_answers d u w max s x r p o from to is held done =
 abbrev pub no_sent : Sent
 no_sent = record { from = 0; to = 0; message = record { dest = 0; dist = 0 } }
 
--- the message in a place is heard
-pub heard_more : (d : Domain) (ss : List Sent) (i n : ℕ) (ws : List World) (to : ℕ) (x r : World) → i < length ss → n ≡ length ws →
+-- the message in a place is received
+pub received_more : (d : Domain) (ss : List Sent) (i n : ℕ) (ws : List World) (to : ℕ) (x r : World) → i < length ss → n ≡ length ws →
     All (IsBetween n) ss → to ≡ (get_or ss i no_sent).to →
-    r ≡ in_session (get_or ws to x) (session_of (get_or ws to x) (get_or ss i no_sent).from) (hearing (get_or ss i no_sent).message) →
+    r ≡ in_session (get_or ws to x) (session_of (get_or ws to x) (get_or ss i no_sent).from) (receiving (get_or ss i no_sent).message) →
     IsPlayed d (domain_of ws (drop i ss)) i → IsPlayed d (domain_of (slice_set ws to r) (drop (i + 1) ss)) (i + 1)
-heard_more d ss i n ws to x r below wide between at heard played =
+received_more d ss i n ws to x r below wide between at received played =
     subst (λ t. IsPlayed d (domain_of (slice_set ws t r) (drop (i + 1) ss)) (i + 1)) (sym at)
-    (hear_on d i ws s (drop (i + 1) ss) r (subst (λ l. IsPlayed d (domain_of ws l) i) (drop_more ss i no_sent below) played) here
-    (heard ∙ ap (λ y. in_session y (session_of y s.from) (hearing s.message)) there))
+    (receive_on d i ws s (drop (i + 1) ss) r (subst (λ l. IsPlayed d (domain_of ws l) i) (drop_more ss i no_sent below) played) here
+    (received ∙ ap (λ y. in_session y (session_of y s.from) (receiving s.message)) there))
   where
     s : Sent
     s = get_or ss i no_sent
@@ -167,9 +167,9 @@ heard_more d ss i n ws to x r below wide between at heard played =
 
 -- one round more
 pub round_more : (d e f g : Domain) (m h n : ℕ) → IsPlayed d e m → AreSent e f → IsPlayed f g h → m + h ≡ n → IsPlayed d g n
-round_more d e f g m h n before sent heard count =
+round_more d e f g m h n before sent received count =
     subst (IsPlayed d g) (let sum : m + (0 + h) ≡ n = omega (arith, count) in sum)
-    (played_on d e g m (0 + h) before (played_on e f g 0 h sent.played heard))
+    (played_on d e g m (0 + h) before (played_on e f g 0 h sent.played received))
 
 pub last_sent : (d e f : Domain) (m : ℕ) → IsPlayed d e m → AreSent e f → IsPlayed d f m
 last_sent d e f m before sent =

@@ -7,7 +7,7 @@ use Rattle.netchange_core.specs.declared.message.Message.{Message}
 use Rattle.netchange_core.specs.declared.event.Event.TheVariants as event
 use Rattle.netchange_core.specs.declared.reply.Reply.{Reply}
 use Rattle.netchange_core.specs.Calls.{carried, session_of}
-use Rattle.netchange_core.specs.Next.{answered, next, relieved}
+use Rattle.netchange_core.specs.Next.{answered, dequeued, next}
 use Rattle.netchange_core.specs.World.{World, changed, is_up, neighbour_at}
 use Rattle.netchange_core.proofs.Change.{changed_at}
 use Rattle.routing_domain.specs.Domain.{Domain, IsInOrder, IsSound, neighbour}
@@ -44,13 +44,13 @@ less_waits d f u w o from to some is =
     near = omega (arith, to, (o.tables u from).one_a_node)
 
     s : World
-    s = changed (d.router u) w (relieved 65535)
+    s = changed (d.router u) w (dequeued 65535)
 
     queue : (neighbour f u w).queue ≡ drop 65535 (neighbour d u w).queue
     queue =
         ap (λ e. (neighbour e u w).queue) is
         ∙ ap (λ r. (neighbour_at r.neighbours w).queue) (ap (λ b. cond b s (d.router u)) (eq-eqb u u refl))
-        ∙ ap (λ n. n.queue) (changed_at w (relieved 65535) (d.router u).neighbours near)
+        ∙ ap (λ n. n.queue) (changed_at w (dequeued 65535) (d.router u).neighbours near)
 
 pub none_waits : (xs : List Message) (n : ℕ) → n ≡ length xs → n ≤ 0 → xs ≡ []
 none_waits xs n is none = nil_from_length xs (omega (arith, is, none))

@@ -53,12 +53,12 @@ pub record IsBetween (size : ℕ) (s : Sent) : Type 0 where
   pub from : s.from < size
   pub to : s.to < size
 
--- What a domain becomes by sending and hearing, where so many messages were heard: it stays in order, links and filters are what
--- they were, and each message heard makes it lighter.
-pub record IsPlayed (d e : Domain) (heard : ℕ) : Type 0 where
+-- What a domain becomes by sending and receiving, where so many messages were received: it stays in order, links and filters are what
+-- they were, and each message received makes it lighter.
+pub record IsPlayed (d e : Domain) (received : ℕ) : Type 0 where
   pub in_order : IsInOrder e
   pub topology : (v : ℕ) → topology e v ≡ topology d v
-  pub lighter : weight e + heard ≤ weight d
+  pub lighter : weight e + received ≤ weight d
 
 -- what a domain becomes by sending alone: where nothing waited nothing waits
 pub record AreSent (d e : Domain) : Type 0 where

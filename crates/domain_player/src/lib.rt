@@ -3,9 +3,9 @@
 
 mod fault;
 mod filters;
-mod hearing;
 mod links;
 mod opening;
+mod receiving;
 mod routers;
 mod sending;
 mod sent;

@@ -137,7 +137,7 @@ impl Routers {
     }
 
     /// Plays the routers until no message waits, round by round: in a round each node sends all that waits for its neighbours, and
-    /// then what was sent is heard, both in the order of the senders and, of one sender, of the receivers. So links and filters are
+    /// then what was sent is received, both in the order of the senders and, of one sender, of the receivers. So links and filters are
     /// what they were, and each router's distances are those of rest. After a fault the routers are closed.
     pub fn settle(&mut self) -> Result<Settled, SettleFault>
         ensures quiet { OnOk result (IsQuiet (domain self.new)) }

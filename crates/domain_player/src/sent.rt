@@ -7,7 +7,7 @@ use netchange_core::Message;
 pub(crate) struct Sent {
     /// The node that sent it.
     pub(crate) from: u16,
-    /// The node that will hear it.
+    /// The node that will receive it.
     pub(crate) to: u16,
     /// What it says.
     pub(crate) message: Message,

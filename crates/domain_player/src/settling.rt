@@ -7,7 +7,7 @@ ghost use Rattle.routing_domain.specs.Weight.{weight};
 ghost use Rattle.domain_player.specs.Play.{IsPlayed, domain_of};
 
 use crate::fault::SettleFault;
-use crate::hearing::hear_all;
+use crate::receiving::receive_all;
 use crate::sending::send_all;
 use netchange_core::Tables;
 use std::alloc::Global;
@@ -17,12 +17,12 @@ use std::alloc::Global;
 pub struct Settled {
     /// How many rounds had a message.
     pub rounds: u64,
-    /// How many messages were heard.
+    /// How many messages were received.
     pub messages: u64,
 }
 
 /// Plays the routers, round by round, until no message waits. In a round each node sends all that waits for its neighbours, and
-/// then what was sent is heard, both in the order of the senders and, of one sender, of the receivers.
+/// then what was sent is received, both in the order of the senders and, of one sender, of the receivers.
 pub(crate) fn play(alloc: Global, tables: &mut [Tables]) -> Result<Settled, SettleFault>
     requires order { IsInOrder (domain_of tables.old []) }
     requires most { length tables.old ≤ largest_size }
@@ -41,7 +41,7 @@ pub(crate) fn play(alloc: Global, tables: &mut [Tables]) -> Result<Settled, Sett
         if sents.is_empty() {
             return Ok(settled);
         }
-        hear_all(tables, &sents)?;
+        receive_all(tables, &sents)?;
         let Some(messages) = settled.messages.checked_add(sents.len() as u64) else {
             return Err(SettleFault::TooManyMessages);
         };

@@ -26,7 +26,7 @@ half_linking linked u w p = put u w (record (peer p u w) { linked = linked }) p
 abbrev pub linking : Bool → ℕ → ℕ → PlanView → PlanView
 linking linked u w p = half_linking linked w u (half_linking linked u w p)
 
--- a plan where what the first node hears from the second, or tells it, passes a filter
+-- a plan where what the first node receives from the second, or tells it, passes a filter
 abbrev pub importing : VerifiedView → ℕ → ℕ → PlanView → PlanView
 importing f u w p = put u w (record (peer p u w) { imports = Some f }) p
 

@@ -148,7 +148,7 @@ impl Plan {
         self.set_linked(u, w, false);
     }
 
-    /// What the first node hears from the second passes this filter from now on, whether they are linked or not.
+    /// What the first node receives from the second passes this filter from now on, whether they are linked or not.
     pub fn set_import(&mut self, u: u16, w: u16, filter: Arc<Verified>)
         requires u { u < self.old.size }
         requires w { w < self.old.size }

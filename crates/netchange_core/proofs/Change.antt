@@ -7,7 +7,7 @@ use Rattle.netchange_core.specs.declared.neighbour.Neighbour.{Neighbour}
 use Rattle.netchange_core.specs.Best.{neighbour_distance}
 use Rattle.netchange_core.specs.Kept.{AreKept, AreNeighbours, IsNeighbour, view_of}
 use Rattle.netchange_core.specs.OpeningView.{OpeningView}
-use Rattle.netchange_core.specs.Settling.{AreStaleAt}
+use Rattle.netchange_core.specs.Recomputing.{AreStaleAt}
 use Rattle.netchange_core.specs.World.{NeighbourView, change, neighbour_at, nobody}
 use Rattle.netchange_core.proofs.Views.{view_at}
 

@@ -7,7 +7,7 @@ use Rattle.netchange_core.specs.declared.message.Message.{Message}
 use Rattle.netchange_core.specs.declared.reply.Refusal.TheVariants as refusal
 use Rattle.netchange_core.specs.declared.reply.Reply.TheVariants as reply
 use Rattle.netchange_core.specs.Kept.{AreKept, distance_by, kept_distance}
-use Rattle.netchange_core.specs.Next.{answered, exporting, importing, is_no_neighbour, joined, last_session, recomputed, refused, relieved, set_export, set_import, up}
+use Rattle.netchange_core.specs.Next.{answered, dequeued, exporting, importing, is_no_neighbour, joined, last_session, recomputed, refused, set_export, set_import, up}
 use Rattle.netchange_core.specs.OpeningView.{OpeningView}
 use Rattle.netchange_core.specs.World.{NeighbourView, change, changed, is_up, neighbour_at}
 use Rattle.netchange_core.proofs.Unchanged.{messages_kept}
@@ -67,6 +67,6 @@ drop_min n xs =
     let e : min n (length xs) ≡ length xs = omega arith in
     ap (λ m. drop m xs) e ∙ drop_of_length-le xs (omega arith) ∙ sym (drop_of_length-le xs more)) (cases_lt n (length xs))
 
-pub relieved_min : (max count : ℕ) (n : NeighbourView) → count ≡ min max (length n.queue) → relieved count n ≡ relieved max n
-relieved_min max count n e =
+pub dequeued_min : (max count : ℕ) (n : NeighbourView) → count ≡ min max (length n.queue) → dequeued count n ≡ dequeued max n
+dequeued_min max count n e =
     ap (λ q. record n { queue = q }) (ap (λ m. drop m n.queue) e ∙ drop_min max n.queue)

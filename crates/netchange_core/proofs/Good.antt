@@ -7,7 +7,7 @@ use Rattle.filter_machine.specs.Verdicts.{announced}
 use Rattle.filter_verifier.specs.VerifiedView.{VerifiedView}
 use Rattle.netchange_core.specs.Best.{neighbour_distance}
 use Rattle.netchange_core.specs.Kept.{IsNeighbour}
-use Rattle.netchange_core.specs.Next.{exporting, gone, heard, importing, joined, relieved}
+use Rattle.netchange_core.specs.Next.{advertising, dequeued, exporting, gone, importing, joined}
 use Rattle.netchange_core.specs.OpeningView.{OpeningView}
 use Rattle.netchange_core.specs.FilteredDistance.{distance_given, filtered_distance, prefix_of}
 use Rattle.netchange_core.specs.World.{NeighbourView, is_up}
@@ -30,14 +30,14 @@ joined_good o dist session n p = record {
   exports = p.exports;
 }
 
-pub heard_good : (size v d : ℕ) (n : NeighbourView) → v < size → d ≤ size → IsNeighbour size n → IsNeighbour size (heard v d n)
-heard_good size v d n h within p = record {
-  one_a_node = length-set n.raw v d ∙ p.one_a_node;
+pub advertising_good : (size v d : ℕ) (n : NeighbourView) → v < size → d ≤ size → IsNeighbour size n → IsNeighbour size (advertising v d n)
+advertising_good size v d n h within p = record {
+  one_a_node = length-set n.advertised v d ∙ p.one_a_node;
   reachable = λ u.
       ⊎_elim (λ (same : u ≡ v).
-      subst (λ w. slice_index (slice_set n.raw v d) w ≤ size) (sym same)
-      (subst (λ x. x ≤ size) (sym (get_or-set_same n.raw v d 0 (omega (arith, p.one_a_node)))) within))
-      (λ (other : u ≡ v → ⊥). subst (λ x. x ≤ size) (sym (get_or-set_other n.raw v u d 0 other)) (p.reachable u)) (cases_eq u v);
+      subst (λ w. slice_index (slice_set n.advertised v d) w ≤ size) (sym same)
+      (subst (λ x. x ≤ size) (sym (get_or-set_same n.advertised v d 0 (omega (arith, p.one_a_node)))) within))
+      (λ (other : u ≡ v → ⊥). subst (λ x. x ≤ size) (sym (get_or-set_other n.advertised v u d 0 other)) (p.reachable u)) (cases_eq u v);
   imports = p.imports;
   exports = p.exports;
 }
@@ -52,8 +52,8 @@ pub exporting_good : (o : OpeningView) (dist : ℕ → ℕ) (f : VerifiedView) (
 exporting_good o dist f n e p =
     record { one_a_node = p.one_a_node; reachable = p.reachable; imports = p.imports; exports = e }
 
-pub relieved_good : (size max : ℕ) (n : NeighbourView) → IsNeighbour size n → IsNeighbour size (relieved max n)
-relieved_good size max n p =
+pub dequeued_good : (size max : ℕ) (n : NeighbourView) → IsNeighbour size n → IsNeighbour size (dequeued max n)
+dequeued_good size max n p =
     record { one_a_node = p.one_a_node; reachable = p.reachable; imports = p.imports; exports = p.exports }
 
 -- what cannot be reached stays so under each filter
@@ -69,23 +69,23 @@ pub joined_distance : (o : OpeningView) (dist : ℕ → ℕ) (session v : ℕ) (
     neighbour_distance o v (joined o dist session n) ≡ neighbour_distance o v n
 joined_distance o dist session v n e h =
     ap (λ x. filtered_distance o n.imports v x) (get_or-replicate o.size v o.size 0 h) ∙ filtered_unreached o n.imports v
-    ∙ sym (ap (λ s. cond (is_some s) (filtered_distance o n.imports v (slice_index n.raw v)) o.size) e)
+    ∙ sym (ap (λ s. cond (is_some s) (filtered_distance o n.imports v (slice_index n.advertised v)) o.size) e)
 
 -- a filter of what is told changes nothing while the neighbour is down
 pub importing_distance : (o : OpeningView) (f : VerifiedView) (v : ℕ) (n : NeighbourView) → n.session ≡ None →
     neighbour_distance o v (importing f n) ≡ neighbour_distance o v n
 importing_distance o f v n e =
-    ap (λ s. cond (is_some s) (filtered_distance o (Some f) v (slice_index n.raw v)) o.size) e
-    ∙ sym (ap (λ s. cond (is_some s) (filtered_distance o n.imports v (slice_index n.raw v)) o.size) e)
+    ap (λ s. cond (is_some s) (filtered_distance o (Some f) v (slice_index n.advertised v)) o.size) e
+    ∙ sym (ap (λ s. cond (is_some s) (filtered_distance o n.imports v (slice_index n.advertised v)) o.size) e)
 
--- a distance that is heard is that of one node
-pub heard_distance : (o : OpeningView) (v d u : ℕ) (n : NeighbourView) → (u ≡ v → ⊥) →
-    neighbour_distance o u (heard v d n) ≡ neighbour_distance o u n
-heard_distance o v d u n other =
-    ap (λ x. cond (is_up n) (filtered_distance o n.imports u x) o.size) (get_or-set_other n.raw v u d 0 other)
+-- a distance that is advertised is that of one node
+pub advertising_distance : (o : OpeningView) (v d u : ℕ) (n : NeighbourView) → (u ≡ v → ⊥) →
+    neighbour_distance o u (advertising v d n) ≡ neighbour_distance o u n
+advertising_distance o v d u n other =
+    ap (λ x. cond (is_up n) (filtered_distance o n.imports u x) o.size) (get_or-set_other n.advertised v u d 0 other)
 
-pub heard_here : (o : OpeningView) (v d : ℕ) (n : NeighbourView) → v < length n.raw → is_up n ≡ true →
-    neighbour_distance o v (heard v d n) ≡ filtered_distance o n.imports v d
-heard_here o v d n h up =
-    ap (λ b. cond b (filtered_distance o n.imports v (slice_index (slice_set n.raw v d) v)) o.size) up
-    ∙ ap (λ x. filtered_distance o n.imports v x) (get_or-set_same n.raw v d 0 h)
+pub advertising_here : (o : OpeningView) (v d : ℕ) (n : NeighbourView) → v < length n.advertised → is_up n ≡ true →
+    neighbour_distance o v (advertising v d n) ≡ filtered_distance o n.imports v d
+advertising_here o v d n h up =
+    ap (λ b. cond b (filtered_distance o n.imports v (slice_index (slice_set n.advertised v d) v)) o.size) up
+    ∙ ap (λ x. filtered_distance o n.imports v x) (get_or-set_same n.advertised v d 0 h)

@@ -1,3 +1,4 @@
+pub mod BestAfter
 pub mod Change
 pub mod Goes
 pub mod Good
@@ -10,12 +11,11 @@ pub mod Opened
 pub mod Presence
 pub mod Queued
 pub mod Received
+pub mod Recomputed
 pub mod Replaced
-pub mod Revised
 pub mod Rooms
 pub mod Rows
 pub mod Scanned
-pub mod Settled
 pub mod States
 pub mod Unchanged
 pub mod Views

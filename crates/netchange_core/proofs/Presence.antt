@@ -18,7 +18,7 @@ use Rattle.netchange_core.specs.Calls.{newcomer}
 use Rattle.netchange_core.specs.Next.{tell_changes}
 use Rattle.netchange_core.specs.OpeningView.{OpeningView}
 use Rattle.netchange_core.specs.Present.{ArePresent, AreRising, IsPresent, present, session_in, sessions_of}
-use Rattle.netchange_core.specs.Settling.{told_if_differs}
+use Rattle.netchange_core.specs.Recomputing.{told_if_differs}
 use Rattle.netchange_core.specs.World.{NeighbourView, change, has_session, neighbour_at}
 use Rattle.netchange_core.proofs.Change.{change_set, map_change_same}
 use Rattle.netchange_core.proofs.Holders.{AreApart, holder_found, holder_none}

@@ -8,7 +8,7 @@ use Rattle.netchange_core.specs.Kept.{AreNeighbours, IsNeighbour}
 use Rattle.netchange_core.specs.Next.{count_changes, message_of, tell, tell_changes}
 use Rattle.netchange_core.specs.OpeningView.{OpeningView}
 use Rattle.netchange_core.specs.Room.{queueing}
-use Rattle.netchange_core.specs.Settling.{told_if_differs}
+use Rattle.netchange_core.specs.Recomputing.{told_if_differs}
 use Rattle.netchange_core.specs.World.{NeighbourView, is_up, neighbour_at, nobody}
 
 -- what a function doesn't see where it doesn't see the queue

@@ -8,13 +8,13 @@ use Rattle.netchange_core.specs.declared.reply.Refusal.TheVariants as refusal
 use Rattle.netchange_core.specs.declared.reply.Reply.TheVariants as reply
 use Rattle.netchange_core.specs.Best.{best_by, neighbour_distance}
 use Rattle.netchange_core.specs.Kept.{AreKept, AreNeighbours, IsDestination, distance_by}
-use Rattle.netchange_core.specs.Next.{answered, count_changes, heard, receive, recomputed, refused, tell, tell_changes}
+use Rattle.netchange_core.specs.Next.{advertising, answered, count_changes, receive, recomputed, refused, tell, tell_changes}
 use Rattle.netchange_core.specs.FilteredDistance.{filtered_distance}
 use Rattle.netchange_core.specs.OpeningView.{OpeningView}
-use Rattle.netchange_core.specs.Settling.{told_if_differs}
+use Rattle.netchange_core.specs.Recomputing.{told_if_differs}
 use Rattle.netchange_core.specs.World.{NeighbourView, change, changed, is_up, neighbour_at, nobody}
 use Rattle.netchange_core.proofs.Change.{change_good, changed_at, map_change, map_change_same}
-use Rattle.netchange_core.proofs.Good.{heard_distance, heard_good, heard_here}
+use Rattle.netchange_core.proofs.Good.{advertising_distance, advertising_good, advertising_here}
 use Rattle.netchange_core.proofs.Queued.{map_told_if_differs, tell_good}
 use Rattle.netchange_core.proofs.Replaced.{set_each}
 use Rattle.netchange_core.proofs.Worlds.{kept_is, world}
@@ -99,23 +99,23 @@ told_good o size v a b ns good =
     cond_both (nat_eq a b) ns (map (tell o v b) ns) (AreNeighbours size) (λ _. good) (λ _. tell_good o size v b ns good)
 
 module _ (o : OpeningView) (k v d : ℕ) (ns ms : List NeighbourView) (ds : List Destination) (head : Destination) (near : ℕ)
-    (route : BestRoute) (kept : AreKept o ns ds) (h : k < length ns) (e : ms ≡ change k (heard v d) ns) (node : v < o.size)
+    (route : BestRoute) (kept : AreKept o ns ds) (h : k < length ns) (e : ms ≡ change k (advertising v d) ns) (node : v < o.size)
     (reach : d ≤ o.size) (up : is_up (neighbour_at ns k) ≡ true) (near_is : near ≡ filtered_distance o (neighbour_at ns k).imports v d)
     (i : ℕ) (place : i ≡ v)
     (best : route ≡ best_by o v (slice_set (slice_index_or ds i head).distances.items k near)) where
   others : (u : ℕ) → (u ≡ v → ⊥) → map (neighbour_distance o u) ms ≡ map (neighbour_distance o u) ns
   others u other =
       ap (λ qs. map (neighbour_distance o u) qs) e
-      ∙ map_change_same (neighbour_distance o u) k (heard v d) ns (heard_distance o v d u (neighbour_at ns k) other)
+      ∙ map_change_same (neighbour_distance o u) k (advertising v d) ns (advertising_distance o v d u (neighbour_at ns k) other)
 
   here : map (neighbour_distance o v) ms ≡ slice_set (map (neighbour_distance o v) ns) k near
   here =
-      let raw = (kept.neighbours.each k nobody h).one_a_node in
+      let advertised = (kept.neighbours.each k nobody h).one_a_node in
       ap (λ qs. map (neighbour_distance o v) qs) e
-      ∙ map_change (neighbour_distance o v) k (heard v d) ns h
+      ∙ map_change (neighbour_distance o v) k (advertising v d) ns h
       ∙ ap (λ x. slice_set (map (neighbour_distance o v) ns) k x)
-      (ap (λ n. neighbour_distance o v n) (changed_at k (heard v d) ns h)
-      ∙ heard_here o v d (neighbour_at ns k) (omega (arith, raw)) up ∙ sym near_is)
+      (ap (λ n. neighbour_distance o v n) (changed_at k (advertising v d) ns h)
+      ∙ advertising_here o v d (neighbour_at ns k) (omega (arith, advertised)) up ∙ sym near_is)
 
   column : slice_set (slice_index_or ds i head).distances.items k near ≡ map (neighbour_distance o v) ms
   column =
@@ -134,15 +134,15 @@ module _ (o : OpeningView) (k v d : ℕ) (ns ms : List NeighbourView) (ds : List
   pub received : (sessions : ℕ) (rs : List NeighbourView) (byte : ℕ) →
       rs ≡ told_if_differs o v (slice_index_or ds i head).route.dist route.dist ms →
       byte ≡ from_bool (not (nat_eq (slice_index_or ds i head).route.dist route.dist)) →
-      recomputed (world o sessions ns) (changed (world o sessions ns) k (heard v d))
+      recomputed (world o sessions ns) (changed (world o sessions ns) k (advertising v d))
       ≡ answered (world o sessions rs) (reply.Done byte)
   received sessions rs byte told counts =
-      let neighbours : tell_changes o (distance_by o ns) (distance_by o (change k (heard v d) ns)) o.size (change k (heard v d) ns) ≡ rs =
+      let neighbours : tell_changes o (distance_by o ns) (distance_by o (change k (advertising v d) ns)) o.size (change k (advertising v d) ns) ≡ rs =
       ap (λ qs. tell_changes o (distance_by o ns) (distance_by o qs) o.size qs) (sym e)
       ∙ one_told o (distance_by o ns) (distance_by o ms) v o.size ms node same_others
       ∙ (λ i. told_if_differs o v (sym old_is i) (sym new_is i) ms)
       ∙ sym told in
-      let number : count_changes (distance_by o ns) (distance_by o (change k (heard v d) ns)) o.size ≡ byte =
+      let number : count_changes (distance_by o ns) (distance_by o (change k (advertising v d) ns)) o.size ≡ byte =
       ap (λ qs. count_changes (distance_by o ns) (distance_by o qs) o.size) (sym e)
       ∙ one_counted (distance_by o ns) (distance_by o ms) v o.size node same_others
       ∙ (λ i. cond (nat_eq (sym old_is i) (sym new_is i)) 0 1)
@@ -152,8 +152,8 @@ module _ (o : OpeningView) (k v d : ℕ) (ns ms : List NeighbourView) (ds : List
 
   ms_good : AreNeighbours o.size ms
   ms_good = subst (AreNeighbours o.size) (sym e)
-      (change_good o.size k (heard v d) ns h kept.neighbours
-      (heard_good o.size v d (neighbour_at ns k) node reach (kept.neighbours.each k nobody h)))
+      (change_good o.size k (advertising v d) ns h kept.neighbours
+      (advertising_good o.size v d (neighbour_at ns k) node reach (kept.neighbours.each k nobody h)))
 
   pub received_kept : (rs : List NeighbourView) (new : Destination) →
       rs ≡ told_if_differs o v (slice_index_or ds i head).route.dist route.dist ms →
@@ -187,9 +187,9 @@ module _ (o : OpeningView) (k v d : ℕ) (ns ms : List NeighbourView) (ds : List
 
 -- a distance that is in order
 pub receive_goes : (o : OpeningView) (sessions : ℕ) (ns : List NeighbourView) (k v d : ℕ) → v < o.size → d ≤ o.size →
-    receive (world o sessions ns) (Some k) v d ≡ recomputed (world o sessions ns) (changed (world o sessions ns) k (heard v d))
+    receive (world o sessions ns) (Some k) v d ≡ recomputed (world o sessions ns) (changed (world o sessions ns) k (advertising v d))
 receive_goes o sessions ns k v d node reach =
     let w = world o sessions ns in
     ap (λ b. cond b (refused w refusal.BadDest)
-    (cond (nat_lt o.size d) (refused w refusal.BadDist) (recomputed w (changed w k (heard v d))))) (lt-leb o.size v node)
-    ∙ ap (λ b. cond b (refused w refusal.BadDist) (recomputed w (changed w k (heard v d)))) (le-ltb o.size d reach)
+    (cond (nat_lt o.size d) (refused w refusal.BadDist) (recomputed w (changed w k (advertising v d))))) (lt-leb o.size v node)
+    ∙ ap (λ b. cond b (refused w refusal.BadDist) (recomputed w (changed w k (advertising v d)))) (le-ltb o.size d reach)

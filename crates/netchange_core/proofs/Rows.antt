@@ -40,12 +40,12 @@ unfolding best_by filtered_distance
 joins = refl
 
 -- a neighbour that is near is the next hop; what it reaches at distance 3 is out of reach here
-pub hears : replies (event.Up 1 ∷ (event.Take 1 9 ∷ (event.Receive 1 1 0 ∷ (event.Show 1 ∷ (event.Take 1 9
+pub receives : replies (event.Up 1 ∷ (event.Take 1 9 ∷ (event.Receive 1 1 0 ∷ (event.Show 1 ∷ (event.Take 1 9
     ∷ (event.Receive 1 2 3 ∷ (event.Show 2 ∷ [])))))))
     ≡ reply.Opened 1 ∷ (reply.Messages nothing_reached ∷ (reply.Done 1 ∷ (reply.Route 1 (Node 1)
     ∷ (reply.Messages (told 1 1 ∷ []) ∷ (reply.Done 0 ∷ (reply.Route 4 Nowhere ∷ []))))))
 unfolding best_by filtered_distance
-hears = refl
+receives = refl
 
 -- of two neighbours that are as near the least is the next hop, and a changed next hop alone is not told
 pub ties : replies (event.Up 1 ∷ (event.Up 2 ∷ (event.Receive 2 3 1 ∷ (event.Show 3 ∷ (event.Receive 1 3 1

@@ -20,12 +20,12 @@ use Rattle.netchange_core.specs.Next.{Answered, answered, recomputed}
 use Rattle.netchange_core.specs.OpeningView.{OpeningView}
 use Rattle.netchange_core.specs.Present.{ArePresent, sessions_of}
 use Rattle.netchange_core.specs.Room.{HasRoom, HaveRoom}
-use Rattle.netchange_core.specs.Settling.{IsStaleAt, Settles, world_told}
+use Rattle.netchange_core.specs.Recomputing.{IsStaleAt, Recomputes, world_told}
 use Rattle.netchange_core.specs.World.{NeighbourView, change, changed, neighbour_at, nobody}
 use Rattle.netchange_core.proofs.Change.{change_good, change_stale, changed_views}
 use Rattle.netchange_core.proofs.Presence.{sessions_kept, sessions_told}
 use Rattle.netchange_core.proofs.Rooms.{room_set}
-use Rattle.netchange_core.proofs.Settled.{Settled, settled_kept}
+use Rattle.netchange_core.proofs.Recomputed.{AreRecomputed, recomputed_kept}
 use Rattle.netchange_core.proofs.Unchanged.{kept_unchanged}
 use Rattle.netchange_core.proofs.Views.{same_views, view_at}
 use Rattle.netchange_core.proofs.Worlds.{recomputed_is}
@@ -124,26 +124,26 @@ module _ (s : State) (right : AreTables s) (k : ℕ) (f : NeighbourView → Neig
     room = room;
   }
 
-  -- and is right again when it was brought up to date, which carries out an event that recomputes
-  pub settled : (ps : Vec Present Global) (new : State) (count : ℕ) → Settles (state_with s ns ps) new count →
+  -- and is right again when it was recomputed, which carries out an event that recomputes
+  pub recompute_handles : (ps : Vec Present Global) (new : State) (count : ℕ) → Recomputes (state_with s ns ps) new count →
       Handles s (recomputed (world_of s) (changed (world_of s) k f)) new (Ok (reply.Done count))
-  settled ps new count settles = record {
+  recompute_handles ps new count recomputes = record {
     done =
         recomputed_is s.opening s.sessions.count (views_of s) (map view_of ns.items)
-        (world_told (state_with s ns ps)).neighbours s.destinations.items k f count right.kept one.is refl settles.count_is
-        ∙ ap (λ w. answered w (reply.Done count)) (sym settles.told);
-    tables = settles.tables;
-    opening = ap (λ w. w.opening) settles.told;
+        (world_told (state_with s ns ps)).neighbours s.destinations.items k f count right.kept one.is refl recomputes.count_is
+        ∙ ap (λ w. answered w (reply.Done count)) (sym recomputes.told);
+    tables = recomputes.tables;
+    opening = ap (λ w. w.opening) recomputes.told;
     same = tt;
     memory = tt;
   }
 
--- a state after the loop that brings all routes up to date
-pub settles : (s : State) (k : ℕ) (ns : List Neighbour) (ds : List Destination) (count : ℕ) → IsStaleAt k s →
-    Settled s.opening s.neighbours.items s.destinations.items s.opening.size ns ds count →
+-- a state after the loop that recomputes all routes
+pub recomputes : (s : State) (k : ℕ) (ns : List Neighbour) (ds : List Destination) (count : ℕ) → IsStaleAt k s →
+    AreRecomputed s.opening s.neighbours.items s.destinations.items s.opening.size ns ds count →
     length ns ≡ length s.neighbours.items → length ds ≡ length s.destinations.items →
-    Settles s (record s { neighbours = with_items s.neighbours ns; destinations = with_items s.destinations ds }) count
-settles s k ns ds count stale loop long wide =
+    Recomputes s (record s { neighbours = with_items s.neighbours ns; destinations = with_items s.destinations ds }) count
+recomputes s k ns ds count stale loop long wide =
     let old = kept_distance s.destinations.items in
     let new = distance_by s.opening (views_of s) in
     let told = ap (λ ms. map view_of ms) (put_back s.neighbours ns long) ∙ loop.told in
@@ -152,7 +152,7 @@ settles s k ns ds count stale loop long wide =
         kept = subst (λ ms. AreKept s.opening (map view_of ms) (with_items s.destinations ds).items)
             (sym (put_back s.neighbours ns long))
             (subst (λ es. AreKept s.opening (map view_of ns) es) (sym (put_back s.destinations ds wide))
-            (settled_kept s.opening s.neighbours.items ns s.destinations.items ds count loop stale.neighbours
+            (recomputed_kept s.opening s.neighbours.items ns s.destinations.items ds count loop stale.neighbours
             (wide ∙ stale.destinations.one_a_node)));
         present = subst (λ ss. ArePresent s.sessions.count ss s.sessions.present.items)
             (sym (ap sessions_of told ∙ sessions_told s.opening old new s.opening.size (views_of s))) stale.present;

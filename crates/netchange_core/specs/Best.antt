@@ -8,10 +8,10 @@ use Rattle.netchange_core.specs.OpeningView.{OpeningView}
 use Rattle.netchange_core.specs.FilteredDistance.{filtered_distance}
 use Rattle.netchange_core.specs.World.{NeighbourView, World, is_up}
 
--- Tel's ndis: how far a node is from a neighbour, as the neighbour told and after the import filter; the size of the domain,
+-- Tel's ndis: how far a node is from a neighbour, as it advertised and after the import filter; the size of the domain,
 -- which says that there is no way, where the neighbour is down
 abbrev pub neighbour_distance : OpeningView → ℕ → NeighbourView → ℕ
-neighbour_distance o v n = if is_up n then filtered_distance o n.imports v (slice_index n.raw v) else o.size
+neighbour_distance o v n = if is_up n then filtered_distance o n.imports v (slice_index n.advertised v) else o.size
 
 -- the least of a list of numbers and a bound, and where a number stands first
 abbrev pub least : ℕ → List ℕ → ℕ

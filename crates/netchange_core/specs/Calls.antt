@@ -11,7 +11,7 @@ use Rattle.netchange_core.specs.World.{NeighbourView, World, holder, neighbour_a
 
 -- a neighbour that never was up
 abbrev pub newcomer : OpeningView → NeighbourView
-newcomer o = record { session = None; raw = unreached o; imports = None; exports = None; queue = [] }
+newcomer o = record { session = None; advertised = unreached o; imports = None; exports = None; queue = [] }
 
 -- the world of an opening: no neighbour was ever up
 abbrev pub opened : OpeningView → World

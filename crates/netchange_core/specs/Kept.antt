@@ -17,7 +17,7 @@ use Rattle.netchange_core.specs.World.{NeighbourView, World}
 abbrev pub view_of : Neighbour → NeighbourView
 view_of n = record {
   session = n.session;
-  raw = n.raw.items;
+  advertised = n.advertised.items;
   imports = option_map (λ f. f.value) n.imports;
   exports = option_map (λ f. f.value) n.exports;
   queue = n.queue.items;
@@ -41,8 +41,8 @@ FitsSize size filter = IfSome filter (λ f. f.size ≡ size)
 
 -- a neighbour in a domain of this size: it told a distance for each node, and its filters fit
 pub record IsNeighbour (size : ℕ) (n : NeighbourView) : Type 0 where
-  pub one_a_node : length n.raw ≡ size
-  pub reachable : (v : ℕ) → slice_index n.raw v ≤ size
+  pub one_a_node : length n.advertised ≡ size
+  pub reachable : (v : ℕ) → slice_index n.advertised v ≤ size
   pub imports : FitsSize size n.imports
   pub exports : FitsSize size n.exports
 

@@ -13,4 +13,4 @@ pub mod World
 -- What only the bodies of this crate are proved against.
 pub mod Handling
 pub mod Present
-pub mod Settling
+pub mod Recomputing

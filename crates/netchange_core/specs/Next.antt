@@ -64,21 +64,21 @@ unreached o = replicate o.size o.size
 abbrev pub joined : OpeningView → (ℕ → ℕ) → ℕ → NeighbourView → NeighbourView
 joined o dist session n = record n {
   session = Some session;
-  raw = unreached o;
+  advertised = unreached o;
   queue = all_messages o n.exports dist o.size;
 }
 
 -- Down: a neighbour leaves, and its queue is dropped. Its filters stay.
 abbrev pub gone : OpeningView → NeighbourView → NeighbourView
-gone o n = record n { session = None; raw = unreached o; queue = [] }
+gone o n = record n { session = None; advertised = unreached o; queue = [] }
 
--- Receive: a neighbour tells a distance to a node
-abbrev pub heard : ℕ → ℕ → NeighbourView → NeighbourView
-heard v d n = record n { raw = slice_set n.raw v d }
+-- Receive: a neighbour advertises a distance to a node
+abbrev pub advertising : ℕ → ℕ → NeighbourView → NeighbourView
+advertising v d n = record n { advertised = slice_set n.advertised v d }
 
 -- Take: the first messages leave the queue
-abbrev pub relieved : ℕ → NeighbourView → NeighbourView
-relieved max n = record n { queue = drop max n.queue }
+abbrev pub dequeued : ℕ → NeighbourView → NeighbourView
+dequeued max n = record n { queue = drop max n.queue }
 
 -- SetImport: a filter of what a neighbour tells, also of what it told before
 abbrev pub importing : VerifiedView → NeighbourView → NeighbourView
@@ -116,12 +116,12 @@ receive w None v d = refused w refusal.Stale
 receive w (Some k) v d =
     if nat_le w.opening.size v then refused w refusal.BadDest
     else (if nat_lt w.opening.size d then refused w refusal.BadDist
-    else recomputed w (changed w k (heard v d)))
+    else recomputed w (changed w k (advertising v d)))
 
 abbrev pub take_from : World → Option ℕ → ℕ → Answered
 take_from w None max = refused w refusal.Stale
 take_from w (Some k) max =
-    answered (changed w k (relieved max)) (reply.Messages (take max (neighbour_at w.neighbours k).queue))
+    answered (changed w k (dequeued max)) (reply.Messages (take max (neighbour_at w.neighbours k).queue))
 
 abbrev pub set_import : World → ℕ → VerifiedView → Answered
 set_import w k f =

@@ -6,11 +6,11 @@ use Rattle.filter_verifier.specs.VerifiedView.{VerifiedView}
 use Rattle.netchange_core.specs.declared.message.Message.{Message}
 use Rattle.netchange_core.specs.OpeningView.{OpeningView}
 
--- a node as a neighbour: its present session, if it is up; the distance to each node that it told last in this session; the
--- two filters; and the messages that wait to be sent to it, the oldest first
+-- a node as a neighbour: its present session, if it is up; the distance to each node that it advertised last in this session;
+-- the two filters; and the messages that wait to be sent to it, the oldest first
 pub record NeighbourView : Type 0 where
   pub session : Option ℕ
-  pub raw : List ℕ
+  pub advertised : List ℕ
   pub imports : Option VerifiedView
   pub exports : Option VerifiedView
   pub queue : List Message
@@ -24,7 +24,7 @@ pub record World : Type 0 where
 
 -- a neighbour that never was up
 abbrev pub nobody : NeighbourView
-nobody = record { session = None; raw = []; imports = None; exports = None; queue = [] }
+nobody = record { session = None; advertised = []; imports = None; exports = None; queue = [] }
 
 -- the neighbour of a number
 abbrev pub neighbour_at : List NeighbourView → ℕ → NeighbourView

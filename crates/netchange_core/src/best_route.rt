@@ -119,7 +119,7 @@ pub(crate) fn stays(best: BestRoute, hop: usize, near: u16) -> bool
 /// The best route, where one neighbour is now at another distance, from the one that was best. Only where the next hop
 /// got worse is each up neighbour looked at.
 #[inline(always)]
-pub(crate) fn revised(
+pub(crate) fn best_after(
     size: u16,
     present: &[Present],
     distances: &[u16],

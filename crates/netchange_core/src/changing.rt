@@ -3,7 +3,7 @@
 ghost use Rattle.std.specs.Prelude.{◌≡◌, ℕ, ◌+◌, ◌≤◌, ◌<◌, ◌++◌, [], length, replicate, take, vec_capacity, vec_len};
 ghost use Rattle.std.specs.VecDeque.{deque_len, deque_capacity};
 ghost use Rattle.netchange_core.specs.Kept.{AreDestinations, FitsSize, filter_of, kept_distance, view_of};
-ghost use Rattle.netchange_core.specs.Next.{exporting, gone, heard, importing, joined, relieved};
+ghost use Rattle.netchange_core.specs.Next.{advertising, dequeued, exporting, gone, importing, joined};
 ghost use Rattle.netchange_core.specs.Room.{HasRoom};
 
 use crate::destination::Destination;
@@ -15,29 +15,29 @@ use filter_verifier::Verified;
 use std::sync::Arc;
 
 /// Forgets all distances.
-fn forget(raw: &mut [u16], size: u16)
-    ensures { raw.new ≡ replicate (length raw.old) size }
+fn forget(advertised: &mut [u16], size: u16)
+    ensures { advertised.new ≡ replicate (length advertised.old) size }
 {
-    raw.fill(size);
+    advertised.fill(size);
 }
 
-/// A neighbour leaves: its session is over, what it told is forgotten, and its queue is dropped.
+/// A neighbour leaves: its session is over, what it advertised is forgotten, and its queue is dropped.
 pub(crate) fn leave(opening: &Opening, neighbour: &mut Neighbour)
-    requires { length neighbour.old.raw.items ≡ opening.now.size }
+    requires { length neighbour.old.advertised.items ≡ opening.now.size }
     ensures { view_of neighbour.new ≡ gone opening.now (view_of neighbour.old) }
 {
     neighbour.session = None;
-    forget(neighbour.raw.as_mut_slice(), opening.size());
+    forget(neighbour.advertised.as_mut_slice(), opening.size());
     neighbour.queue.clear();
 }
 
-/// A neighbour tells a distance to a node.
-pub(crate) fn hear(neighbour: &mut Neighbour, node: u16, dist: u16)
-    requires { node < length neighbour.old.raw.items }
-    ensures view { view_of neighbour.new ≡ heard node dist (view_of neighbour.old) }
+/// A neighbour advertises a distance to a node.
+pub(crate) fn advertise(neighbour: &mut Neighbour, node: u16, dist: u16)
+    requires { node < length neighbour.old.advertised.items }
+    ensures view { view_of neighbour.new ≡ advertising node dist (view_of neighbour.old) }
     ensures room { (more : ℕ) → HasRoom more neighbour.old → HasRoom more neighbour.new }
 {
-    neighbour.raw[usize::from(node)] = dist;
+    neighbour.advertised[usize::from(node)] = dist;
 }
 
 /// A neighbour's distances pass another filter.
@@ -55,14 +55,14 @@ pub(crate) fn join(
     destinations: &[Destination],
     session: u32,
 )
-    requires raw { length neighbour.old.raw.items ≡ opening.now.size }
+    requires advertised { length neighbour.old.advertised.items ≡ opening.now.size }
     requires exports { FitsSize opening.now.size (filter_of neighbour.old.exports) }
     requires destinations { AreDestinations opening.now destinations.now }
     requires room { deque_len neighbour.old.queue + opening.now.size ≤ deque_capacity neighbour.old.queue }
     ensures { view_of neighbour.new ≡ joined opening.now (kept_distance destinations.now) session (view_of neighbour.old) }
 {
     neighbour.session = Some(session);
-    forget(neighbour.raw.as_mut_slice(), opening.size());
+    forget(neighbour.advertised.as_mut_slice(), opening.size());
     neighbour.queue.clear();
     tell_everything(opening, neighbour, destinations);
 }
@@ -98,10 +98,10 @@ fn append(items: &mut Vec<Message>, more: &[Message])
 }
 
 /// All messages leave a neighbour's queue, into a vector with room for them.
-fn relieve_of_all(neighbour: &mut Neighbour, items: &mut Vec<Message>)
+fn dequeue_all(neighbour: &mut Neighbour, items: &mut Vec<Message>)
     requires empty { items.old.items ≡ [] }
     requires room { deque_len neighbour.old.queue ≤ vec_capacity items.old }
-    ensures view { view_of neighbour.new ≡ relieved (deque_len neighbour.old.queue) (view_of neighbour.old) }
+    ensures view { view_of neighbour.new ≡ dequeued (deque_len neighbour.old.queue) (view_of neighbour.old) }
     ensures items { items.new.items ≡ neighbour.old.queue.items }
 {
     let (first, second) = neighbour.queue.as_slices();
@@ -113,15 +113,15 @@ fn relieve_of_all(neighbour: &mut Neighbour, items: &mut Vec<Message>)
 }
 
 /// The first messages leave a neighbour's queue, into a vector with room for them.
-pub(crate) fn relieve(neighbour: &mut Neighbour, items: &mut Vec<Message>, count: usize)
+pub(crate) fn dequeue(neighbour: &mut Neighbour, items: &mut Vec<Message>, count: usize)
     requires count { count ≤ length neighbour.old.queue.items }
     requires empty { items.old.items ≡ [] }
     requires room { count ≤ vec_capacity items.old }
-    ensures view { view_of neighbour.new ≡ relieved count (view_of neighbour.old) }
+    ensures view { view_of neighbour.new ≡ dequeued count (view_of neighbour.old) }
     ensures items { items.new.items ≡ take count neighbour.old.queue.items }
 {
     if count == neighbour.queue.len() {
-        relieve_of_all(neighbour, items);
+        dequeue_all(neighbour, items);
         return;
     }
     for _ in 0..count {

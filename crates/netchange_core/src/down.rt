@@ -28,7 +28,7 @@ impl State {
         let neighbour = &mut self.neighbours[hop];
         close(&mut self.sessions.present, session);
         leave(&self.opening, neighbour);
-        let changed = self.settle(hop);
+        let changed = self.recompute(hop);
         Ok(Reply::Done { changed })
     }
 }

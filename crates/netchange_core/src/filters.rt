@@ -36,7 +36,7 @@ impl State {
             usize::from(self.opening.size()),
         )?;
         import(&mut self.neighbours[node], filter);
-        let changed = self.settle(node);
+        let changed = self.recompute(node);
         Ok(Reply::Done { changed })
     }
 

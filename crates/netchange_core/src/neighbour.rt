@@ -17,8 +17,8 @@ use std::sync::Arc;
 pub(crate) struct Neighbour {
     /// Its present session, if it is up.
     pub(crate) session: Option<u32>,
-    /// The distance to each node that it told last in this session.
-    pub(crate) raw: Vec<u16>,
+    /// The distance to each node that it advertised last in this session.
+    pub(crate) advertised: Vec<u16>,
     /// The filter of what it tells.
     pub(crate) imports: Option<Arc<Verified>>,
     /// The filter of what it is told.
@@ -34,7 +34,7 @@ fn make_newcomer(alloc: Global, opening: &Opening) -> Result<Neighbour, AllocErr
     let size = opening.size();
     Ok(Neighbour {
         session: None,
-        raw: vec![in alloc; size; usize::from(size)]?,
+        advertised: vec![in alloc; size; usize::from(size)]?,
         imports: None,
         exports: None,
         queue: VecDeque::new(alloc),

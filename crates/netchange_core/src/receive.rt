@@ -1,4 +1,4 @@
-//! A neighbour tells a distance.
+//! A neighbour advertises a distance.
 
 ghost use Rattle.std.specs.Prelude.{◌≡◌, ◌<◌, ◌≤◌, true, Some, Ok, Err, IfOk, IfErr};
 ghost use Rattle.std.specs.Int.{from_bool};
@@ -10,12 +10,12 @@ ghost use Rattle.netchange_core.specs.World.{is_up, neighbour_at};
 ghost use Rattle.netchange_core.specs.declared.reply.Reply.TheVariants as reply;
 
 use crate::best_route::stays;
-use crate::changing::hear;
+use crate::changing::advertise;
 use crate::filter::filtered_distance;
 use crate::message::Message;
+use crate::recomputing::{put, route_after};
 use crate::reply::{Refusal, Reply};
 use crate::room::make_room_if_differs;
-use crate::settling::{put, route_after};
 use crate::state::State;
 use crate::telling::tell_if_differs;
 use std::alloc::AllocError;
@@ -41,7 +41,7 @@ impl State {
         let route = destination.route;
         if stays(route, hop, near) {
             put(destination, hop, near, route);
-            hear(&mut self.neighbours[hop], dest, dist);
+            advertise(&mut self.neighbours[hop], dest, dist);
             return Ok(Reply::Done { changed: 0 });
         }
         let differs = self.reroute(hop, message, near)?;
@@ -70,7 +70,7 @@ impl State {
         let route = route_after(opening, present, dest, destination, hop, near);
         let old = destination.route.dist;
         make_room_if_differs(present, &mut self.neighbours, old, route.dist)?;
-        hear(&mut self.neighbours[hop], dest, dist);
+        advertise(&mut self.neighbours[hop], dest, dist);
         put(destination, hop, near, route);
         let differs = tell_if_differs(
             opening,

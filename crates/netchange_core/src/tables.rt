@@ -94,17 +94,17 @@ impl Tables {
         self.state.destinations[usize::from(dest)].route
     }
 
-    /// The distance to a node that another told last in its present session; the size of the domain where it told none.
-    pub fn told(&self, node: u16, dest: u16) -> u16
+    /// The distance to a node that another advertised last in its present session; the size of the domain where it advertised none.
+    pub fn advertised(&self, node: u16, dest: u16) -> u16
         requires node { node < self.now.opening.size }
         requires dest { dest < self.now.opening.size }
-        ensures { result ≡ slice_index (neighbour_at self.now.neighbours node).raw dest }
+        ensures { result ≡ slice_index (neighbour_at self.now.neighbours node).advertised dest }
     {
-        self.state.neighbours[usize::from(node)].raw[usize::from(dest)]
+        self.state.neighbours[usize::from(node)].advertised[usize::from(dest)]
     }
 
-    /// How far a node is from another, as that told and after its import filter; the size of the domain where it is not up.
-    pub fn heard(&self, node: u16, dest: u16) -> u16
+    /// How far a node is from another, as that advertised and after its import filter; the size of the domain where it is not up.
+    pub fn neighbour_distance(&self, node: u16, dest: u16) -> u16
         requires node { node < self.now.opening.size }
         requires dest { dest < self.now.opening.size }
         ensures { result ≡ neighbour_distance self.now.opening dest (neighbour_at self.now.neighbours node) }

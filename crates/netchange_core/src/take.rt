@@ -6,7 +6,7 @@ ghost use Rattle.netchange_core.specs.Handling.{Handles};
 ghost use Rattle.netchange_core.specs.Next.{take_from};
 ghost use Rattle.netchange_core.specs.World.{is_up, neighbour_at};
 
-use crate::changing::relieve;
+use crate::changing::dequeue;
 use crate::message::Messages;
 use crate::reply::Reply;
 use crate::state::State;
@@ -22,7 +22,7 @@ impl State {
         let neighbour = &mut self.neighbours[hop];
         let count = usize::from(max).min(neighbour.queue.len());
         let mut items = Vec::with_capacity(*neighbour.queue.allocator(), count)?;
-        relieve(neighbour, &mut items, count);
+        dequeue(neighbour, &mut items, count);
         Ok(Reply::Messages(Messages::from_vec(items)))
     }
 }

@@ -6,7 +6,7 @@ ghost use Rattle.netchange_core.specs.Kept.{AreDestinations, AreNeighbours, Fits
 ghost use Rattle.netchange_core.specs.Next.{all_messages, message_of, tell};
 ghost use Rattle.netchange_core.specs.Present.{AreListed, sessions_of};
 ghost use Rattle.netchange_core.specs.Room.{HaveRoom, queueing};
-ghost use Rattle.netchange_core.specs.Settling.{told_if_differs};
+ghost use Rattle.netchange_core.specs.Recomputing.{told_if_differs};
 
 use crate::destination::Destination;
 use crate::filter::filtered_distance;

@@ -39,18 +39,18 @@ session_text w (Some s) = pair_text w s
 
 -- what the import filter made of a distance, where that is another
 abbrev pub filtered_text : ℕ → ℕ → List ℕ
-filtered_text told heard = if told == heard then [] else 62 ∷ decimal heard
+filtered_text advertised filtered = if advertised == filtered then [] else 62 ∷ decimal filtered
 
--- ` V:D>E`, or ` V:D` where the import filter leaves the distance as it was told
+-- ` V:D>E`, or ` V:D` where the import filter leaves the distance as it was advertised
 abbrev pub told_text : ℕ → ℕ → ℕ → List ℕ
-told_text v told heard = pair_text v told ++ filtered_text told heard
+told_text v advertised filtered = pair_text v advertised ++ filtered_text advertised filtered
 
 abbrev pub node_text : World → Look → ℕ → List ℕ
 node_text w Routes v = route_text v (best w v)
 node_text w Neighbours v = session_text v (session_of w v)
 node_text w (Told k) v =
     let n = neighbour_at w.neighbours k in
-    told_text v (slice_index n.raw v) (neighbour_distance w.opening v n)
+    told_text v (slice_index n.advertised v) (neighbour_distance w.opening v n)
 
 -- ---- a look at the tables
 

@@ -41,17 +41,17 @@ fn push_session(out: &mut Vec<u8>, node: u16, session: Option<u32>) -> Result<()
     }
 }
 
-/// Adds the distance to a node that a neighbour told, and what its import filter made of it where that is another.
-fn push_told(out: &mut Vec<u8>, node: u16, told: u16, heard: u16) -> Result<(), AllocError>
-    ensures ok { OnOk result (out.new.items ≡ out.old.items ++ spec.told_text node told heard) }
+/// Adds the distance to a node that a neighbour advertised, and what its import filter made of it where that is another.
+fn push_told(out: &mut Vec<u8>, node: u16, advertised: u16, filtered: u16) -> Result<(), AllocError>
+    ensures ok { OnOk result (out.new.items ≡ out.old.items ++ spec.told_text node advertised filtered) }
     ensures err { OnErr result (StartsWith out.new.items out.old.items) }
 {
-    push_pair(out, node, u32::from(told))?;
-    if told == heard {
+    push_pair(out, node, u32::from(advertised))?;
+    if advertised == filtered {
         return Ok(());
     }
     out.push(b'>')?;
-    push_decimal(out, u64::from(heard))
+    push_decimal(out, u64::from(filtered))
 }
 
 /// Adds what a look tells of a node.
@@ -64,7 +64,12 @@ fn push_node(out: &mut Vec<u8>, tables: &Tables, look: Look, node: u16) -> Resul
     match look {
         Look::Routes => push_route(out, node, tables.route(node)),
         Look::Neighbours => push_session(out, node, tables.session(node)),
-        Look::Told(from) => push_told(out, node, tables.told(from, node), tables.heard(from, node)),
+        Look::Told(from) => push_told(
+            out,
+            node,
+            tables.advertised(from, node),
+            tables.neighbour_distance(from, node),
+        ),
     }
 }
 

@@ -8,7 +8,7 @@ use Rattle.filter_verifier.specs.VerifiedView.{VerifiedView}
 use Rattle.netchange_core.specs.declared.event.Event.{Event}
 use Rattle.netchange_core.specs.declared.event.Event.TheVariants as event
 use Rattle.netchange_core.specs.declared.reply.Refusal.TheVariants as refusal
-use Rattle.netchange_core.specs.Next.{down, gone, heard, importing, is_no_neighbour, last_session, next, receive, set_export, set_import, show, take_from, up}
+use Rattle.netchange_core.specs.Next.{advertising, down, gone, importing, is_no_neighbour, last_session, next, receive, set_export, set_import, show, take_from, up}
 use Rattle.netchange_core.specs.World.{World, holder, is_up, neighbour_at}
 use Rattle.netchange_core.proofs.Holders.{down_none, found_holds}
 use Rattle.route_history.proofs.Advances.{Advances, refused_advances, shown_advances}
@@ -45,7 +45,7 @@ module _ (w : World) (s : ℕ) (own : AreOwn w) where
   receive_advances t v d (Some k) h =
       cond_both (nat_le w.opening.size v) _ _ (Advances w s (event.Receive t v d)) (λ _. refused_advances w s (event.Receive t v d) refusal.BadDest own) (λ _.
       cond_both (nat_lt w.opening.size d) _ _ (Advances w s (event.Receive t v d)) (λ _. refused_advances w s (event.Receive t v d) refusal.BadDist own) (λ _.
-      recomputed_advances w s k (heard v d) (event.Receive t v d) own (found_holds w.neighbours t k h).0 (λ p. inl (refl, refl)) (λ new i. refl)))
+      recomputed_advances w s k (advertising v d) (event.Receive t v d) own (found_holds w.neighbours t k h).0 (λ p. inl (refl, refl)) (λ new i. refl)))
 
   take_advances : (t max : ℕ) (o : Option ℕ) → holder w t ≡ o → Advances w s (event.Take t max) (take_from w o max)
   take_advances t max None h = refused_advances w s (event.Take t max) refusal.Stale own

@@ -34,20 +34,20 @@ abbrev pub waiting : NeighbourView → List Message → NeighbourView
 waiting p m = record p { queue = p.queue ++ m }
 
 -- a neighbour after the changes below a node were told
-abbrev pub hears : OpeningView → (ℕ → ℕ) → (ℕ → ℕ) → ℕ → NeighbourView → NeighbourView
-hears o old new n p = if is_up p then waiting p (news o p.exports old new n) else p
+abbrev pub notified : OpeningView → (ℕ → ℕ) → (ℕ → ℕ) → ℕ → NeighbourView → NeighbourView
+notified o old new n p = if is_up p then waiting p (news o p.exports old new n) else p
 
-pub up_hears : (o : OpeningView) (old new : ℕ → ℕ) (n : ℕ) (p : NeighbourView) → is_up p ≡ true →
-    hears o old new n p ≡ waiting p (news o p.exports old new n)
-up_hears o old new n p e = rw e refl
+pub up_notified : (o : OpeningView) (old new : ℕ → ℕ) (n : ℕ) (p : NeighbourView) → is_up p ≡ true →
+    notified o old new n p ≡ waiting p (news o p.exports old new n)
+up_notified o old new n p e = rw e refl
 
-pub down_hears : (o : OpeningView) (old new : ℕ → ℕ) (n : ℕ) (p : NeighbourView) → is_up p ≡ false → hears o old new n p ≡ p
-down_hears o old new n p e = rw e refl
+pub down_notified : (o : OpeningView) (old new : ℕ → ℕ) (n : ℕ) (p : NeighbourView) → is_up p ≡ false → notified o old new n p ≡ p
+down_notified o old new n p e = rw e refl
 
-hears_none : (o : OpeningView) (old new : ℕ → ℕ) (p : NeighbourView) → p ≡ hears o old new zero p
-hears_none o old new p = elim (cases_Bool (is_up p)) [
-  | inl e ↦ ap (λ q. record p { queue = q }) (sym (append-nil p.queue)) ∙ sym (up_hears o old new zero p e)
-  | inr e ↦ sym (down_hears o old new zero p e)
+notified_none : (o : OpeningView) (old new : ℕ → ℕ) (p : NeighbourView) → p ≡ notified o old new zero p
+notified_none o old new p = elim (cases_Bool (is_up p)) [
+  | inl e ↦ ap (λ q. record p { queue = q }) (sym (append-nil p.queue)) ∙ sym (up_notified o old new zero p e)
+  | inr e ↦ sym (down_notified o old new zero p e)
 ]
 
 tell_up : (o : OpeningView) (v d : ℕ) (p : NeighbourView) → is_up p ≡ true → tell o v d p ≡ waiting p (message_of o p.exports v d ∷ [])
@@ -57,7 +57,7 @@ tell_down : (o : OpeningView) (v d : ℕ) (p : NeighbourView) → is_up p ≡ fa
 tell_down o v d p e = rw e refl
 
 same_news : (o : OpeningView) (old new : ℕ → ℕ) (v : ℕ) (p : NeighbourView) → (old v == new v) ≡ true →
-    hears o old new v p ≡ hears o old new (suc v) p
+    notified o old new v p ≡ notified o old new (suc v) p
 same_news o old new v p e = rw e refl
 
 other_news : (o : OpeningView) (exports : Option VerifiedView) (old new : ℕ → ℕ) (v : ℕ) → (old v == new v) ≡ false →
@@ -65,16 +65,16 @@ other_news : (o : OpeningView) (exports : Option VerifiedView) (old new : ℕ �
 other_news o exports old new v e = rw e refl
 
 more_news : (o : OpeningView) (old new : ℕ → ℕ) (v : ℕ) (p : NeighbourView) → (old v == new v) ≡ false →
-    tell o v (new v) (hears o old new v p) ≡ hears o old new (suc v) p
+    tell o v (new v) (notified o old new v p) ≡ notified o old new (suc v) p
 more_news o old new v p e = elim (cases_Bool (is_up p)) [
-  | inl up ↦ ap (tell o v (new v)) (up_hears o old new v p up)
+  | inl up ↦ ap (tell o v (new v)) (up_notified o old new v p up)
       ∙ tell_up o v (new v) (waiting p (news o p.exports old new v)) up
       ∙ ap (λ q. record p { queue = q }) (append_assoc p.queue (news o p.exports old new v) (message_of o p.exports v (new v) ∷ []))
       ∙ ap (λ q. waiting p q) (other_news o p.exports old new v e)
-      ∙ sym (up_hears o old new (suc v) p up)
-  | inr down ↦ ap (tell o v (new v)) (down_hears o old new v p down)
+      ∙ sym (up_notified o old new (suc v) p up)
+  | inr down ↦ ap (tell o v (new v)) (down_notified o old new v p down)
       ∙ tell_down o v (new v) p down
-      ∙ sym (down_hears o old new (suc v) p down)
+      ∙ sym (down_notified o old new (suc v) p down)
 ]
 
 told_same : (o : OpeningView) (old new : ℕ → ℕ) (v : ℕ) (ns : List NeighbourView) → (old v == new v) ≡ true →
@@ -85,10 +85,10 @@ told_more : (o : OpeningView) (old new : ℕ → ℕ) (v : ℕ) (ns : List Neigh
     tell_changes o old new (suc v) ns ≡ map (tell o v (new v)) (tell_changes o old new v ns)
 told_more o old new v ns e = rw e refl
 
--- what is told to all is what each neighbour hears
+-- what is told to all is what each neighbour is notified of
 pub told_at : (o : OpeningView) (old new : ℕ → ℕ) (n : ℕ) (ns : List NeighbourView) (k : ℕ) →
-    neighbour_at (tell_changes o old new n ns) k ≡ hears o old new n (neighbour_at ns k)
-told_at o old new zero ns k = hears_none o old new (neighbour_at ns k)
+    neighbour_at (tell_changes o old new n ns) k ≡ notified o old new n (neighbour_at ns k)
+told_at o old new zero ns k = notified_none o old new (neighbour_at ns k)
 told_at o old new (suc v) ns k = elim (cases_Bool (old v == new v)) [
   | inl e ↦ ap (λ ms. neighbour_at ms k) (told_same o old new v ns e)
       ∙ told_at o old new v ns k ∙ same_news o old new v (neighbour_at ns k) e
@@ -98,16 +98,16 @@ told_at o old new (suc v) ns k = elim (cases_Bool (old v == new v)) [
       ∙ more_news o old new v (neighbour_at ns k) e
 ]
 
-pub hears_session : (o : OpeningView) (old new : ℕ → ℕ) (n : ℕ) (p : NeighbourView) → (hears o old new n p).session ≡ p.session
-hears_session o old new n p = elim (cases_Bool (is_up p)) [
-  | inl e ↦ ap (λ (q : NeighbourView). q.session) (up_hears o old new n p e)
-  | inr e ↦ ap (λ (q : NeighbourView). q.session) (down_hears o old new n p e)
+pub notified_session : (o : OpeningView) (old new : ℕ → ℕ) (n : ℕ) (p : NeighbourView) → (notified o old new n p).session ≡ p.session
+notified_session o old new n p = elim (cases_Bool (is_up p)) [
+  | inl e ↦ ap (λ (q : NeighbourView). q.session) (up_notified o old new n p e)
+  | inr e ↦ ap (λ (q : NeighbourView). q.session) (down_notified o old new n p e)
 ]
 
-pub hears_exports : (o : OpeningView) (old new : ℕ → ℕ) (n : ℕ) (p : NeighbourView) → (hears o old new n p).exports ≡ p.exports
-hears_exports o old new n p = elim (cases_Bool (is_up p)) [
-  | inl e ↦ ap (λ (q : NeighbourView). q.exports) (up_hears o old new n p e)
-  | inr e ↦ ap (λ (q : NeighbourView). q.exports) (down_hears o old new n p e)
+pub notified_exports : (o : OpeningView) (old new : ℕ → ℕ) (n : ℕ) (p : NeighbourView) → (notified o old new n p).exports ≡ p.exports
+notified_exports o old new n p = elim (cases_Bool (is_up p)) [
+  | inl e ↦ ap (λ (q : NeighbourView). q.exports) (up_notified o old new n p e)
+  | inr e ↦ ap (λ (q : NeighbourView). q.exports) (down_notified o old new n p e)
 ]
 
 pub length_told : (o : OpeningView) (old new : ℕ → ℕ) (n : ℕ) (ns : List NeighbourView) → length (tell_changes o old new n ns) ≡ length ns

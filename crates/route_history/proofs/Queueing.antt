@@ -13,7 +13,7 @@ use Rattle.netchange_core.specs.declared.reply.Reply.{Reply}
 use Rattle.netchange_core.specs.declared.reply.Reply.TheVariants as reply
 use Rattle.netchange_core.specs.Best.{distance}
 use Rattle.netchange_core.specs.Calls.{session_of}
-use Rattle.netchange_core.specs.Next.{answered, exporting, relieved}
+use Rattle.netchange_core.specs.Next.{answered, dequeued, exporting}
 use Rattle.netchange_core.specs.World.{NeighbourView, World, changed, holder, neighbour_at}
 use Rattle.netchange_core.proofs.Change.{changed_at}
 use Rattle.netchange_core.proofs.Holders.{holder_found, holder_none}
@@ -71,28 +71,28 @@ nothing = []
 -- Take of the session that node j holds
 pub taken_advances : (w : World) (s t max j : ℕ) → AreOwn w → j < length w.neighbours → session_of w j ≡ Some t →
     Advances w s (event.Take t max)
-    (answered (changed w j (relieved max)) (reply.Messages (take max (neighbour_at w.neighbours j).queue)))
+    (answered (changed w j (dequeued max)) (reply.Messages (take max (neighbour_at w.neighbours j).queue)))
 taken_advances w s t max j own there holds =
     let messages = take max (neighbour_at w.neighbours j).queue in
     let not_other : (k : ℕ) → session_of w k ≡ Some s → (k ≡ j → ⊥) → (t ≡ s → ⊥) =
     λ k now other same. other (own.apart k j s (holds ∙ ap Some same) now) in
-    one_queue w s j (relieved max) own there (λ p. refl) (event.Take t max) (reply.Messages messages) (λ m. refl)
+    one_queue w s j (dequeued max) own there (λ p. refl) (event.Take t max) (reply.Messages messages) (λ m. refl)
     (λ k now. elim (cases_eq k j) [
       | inl is ↦
           let same : t ≡ s = same_Some t s (sym holds ∙ ap (session_of w) (sym is) ∙ now) in
           append-nil (neighbour_at w.neighbours k).queue
           ∙ sym (take-append-drop max (neighbour_at w.neighbours k).queue)
-          ∙ sym (ap (λ b. (if b then messages else nothing) ++ (neighbour_at (changed w j (relieved max)).neighbours k).queue) (eq-eqb t s same)
-          ∙ ap (λ m. messages ++ m) (ap (λ (p : NeighbourView). p.queue) (changed_here w s j (relieved max) own there (λ p. refl) k is))
+          ∙ sym (ap (λ b. (if b then messages else nothing) ++ (neighbour_at (changed w j (dequeued max)).neighbours k).queue) (eq-eqb t s same)
+          ∙ ap (λ m. messages ++ m) (ap (λ (p : NeighbourView). p.queue) (changed_here w s j (dequeued max) own there (λ p. refl) k is))
           ∙ ap (λ i. take max (neighbour_at w.neighbours i).queue ++ drop max (neighbour_at w.neighbours k).queue) (sym is))
       | inr other ↦
           append-nil (neighbour_at w.neighbours k).queue
-          ∙ sym (ap (λ b. (if b then messages else nothing) ++ (neighbour_at (changed w j (relieved max)).neighbours k).queue)
+          ∙ sym (ap (λ b. (if b then messages else nothing) ++ (neighbour_at (changed w j (dequeued max)).neighbours k).queue)
           (ne_eqb t s (not_other k now other))
-          ∙ ap (λ (p : NeighbourView). p.queue) (another w s j (relieved max) own there (λ p. refl) k other))
+          ∙ ap (λ (p : NeighbourView). p.queue) (another w s j (dequeued max) own there (λ p. refl) k other))
     ])
     (λ nobody_has. ap (λ b. if b then messages else nothing)
-    (ne_eqb t s (λ same. nobody_has j (same_session w s j (relieved max) own there (λ p. refl) j ∙ holds ∙ ap Some same))))
+    (ne_eqb t s (λ same. nobody_has j (same_session w s j (dequeued max) own there (λ p. refl) j ∙ holds ∙ ap Some same))))
 
 -- an export filter of node j
 pub exported_advances : (w : World) (s j : ℕ) (f : Arc VerifiedView Global) → AreOwn w → j < length w.neighbours →

@@ -14,7 +14,7 @@ use Rattle.netchange_core.proofs.Queued.{map_told}
 use Rattle.route_history.specs.Sent.{changes_for, news, queued_at, queued_for, queued_in}
 use Rattle.route_history.proofs.Advances.{Advances, takes_nothing}
 use Rattle.route_history.proofs.Holders.{AreOwn}
-use Rattle.route_history.proofs.Neighbours.{at_another, change_length, hears_session, length_told, told_at, up_hears}
+use Rattle.route_history.proofs.Neighbours.{at_another, change_length, length_told, notified_session, told_at, up_notified}
 
 -- the neighbour keeps its session and its queue, or leaves
 abbrev pub Keeps : NeighbourView → NeighbourView → Type 0
@@ -42,7 +42,7 @@ module _ (w : World) (s j : ℕ) (f : NeighbourView → NeighbourView) (e : Even
 
   session_told : (k : ℕ) → session_of after k ≡ session_of mid k
   session_told k = ap (λ (q : NeighbourView). q.session) (told_at w.opening (distance w) (distance mid) w.opening.size mid.neighbours k)
-      ∙ hears_session w.opening (distance w) (distance mid) w.opening.size (neighbour_at mid.neighbours k)
+      ∙ notified_session w.opening (distance w) (distance mid) w.opening.size (neighbour_at mid.neighbours k)
 
   session_kept : (k t : ℕ) → session_of after k ≡ Some t → session_of w k ≡ Some t
   session_kept k t here = elim (kept_at k) [
@@ -61,7 +61,7 @@ module _ (w : World) (s j : ℕ) (f : NeighbourView → NeighbourView) (e : Even
       let told = told_at w.opening (distance w) (distance mid) w.opening.size mid.neighbours k in
       let held : session_of mid k ≡ Some s = sym (session_told k) ∙ now in
       let is_up_now : is_up p ≡ true = ap is_some held in
-      let waits = told ∙ up_hears w.opening (distance w) (distance mid) w.opening.size p is_up_now in
+      let waits = told ∙ up_notified w.opening (distance w) (distance mid) w.opening.size p is_up_now in
       let exports = ap (λ (q : NeighbourView). q.exports) waits in
       let same_queue : p.queue ≡ (neighbour_at w.neighbours k).queue = elim (kept_at k) [
         | inl same ↦ same.1

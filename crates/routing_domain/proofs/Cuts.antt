@@ -54,7 +54,7 @@ leaver_keeps size u k b r m short to other =
     let same : neighbour_at (change k f r.neighbours) b ≡ neighbour_at r.neighbours b = changed_other k b f r.neighbours near other in
     record {
       session = recomputed_other (λ n. n.session) r k f b (λ _ _. refl) near other;
-      raw = recomputed_other (λ n. n.raw) r k f b (λ _ _. refl) near other;
+      advertised = recomputed_other (λ n. n.advertised) r k f b (λ _ _. refl) near other;
       tells = λ up v before below told.
           told_again r k f b v before (near_of size u b r m to)
           (record { session = ap (λ n. n.session) same; exports = ap (λ n. n.exports) same; queue = ap (λ n. n.queue) same })

@@ -65,7 +65,7 @@ import_keeps size u k b r f m short to =
     let near : k < length r.neighbours = omega (arith, short, m.tables.one_a_node) in
     record {
       session = recomputed_seen (λ n. n.session) r k (importing f) b (λ _ _. refl) refl;
-      raw = recomputed_seen (λ n. n.raw) r k (importing f) b (λ _ _. refl) refl;
+      advertised = recomputed_seen (λ n. n.advertised) r k (importing f) b (λ _ _. refl) refl;
       tells = λ up v before below told.
           recomputed_tells r k (importing f) near (record { session = refl; exports = refl; queue = refl }) b v before
           (omega (arith, to, m.tables.one_a_node)) up (omega (arith, below, m.size)) told;
@@ -125,7 +125,7 @@ export_member size u k r f m short fits =
 export_keeps : (size u k b : ℕ) (r : World) (f : VerifiedView) → IsMember size u r → k < size → KeepsLink size r (exporter r k f) b
 export_keeps size u k b r f m short = record {
   session = changed_seen (λ n. n.session) r k change_of b refl;
-  raw = changed_seen (λ n. n.raw) r k change_of b refl;
+  advertised = changed_seen (λ n. n.advertised) r k change_of b refl;
   tells = tells;
 }
   where

@@ -10,7 +10,7 @@ use Rattle.netchange_core.specs.FilteredDistance.{filtered_distance}
 use Rattle.netchange_core.specs.World.{World, is_up, neighbour_at}
 use Rattle.routing_domain.specs.Domain.{Domain, IsInOrder, IsSound, IsWithin, are_linked, last_told}
 use Rattle.routing_domain.specs.Steps.{with_router}
-use Rattle.routing_domain.proofs.Hears.{ToldBy}
+use Rattle.routing_domain.proofs.Receives.{ToldBy}
 use Rattle.routing_domain.proofs.Places.{router_here, router_other}
 use Rattle.routing_domain.proofs.Told.{last_told_both}
 
@@ -34,11 +34,11 @@ IsTold r b v before =
 -- from one world to another a router keeps its link with a neighbour: its session, what it was told, and that it tells
 pub record KeepsLink (size : ℕ) (r s : World) (b : ℕ) : Type 0 where
   pub session : (neighbour_at s.neighbours b).session ≡ (neighbour_at r.neighbours b).session
-  pub raw : (neighbour_at s.neighbours b).raw ≡ (neighbour_at r.neighbours b).raw
+  pub advertised : (neighbour_at s.neighbours b).advertised ≡ (neighbour_at r.neighbours b).advertised
   pub tells : is_up (neighbour_at r.neighbours b) ≡ true → (v before : ℕ) → v < size → IsTold r b v before → IsTold s b v before
 
 pub keeps_itself : (size : ℕ) (r : World) (b : ℕ) → KeepsLink size r r b
-keeps_itself size r b = record { session = refl; raw = refl; tells = λ up v before there told. told }
+keeps_itself size r b = record { session = refl; advertised = refl; tells = λ up v before there told. told }
 
 -- from one domain to another a link is kept at both ends; or is up anew, and all is told; or is gone
 pub record IsKept (d e : Domain) (a b : ℕ) : Type 0 where
@@ -62,11 +62,11 @@ IsAfter d e a b = (IsKept d e a b) ⊎ ((IsFresh d e a b) ⊎ (IsGone e a b))
 kept_told : (size : ℕ) (ra sa rb sb : World) (flight : List Message) (a b v : ℕ) → is_up (neighbour_at ra.neighbours b) ≡ true → v < size →
     KeepsLink size ra sa b → KeepsLink size rb sb a → ToldBy ra rb flight a b v → ToldBy sa sb flight a b v
 kept_told size ra sa rb sb flight a b v up below ka kb told =
-    let raw = slice_index (neighbour_at rb.neighbours a).raw v in
-    let before = last_told v raw flight in
-    ap (λ raws. last_told v (slice_index raws v) (flight ++ (neighbour_at sa.neighbours b).queue)) kb.raw
-    ∙ last_told_both v raw flight (neighbour_at sa.neighbours b).queue
-    ∙ ka.tells up v before below (sym (last_told_both v raw flight (neighbour_at ra.neighbours b).queue) ∙ told)
+    let advertised = slice_index (neighbour_at rb.neighbours a).advertised v in
+    let before = last_told v advertised flight in
+    ap (λ distances. last_told v (slice_index distances v) (flight ++ (neighbour_at sa.neighbours b).queue)) kb.advertised
+    ∙ last_told_both v advertised flight (neighbour_at sa.neighbours b).queue
+    ∙ ka.tells up v before below (sym (last_told_both v advertised flight (neighbour_at ra.neighbours b).queue) ∙ told)
 
 -- a link that is kept is linked as it was
 linked_as : (d e : Domain) (a b : ℕ) → KeepsLink d.size (d.router a) (e.router a) b → are_linked e a b ≡ are_linked d a b

@@ -17,7 +17,7 @@ use Rattle.netchange_core.proofs.Opened.{best_within}
 use Rattle.routing_domain.specs.Domain.{Domain, IsInOrder, IsQueued, are_linked, last_told}
 use Rattle.routing_domain.specs.Events.{CanLink, enters, links}
 use Rattle.routing_domain.proofs.Filters.{told_all}
-use Rattle.routing_domain.proofs.Hears.{ToldBy}
+use Rattle.routing_domain.proofs.Receives.{ToldBy}
 use Rattle.routing_domain.proofs.Keeping.{IsMember, KeepsLink, member_of}
 use Rattle.routing_domain.proofs.Pairs.{two_routers_keep_order}
 use Rattle.routing_domain.proofs.Places.{router_here, router_other}
@@ -78,7 +78,7 @@ joiner_keeps size u k b r m short down other =
     changed_other k b (joined r.opening (distance r) (r.sessions + 1)) r.neighbours (near_of size u k r m short) other in
     record {
       session = ap (λ n. n.session) same;
-      raw = ap (λ n. n.raw) same;
+      advertised = ap (λ n. n.advertised) same;
       tells = λ up v before below told.
           subst (λ y. last_told v before y.queue ≡ filtered_distance r.opening y.exports v (distance (joiner r k) v)) (sym same)
           (told ∙ ap (λ x. filtered_distance r.opening (neighbour_at r.neighbours b).exports v x) (sym (joiner_distance size u k v r m down below)));
@@ -95,9 +95,9 @@ pub joiner_tells : (size u k v : ℕ) (r rb : World) → IsMember size u r → k
     ToldBy (joiner r k) rb [] u k v
 joiner_tells size u k v r rb m short down below =
     let n = neighbour_at r.neighbours k in
-    let raw = slice_index (neighbour_at rb.neighbours u).raw v in
-    subst (λ y. last_told v raw ([] ++ y.queue) ≡ filtered_distance r.opening y.exports v (distance (joiner r k) v)) (sym (joiner_at size u k r m short))
-    (told_all r.opening n.exports (distance r) r.opening.size v raw (omega (arith, below, m.size))
+    let advertised = slice_index (neighbour_at rb.neighbours u).advertised v in
+    subst (λ y. last_told v advertised ([] ++ y.queue) ≡ filtered_distance r.opening y.exports v (distance (joiner r k) v)) (sym (joiner_at size u k r m short))
+    (told_all r.opening n.exports (distance r) r.opening.size v advertised (omega (arith, below, m.size))
     ∙ ap (λ x. filtered_distance r.opening n.exports v x) (sym (joiner_distance size u k v r m down below)))
 
 -- the two, and the others

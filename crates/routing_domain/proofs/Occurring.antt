@@ -9,16 +9,16 @@ use Rattle.netchange_core.specs.declared.reply.Refusal.{Refusal}
 use Rattle.netchange_core.specs.declared.reply.Refusal.TheVariants as refusal
 use Rattle.netchange_core.specs.declared.reply.Reply.TheVariants as reply
 use Rattle.netchange_core.specs.Best.{best, distance}
-use Rattle.netchange_core.specs.Next.{Answered, answered, count_changes, down, exporting, gone, heard, importing, is_no_neighbour, joined, last_session, next, receive, recomputed, refused, take_from}
+use Rattle.netchange_core.specs.Next.{Answered, advertising, answered, count_changes, down, exporting, gone, importing, is_no_neighbour, joined, last_session, next, receive, recomputed, refused, take_from}
 use Rattle.netchange_core.specs.World.{World, changed, holder, is_up, neighbour_at}
 use Rattle.netchange_core.proofs.Holders.{up_by}
 use Rattle.routing_domain.specs.Domain.{Domain, IsInOrder, IsQuiet, IsWithin, are_linked, neighbour}
 use Rattle.routing_domain.specs.Events.{CanLink, cuts, enters, links}
-use Rattle.routing_domain.specs.Steps.{IsNext, hears, sends, with_router}
+use Rattle.routing_domain.specs.Steps.{IsNext, receives, sends, with_router}
 use Rattle.routing_domain.proofs.Cuts.{cut_one, cut_other, down_leaves, holds}
-use Rattle.routing_domain.proofs.Hears.{heard_by}
+use Rattle.routing_domain.proofs.Receives.{received_by}
 use Rattle.routing_domain.proofs.Links.{linked_one, linked_other, up_at_one, up_at_other}
-use Rattle.routing_domain.proofs.Order.{at_hearer}
+use Rattle.routing_domain.proofs.Order.{at_receiver}
 use Rattle.routing_domain.proofs.Places.{router_same}
 use Rattle.routing_domain.proofs.Sends.{at_sender}
 
@@ -29,7 +29,7 @@ take_sends d u w max s o short held =
     ap (λ h. take_from (d.router u) h max) (holds d u w s o short held)
     ∙ ap (λ r. answered r (reply.Messages (take max (neighbour d u w).queue))) (sym (at_sender d u w max))
 
--- what is first on its way is heard
+-- what is first on its way is received
 linked_flight : (d : Domain) (u w : ℕ) (m : Message) (rest : List Message) → IsInOrder d → u < d.size → w < d.size → d.flight u w ≡ m ∷ rest →
     are_linked d u w ≡ true
 linked_flight d u w m rest o from to first = elim (cases_Bool (are_linked d u w)) [
@@ -55,16 +55,16 @@ first_is_next d u w m rest o from to first =
     head : Rattle.std.proofs.Common.All (IsWithin d.size) (m ∷ rest) → IsWithin d.size m
     head all = all 0 m (omega arith)
 
-pub receive_hears : (d : Domain) (u w s : ℕ) (m : Message) (rest : List Message) → IsInOrder d → IsNext d u w m rest →
+pub receive_receives : (d : Domain) (u w s : ℕ) (m : Message) (rest : List Message) → IsInOrder d → IsNext d u w m rest →
     (neighbour d w u).session ≡ Some s →
-    (changed : ℕ) × (next (d.router w) (event.Receive s m.dest m.dist) ≡ answered ((hears d u w m rest).router w) (reply.Done changed))
-receive_hears d u w s m rest o n held =
+    (changed : ℕ) × (next (d.router w) (event.Receive s m.dest m.dist) ≡ answered ((receives d u w m rest).router w) (reply.Done changed))
+receive_receives d u w s m rest o n held =
     let r = d.router w in
-    let a = recomputed r (changed r u (heard m.dest m.dist)) in (
-      count_changes (distance r) (distance (changed r u (heard m.dest m.dist))) r.opening.size,
+    let a = recomputed r (changed r u (advertising m.dest m.dist)) in (
+      count_changes (distance r) (distance (changed r u (advertising m.dest m.dist))) r.opening.size,
       ap (λ h. receive r h m.dest m.dist) (holds d w u s o n.to held)
-          ∙ heard_by r u m.dest m.dist (omega (arith, n.dest, o.size w n.to)) (omega (arith, n.dist, o.size w n.to))
-          ∙ ap (λ x. answered x a.reply) (sym (at_hearer d u w m rest o n)),
+          ∙ received_by r u m.dest m.dist (omega (arith, n.dest, o.size w n.to)) (omega (arith, n.dist, o.size w n.to))
+          ∙ ap (λ x. answered x a.reply) (sym (at_receiver d u w m rest o n)),
     )
 
 pub up_links : (d : Domain) (u w : ℕ) → IsInOrder d → CanLink d u w →
@@ -117,7 +117,7 @@ refused_stays w (event.Receive s v d) why = by_holder (holder w s)
   where
     in_range : (k : ℕ) → StaysIfRefused w why (receive w (Some k) v d)
     in_range k =
-        let last = recomputed w (changed w k (heard v d)) in
+        let last = recomputed w (changed w k (advertising v d)) in
         cond_both (nat_le w.opening.size v) (refused w refusal.BadDest) (cond (nat_lt w.opening.size d) (refused w refusal.BadDist) last)
         (StaysIfRefused w why) (λ _ _. refl)
         (λ _. cond_both (nat_lt w.opening.size d) (refused w refusal.BadDist) last (StaysIfRefused w why) (λ _ _. refl) (λ _ h. absurd (cc)))

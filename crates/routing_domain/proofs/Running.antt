@@ -3,13 +3,13 @@ use Rattle.std.proofs.Common.{◌≡◌, ◌⊎◌, ⊎_elim, inl, inr, ℕ, ◌
 use Rattle.std.proofs.lemmas.Bool.{cases_eq}
 use Rattle.netchange_core.specs.declared.message.Message.{Message}
 use Rattle.routing_domain.specs.Domain.{Domain, IsInOrder, IsQuiet, neighbour}
-use Rattle.routing_domain.specs.Runs.{HearsOne, Runs, SendsSome}
-use Rattle.routing_domain.specs.Steps.{hears, sends}
+use Rattle.routing_domain.specs.Runs.{ReceivesOne, Runs, SendsSome}
+use Rattle.routing_domain.specs.Steps.{receives, sends}
 use Rattle.routing_domain.specs.Weight.{weight}
-use Rattle.routing_domain.proofs.Hearing.{hearing_is_lighter}
+use Rattle.routing_domain.proofs.Receiving.{receiving_is_lighter}
 use Rattle.routing_domain.proofs.Lighter.{sending_is_lighter}
 use Rattle.routing_domain.proofs.Occurring.{first_is_next}
-use Rattle.routing_domain.proofs.Order.{hearing_keeps_order}
+use Rattle.routing_domain.proofs.Order.{receiving_keeps_order}
 use Rattle.routing_domain.proofs.Sends.{sending_keeps_order}
 
 -- a step keeps order and makes the domain lighter
@@ -17,12 +17,12 @@ record IsLighter (d e : Domain) : Type 0 where
   pub order : IsInOrder e
   pub lighter : weight e < weight d
 
-step_is_lighter : (d e : Domain) → IsInOrder d → (HearsOne d e) ⊎ (SendsSome d e) → IsLighter d e
+step_is_lighter : (d e : Domain) → IsInOrder d → (ReceivesOne d e) ⊎ (SendsSome d e) → IsLighter d e
 step_is_lighter d e o step =
     ⊎_elim
-    (λ (h : HearsOne d e). subst (IsLighter d) (sym h.after) (record {
-      order = hearing_keeps_order d h.from h.to h.message h.rest o h.is_next;
-      lighter = hearing_is_lighter d h.from h.to h.message h.rest o h.is_next;
+    (λ (h : ReceivesOne d e). subst (IsLighter d) (sym h.after) (record {
+      order = receiving_keeps_order d h.from h.to h.message h.rest o h.is_next;
+      lighter = receiving_is_lighter d h.from h.to h.message h.rest o h.is_next;
     }))
     (λ (s : SendsSome d e). subst (IsLighter d) (sym s.after) (record {
       order = sending_keeps_order d s.from s.to s.max o s.member s.member_there;
@@ -54,7 +54,7 @@ search_below (suc n) P Q each =
 
 -- a step that can be taken
 abbrev pub HasStep : Domain → Type 0
-HasStep d = (e : Domain) × ((HearsOne d e) ⊎ (SendsSome d e))
+HasStep d = (e : Domain) × ((ReceivesOne d e) ⊎ (SendsSome d e))
 
 queue_or_step : (d : Domain) (u w : ℕ) → u < d.size → w < d.size → (ms : List Message) → (neighbour d u w).queue ≡ ms →
     ((neighbour d u w).queue ≡ []) ⊎ (HasStep d)
@@ -76,7 +76,7 @@ flight_or_step : (d : Domain) (u w : ℕ) → IsInOrder d → u < d.size → w <
     (d.flight u w ≡ []) ⊎ (HasStep d)
 flight_or_step d u w o from to [] e = inl e
 flight_or_step d u w o from to (m ∷ ms) e = inr (
-  hears d u w m ms,
+  receives d u w m ms,
   inl (record {
     from = u;
     to = w;

@@ -7,7 +7,7 @@ use Rattle.filter_verifier.specs.VerifiedView.{VerifiedView}
 use Rattle.std.specs.Prelude.{Option, Some, None}
 use Rattle.netchange_core.specs.declared.message.Message.{Message}
 use Rattle.netchange_core.specs.Best.{distance, neighbour_distances}
-use Rattle.netchange_core.specs.Next.{all_messages, message_of, recomputed, relieved, tell}
+use Rattle.netchange_core.specs.Next.{all_messages, dequeued, message_of, recomputed, tell}
 use Rattle.netchange_core.specs.OpeningView.{OpeningView}
 use Rattle.netchange_core.specs.World.{NeighbourView, World, change, changed, is_up, neighbour_at}
 use Rattle.netchange_core.proofs.Change.{changed_at}
@@ -51,8 +51,8 @@ changes_queued o size old new (suc v) n e few limit q =
     cond_both (nat_eq (old v) (new v)) m (tell o v (new v) m) (IsQueued size) (λ _. rest)
     (λ _. tell_queued o size v (new v) m e few (limit v) rest)
 
-pub relieved_queued : (size max : ℕ) (n : NeighbourView) → IsQueued size n → IsQueued size (relieved max n)
-relieved_queued size max n q = record {
+pub dequeued_queued : (size max : ℕ) (n : NeighbourView) → IsQueued size n → IsQueued size (dequeued max n)
+dequeued_queued size max n q = record {
   within = All-drop (IsWithin size) max n.queue q.within;
   idle = λ down. ap (drop max) (q.idle down) ∙ nothing max;
 }

@@ -9,7 +9,7 @@ use Rattle.netchange_core.specs.declared.event.Event.TheVariants as event
 use Rattle.netchange_core.specs.declared.message.Message.{Message}
 use Rattle.netchange_core.specs.declared.reply.Refusal.TheVariants as refusal
 use Rattle.netchange_core.specs.Best.{distance}
-use Rattle.netchange_core.specs.Next.{Answered, exporting, gone, heard, importing, joined, receive, recomputed, refused, relieved}
+use Rattle.netchange_core.specs.Next.{Answered, advertising, dequeued, exporting, gone, importing, joined, receive, recomputed, refused}
 use Rattle.netchange_core.specs.FilteredDistance.{filtered_distance}
 use Rattle.netchange_core.specs.World.{World, changed, is_up, neighbour_at}
 use Rattle.netchange_core.proofs.Change.{changed_at}
@@ -18,7 +18,7 @@ use Rattle.routing_domain.specs.Changes.{is_between, is_pair, with_link, with_to
 use Rattle.routing_domain.specs.Domain.{Domain, IsInOrder, are_linked, exported, imported, topology}
 use Rattle.routing_domain.specs.Events.{CanLink, cuts, enters, links}
 use Rattle.routing_domain.specs.Rest.{Topology}
-use Rattle.routing_domain.specs.Steps.{hears, sends, with_router}
+use Rattle.routing_domain.specs.Steps.{receives, sends, with_router}
 use Rattle.routing_domain.proofs.Cuts.{cut_one, cut_other, cut_third, leaver, leaver_down, unlike}
 use Rattle.routing_domain.proofs.Filters.{exporter}
 use Rattle.routing_domain.proofs.Keeping.{IsMember, member_of}
@@ -139,22 +139,22 @@ seen_topology d u v s sees = λ i. record {
 
 pub sends_same_topology : (d : Domain) (u w max v : ℕ) → topology (sends d u w max) v ≡ topology d v
 sends_same_topology d u w max v =
-    seen_topology d u v (changed (d.router u) w (relieved max)) (record {
+    seen_topology d u v (changed (d.router u) w (dequeued max)) (record {
       opening = refl;
-      up = λ b. changed_seen is_up (d.router u) w (relieved max) b refl;
-      imports = λ b. changed_seen (λ n. n.imports) (d.router u) w (relieved max) b refl;
-      exports = λ b. changed_seen (λ n. n.exports) (d.router u) w (relieved max) b refl;
+      up = λ b. changed_seen is_up (d.router u) w (dequeued max) b refl;
+      imports = λ b. changed_seen (λ n. n.imports) (d.router u) w (dequeued max) b refl;
+      exports = λ b. changed_seen (λ n. n.exports) (d.router u) w (dequeued max) b refl;
     })
 
-pub hears_same_topology : (d : Domain) (u w : ℕ) (m : Message) (rest : List Message) (v : ℕ) → topology (hears d u w m rest) v ≡ topology d v
-hears_same_topology d u w m rest v = seen_topology d w v (receive r (Some u) m.dest m.dist).world sees
+pub receives_same_topology : (d : Domain) (u w : ℕ) (m : Message) (rest : List Message) (v : ℕ) → topology (receives d u w m rest) v ≡ topology d v
+receives_same_topology d u w m rest v = seen_topology d w v (receive r (Some u) m.dest m.dist).world sees
   where
     r : World
     r = d.router w
 
     sees : SeesAs r (receive r (Some u) m.dest m.dist).world
     sees =
-        let f = heard m.dest m.dist in
+        let f = advertising m.dest m.dist in
         let after = recomputed r (changed r u f) in
         let P : Answered → Type 0 = λ a. SeesAs r a.world in
         cond_both (nat_le r.opening.size m.dest) (refused r refusal.BadDest) (cond (nat_lt r.opening.size m.dist) (refused r refusal.BadDist) after) P

@@ -10,11 +10,11 @@ ghost use Rattle.netchange_core.specs.FilteredDistance.{filtered_distance};
 ghost use Rattle.routing_domain.specs.Changes.{with_link, with_toll, without_link};
 ghost use Rattle.routing_domain.specs.Domain.{Domain, IsInOrder, are_linked, exported, imported, topology};
 ghost use Rattle.routing_domain.specs.Events.{CanLink, cuts, enters, links};
-ghost use Rattle.routing_domain.specs.Steps.{hears, sends};
+ghost use Rattle.routing_domain.specs.Steps.{receives, sends};
 
-/// Sending and hearing change nothing between nodes: neither links nor filters.
+/// Sending and receiving change nothing between nodes: neither links nor filters.
 pub fn steps_keep_topology()
-    ensures hears { (d : Domain) → (u w : ℕ) → (m : Message) → (rest : List Message) → (v : ℕ) → topology (hears d u w m rest) v ≡ topology d v }
+    ensures receives { (d : Domain) → (u w : ℕ) → (m : Message) → (rest : List Message) → (v : ℕ) → topology (receives d u w m rest) v ≡ topology d v }
     ensures sends { (d : Domain) → (u w max v : ℕ) → topology (sends d u w max) v ≡ topology d v }
 {}
 

@@ -9,25 +9,25 @@ ghost use Rattle.netchange_core.specs.declared.reply.Reply.TheVariants as reply;
 ghost use Rattle.netchange_core.specs.Next.{answered, next};
 ghost use Rattle.routing_domain.specs.Domain.{Domain, IsInOrder, neighbour};
 ghost use Rattle.routing_domain.specs.Events.{CanLink, cuts, enters, links};
-ghost use Rattle.routing_domain.specs.Steps.{IsNext, hears, sends};
+ghost use Rattle.routing_domain.specs.Steps.{IsNext, receives, sends};
 
 /// Sending is Take in the neighbour's present session: it is not refused, the router is as after sending, and the reply has what
 /// is put on its way.
-pub fn sending_is_taking()
+pub fn sending_is_take()
     ensures taken { (d : Domain) → (u w max s : ℕ) → IsInOrder d → u < d.size → w < d.size → (neighbour d u w).session ≡ Some s →
         next (d.router u) (event.Take s max)
         ≡ answered ((sends d u w max).router u) (reply.Messages (take max (neighbour d u w).queue)) }
 {}
 
-/// What is first on its way to a node is heard by it: there is a link, and the message fits the domain. Hearing is Receive in the
-/// neighbour's present session: it is not refused, and the router is as after hearing.
-pub fn hearing_is_receiving()
+/// What is first on its way to a node is received by it: there is a link, and the message fits the domain. Receiving is Receive in the
+/// neighbour's present session: it is not refused, and the router is as after receiving.
+pub fn receiving_is_receive()
     ensures is_next { (d : Domain) → (u w : ℕ) → (m : Message) → (rest : List Message) → IsInOrder d → u < d.size → w < d.size →
         d.flight u w ≡ m ∷ rest → IsNext d u w m rest }
     ensures received { (d : Domain) → (u w s : ℕ) → (m : Message) → (rest : List Message) → IsInOrder d → IsNext d u w m rest →
         (neighbour d w u).session ≡ Some s →
         (changed : ℕ) × (next (d.router w) (event.Receive s m.dest m.dist)
-        ≡ answered ((hears d u w m rest).router w) (reply.Done changed)) }
+        ≡ answered ((receives d u w m rest).router w) (reply.Done changed)) }
 {}
 
 /// Linking is Up at both ends, and neither is refused.

@@ -9,7 +9,7 @@ ghost use Rattle.netchange_core.specs.declared.message.Message.{Message};
 ghost use Rattle.netchange_core.specs.OpeningView.{OpeningView};
 ghost use Rattle.routing_domain.specs.Domain.{AreOpenings, Domain, IsInOrder, IsSame, are_linked, opened_domain};
 ghost use Rattle.routing_domain.specs.Events.{CanLink, cuts, enters, links};
-ghost use Rattle.routing_domain.specs.Steps.{IsNext, hears, sends};
+ghost use Rattle.routing_domain.specs.Steps.{IsNext, receives, sends};
 
 /// A domain of routers that were just opened, without links, is in order.
 pub fn opened_domain_is_in_order()
@@ -21,9 +21,9 @@ pub fn same_domain_is_in_order()
     ensures order { (d e : Domain) → IsSame d e → IsInOrder d → IsInOrder e }
 {}
 
-/// Sending and hearing keep a domain in order.
+/// Sending and receiving keep a domain in order.
 pub fn steps_keep_order()
-    ensures hears { (d : Domain) → (u w : ℕ) → (m : Message) → (rest : List Message) → IsInOrder d → IsNext d u w m rest → IsInOrder (hears d u w m rest) }
+    ensures receives { (d : Domain) → (u w : ℕ) → (m : Message) → (rest : List Message) → IsInOrder d → IsNext d u w m rest → IsInOrder (receives d u w m rest) }
     ensures sends { (d : Domain) → (u w max : ℕ) → IsInOrder d → u < d.size → w < d.size → IsInOrder (sends d u w max) }
 {}
 

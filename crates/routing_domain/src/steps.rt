@@ -4,14 +4,14 @@ ghost use Rattle.std.specs.Prelude.{◌≡◌, ℕ, ◌+◌, ◌<◌, ◌≤◌,
 ghost use Rattle.netchange_core.specs.declared.message.Message.{Message};
 ghost use Rattle.routing_domain.specs.Domain.{Domain, IsInOrder, IsQuiet, IsSame, neighbour};
 ghost use Rattle.routing_domain.specs.Runs.{Runs};
-ghost use Rattle.routing_domain.specs.Steps.{IsNext, hears, sends};
+ghost use Rattle.routing_domain.specs.Steps.{IsNext, receives, sends};
 ghost use Rattle.routing_domain.specs.Weight.{weight};
 
-/// Each sending of a message and each hearing of one makes a domain lighter, so they cannot go on for ever, in whatever order they
+/// Each sending of a message and each receiving of one makes a domain lighter, so they cannot go on for ever, in whatever order they
 /// happen and whatever the filters are.
 pub fn steps_come_to_an_end()
-    ensures hears { (d : Domain) → (u w : ℕ) → (m : Message) → (rest : List Message) → IsInOrder d → IsNext d u w m rest →
-        weight (hears d u w m rest) < weight d }
+    ensures receives { (d : Domain) → (u w : ℕ) → (m : Message) → (rest : List Message) → IsInOrder d → IsNext d u w m rest →
+        weight (receives d u w m rest) < weight d }
     ensures sends { (d : Domain) → (u w max : ℕ) → IsInOrder d → u < d.size → w < d.size →
         0 < length (take max (neighbour d u w).queue) → weight (sends d u w max) < weight d }
 {}

@@ -20,13 +20,13 @@ pub rounds-preserved : goal.rounds-preserved
 rounds-preserved c =
     let before = domain_of c.rounds.tables [] in
     let sent = domain_of c.send_all.new.tables c.send_all.new.sents.items in
-    let after = domain_of c.hear_all.new.tables [] in
+    let after = domain_of c.receive_all.new.tables [] in
     let long = ap length c.deref.ensures.value in
     record {
       played = round_more (domain_of c.args.tables.now []) before sent after c.rounds.settled.messages (length c.send_all.new.sents.items)
           c.in-Some.messages c.rounds.invariant.played
           (subst (λ ss. AreSent (domain_of c.rounds.tables ss) sent) c.rounds.invariant.empty c.in_ok-send_all.ensures.sent)
-          (subst (λ ss. IsPlayed (domain_of c.send_all.new.tables ss) after (length ss)) c.deref.ensures.value c.in_ok-hear_all.ensures)
+          (subst (λ ss. IsPlayed (domain_of c.send_all.new.tables ss) after (length ss)) c.deref.ensures.value c.in_ok-receive_all.ensures)
           (omega (arith, c.in-Some.ensures.1, c.len.ensures, c.deref.ensures.len, long));
       empty = c.clear.ensures.items;
       rounds = omega (

@@ -10,7 +10,7 @@ use Rattle.netchange_core.proofs.Good.{gone_good}
 use Rattle.netchange_core.proofs.Holders.{some_none, up_by, up_within}
 use Rattle.netchange_core.proofs.Listed.{present_listed}
 use Rattle.netchange_core.proofs.Presence.{session_at, sessions_changed}
-use Rattle.netchange_core.proofs.States.{IsAtHand, changes_one, good_here, made_room, no_memory, room_made, room_stays, settled, stale_there}
+use Rattle.netchange_core.proofs.States.{IsAtHand, changes_one, good_here, made_room, no_memory, recompute_handles, room_made, room_stays, stale_there}
 use Rattle.netchange_core.proofs.state.State.down.Goals as goal
 use Rattle.netchange_core.proofs.state.State.down.Goals.{After-index_mut-neighbour}
 
@@ -40,12 +40,12 @@ leave-requires c =
     (good_here c.args.self.now c.requires.right _ c.args.hop _
     (here (goal.at.leave-requires c).After-index_mut-neighbour)).one_a_node
 
-pub settle-changed-requires : goal.settle-changed-requires
-settle-changed-requires c =
+pub recompute-changed-requires : goal.recompute-changed-requires
+recompute-changed-requires c =
     let s = c.args.self.now in
     let k = c.args.hop in
     let ns = views_of s in
-    let was = here (goal.at.settle-changed-requires c).After-index_mut-neighbour in
+    let was = here (goal.at.recompute-changed-requires c).After-index_mut-neighbour in
     let one = changes_one s c.requires.right _ k _ was (gone s.opening) c.leave.new.neighbour c.leave.ensures
     (gone_good s.opening _) in
     let held : session_in (sessions_of ns) k ≡ Some c.args.session = session_at ns k ∙ c.requires.holds in
@@ -63,9 +63,9 @@ settle-changed-requires c =
 pub returns : goal.returns
 returns c =
     let s = c.args.self.now in
-    settled s c.requires.right c.args.hop (gone s.opening) _
+    recompute_handles s c.requires.right c.args.hop (gone s.opening) _
     (changes_one s c.requires.right _ c.args.hop _ (here (goal.at.returns c).After-index_mut-neighbour) (gone s.opening)
-    c.leave.new.neighbour c.leave.ensures (gone_good s.opening _)) _ _ _ c.settle-changed.ensures
+    c.leave.new.neighbour c.leave.ensures (gone_good s.opening _)) _ _ _ c.recompute-changed.ensures
 
 pub returns-in_err-make_room : goal.returns-in_err-make_room
 returns-in_err-make_room c =

@@ -11,7 +11,7 @@ use Rattle.netchange_core.proofs.Holders.{none_by}
 use Rattle.netchange_core.proofs.Listed.{present_listed}
 use Rattle.netchange_core.proofs.Presence.{sessions_kept}
 use Rattle.netchange_core.proofs.Received.{recomputed_same}
-use Rattle.netchange_core.proofs.States.{IsAtHand, changes_one, done, looks, made_room, room_made, room_stays, settled, stale_there, still_right}
+use Rattle.netchange_core.proofs.States.{IsAtHand, changes_one, done, looks, made_room, recompute_handles, room_made, room_stays, stale_there, still_right}
 use Rattle.netchange_core.proofs.Worlds.{world}
 use Rattle.netchange_core.proofs.state.State.import.Goals as goal
 use Rattle.netchange_core.proofs.state.State.import.Goals.{After-index_mut-2}
@@ -50,12 +50,12 @@ here c = record {
   is = c.index_mut-2.ensures.value;
 }
 
-pub settle-changed-requires : goal.settle-changed-requires
-settle-changed-requires c =
+pub recompute-changed-requires : goal.recompute-changed-requires
+recompute-changed-requires c =
     let s = c.args.self.now in
     let k = c.args.node in
     let f = importing c.args.filter.value in
-    let was = here (goal.at.settle-changed-requires c).After-index_mut-2 in
+    let was = here (goal.at.recompute-changed-requires c).After-index_mut-2 in
     let one = changes_one s c.requires.right _ k _ was f c.import-2.new.neighbour c.import-2.ensures.view
     (importing_good s.opening.size c.args.filter.value _ c.requires.size) in
     let room = room_made s c.deref_mut.result.now c.make_room.new.neighbours c.deref_mut.ensures.value c.make_room.auto.neighbours
@@ -69,7 +69,7 @@ settle-changed-requires c =
 pub returns : goal.returns
 returns c =
     let s = c.args.self.now in
-    settled s c.requires.right c.args.node (importing c.args.filter.value) _
+    recompute_handles s c.requires.right c.args.node (importing c.args.filter.value) _
     (changes_one s c.requires.right _ c.args.node _ (here (goal.at.returns c).After-index_mut-2) (importing c.args.filter.value)
     c.import-2.new.neighbour c.import-2.ensures.view (importing_good s.opening.size c.args.filter.value _ c.requires.size)) _ _ _
-    c.settle-changed.ensures
+    c.recompute-changed.ensures

@@ -4,9 +4,9 @@ use Rattle.std.specs.Vec.{with_item}
 use Rattle.netchange_core.specs.Best.{best_by}
 use Rattle.netchange_core.specs.FilteredDistance.{filtered_distance}
 use Rattle.netchange_core.specs.Kept.{view_of, views_of}
-use Rattle.netchange_core.specs.Next.{heard, tell}
+use Rattle.netchange_core.specs.Next.{advertising, tell}
 use Rattle.netchange_core.specs.Present.{ArePresent}
-use Rattle.netchange_core.proofs.Good.{heard_good}
+use Rattle.netchange_core.proofs.Good.{advertising_good}
 use Rattle.netchange_core.proofs.Holders.{up_within}
 use Rattle.netchange_core.proofs.Presence.{sessions_kept}
 use Rattle.netchange_core.proofs.Received.{receive_goes, received, received_kept}
@@ -21,7 +21,7 @@ returns-then-stays c =
     let k = c.args.hop in
     let v = c.args.message.dest in
     let d = c.args.message.dist in
-    let f = heard v d in
+    let f = advertising v d in
     let ns = views_of s in
     let ds = s.destinations.items in
     let kept = c.requires.right.kept in
@@ -31,9 +31,9 @@ returns-then-stays c =
     let near = c.filtered_distance-near.result in
     let h = up_within ns k c.requires.up in
     let b = changes_one s c.requires.right s.neighbours.items k c.index_mut.result.now
-    (record { within = h; same = refl; is = c.index_mut.ensures.value }) f c.hear.new.neighbour c.hear.ensures.view
-    (heard_good o.size v d _ (omega arith) (omega arith)) in
-    let ms = map view_of (with_item s.neighbours k c.hear.new.neighbour).items in
+    (record { within = h; same = refl; is = c.index_mut.ensures.value }) f c.advertise.new.neighbour c.advertise.ensures.view
+    (advertising_good o.size v d _ (omega arith) (omega arith)) in
+    let ms = map view_of (with_item s.neighbours k c.advertise.new.neighbour).items in
     let near_is = c.filtered_distance-near.ensures.value
     ∙ ap (λ m. filtered_distance o m.imports v d) (looks s c.requires.right s.neighbours.items k c.index.result.now
     (record { within = h; same = refl; is = c.index.ensures })) in

@@ -5,12 +5,12 @@ use Rattle.netchange_core.specs.declared.neighbour.Neighbour.{Neighbour}
 use Rattle.netchange_core.specs.Best.{best_by}
 use Rattle.netchange_core.specs.Kept.{AreNeighbours, view_of, views_of}
 use Rattle.netchange_core.specs.Leading.{ListsReachable}
-use Rattle.netchange_core.specs.Next.{heard}
+use Rattle.netchange_core.specs.Next.{advertising}
 use Rattle.netchange_core.specs.Present.{AreListed, ArePresent, sessions_of}
 use Rattle.netchange_core.specs.Room.{HaveRoom}
-use Rattle.netchange_core.specs.Settling.{told_if_differs}
+use Rattle.netchange_core.specs.Recomputing.{told_if_differs}
 use Rattle.netchange_core.proofs.Change.{change_good}
-use Rattle.netchange_core.proofs.Good.{heard_good}
+use Rattle.netchange_core.proofs.Good.{advertising_good}
 use Rattle.netchange_core.proofs.Holders.{up_within}
 use Rattle.netchange_core.proofs.Listed.{present_listed}
 use Rattle.netchange_core.proofs.Presence.{sessions_kept, sessions_told_one}
@@ -54,41 +54,41 @@ here c = record {
   is = c.index_mut.ensures.value;
 }
 
-pub hear-requires : goal.hear-requires
-hear-requires c =
-    let good = good_here c.args.self.now c.requires.right _ c.args.hop _ (here (goal.at.hear-requires c).After-index_mut) in
+pub advertise-requires : goal.advertise-requires
+advertise-requires c =
+    let good = good_here c.args.self.now c.requires.right _ c.args.hop _ (here (goal.at.advertise-requires c).After-index_mut) in
     omega (arith, good.one_a_node)
 
--- the neighbours after the distance was heard, before it is told
+-- the neighbours after the distance was received, before it is told
 one : (c : After-index_mut) (new : Neighbour) →
-    view_of new ≡ heard c.args.message.dest c.args.message.dist (view_of c.index_mut.result.now) →
-    ChangesOne c.args.self.now.opening c.args.hop (heard c.args.message.dest c.args.message.dist) (views_of c.args.self.now)
+    view_of new ≡ advertising c.args.message.dest c.args.message.dist (view_of c.index_mut.result.now) →
+    ChangesOne c.args.self.now.opening c.args.hop (advertising c.args.message.dest c.args.message.dist) (views_of c.args.self.now)
     (map view_of (slice_set (with_items c.args.self.now.neighbours c.make_room_if_differs.new.neighbours).items c.args.hop new))
 one c new e =
     let s = c.args.self.now in
-    changes_one s c.requires.right _ c.args.hop _ (here c) (heard c.args.message.dest c.args.message.dist) new e
-    (heard_good s.opening.size c.args.message.dest c.args.message.dist _ (omega arith) (omega arith))
+    changes_one s c.requires.right _ c.args.hop _ (here c) (advertising c.args.message.dest c.args.message.dist) new e
+    (advertising_good s.opening.size c.args.message.dest c.args.message.dist _ (omega arith) (omega arith))
 
 pub tell_if_differs-differs-requires-clause-neighbours : goal.tell_if_differs-differs-requires-clause-neighbours
 tell_if_differs-differs-requires-clause-neighbours c =
     let s = c.args.self.now in
-    let b = one (goal.at.tell_if_differs-differs-requires-clause-neighbours c).After-index_mut c.hear.new.neighbour
-    c.hear.ensures.view in
+    let b = one (goal.at.tell_if_differs-differs-requires-clause-neighbours c).After-index_mut c.advertise.new.neighbour
+    c.advertise.ensures.view in
     subst (λ ms. AreNeighbours s.opening.size (map view_of ms)) (sym c.deref_mut-2.ensures.value)
     (subst (AreNeighbours s.opening.size) (sym b.is)
-    (change_good s.opening.size c.args.hop (heard c.args.message.dest c.args.message.dist) (views_of s) b.within
+    (change_good s.opening.size c.args.hop (advertising c.args.message.dest c.args.message.dist) (views_of s) b.within
     c.requires.right.kept.neighbours b.good))
 
 pub tell_if_differs-differs-requires-clause-listed : goal.tell_if_differs-differs-requires-clause-listed
 tell_if_differs-differs-requires-clause-listed c =
     let s = c.args.self.now in
     let ps = s.sessions.present.items in
-    let b = one (goal.at.tell_if_differs-differs-requires-clause-listed c).After-index_mut c.hear.new.neighbour
-    c.hear.ensures.view in
+    let b = one (goal.at.tell_if_differs-differs-requires-clause-listed c).After-index_mut c.advertise.new.neighbour
+    c.advertise.ensures.view in
     subst (λ qs. AreListed (sessions_of (map view_of c.deref_mut-2.result.now)) qs) (sym c.as_slice-present.ensures.value)
     (subst (λ ms. AreListed (sessions_of (map view_of ms)) ps) (sym c.deref_mut-2.ensures.value)
     (subst (λ ss. AreListed ss ps)
-    (sym (sessions_kept (views_of s) _ c.args.hop (heard c.args.message.dest c.args.message.dist) b.is (λ _. refl)))
+    (sym (sessions_kept (views_of s) _ c.args.hop (advertising c.args.message.dest c.args.message.dist) b.is (λ _. refl)))
     (present_listed _ _ _ c.requires.right.present)))
 
 pub tell_if_differs-differs-requires-clause-room : goal.tell_if_differs-differs-requires-clause-room
@@ -98,7 +98,7 @@ tell_if_differs-differs-requires-clause-room c = λ differs.
     c.make_room_if_differs.auto.neighbours 1 (c.in_ok-make_room_if_differs.ensures.room differs) in
     subst (HaveRoom 1) (sym c.deref_mut-2.ensures.value)
     (room_stays s c.requires.right _ c.args.hop _ (here (goal.at.tell_if_differs-differs-requires-clause-room c).After-index_mut) 1
-    c.hear.new.neighbour room (c.hear.ensures.room 1))
+    c.advertise.new.neighbour room (c.advertise.ensures.room 1))
 
 pub returns-clause-done : goal.returns-clause-done
 returns-clause-done c =
@@ -107,20 +107,20 @@ returns-clause-done c =
     let k = c.args.hop in
     let v = c.args.message.dest in
     let d = c.args.message.dist in
-    let f = heard v d in
+    let f = advertising v d in
     let ns = views_of s in
     let ds = s.destinations.items in
     let head = c.index_mut-destination.result.now in
     let is = c.index_mut-destination.ensures.value in
     let new = c.route_after-route.result in
-    let b = one (goal.at.returns-clause-done c).After-index_mut c.hear.new.neighbour c.hear.ensures.view in
+    let b = one (goal.at.returns-clause-done c).After-index_mut c.advertise.new.neighbour c.advertise.ensures.view in
     let h = b.within in
-    let heard_by = with_item (with_items s.neighbours c.make_room_if_differs.new.neighbours) k c.hear.new.neighbour in
-    let ms = map view_of heard_by.items in
+    let received_by = with_item (with_items s.neighbours c.make_room_if_differs.new.neighbours) k c.advertise.new.neighbour in
+    let ms = map view_of received_by.items in
     let best = c.route_after-route.ensures.best
     ∙ ap (λ e. best_by o v (slice_set e.distances.items k c.args.near)) is in
     let told = ap (λ qs. map view_of qs)
-    (put_back heard_by c.tell_if_differs-differs.new.neighbours
+    (put_back received_by c.tell_if_differs-differs.new.neighbours
     (c.tell_if_differs-differs.auto.neighbours ∙ ap (λ (qs : List Neighbour). length qs) c.deref_mut-2.ensures.value))
     ∙ c.tell_if_differs-differs.ensures.told
     ∙ ap (λ qs. told_if_differs o v head.route.dist new.dist (map view_of qs)) c.deref_mut-2.ensures.value

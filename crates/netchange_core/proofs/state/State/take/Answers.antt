@@ -2,11 +2,11 @@ use Rattle.std.proofs.Common.{◌≡◌, length, min, take, ap, sym, refl, ◌�
 use Rattle.std.proofs.lemmas.List.{length-map, take_min}
 use Rattle.netchange_core.specs.declared.reply.Reply.TheVariants as reply
 use Rattle.netchange_core.specs.Kept.{view_of, views_of}
-use Rattle.netchange_core.specs.Next.{answered, relieved}
+use Rattle.netchange_core.specs.Next.{answered, dequeued}
 use Rattle.netchange_core.specs.World.{neighbour_at}
 use Rattle.netchange_core.proofs.Change.{change_as}
-use Rattle.netchange_core.proofs.Goes.{relieved_min}
-use Rattle.netchange_core.proofs.Good.{relieved_good}
+use Rattle.netchange_core.proofs.Goes.{dequeued_min}
+use Rattle.netchange_core.proofs.Good.{dequeued_good}
 use Rattle.netchange_core.proofs.Holders.{up_within}
 use Rattle.netchange_core.proofs.States.{IsAtHand, all_same, changes_one, done, looks, no_memory, still_right}
 use Rattle.netchange_core.proofs.Worlds.{world}
@@ -39,13 +39,13 @@ returns c =
     let counted : count ≡ min max (length n.queue) =
     c.min-count.ensures ∙ (λ i. min (c.from.ensures i) (c.len.ensures i))
     ∙ ap (λ m. min max m) (c.index_mut-neighbour.result.now.queue.ok.0 ∙ ap (λ m. length m.queue) is) in
-    let one = changes_one s c.requires.right _ k _ was (relieved count) c.relieve.new.neighbour c.relieve.ensures.view
-    (relieved_good s.opening.size count _) in
-    let e = one.is ∙ change_as k (relieved count) (relieved max) ns was.within (relieved_min max count n counted) in
-    let messages = c.from_vec.ensures ∙ c.relieve.ensures.items ∙ ap (λ m. take count m.queue) is
+    let one = changes_one s c.requires.right _ k _ was (dequeued count) c.dequeue.new.neighbour c.dequeue.ensures.view
+    (dequeued_good s.opening.size count _) in
+    let e = one.is ∙ change_as k (dequeued count) (dequeued max) ns was.within (dequeued_min max count n counted) in
+    let messages = c.from_vec.ensures ∙ c.dequeue.ensures.items ∙ ap (λ m. take count m.queue) is
     ∙ ap (λ m. take m n.queue) counted ∙ take_min max n.queue in
     done s _ _ _ refl (λ i. answered (world s.opening s.sessions.count (sym e i)) (reply.Messages (sym messages i)))
-    (still_right s c.requires.right k (relieved count) _ one (λ _. refl) (λ v _. refl))
+    (still_right s c.requires.right k (dequeued count) _ one (λ _. refl) (λ v _. refl))
 
 pub returns-in_err-items : goal.returns-in_err-items
 returns-in_err-items c =

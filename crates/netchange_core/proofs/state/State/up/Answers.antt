@@ -81,11 +81,11 @@ returns c =
           (session_at ns k ∙ down) c.requires.present));
     })
 
-pub join-requires-clause-raw : goal.join-requires-clause-raw
-join-requires-clause-raw c =
-    ap (λ m. length m.raw) c.reserve.ensures.same
+pub join-requires-clause-advertised : goal.join-requires-clause-advertised
+join-requires-clause-advertised c =
+    ap (λ m. length m.advertised) c.reserve.ensures.same
     ∙ (good_here c.args.self.now c.requires _ c.from.result _
-    (here (goal.at.join-requires-clause-raw c).After-index_mut-neighbour)).one_a_node
+    (here (goal.at.join-requires-clause-advertised c).After-index_mut-neighbour)).one_a_node
 
 pub join-requires-clause-exports : goal.join-requires-clause-exports
 join-requires-clause-exports c =

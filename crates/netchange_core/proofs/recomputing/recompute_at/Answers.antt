@@ -5,7 +5,7 @@ use Rattle.netchange_core.specs.Kept.{view_of}
 use Rattle.netchange_core.specs.Leading.{ListsReachable}
 use Rattle.netchange_core.proofs.Scanned.{lists_reachable}
 use Rattle.netchange_core.proofs.Views.{good_at, view_at}
-use Rattle.netchange_core.proofs.settling.settle_at.Goals as goal
+use Rattle.netchange_core.proofs.recomputing.recompute_at.Goals as goal
 
 pub neighbour_distance-near-requires-clause-neighbour :
     goal.neighbour_distance-near-requires-clause-neighbour

@@ -1,4 +1,4 @@
-//! Routers hear what is on its way to them.
+//! Routers receive what is on its way to them.
 
 ghost use Rattle.std.specs.Prelude.{◌≡◌, ◌<◌, All, OnOk, [], length};
 ghost use Rattle.netchange_core.specs.Calls.{session_of};
@@ -11,8 +11,8 @@ use crate::sent::Sent;
 use netchange_core::{Event, Tables};
 use std::alloc::AllocError;
 
-/// A router hears a message, in the present session of the node that sent it.
-fn hear(router: &mut Tables, sent: Sent) -> Result<(), AllocError>
+/// A router receives a message, in the present session of the node that sent it.
+fn receive(router: &mut Tables, sent: Sent) -> Result<(), AllocError>
     ensures { OnOk result (router.new ≡ in_session router.old (session_of router.old sent.from)
         (λ s. event.Receive s sent.message.dest sent.message.dist)) }
 {
@@ -23,14 +23,14 @@ fn hear(router: &mut Tables, sent: Sent) -> Result<(), AllocError>
     Ok(())
 }
 
-/// The nodes hear the messages that are on their way, in this order.
-pub(crate) fn hear_all(tables: &mut [Tables], sents: &[Sent]) -> Result<(), AllocError>
+/// The nodes receive the messages that are on their way, in this order.
+pub(crate) fn receive_all(tables: &mut [Tables], sents: &[Sent]) -> Result<(), AllocError>
     requires order { IsInOrder (domain_of tables.old sents.now) }
     requires between { All (IsBetween (length tables.old)) sents.now }
     ensures { OnOk result (IsPlayed (domain_of tables.old sents.now) (domain_of tables.new []) (length sents.now)) }
 {
     for sent in sents {
-        hear(&mut tables[usize::from(sent.to)], *sent)?;
+        receive(&mut tables[usize::from(sent.to)], *sent)?;
     }
     Ok(())
 }

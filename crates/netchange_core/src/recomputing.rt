@@ -6,10 +6,10 @@ ghost use Rattle.netchange_core.specs.Kept.{AreNeighbours, IsDestination, IsNeig
 ghost use Rattle.netchange_core.specs.Leading.{ListsReachable};
 ghost use Rattle.netchange_core.specs.Present.{AreListed, sessions_of};
 ghost use Rattle.netchange_core.specs.Room.{HaveRoom};
-ghost use Rattle.netchange_core.specs.Settling.{IsStaleAt, Settles, told_if_differs};
+ghost use Rattle.netchange_core.specs.Recomputing.{IsStaleAt, Recomputes, told_if_differs};
 ghost use Rattle.netchange_core.specs.World.{neighbour_at};
 
-use crate::best_route::{BestRoute, revised};
+use crate::best_route::{BestRoute, best_after};
 use crate::destination::Destination;
 use crate::filter::filtered_distance;
 use crate::neighbour::Neighbour;
@@ -32,7 +32,7 @@ pub(crate) fn neighbour_distance(opening: &Opening, neighbour: &Neighbour, node:
         opening,
         &neighbour.imports,
         node,
-        neighbour.raw[usize::from(node)],
+        neighbour.advertised[usize::from(node)],
     )
 }
 
@@ -55,7 +55,7 @@ pub(crate) fn route_after(
     if node == opening.me() {
         return destination.route;
     }
-    revised(
+    best_after(
         opening.size(),
         present,
         &destination.distances,
@@ -75,9 +75,9 @@ pub(crate) fn put(destination: &mut Destination, hop: usize, near: u16, route: B
     destination.distances[hop] = near;
 }
 
-/// Brings the route to a node up to date, after one neighbour changed. Answers whether its distance changed. Mostly the
+/// Recomputes the route to a node, after one neighbour changed. Answers whether its distance changed. Mostly the
 /// neighbour is as far from the node as it was, and then there is nothing to do.
-fn settle_at(
+fn recompute_at(
     opening: &Opening,
     present: &[Present],
     neighbours: &mut [Neighbour],
@@ -111,17 +111,17 @@ fn settle_at(
 }
 
 impl State {
-    /// Brings all routes up to date, after one neighbour changed, and tells the distances that changed. Answers how many did.
-    pub(crate) fn settle(&mut self, hop: usize) -> u16
+    /// Recomputes all routes, after one neighbour changed, and tells the distances that changed. Answers how many did.
+    pub(crate) fn recompute(&mut self, hop: usize) -> u16
         requires { IsStaleAt hop self.old }
-        ensures { Settles self.old self.new result }
+        ensures { Recomputes self.old self.new result }
     {
         let present = self.sessions.present.as_slice();
         let neighbours = self.neighbours.as_mut_slice();
         let destinations = self.destinations.as_mut_slice();
         let mut changed = 0;
         for node in 0..self.opening.size() {
-            changed += u16::from(settle_at(
+            changed += u16::from(recompute_at(
                 &self.opening,
                 present,
                 neighbours,

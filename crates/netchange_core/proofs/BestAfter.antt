@@ -84,33 +84,33 @@ longer : (size : ℕ) (xs : List ℕ) (w x d h : ℕ) → Through size (length x
 longer size xs w x d h p = subst (λ n. Through size n (slice_set xs w x) d h) (sym (length-set xs w x)) p
 
 -- the same, of the nearest
-pub revised_now : (size : ℕ) (xs : List ℕ) (w x : ℕ) (r : BestRoute) (h : ℕ) → r ≡ nearest size xs → w < length xs →
+pub best_after_now : (size : ℕ) (xs : List ℕ) (w x : ℕ) (r : BestRoute) (h : ℕ) → r ≡ nearest size xs → w < length xs →
     r.via ≡ Node h → ((x + 1 < r.dist) ⊎ ((x + 1 ≡ r.dist) × (w ≤ h))) →
     route_of (x + 1) (Node w) ≡ nearest size (slice_set xs w x)
-revised_now size xs w x r h e short v closer =
+best_after_now size xs w x r h e short v closer =
     leads_nearest size (slice_set xs w x) (route_of (x + 1) (Node w))
     (longer size xs w x (x + 1) w
     (leads_now size (length xs) xs w x r.dist h short short closer (nearest_node size xs r h e v)))
 
-pub revised_first : (size : ℕ) (xs : List ℕ) (w x : ℕ) (r : BestRoute) → r ≡ nearest size xs → w < length xs →
+pub best_after_first : (size : ℕ) (xs : List ℕ) (w x : ℕ) (r : BestRoute) → r ≡ nearest size xs → w < length xs →
     r.via ≡ Nowhere → x + 1 < r.dist → route_of (x + 1) (Node w) ≡ nearest size (slice_set xs w x)
-revised_first size xs w x r e short v closer =
+best_after_first size xs w x r e short v closer =
     leads_nearest size (slice_set xs w x) (route_of (x + 1) (Node w))
     (longer size xs w x (x + 1) w
     (leads_first size (length xs) xs w x r.dist short short closer (nearest_nowhere size xs r e v)))
 
-pub revised_still : (size : ℕ) (xs : List ℕ) (w x : ℕ) (r : BestRoute) (h : ℕ) → r ≡ nearest size xs → w < length xs →
+pub best_after_still : (size : ℕ) (xs : List ℕ) (w x : ℕ) (r : BestRoute) (h : ℕ) → r ≡ nearest size xs → w < length xs →
     r.via ≡ Node h → (w ≡ h → ⊥) → ((r.dist < x + 1) ⊎ ((r.dist ≡ x + 1) × (h < w))) →
     r ≡ nearest size (slice_set xs w x)
-revised_still size xs w x r h e short v other farther =
+best_after_still size xs w x r h e short v other farther =
     leads_nearest size (slice_set xs w x) r
     (subst (λ u. LeadsBy size (length (slice_set xs w x)) (slice_set xs w x) r.dist u) (sym v)
     (longer size xs w x r.dist h
     (leads_still size (length xs) xs w x r.dist h short other farther (nearest_node size xs r h e v))))
 
-pub revised_nowhere : (size : ℕ) (xs : List ℕ) (w x : ℕ) (r : BestRoute) → r ≡ nearest size xs → w < length xs →
+pub best_after_nowhere : (size : ℕ) (xs : List ℕ) (w x : ℕ) (r : BestRoute) → r ≡ nearest size xs → w < length xs →
     r.via ≡ Nowhere → r.dist ≤ x + 1 → r ≡ nearest size (slice_set xs w x)
-revised_nowhere size xs w x r e short v far =
+best_after_nowhere size xs w x r e short v far =
     let p = none_still size (length xs) xs w x r.dist short far (nearest_nowhere size xs r e v) in
     let q : Without size (length (slice_set xs w x)) (slice_set xs w x) r.dist =
     subst (λ n. Without size n (slice_set xs w x) r.dist) (sym (length-set xs w x)) p in

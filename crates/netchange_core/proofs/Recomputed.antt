@@ -1,4 +1,4 @@
--- The loop that brings all routes up to date, after one neighbour changed.
+-- The loop that recomputes all routes, after one neighbour changed.
 use Rattle.std.specs.Int.{from_bool}
 use Rattle.std.proofs.Common.{◌≡◌, ℕ, ◌+◌, ◌-◌, ◌<◌, ◌≤◌, zero, suc, cond, nat_eq, not, Bool, true, false, List, length, map, slice_index_or, slice_set, ap, sym, subst, ◌∙◌, arith, le_refl}
 use Rattle.std.proofs.lemmas.Bool.{cond_both}
@@ -10,7 +10,7 @@ use Rattle.netchange_core.specs.Kept.{AreKept, AreNeighbours, IsDestination, dis
 use Rattle.netchange_core.specs.Next.{count_changes, tell_changes}
 use Rattle.netchange_core.specs.OpeningView.{OpeningView}
 use Rattle.netchange_core.specs.Room.{HaveRoom}
-use Rattle.netchange_core.specs.Settling.{AreStaleAt, told_if_differs}
+use Rattle.netchange_core.specs.Recomputing.{AreStaleAt, told_if_differs}
 use Rattle.netchange_core.specs.World.{NeighbourView, neighbour_at}
 use Rattle.netchange_core.proofs.Queued.{changes_distance, changes_distances, changes_good, changes_more, count_more}
 use Rattle.netchange_core.proofs.Replaced.{behind_set, below_set}
@@ -20,8 +20,8 @@ pub record IsUpToDate (o : OpeningView) (ns : List NeighbourView) (v : ℕ) (d :
   pub right : IsDestination o v d
   pub distances : d.distances.items ≡ map (neighbour_distance o v) ns
 
--- the destinations below a number are up to date, and the neighbours were told so
-pub record Settled (o : OpeningView) (ms : List Neighbour) (old : List Destination) (v : ℕ) (ns : List Neighbour)
+-- the destinations below a number are recomputed, and the neighbours were told so
+pub record AreRecomputed (o : OpeningView) (ms : List Neighbour) (old : List Destination) (v : ℕ) (ns : List Neighbour)
     (ds : List Destination) (count : ℕ) : Type 0 where
   pub told : map view_of ns ≡ tell_changes o (kept_distance old) (distance_by o (map view_of ms)) v (map view_of ms)
   pub count_is : count ≡ count_changes (kept_distance old) (distance_by o (map view_of ms)) v
@@ -47,7 +47,7 @@ counted false count byte e = omega (arith, e)
 
 -- a destination after its turn
 module _ (o : OpeningView) (hop v : ℕ) (ms ns : List Neighbour) (old ds : List Destination) (new head : Destination)
-    (count : ℕ) (s : Settled o ms old v ns ds count) (below : v < o.size) (within : hop < length ms)
+    (count : ℕ) (s : AreRecomputed o ms old v ns ds count) (below : v < o.size) (within : hop < length ms)
     (stale : AreStaleAt o hop (map view_of ms) old)
     (distances : new.distances.items ≡ slice_set (slice_index_or ds v head).distances.items hop
     (neighbour_distance o v (neighbour_at (map view_of ns) hop)))
@@ -77,16 +77,16 @@ module _ (o : OpeningView) (hop v : ℕ) (ms ns : List Neighbour) (old ds : List
   new_distance = ap (λ r. r.dist) (right.best ∙ ap (λ xs. best_by o v xs) now_up_to_date.distances)
 
 -- one destination more
-pub settled_more : (o : OpeningView) (hop v : ℕ) (ms ns ns_new : List Neighbour) (old ds : List Destination)
-    (new head : Destination) (count byte : ℕ) → Settled o ms old v ns ds count → v < o.size → hop < length ms →
+pub recomputed_more : (o : OpeningView) (hop v : ℕ) (ms ns ns_new : List Neighbour) (old ds : List Destination)
+    (new head : Destination) (count byte : ℕ) → AreRecomputed o ms old v ns ds count → v < o.size → hop < length ms →
     v < length ds → v < length old → AreStaleAt o hop (map view_of ms) old →
     map view_of ns_new ≡ told_if_differs o v (slice_index_or ds v head).route.dist new.route.dist (map view_of ns) →
     new.distances.items ≡ slice_set (slice_index_or ds v head).distances.items hop
     (neighbour_distance o v (neighbour_at (map view_of ns) hop)) →
     IsDestination o v new → ((more : ℕ) → HaveRoom (more + 1) ns → HaveRoom more ns_new) →
     byte ≡ from_bool (not (nat_eq (slice_index_or ds v head).route.dist new.route.dist)) →
-    Settled o ms old (v + 1) ns_new (slice_set ds v new) (count + byte)
-settled_more o hop v ms ns ns_new old ds new head count byte s below within short long stale told distances right room counts =
+    AreRecomputed o ms old (v + 1) ns_new (slice_set ds v new) (count + byte)
+recomputed_more o hop v ms ns ns_new old ds new head count byte s below within short long stale told distances right room counts =
     let was = old_distance o hop v ms ns old ds new head count s below within stale distances right long in
     let is = new_distance o hop v ms ns old ds new head count s below within stale distances right in
     let up_to_date = now_up_to_date o hop v ms ns old ds new head count s below within stale distances right in
@@ -106,10 +106,10 @@ settled_more o hop v ms ns ns_new old ds new head count byte s below within shor
     }
 
 -- after the last one
-pub settled_kept : (o : OpeningView) (ms ns : List Neighbour) (old ds : List Destination) (count : ℕ) →
-    Settled o ms old o.size ns ds count → AreNeighbours o.size (map view_of ms) → length ds ≡ o.size →
+pub recomputed_kept : (o : OpeningView) (ms ns : List Neighbour) (old ds : List Destination) (count : ℕ) →
+    AreRecomputed o ms old o.size ns ds count → AreNeighbours o.size (map view_of ms) → length ds ≡ o.size →
     AreKept o (map view_of ns) ds
-settled_kept o ms ns old ds count s good all =
+recomputed_kept o ms ns old ds count s good all =
     let ps = map view_of ms in
     record {
       neighbours = subst (AreNeighbours o.size) (sym s.told)
@@ -122,24 +122,24 @@ settled_kept o ms ns old ds count s good all =
     }
 
 -- the same, where its place is named by another number
-pub settled_more_at : (o : OpeningView) (hop v i : ℕ) (ms ns ns_new : List Neighbour) (old ds : List Destination)
-    (new head : Destination) (count byte : ℕ) → i ≡ v → Settled o ms old v ns ds count → v < o.size → hop < length ms →
+pub recomputed_more_at : (o : OpeningView) (hop v i : ℕ) (ms ns ns_new : List Neighbour) (old ds : List Destination)
+    (new head : Destination) (count byte : ℕ) → i ≡ v → AreRecomputed o ms old v ns ds count → v < o.size → hop < length ms →
     v < length ds → v < length old → AreStaleAt o hop (map view_of ms) old →
     map view_of ns_new ≡ told_if_differs o v (slice_index_or ds i head).route.dist new.route.dist (map view_of ns) →
     new.distances.items ≡ slice_set (slice_index_or ds i head).distances.items hop
     (neighbour_distance o v (neighbour_at (map view_of ns) hop)) →
     IsDestination o v new → ((more : ℕ) → HaveRoom (more + 1) ns → HaveRoom more ns_new) →
     byte ≡ from_bool (not (nat_eq (slice_index_or ds i head).route.dist new.route.dist)) →
-    Settled o ms old (v + 1) ns_new (slice_set ds i new) (count + byte)
-settled_more_at o hop v i ms ns ns_new old ds new head count byte e s below within short long stale told distances right room counts =
+    AreRecomputed o ms old (v + 1) ns_new (slice_set ds i new) (count + byte)
+recomputed_more_at o hop v i ms ns ns_new old ds new head count byte e s below within short long stale told distances right room counts =
     let P : ℕ → Type 0 = λ j.
     map view_of ns_new ≡ told_if_differs o v (slice_index_or ds j head).route.dist new.route.dist (map view_of ns) →
     new.distances.items ≡ slice_set (slice_index_or ds j head).distances.items hop
     (neighbour_distance o v (neighbour_at (map view_of ns) hop)) →
     byte ≡ from_bool (not (nat_eq (slice_index_or ds j head).route.dist new.route.dist)) →
-    Settled o ms old (v + 1) ns_new (slice_set ds j new) (count + byte) in
+    AreRecomputed o ms old (v + 1) ns_new (slice_set ds j new) (count + byte) in
     let at_v : P v = λ t d b.
-    settled_more o hop v ms ns ns_new old ds new head count byte s below within short long stale t d right room b in
+    recomputed_more o hop v ms ns ns_new old ds new head count byte s below within short long stale t d right room b in
     subst P (sym e) at_v told distances counts
 
 pub byte_within : (b : Bool) → from_bool b ≤ 1
@@ -148,7 +148,7 @@ byte_within false = omega arith
 
 -- the destinations that are still to come are stale as they were
 pub still_stale : (o : OpeningView) (hop v i : ℕ) (ms ns : List Neighbour) (old ds : List Destination) (head : Destination)
-    (count : ℕ) → i ≡ v → Settled o ms old v ns ds count → v < o.size → hop < length ms →
+    (count : ℕ) → i ≡ v → AreRecomputed o ms old v ns ds count → v < o.size → hop < length ms →
     AreStaleAt o hop (map view_of ms) old →
     slice_set (slice_index_or ds i head).distances.items hop (neighbour_distance o v (neighbour_at (map view_of ns) hop))
     ≡ map (neighbour_distance o v) (map view_of ns)

@@ -39,8 +39,8 @@ world_told s = record (world_of s) {
 abbrev pub count_told : State → ℕ
 count_told s = count_changes (kept_distance s.destinations.items) (distance_by s.opening (views_of s)) s.opening.size
 
--- a state was brought up to date
-pub record Settles (old new : State) (count : ℕ) : Type 0 where
+-- a state whose routes were recomputed
+pub record Recomputes (old new : State) (count : ℕ) : Type 0 where
   pub tables : AreTables new
   pub told : world_of new ≡ world_told old
   pub count_is : count ≡ count_told old

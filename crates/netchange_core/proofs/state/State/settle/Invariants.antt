@@ -1,6 +1,0 @@
-use Rattle.netchange_core.proofs.Settled.{Settled}
-use Rattle.netchange_core.proofs.state.State.settle.Given as goal
-
-abbrev pub invariant-loop-node : goal.invariant-loop-node
-invariant-loop-node l =
-    Settled l.fn.self.opening l.fn.self.neighbours.items l.fn.self.destinations.items l.node l.neighbours l.destinations l.changed
