@@ -1,4 +1,4 @@
-//! The verifier: what is known at each instruction of a code, in one pass forward.
+//! The verifier: what is known at each instruction of a code, in one sweep forward.
 
 use crate::code::Instruction;
 use crate::lexer::{Fault, Kind};

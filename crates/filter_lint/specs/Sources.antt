@@ -5,7 +5,7 @@ use Rattle.filter_code.specs.CodeView.{CodeView}
 use Rattle.filter_verifier.specs.FirstFault.{the_fault}
 use Rattle.filter_verifier.specs.InStateView.{InStateView}
 use Rattle.filter_verifier.specs.InStates.{in_state}
-use Rattle.filter_verifier.specs.Pass.{state_at}
+use Rattle.filter_verifier.specs.Sweep.{state_at}
 use Rattle.filter_verifier.specs.Surveys.{surveyed}
 use Rattle.filter_verifier.specs.declared.in_state.InState.{InState}
 

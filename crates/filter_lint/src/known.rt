@@ -1,6 +1,6 @@
 //! What the verifier knows of ints before an instruction.
 ghost use Rattle.std.specs.Prelude.{◌≡◌, option_and_then};
-ghost use Rattle.filter_verifier.specs.Pass.{in_state_view};
+ghost use Rattle.filter_verifier.specs.Sweep.{in_state_view};
 ghost use Rattle.filter_lint.specs.Known as spec;
 ghost use Rattle.filter_lint.specs.Sources.{known_at};
 

@@ -2,7 +2,7 @@
 ghost use Rattle.std.specs.Prelude.{◌≡◌, ◌==◌, slice_get};
 ghost use Rattle.std.specs.List.{list_any};
 ghost use Rattle.std.specs.Option.{option_map};
-ghost use Rattle.filter_verifier.specs.Pass.{in_state_view};
+ghost use Rattle.filter_verifier.specs.Sweep.{in_state_view};
 ghost use Rattle.filter_lint.specs.Sources as spec;
 
 use filter_code::{Code, Instr};

@@ -1,7 +1,7 @@
 //! The assignments of the metric of which the search is asked whether they would lower it: those of which the verifier does not know
 //! that the value is at least the metric received.
 ghost use Rattle.std.specs.Prelude.{◌≡◌, IfOk};
-ghost use Rattle.filter_verifier.specs.Pass.{in_state_view};
+ghost use Rattle.filter_verifier.specs.Sweep.{in_state_view};
 ghost use Rattle.filter_lint.specs.Sources.{known_at};
 ghost use Rattle.filter_lint.specs.Watching as spec;
 

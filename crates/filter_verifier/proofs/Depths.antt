@@ -12,7 +12,7 @@ use Rattle.filter_verifier.specs.InStateView.{InStateView, Known, UnlikeDepths, 
 use Rattle.filter_verifier.specs.InStates.{in_state, leads_of, out_state_at, propagated}
 use Rattle.filter_verifier.specs.OutStateView.{OutStateView, Passed, Refused, Skipped}
 use Rattle.filter_verifier.specs.PairwiseJoin.{join_two_states}
-use Rattle.filter_verifier.specs.Pass.{height_of, highest, joined_below}
+use Rattle.filter_verifier.specs.Sweep.{height_of, highest, joined_below}
 use Rattle.filter_verifier.specs.Transfer.{leads_to, out_state}
 use Rattle.filter_verifier.specs.Bounds.{peak}
 use Rattle.filter_verifier.proofs.Propagation.{below_or_at, arrives_at}
@@ -21,7 +21,7 @@ use Rattle.filter_verifier.proofs.Heights.{IsHigh, HandsOn, Passes, passes_on}
 use Rattle.filter_verifier.proofs.JoinedPlaces.{length_joined}
 use Rattle.filter_verifier.proofs.Joins.{HasHeight, height_left, height_right}
 use Rattle.filter_verifier.proofs.Sound.{none_refused, lead_on_from, faultless}
-use Rattle.filter_verifier.specs.Pass.{as_in_state, entry_state}
+use Rattle.filter_verifier.specs.Sweep.{as_in_state, entry_state}
 use Rattle.filter_verifier.specs.AbstractFrameView.{AbstractFrameView}
 use Rattle.filter_verifier.proofs.Propagation.{joined_at_entry, joined_next}
 use Rattle.filter_code.specs.Limits.{stack_limit}

@@ -12,11 +12,11 @@ pub mod JoinedPlaces
 pub mod Joins
 pub mod OutStates
 pub mod Parts
-pub mod Passes
 pub mod Propagation
 mod Rows
 pub mod Sizes
 pub mod Sound
 pub mod Steps
 pub mod Surveys
+pub mod Sweeps
 pub mod Verdicts

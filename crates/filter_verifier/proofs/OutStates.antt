@@ -11,7 +11,7 @@ use Rattle.filter_verifier.specs.AbstractFrameView.{AbstractFrameView}
 use Rattle.filter_verifier.specs.Facts.{all_known, kind_of_fact}
 use Rattle.filter_verifier.specs.InStateView.{InStateView, Known, UnlikeDepths, Unreached}
 use Rattle.filter_verifier.specs.OutStateView.{OutStateView, Passed}
-use Rattle.filter_verifier.specs.Pass.{frame_of, transferred}
+use Rattle.filter_verifier.specs.Sweep.{frame_of, transferred}
 use Rattle.filter_verifier.specs.Transfer.{if_inside, judge, leads_below, out_state, out_state_of_frame, out_state_of_known}
 use Rattle.filter_verifier.specs.Transfer.{unless_over, unless_refused}
 

@@ -17,11 +17,11 @@ use Rattle.filter_verifier.specs.InStateView.{InStateView, Known, UnlikeDepths, 
 use Rattle.filter_verifier.specs.InStates.{in_state, leads_of, out_state_at, propagated}
 use Rattle.filter_verifier.specs.OutStateView.{OutStateView, Passed, Refused, Skipped}
 use Rattle.filter_verifier.specs.PairwiseJoin.{join_two_states}
-use Rattle.filter_verifier.specs.Pass.{joined_below}
+use Rattle.filter_verifier.specs.Sweep.{joined_below}
 use Rattle.filter_verifier.specs.Transfer.{frame_after, if_inside, judge, leads_below, leads_to, out_state, out_state_of_frame}
 use Rattle.filter_verifier.specs.Transfer.{out_state_of_known, unless_over, unless_refused}
 use Rattle.filter_verifier.proofs.Joins.{Wide}
-use Rattle.filter_verifier.specs.Pass.{as_in_state, entry_state}
+use Rattle.filter_verifier.specs.Sweep.{as_in_state, entry_state}
 use Rattle.filter_verifier.specs.Join.{join_frames}
 use Rattle.filter_verifier.specs.Numbers.{any_two_differ}
 use Rattle.filter_verifier.specs.InStates.{incoming, entry_frame, with_frame}
@@ -118,7 +118,7 @@ frame_joined : (count : ℕ) (o : Option AbstractFrameView) (frames : List Abstr
 frame_joined count None frames w = sym (joined_with_none (join_frames count frames))
 frame_joined count (Some frame) frames w = joined_one_more count frame frames w
 
--- before the pass visits the next index
+-- before the sweep visits the next index
 pub joined_next : (program : CodeView) (size n index : ℕ) → joined_below program size (suc n) index
     ≡ join_two_states (joined_below program size n index) (as_in_state (propagated program n (out_state_at program size n) index))
 unfolding incoming
@@ -126,7 +126,7 @@ joined_next program size n index =
     frame_joined program.locals (propagated program n (out_state_at program size n) index) (incoming program size n index)
     (wide_propagated program size n index)
 
--- before the pass
+-- before the sweep
 pub joined_at_entry : (program : CodeView) (size index : ℕ) → joined_below program size 0 index ≡ entry_state program index
 unfolding incoming
 joined_at_entry program size zero = joined_alone program.locals (entry_frame program) (length-replicate program.locals None)

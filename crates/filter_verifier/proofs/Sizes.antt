@@ -18,7 +18,7 @@ use Rattle.filter_verifier.specs.FirstFault.{first_fault, is_size, or_else, refu
 use Rattle.filter_verifier.specs.InStateView.{InStateView, Known, UnlikeDepths, Unreached}
 use Rattle.filter_verifier.specs.InStates.{in_state, out_state_at}
 use Rattle.filter_verifier.specs.OutStateView.{OutStateView, Passed, Refused, Skipped}
-use Rattle.filter_verifier.specs.Pass.{frame_of}
+use Rattle.filter_verifier.specs.Sweep.{frame_of}
 use Rattle.filter_verifier.specs.Transfer.{frame_after, if_inside, judge, leads_below, out_state, out_state_of_frame}
 use Rattle.filter_verifier.specs.Transfer.{out_state_of_known, unless_over, unless_refused}
 use Rattle.filter_verifier.specs.Faults.{refusal_of}

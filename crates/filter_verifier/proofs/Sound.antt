@@ -27,7 +27,7 @@ use Rattle.filter_verifier.proofs.Fits.{PlaceIsAs, Pairwise, pairwise_length}
 use Rattle.filter_verifier.proofs.Heights.{IsHigh, Passes, passes_on}
 use Rattle.filter_verifier.proofs.Joins.{Agrees, agrees_left, agrees_right}
 use Rattle.filter_verifier.proofs.Steps.{EndsWell, StepIs, stepped}
-use Rattle.filter_verifier.specs.Pass.{entry_state}
+use Rattle.filter_verifier.specs.Sweep.{entry_state}
 use Rattle.filter_verifier.specs.AbstractFrameView.{AbstractFrameView}
 use Rattle.filter_verifier.proofs.Propagation.{joined_at_entry}
 use Rattle.filter_code.specs.Limits.{largest_size, smallest_size, stack_limit}

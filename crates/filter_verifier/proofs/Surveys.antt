@@ -1,4 +1,4 @@
--- A survey keeps what the pass knows before each instruction that it visits.
+-- A survey keeps what the sweep knows before each instruction that it visits.
 use Rattle.std.proofs.Common.{◌≡◌, ℕ, zero, suc, ◌+◌, ◌<◌, Bool, true, false, Option, Some, None, List, [], ◌∷◌}
 use Rattle.std.proofs.Common.{◌++◌, length, refl, sym, ◌∙◌, ap, subst, arith, below_more}
 use Rattle.std.specs.Prelude.{slice_get}
@@ -18,11 +18,11 @@ use Rattle.filter_verifier.specs.FirstFault.{first_fault, refused_by}
 use Rattle.filter_verifier.specs.InStates.{in_state}
 use Rattle.filter_verifier.specs.InStateView.{InStateView, Known, UnlikeDepths, Unreached}
 use Rattle.filter_verifier.specs.OutStateView.{OutStateView, Passed, Refused, Skipped}
-use Rattle.filter_verifier.specs.Pass.{frame_of, in_state_view, state_at}
+use Rattle.filter_verifier.specs.Sweep.{frame_of, in_state_view, state_at}
 use Rattle.filter_verifier.specs.Surveys.{reach}
 use Rattle.filter_verifier.specs.Transfer.{frame_after, if_inside, judge, leads_below, out_state, out_state_of_frame}
 use Rattle.filter_verifier.specs.Transfer.{out_state_of_known, unless_over, unless_refused}
-use Rattle.filter_verifier.proofs.Passes.{Before, refused}
+use Rattle.filter_verifier.proofs.Sweeps.{Before, refused}
 
 -- before the visit of an index: what waits, and what was kept
 pub record Kept (program : CodeView) (size n : ℕ) (waiting in_states : List InState) (depth : ℕ) : Type 0 where

@@ -10,13 +10,13 @@ use Rattle.filter_verifier.specs.declared.survey.RunBounds.{RunBounds}
 use Rattle.filter_verifier.specs.declared.survey.Survey.{Survey}
 use Rattle.filter_verifier.specs.Bounds.{cost}
 use Rattle.filter_verifier.specs.FirstFault.{first_fault, is_size, the_fault}
-use Rattle.filter_verifier.specs.Pass.{highest}
+use Rattle.filter_verifier.specs.Sweep.{highest}
 use Rattle.filter_verifier.specs.Surveys.{reach, refused_range, surveyed}
 use Rattle.filter_verifier.specs.Verdicts.{IsVerdict}
 use Rattle.filter_verifier.proofs.Depths.{depth_is}
-use Rattle.filter_verifier.proofs.Passes.{nothing_unknown}
+use Rattle.filter_verifier.proofs.Sweeps.{nothing_unknown}
 
--- what the pass over instructions finds, whatever the size
+-- what the sweep over instructions finds, whatever the size
 abbrev pub IsFound : CodeView → ℕ → Result RunBounds Unverified → Type 0
 IsFound program size verdict = MatchResult verdict
     (λ b. (first_fault program size (length program.instrs) ≡ None) × (b.budget ≡ cost program.instrs 0)

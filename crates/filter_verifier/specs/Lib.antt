@@ -4,15 +4,15 @@ pub mod Bounds
 pub mod Facts
 pub mod Faults
 pub mod FirstFault
-pub mod InStates
 pub mod InStateView
+pub mod InStates
 pub mod Join
 pub mod Numbers
 pub mod OutStateView
-pub mod Pass
 pub mod Ranges
 pub mod Safe
 pub mod Surveys
+pub mod Sweep
 pub mod Transfer
 pub mod Verdicts
 pub mod VerifiedView

@@ -1,4 +1,4 @@
--- The join of two, from which the pass makes the join of all. Only bodies are proved against these.
+-- The join of two, from which the sweep makes the join of all. Only bodies are proved against these.
 use Rattle.std.specs.Prelude.{◌==◌, min, max, ◌&&◌, if◌then◌else◌, Option, Some, None, List, [], ◌∷◌, length}
 use Rattle.filter_verifier.specs.declared.fact.Fact.{Fact}
 use Rattle.filter_verifier.specs.declared.fact.Fact.TheVariants as fact

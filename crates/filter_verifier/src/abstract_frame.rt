@@ -5,7 +5,7 @@ ghost use Rattle.filter_code.specs.Limits.{stack_limit};
 ghost use Rattle.filter_verifier.specs.Facts.{all_known};
 ghost use Rattle.filter_verifier.specs.PairwiseJoin.{join_two_places};
 ghost use Rattle.filter_verifier.specs.InStateView.{Known};
-ghost use Rattle.filter_verifier.specs.Pass.{fact_at};
+ghost use Rattle.filter_verifier.specs.Sweep.{fact_at};
 ghost use Rattle.filter_verifier.specs.Surveys.{top_int};
 
 use crate::fact::{Fact, join_two_at};

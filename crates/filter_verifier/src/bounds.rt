@@ -3,7 +3,7 @@
 ghost use Rattle.std.specs.Prelude.{◌≡◌, ◌<◌, ◌≤◌, ◌∷◌, All, IfOk, length, slice_index};
 ghost use Rattle.filter_code.specs.Limits.{instruction_limit};
 ghost use Rattle.filter_verifier.specs.Bounds.{cost, greatest_at};
-ghost use Rattle.filter_verifier.specs.Pass.{offsets};
+ghost use Rattle.filter_verifier.specs.Sweep.{offsets};
 
 use crate::successors::Successors;
 use filter_code::Instr;

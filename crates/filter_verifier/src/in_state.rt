@@ -4,7 +4,7 @@ ghost use Rattle.std.specs.Prelude.{◌≡◌, ◌≤◌, IfOk};
 ghost use Rattle.filter_code.specs.Limits.{stack_limit};
 ghost use Rattle.filter_verifier.specs.InStateView.{Known};
 ghost use Rattle.filter_verifier.specs.PairwiseJoin.{join_two_states};
-ghost use Rattle.filter_verifier.specs.Pass.{height_of, in_state_view};
+ghost use Rattle.filter_verifier.specs.Sweep.{height_of, in_state_view};
 ghost use Rattle.filter_verifier.specs.Surveys.{top_int};
 
 use crate::abstract_frame::AbstractFrame;

@@ -1,4 +1,4 @@
-//! The verifier: an abstract interpretation of filter code, in one forward pass.
+//! The verifier: an abstract interpretation of filter code, in one forward sweep.
 //!
 //! Code that it accepts never faults, on any route in a domain of the size that it was verified for.
 #![tactic(auto)]
@@ -11,10 +11,10 @@ mod in_state;
 mod laws;
 mod literals;
 mod out_state;
-mod pass;
 mod range;
 mod successors;
 mod survey;
+mod sweep;
 mod transfer;
 mod verified;
 

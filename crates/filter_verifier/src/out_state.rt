@@ -4,7 +4,7 @@ ghost use Rattle.std.specs.Prelude.{◌≡◌, ◌<◌, [], None, IfOk, length, 
 ghost use Rattle.filter_verifier.specs.Faults.{refusal_of};
 ghost use Rattle.filter_verifier.specs.FirstFault.{refused_by};
 ghost use Rattle.filter_verifier.specs.InStateView.{Known};
-ghost use Rattle.filter_verifier.specs.Pass.{in_state_view, out_state_view};
+ghost use Rattle.filter_verifier.specs.Sweep.{in_state_view, out_state_view};
 ghost use Rattle.filter_verifier.specs.Transfer.{out_state, out_state_of_known};
 
 use crate::abstract_frame::{AbstractFrame, fill, refilled};
@@ -90,7 +90,7 @@ fn out_state_of_frame(
 }
 
 /// The out-state of the instruction at an index, from its in-state. The operands are on an empty stack meanwhile, which is empty again
-/// unless the instruction is refused: one stack serves a whole pass, and what an in-state holds becomes what the out-state holds.
+/// unless the instruction is refused: one stack serves a whole sweep, and what an in-state holds becomes what the out-state holds.
 pub fn out_state(
     code: &Code,
     size: u32,

@@ -2,7 +2,7 @@
 
 ghost use Rattle.std.specs.Prelude.{◌≡◌, ◌<◌, ◌≤◌, All};
 ghost use Rattle.filter_code.specs.Table.{leads};
-ghost use Rattle.filter_verifier.specs.Pass.{offsets};
+ghost use Rattle.filter_verifier.specs.Sweep.{offsets};
 ghost use Rattle.filter_verifier.specs.Transfer.{leads_below};
 
 use filter_code::Instr;

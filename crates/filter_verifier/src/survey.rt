@@ -5,14 +5,14 @@ ghost use Rattle.filter_code.specs.Limits.{instruction_limit};
 ghost use Rattle.filter_verifier.specs.Bounds.{cost};
 ghost use Rattle.filter_verifier.specs.FirstFault.{first_fault, the_fault};
 ghost use Rattle.filter_verifier.specs.InStates.{in_state};
-ghost use Rattle.filter_verifier.specs.Pass.{highest, state_at};
+ghost use Rattle.filter_verifier.specs.Sweep.{highest, state_at};
 ghost use Rattle.filter_verifier.specs.Surveys.{reach, refused_range, surveyed};
 ghost use Rattle.filter_verifier.specs.Verdicts.{IsVerdict};
 
 use crate::bounds::budget_of;
 use crate::fault::{Unverified, VerifyFault};
 use crate::in_state::InState;
-use crate::pass::{entry_states, refused_int, visit};
+use crate::sweep::{entry_states, refused_int, visit};
 use filter_code::{Code, LARGEST_SIZE, SMALLEST_SIZE, Stack};
 use std::alloc::{AllocError, Global};
 
@@ -28,7 +28,7 @@ pub struct RunBounds {
 /// What the verifier knows of a code.
 #[derive(Drop)]
 pub struct Survey {
-    /// What is known before each instruction, in order, as far as the pass comes: one that is refused is the last.
+    /// What is known before each instruction, in order, as far as the sweep comes: one that is refused is the last.
     pub in_states: Vec<InState>,
     /// The bounds that `verify` finds, or why it refuses the code.
     pub verdict: Result<RunBounds, Unverified>,

@@ -8,7 +8,7 @@ ghost use Rattle.filter_code.specs.Table.{is_bool, is_int, is_ip, is_prefix, one
 ghost use Rattle.filter_verifier.specs.declared.fact.Fact.TheVariants as fact;
 ghost use Rattle.filter_verifier.specs.Facts.{kind_of_fact};
 ghost use Rattle.filter_verifier.specs.OutStateView.{Refused};
-ghost use Rattle.filter_verifier.specs.Pass.{frame_of, transferred};
+ghost use Rattle.filter_verifier.specs.Sweep.{frame_of, transferred};
 ghost use Rattle.filter_verifier.specs.Ranges.{range_of_quotient};
 ghost use Rattle.filter_verifier.specs.Transfer.{judge};
 ghost use Rattle.filter_verifier.specs.Faults.{refusal_of};

@@ -1,6 +1,6 @@
 use Rattle.std.proofs.Common.{◌<◌, ℕ, List, ◌++◌, ◌∙◌, length, refl, ap, arith}
 use Rattle.std.proofs.lemmas.Option.{slice_get_read}
-use Rattle.filter_verifier.proofs.Passes.{state_is}
+use Rattle.filter_verifier.proofs.Sweeps.{state_is}
 use Rattle.filter_verifier.specs.InStateView.{InStateView}
 use Rattle.filter_reports.specs.Listing.{instruction_line, known_before, origin_in, state_text}
 use Rattle.filter_reports.proofs.Listings.{listed_more, none_listed}

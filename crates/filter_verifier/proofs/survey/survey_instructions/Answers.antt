@@ -1,18 +1,18 @@
 use Rattle.std.proofs.Common.{rules, ◌≡◌, ◌<◌, max, length, sym, ◌∙◌, ap, arith}
 use Rattle.std.proofs.lemmas.Grind.{common_steps}
-use Rattle.filter_verifier.specs.Pass.{height_of}
+use Rattle.filter_verifier.specs.Sweep.{height_of}
 use Rattle.filter_verifier.specs.Faults.{fault_place}
 use Rattle.filter_verifier.specs.InStates.{in_state}
 use Rattle.filter_verifier.specs.Surveys.{top_int}
-use Rattle.filter_verifier.proofs.Passes.{state_is}
-use Rattle.filter_verifier.proofs.Passes as pass
+use Rattle.filter_verifier.proofs.Sweeps.{state_is}
+use Rattle.filter_verifier.proofs.Sweeps as sweep
 use Rattle.filter_verifier.proofs.Surveys.{advanced, begun, kept_all, known_there, reached}
 use Rattle.filter_verifier.proofs.survey.survey_instructions.Goals as goal
 
 pub loop-at-init : goal.loop-at-init
 loop-at-init c = record {
   kept = begun c.args.code.now c.args.size c.in_ok-waiting.waiting.items c.new-in_states.result.items
-      (pass.begun c.args.code.now c.args.size c.in_ok-waiting.waiting.items c.in_ok-waiting.ensures.wide c.in_ok-waiting.ensures.entry)
+      (sweep.begun c.args.code.now c.args.size c.in_ok-waiting.waiting.items c.in_ok-waiting.ensures.wide c.in_ok-waiting.ensures.entry)
       c.new-in_states.ensures.items;
   empty = c.new-stack.ensures;
 }
@@ -27,7 +27,7 @@ returns-in-Some-clause-known c =
 pub returns-in-Some-clause-verdict : goal.returns-in-Some-clause-verdict
 returns-in-Some-clause-verdict c =
     let inside : c.loop-at.at < length c.args.code.now.instrs = rw (← c.instrs-at-end.ensures.value) c.loop-at-test.true in
-    pass.refused c.args.code.now c.args.size c.loop-at.at c.loop-at.waiting.items c.loop-at.depth c.in-Some.fault
+    sweep.refused c.args.code.now c.args.size c.loop-at.at c.loop-at.waiting.items c.loop-at.depth c.in-Some.fault
     c.loop-at.invariant.kept.before (sym c.in_ok-fault.ensures.refused ∙ c.in-Some.is) inside
 
 pub returns-in-Some-clause-range : goal.returns-in-Some-clause-range
@@ -58,7 +58,7 @@ loop-at-preserved c =
       kept = rw (c.in_ok-push.ensures.items, deeper) (advanced c.args.code.now c.args.size c.loop-at.at c.loop-at.waiting.items
           c.visit.new.in_states.items c.loop-at.in_states.items c.loop-at.depth (max c.loop-at.depth c.height.result) c.in_ok-copy.field-0
           c.loop-at.invariant.kept (c.in_ok-copy.ensures ∙ copied)
-          (pass.advanced c.args.code.now c.args.size c.loop-at.at c.loop-at.waiting.items c.visit.new.in_states.items
+          (sweep.advanced c.args.code.now c.args.size c.loop-at.at c.loop-at.waiting.items c.visit.new.in_states.items
           c.loop-at.depth c.height.result before
           c.in_ok-fault.ensures.wide (sym c.in_ok-fault.ensures.refused ∙ c.in_default.is) c.in_ok-fault.ensures.propagated
           (c.height.ensures.value ∙ ap height_of here) c.height.ensures.limit));

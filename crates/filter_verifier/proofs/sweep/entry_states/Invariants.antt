@@ -1,6 +1,6 @@
 use Rattle.std.proofs.Common.{◌≡◌, ℕ, length}
-use Rattle.filter_verifier.specs.Pass.{entry_state, state_at}
-use Rattle.filter_verifier.proofs.pass.entry_states.Given as goal
+use Rattle.filter_verifier.specs.Sweep.{entry_state, state_at}
+use Rattle.filter_verifier.proofs.sweep.entry_states.Given as goal
 
 abbrev pub invariant-loop : goal.invariant-loop
 invariant-loop l = record {

@@ -1,4 +1,4 @@
--- The in-state that the pass keeps for each index is the join of what all visited instructions propagate to it.
+-- The in-state that the sweep keeps for each index is the join of what all visited instructions propagate to it.
 use Rattle.std.proofs.Common.{◌≡◌, ℕ, zero, suc, ◌+◌, ◌-◌, ◌≤◌, ◌<◌, max, Bool, true, false, Option, Some, None, List, [], ◌∷◌}
 use Rattle.std.proofs.Common.{◌++◌, length, get_or, refl, sym, ◌∙◌, ap, subst, add-one, arith}
 use Rattle.std.proofs.lemmas.Bool.Decides.{nat_tests}
@@ -17,9 +17,9 @@ use Rattle.filter_verifier.specs.InStateView.{InStateView, Unreached}
 use Rattle.filter_verifier.specs.InStates.{in_state, leads_of, out_state_at, propagated}
 use Rattle.filter_verifier.specs.OutStateView.{OutStateView, Passed}
 use Rattle.filter_verifier.specs.PairwiseJoin.{join_two_states}
-use Rattle.filter_verifier.specs.Pass.{height_of, highest, in_state_view, joined_below, state_at}
+use Rattle.filter_verifier.specs.Sweep.{height_of, highest, in_state_view, joined_below, state_at}
 use Rattle.filter_verifier.specs.Transfer.{leads_to, out_state}
-use Rattle.filter_verifier.specs.Pass.{as_in_state, entry_state}
+use Rattle.filter_verifier.specs.Sweep.{as_in_state, entry_state}
 use Rattle.filter_verifier.specs.InStateView.{Known}
 use Rattle.filter_verifier.specs.AbstractFrameView.{AbstractFrameView}
 use Rattle.filter_verifier.proofs.Propagation.{joined_at_entry, joined_next}

@@ -1,9 +1,9 @@
 use Rattle.std.proofs.Common.{length, sym, ◌∙◌, ap, refl}
 use Rattle.std.proofs.lemmas.List.{length-set}
 use Rattle.std.proofs.lemmas.Option.{slice_get_read}
-use Rattle.filter_verifier.specs.Pass.{in_state_view, out_state_view}
+use Rattle.filter_verifier.specs.Sweep.{in_state_view, out_state_view}
 use Rattle.filter_verifier.proofs.OutStates.{passed_inside}
-use Rattle.filter_verifier.proofs.pass.visit.Goals as goal
+use Rattle.filter_verifier.proofs.sweep.visit.Goals as goal
 
 pub propagate-requires : goal.propagate-requires
 propagate-requires c =

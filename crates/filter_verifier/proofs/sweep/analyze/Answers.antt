@@ -1,14 +1,14 @@
 use Rattle.std.proofs.Common.{rules, ◌≡◌, ◌<◌, max, Some, length, sym, ◌∙◌, ap, inr, arith}
 use Rattle.std.proofs.lemmas.Grind.{common_steps}
-use Rattle.filter_verifier.specs.Pass.{height_of}
+use Rattle.filter_verifier.specs.Sweep.{height_of}
 use Rattle.filter_verifier.specs.Faults.{fault_place}
 use Rattle.filter_verifier.specs.InStates.{in_state}
 use Rattle.filter_verifier.specs.Surveys.{top_int}
-use Rattle.filter_verifier.proofs.Passes.{advanced, begun, refused, state_is}
+use Rattle.filter_verifier.proofs.Sweeps.{advanced, begun, refused, state_is}
 use Rattle.filter_verifier.specs.declared.fault.VerifyFault.{VerifyFault}
 use Rattle.filter_verifier.proofs.Sizes.{not_the_size}
 use Rattle.filter_verifier.proofs.Surveys.{known_there}
-use Rattle.filter_verifier.proofs.pass.analyze.Goals as goal
+use Rattle.filter_verifier.proofs.sweep.analyze.Goals as goal
 
 pub loop-at-init : goal.loop-at-init
 loop-at-init c = record {

@@ -1,4 +1,4 @@
-//! The pass over a code: it visits each instruction once, in order, and propagates what is known to the successors.
+//! The sweep over a code: it visits each instruction once, in order, and propagates what is known to the successors.
 
 ghost use Rattle.std.specs.Prelude.{◌≡◌, ◌⊎◌, ◌<◌, ◌≤◌, ◌==◌, ◌≢◌, ℕ, true, None, Some, IfErr, IfOk, MatchResult};
 ghost use Rattle.std.specs.Prelude.{length, slice_get, [], if◌then◌else◌};
@@ -9,7 +9,7 @@ ghost use Rattle.filter_verifier.specs.InStateView.{InStateView, Known, Unreache
 ghost use Rattle.filter_verifier.specs.InStates.{propagated};
 ghost use Rattle.filter_verifier.specs.OutStateView.{Passed};
 ghost use Rattle.filter_verifier.specs.PairwiseJoin.{join_two_states};
-ghost use Rattle.filter_verifier.specs.Pass.{as_in_state, entry_state, highest, in_state_view, offsets, state_at};
+ghost use Rattle.filter_verifier.specs.Sweep.{as_in_state, entry_state, highest, in_state_view, offsets, state_at};
 ghost use Rattle.filter_verifier.specs.Surveys.{refused_int, refused_range, top_int};
 ghost use Rattle.filter_verifier.specs.Transfer.{leads_below, leads_to, out_state};
 
@@ -24,7 +24,7 @@ use filter_code::{Code, Stack};
 use std::alloc::{AllocError, Global};
 use std::mem::replace;
 
-/// The in-states before the pass: only the first instruction is reached.
+/// The in-states before the sweep: only the first instruction is reached.
 pub(crate) fn entry_states(alloc: Global, code: &Code) -> Result<Vec<InState>, AllocError>
     requires { 0 < length code.now.instrs }
     ensures wide { IfOk result (λ v. length v.items ≡ length code.now.instrs) }

@@ -1,4 +1,4 @@
--- The steps of the pass.
+-- The steps of the sweep.
 use Rattle.std.specs.Prelude.{ℕ, zero, suc, max, Option, Some, None, List, [], ◌∷◌, length, map, slice_index_or}
 use Rattle.filter_code.specs.declared.instruction.Instr.{Instr}
 use Rattle.filter_code.specs.CodeView.{CodeView}
@@ -47,12 +47,12 @@ abbrev pub as_in_state : Option AbstractFrameView → InStateView
 as_in_state None = Unreached
 as_in_state (Some frame) = Known frame
 
--- the in-states before the pass
+-- the in-states before the sweep
 abbrev pub entry_state : CodeView → ℕ → InStateView
 entry_state program zero = Known (entry_frame program)
 entry_state program (suc index) = Unreached
 
--- the in-state that the pass keeps for an index; before it visits n, the join of what the instructions below n propagate
+-- the in-state that the sweep keeps for an index; before it visits n, the join of what the instructions below n propagate
 abbrev pub state_at : List InState → ℕ → InStateView
 state_at in_states index = in_state_view (slice_index_or in_states index state.Unreached)
 
