@@ -105,7 +105,7 @@ class SmallPlan:
         yield from (f"{kind} {u} {w} {used[0]}" for (kind, u, w), used in self.filters.items() if used)
         yield from (f"route {u} {v}" for v in self.nodes for u in self.nodes)
 
-    def passed(self, used, node, dist):
+    def filtered(self, used, node, dist):
         return used[2](self.size, node, dist) if used else dist
 
     def route(self, node, u, dists):
@@ -115,7 +115,7 @@ class SmallPlan:
         best = self.size, "none"
         for w in self.nodes:
             if (min(u, w), max(u, w)) in self.links:
-                way = self.passed(self.filters["import", u, w], node, self.passed(self.filters["export", w, u], node, dists[w])) + 1
+                way = self.filtered(self.filters["import", u, w], node, self.filtered(self.filters["export", w, u], node, dists[w])) + 1
                 if way < best[0]:
                     best = way, f"via {w}"
         return best

@@ -8,7 +8,7 @@ use crate::code::{decode_hexadecimal, read_code, Code};
 use crate::lines::{push_decimal, push_refusal, words, Reply, Service};
 use crate::machine::Memory;
 use crate::route::{default_prefix, Prefix};
-use crate::router::pass;
+use crate::router::filtered_distance;
 use crate::script::{cost_and_peak, name, number};
 
 /// What a node has for a neighbour.
@@ -64,9 +64,10 @@ impl Plan {
             let dist = best[from].dist;
             for link in self.links[from].iter().filter(|link| link.linked) {
                 let to = usize::from(link.node);
-                let told = pass(memory, link.exports.as_deref(), size, net, dist);
+                let told = filtered_distance(memory, link.exports.as_deref(), size, net, dist);
                 let imports = self.links[to].iter().find(|back| usize::from(back.node) == from);
-                let filtered = pass(memory, imports.and_then(|back| back.imports.as_deref()), size, net, told);
+                let filtered =
+                    filtered_distance(memory, imports.and_then(|back| back.imports.as_deref()), size, net, told);
                 let offered = Best { dist: filtered + 1, via: from as u8 };
                 let old = best[to];
                 if offered.dist < size && to != usize::from(dest) && (offered.dist, offered.via) < (old.dist, old.via) {

@@ -59,7 +59,7 @@ struct Best {
 
 /// The distance that a filter makes of another.
 #[inline(always)]
-pub fn pass(memory: &mut Memory, filter: Option<&Code>, size: u8, net: Prefix, dist: u8) -> u8 {
+pub fn filtered_distance(memory: &mut Memory, filter: Option<&Code>, size: u8, net: Prefix, dist: u8) -> u8 {
     match filter {
         Some(filter) if dist != size => filtered(memory, filter, size, net, dist),
         _ => dist,
@@ -177,7 +177,7 @@ impl Router {
         let Router { neighbours, memory, prefixes, size, up, .. } = self;
         for &neighbour in &*up {
             let Neighbour { exports, queue, .. } = &mut neighbours[usize::from(neighbour)];
-            let dist = pass(memory, exports.as_deref(), *size, prefixes[usize::from(node)], dist);
+            let dist = filtered_distance(memory, exports.as_deref(), *size, prefixes[usize::from(node)], dist);
             queue.push_back(Message { dest: node, dist });
         }
     }
@@ -188,7 +188,7 @@ impl Router {
         let Neighbour { exports, queue, .. } = &mut neighbours[usize::from(node)];
         queue.reserve(prefixes.len());
         for (dest, (best, prefix)) in best.iter().zip(prefixes).enumerate() {
-            let dist = pass(memory, exports.as_deref(), *size, *prefix, best.dist);
+            let dist = filtered_distance(memory, exports.as_deref(), *size, *prefix, best.dist);
             queue.push_back(Message { dest: dest as u8, dist });
         }
     }
@@ -199,7 +199,8 @@ impl Router {
         for node in 0..self.size {
             let Neighbour { advertised, imports, .. } = &self.neighbours[usize::from(neighbour)];
             let net = self.prefixes[usize::from(node)];
-            let dist = pass(&mut self.memory, imports.as_deref(), self.size, net, advertised[usize::from(node)]);
+            let dist =
+                filtered_distance(&mut self.memory, imports.as_deref(), self.size, net, advertised[usize::from(node)]);
             changed += u16::from(self.put(node, neighbour, dist));
         }
         changed
@@ -245,7 +246,7 @@ impl Router {
         let neighbour = &mut self.neighbours[usize::from(node)];
         neighbour.advertised[usize::from(dest)] = dist;
         let net = self.prefixes[usize::from(dest)];
-        let dist = pass(&mut self.memory, neighbour.imports.as_deref(), self.size, net, dist);
+        let dist = filtered_distance(&mut self.memory, neighbour.imports.as_deref(), self.size, net, dist);
         Ok(Reply::Done(u16::from(self.put(dest, node, dist))))
     }
 

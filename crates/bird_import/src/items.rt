@@ -359,7 +359,7 @@ impl Blocks {
 
     /// Goes past the word at an index.
     #[tactic(auto, unfolding(crate::specs::Items::blocks_past))]
-    fn pass(&mut self, words: &[Word<'_>], at: usize) -> Result<(), AllocError>
+    fn go_past(&mut self, words: &[Word<'_>], at: usize) -> Result<(), AllocError>
         requires { at < length words.now }
         ensures { OnOk result (spec.view_of_blocks self.new ≡ spec.blocks_past words.now at (spec.view_of_blocks self.old)) }
     {
@@ -591,7 +591,7 @@ impl Walk {
 
     /// Goes past the word at an index. An item is gone past as a whole.
     #[tactic(auto, unfolding(crate::specs::Items::walk_past))]
-    fn pass(&mut self, alloc: Global, words: &[Word<'_>], at: usize) -> Result<(), AllocError>
+    fn go_past(&mut self, alloc: Global, words: &[Word<'_>], at: usize) -> Result<(), AllocError>
         requires { at < length words.now }
         ensures { OnOk result (spec.view_of_walk self.new ≡ spec.walk_past words.now at (spec.view_of_walk self.old)) }
     {
@@ -600,7 +600,7 @@ impl Walk {
         }
         match item_at(alloc, words, &self.blocks, at)? {
             Some(item) => self.take(item),
-            None => self.blocks.pass(words, at),
+            None => self.blocks.go_past(words, at),
         }
     }
 }
@@ -620,7 +620,7 @@ pub fn find_items(alloc: Global, words: &[Word<'_>]) -> Result<Vec<Item>, AllocE
         found: Vec::new(alloc),
     };
     for at in 0..words.len() {
-        walk.pass(alloc, words, at)?;
+        walk.go_past(alloc, words, at)?;
     }
     let Walk {
         blocks: _blocks,

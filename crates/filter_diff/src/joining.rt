@@ -13,7 +13,7 @@ use std::alloc::{AllocError, Global};
 const LOOK_BACK: usize = 1024;
 
 /// How often all parts are gone over.
-const PASSES: usize = 64;
+const ROUNDS: usize = 64;
 
 /// Whether two prefixes are the same.
 fn same_prefix(a: &Prefix, b: &Prefix) -> bool
@@ -214,7 +214,7 @@ pub fn join_all(alloc: Global, parts: Vec<Part>) -> Result<Vec<Part>, AllocError
     ensures { IfOk result (λ joined. StandFor joined.items parts.items) }
 {
     let mut found = parts;
-    for _pass in 0..PASSES {
+    for _round in 0..ROUNDS {
         let joined = join_once(alloc, found.as_slice())?;
         if joined.len() == found.len() {
             return Ok(found);

@@ -12,7 +12,7 @@ loop-at-init c =
 pub loop-at-preserved : goal.loop-at-preserved
 loop-at-preserved c =
     let words = c.args.words.now in
-    c.in_ok-pass.ensures ∙ ap (walk_past words c.loop-at.at) c.loop-at.invariant ∙ sym (walk_further words c.loop-at.at)
+    c.in_ok-go_past.ensures ∙ ap (walk_past words c.loop-at.at) c.loop-at.invariant ∙ sym (walk_further words c.loop-at.at)
 
 pub returns-clause-follow : goal.returns-clause-follow
 returns-clause-follow c =
