@@ -5,7 +5,7 @@ use std::collections::HashMap;
 use std::sync::Arc;
 
 use crate::code::{decode_hexadecimal, read_code, Code};
-use crate::lines::{push_decimal, push_refusal, words, Reply, Service};
+use crate::lines::{push_decimal, push_refusal, words, LineReply, Service};
 use crate::machine::Memory;
 use crate::route::{default_prefix, Prefix};
 use crate::router::filtered_distance;
@@ -218,22 +218,22 @@ impl Domain {
 }
 
 impl Service for Domain {
-    fn answer(&mut self, number: u32, line: &[u8], out: &mut Vec<u8>) -> Reply {
+    fn answer(&mut self, number: u32, line: &[u8], out: &mut Vec<u8>) -> LineReply {
         let from = out.len();
         match self.execute(number, line, out) {
             Ok(()) => {
                 out.push(b'\n');
-                Reply::Answered
+                LineReply::Answered
             }
             Err((code, at)) => {
                 out.truncate(from);
                 push_refusal(out, code, at);
-                Reply::Refused
+                LineReply::Refused
             }
         }
     }
 
-    fn finish(&mut self, _out: &mut Vec<u8>) -> Reply {
-        Reply::Answered
+    fn finish(&mut self, _out: &mut Vec<u8>) -> LineReply {
+        LineReply::Answered
     }
 }

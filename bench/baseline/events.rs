@@ -7,7 +7,7 @@ use std::io;
 use std::sync::Arc;
 
 use crate::code::{decode_hexadecimal, read_code, Code};
-use crate::lines::{answer_lines, Reply as LineReply, Service, StreamFault};
+use crate::lines::{answer_lines, LineReply, Service, StreamFault};
 use crate::route::default_prefix;
 use crate::router::{Event, Reply, Router};
 

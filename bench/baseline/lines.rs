@@ -27,7 +27,7 @@ impl StreamFault {
 }
 
 #[derive(Clone, Copy, Debug, PartialEq, Eq)]
-pub enum Reply {
+pub enum LineReply {
     Answered,
     Refused,
     /// Refused, and nothing behind it is read.
@@ -37,9 +37,9 @@ pub enum Reply {
 /// What answers the lines.
 pub trait Service {
     /// Answers the line of this number, which is not a skipped one.
-    fn answer(&mut self, number: u32, line: &[u8], out: &mut Vec<u8>) -> Reply;
+    fn answer(&mut self, number: u32, line: &[u8], out: &mut Vec<u8>) -> LineReply;
     /// Answers the end of the input, where it is owed an answer.
-    fn finish(&mut self, out: &mut Vec<u8>) -> Reply;
+    fn finish(&mut self, out: &mut Vec<u8>) -> LineReply;
 }
 
 pub fn push_decimal(out: &mut Vec<u8>, number: u32) {
@@ -124,17 +124,17 @@ struct Engine<'a, S> {
 }
 
 impl<S: Service> Engine<'_, S> {
-    fn count(&mut self, reply: Reply) -> Reply {
-        self.refused += u32::from(reply != Reply::Answered);
+    fn count(&mut self, reply: LineReply) -> LineReply {
+        self.refused += u32::from(reply != LineReply::Answered);
         reply
     }
 
     /// Answers the line `pending[from..to]`, its LF left off and a CR before that too.
-    fn answer(&mut self, from: usize, to: usize) -> Reply {
+    fn answer(&mut self, from: usize, to: usize) -> LineReply {
         self.number += 1;
         let line = &self.pending[from..to];
         if line.is_empty() || line[0] == b'#' {
-            return Reply::Answered;
+            return LineReply::Answered;
         }
         let reply = self.service.answer(self.number, line, &mut self.out);
         self.count(reply)
@@ -156,21 +156,21 @@ impl<S: Service> Engine<'_, S> {
     }
 
     /// Answers each line that ends in the `fresh` bytes behind what was pending, and moves the rest to the front.
-    fn answer_block(&mut self, fresh: usize) -> Reply {
+    fn answer_block(&mut self, fresh: usize) -> LineReply {
         let end = self.filled + fresh;
         let (mut from, mut sought) = (0, self.filled);
         while let Some(length) = find_line_feed(&self.pending[sought..end]) {
             let feed = sought + length;
             let to = if self.pending[from..feed].ends_with(b"\r") { feed - 1 } else { feed };
-            if self.answer(from, to) == Reply::Ended {
-                return Reply::Ended;
+            if self.answer(from, to) == LineReply::Ended {
+                return LineReply::Ended;
             }
             from = feed + 1;
             sought = from;
         }
         self.pending.copy_within(from..end, 0);
         self.filled = end - from;
-        Reply::Answered
+        LineReply::Answered
     }
 
     fn write_out(&mut self, writer: &mut impl Write) -> Result<(), StreamFault> {
@@ -184,7 +184,7 @@ impl<S: Service> Engine<'_, S> {
 
     /// Answers a last line without LF, and the end.
     fn finish(&mut self, writer: &mut impl Write) -> Result<u32, StreamFault> {
-        if self.filled == 0 || self.answer(0, self.filled) != Reply::Ended {
+        if self.filled == 0 || self.answer(0, self.filled) != LineReply::Ended {
             let reply = self.service.finish(&mut self.out);
             self.count(reply);
         }
@@ -213,7 +213,7 @@ pub fn answer_lines<S: Service>(
         if excess > 0 {
             return Err(StreamFault::TooLong);
         }
-        if reply == Reply::Ended {
+        if reply == LineReply::Ended {
             return Ok(engine.refused);
         }
     }

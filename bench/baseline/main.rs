@@ -31,7 +31,9 @@ use std::process::ExitCode;
 
 use code::{decode_hexadecimal, read_code, Code};
 use domain::Domain;
-use lines::{answer_lines, push_decimal, push_refusal, trim_blanks, words, Reply, Service, StreamFault, LINE_LIMIT};
+use lines::{
+    answer_lines, push_decimal, push_refusal, trim_blanks, words, LineReply, Service, StreamFault, LINE_LIMIT,
+};
 use machine::{run, Memory, Outcome};
 use rounds::{measured, Sums};
 use route::{read_prefix, read_route};
@@ -93,37 +95,37 @@ fn push_accept(out: &mut Vec<u8>, metric: u32) {
 }
 
 impl Service for Eval {
-    fn answer(&mut self, number: u32, line: &[u8], out: &mut Vec<u8>) -> Reply {
+    fn answer(&mut self, number: u32, line: &[u8], out: &mut Vec<u8>) -> LineReply {
         let Some(code) = &self.code else {
             return match read_file_line(number, line) {
                 Ok(code) => {
                     self.code = Some(code);
-                    Reply::Answered
+                    LineReply::Answered
                 }
                 Err((code, at)) => {
                     push_refusal(out, code, at);
-                    Reply::Ended
+                    LineReply::Ended
                 }
             };
         };
         match read_route(line) {
             Some(route) if line.len() <= LINE_LIMIT => {
                 push_outcome(out, run(&mut self.memory, code, &route));
-                Reply::Answered
+                LineReply::Answered
             }
             _ => {
                 push_refusal(out, refusal(line), number);
-                Reply::Refused
+                LineReply::Refused
             }
         }
     }
 
-    fn finish(&mut self, out: &mut Vec<u8>) -> Reply {
+    fn finish(&mut self, out: &mut Vec<u8>) -> LineReply {
         if self.code.is_some() {
-            return Reply::Answered;
+            return LineReply::Answered;
         }
         push_refusal(out, "O1", 0);
-        Reply::Refused
+        LineReply::Refused
     }
 }
 

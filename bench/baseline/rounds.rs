@@ -3,7 +3,7 @@
 use std::io;
 
 use crate::code::Code;
-use crate::lines::{answer_lines, Reply, Service, StreamFault};
+use crate::lines::{answer_lines, LineReply, Service, StreamFault};
 use crate::machine::{run, Memory, Outcome};
 use crate::read_file_line;
 use crate::route::{read_route, Route};
@@ -18,17 +18,17 @@ struct Input {
 }
 
 impl Service for Input {
-    fn answer(&mut self, number: u32, line: &[u8], _out: &mut Vec<u8>) -> Reply {
+    fn answer(&mut self, number: u32, line: &[u8], _out: &mut Vec<u8>) -> LineReply {
         if self.code.is_none() {
             self.code = read_file_line(number, line).ok();
-            return if self.code.is_some() { Reply::Answered } else { Reply::Ended };
+            return if self.code.is_some() { LineReply::Answered } else { LineReply::Ended };
         }
         self.routes.extend(read_route(line).filter(|route| route.size == SIZE));
-        Reply::Answered
+        LineReply::Answered
     }
 
-    fn finish(&mut self, _out: &mut Vec<u8>) -> Reply {
-        Reply::Answered
+    fn finish(&mut self, _out: &mut Vec<u8>) -> LineReply {
+        LineReply::Answered
     }
 }
 

@@ -5,7 +5,7 @@ use std::collections::HashMap;
 use std::sync::Arc;
 
 use crate::code::{decode_hexadecimal, read_code, Code, Instruction};
-use crate::lines::{push_decimal, push_refusal, words, Reply as LineReply, Service, LINE_LIMIT};
+use crate::lines::{push_decimal, push_refusal, words, LineReply, Service, LINE_LIMIT};
 use crate::route::{default_prefix, read_number, read_prefix, Prefix};
 use crate::router::{Event, Message, Reply, Router, Via};
 

@@ -10,7 +10,7 @@
 use filter_code::{Code, Route};
 use filter_source::{read_hexadecimal, verify_code};
 use filter_verifier::Verified;
-use line_protocol::{Reply, Service, next_word, trim_blanks};
+use line_protocol::{LineReply, Service, next_word, trim_blanks};
 use prefix_patterns::{read_number, read_prefix};
 use std::alloc::{AllocError, Global};
 use std::sync::Arc;
@@ -151,15 +151,15 @@ impl Service for Input {
         _number: u32,
         line: &[u8],
         _out: &mut Vec<u8>,
-    ) -> Result<Reply, AllocError> {
+    ) -> Result<LineReply, AllocError> {
         let taken = if self.is_for_machine {
             self.take_route(alloc, line)
         } else {
             self.take_event(alloc, line)
         };
         match taken {
-            Some(()) => Ok(Reply::Answered),
-            None => Ok(Reply::Ended),
+            Some(()) => Ok(LineReply::Answered),
+            None => Ok(LineReply::Ended),
         }
     }
 }

@@ -24,17 +24,17 @@ unfolding NameFirst
 next_filter words n word earlier later named is first names apart grown =
     rw add-one (word, earlier, named, is, first, names, apart, grown)
 
-abbrev Words : Type 0
-Words = List (Bor (List ℕ))
+abbrev BorrowedWords : Type 0
+BorrowedWords = List (Bor (List ℕ))
 
-abbrev texts : Words → List (List ℕ)
+abbrev texts : BorrowedWords → List (List ℕ)
 texts words = map (λ word. word.now) words
 
 -- what is known of a word that names a filter
 abbrev Reads : List ℕ → Option NamedFile → Type 0
 Reads word found = MatchOption found (names_filter word ≡ false) (IsFilterWord word)
 
-module _ (words : Words) (n : ℕ) (d : Bor (List ℕ)) (earlier : List NamedFile) (within : n < length words)
+module _ (words : BorrowedWords) (n : ℕ) (d : Bor (List ℕ)) (earlier : List NamedFile) (within : n < length words)
     (first : NameFirst (texts words) n earlier) where
   abbrev word : Bor (List ℕ)
   word = get_or words n d

@@ -10,8 +10,8 @@ use Rattle.command_line.specs.Given.{given_in}
 use Rattle.command_line.specs.Meaning.{ComesTo, MetComesTo}
 use Rattle.command_line.specs.declared.command_names.CommandName.{CommandName}
 use Rattle.command_line.specs.declared.terminals.Terminals.{Terminals}
-use Rattle.command_line.specs.declared.words.Words.{Words}
-use Rattle.command_line.specs.declared.words.Words.TheVariants.{Shown}
+use Rattle.command_line.specs.declared.words.Invocation.{Invocation}
+use Rattle.command_line.specs.declared.words.Invocation.TheVariants.{Shown}
 
 abbrev pair : List ℕ → List Row → Option (List ℕ × List Row)
 pair name rows = Some (name, rows)
@@ -35,7 +35,7 @@ met_both name rows word given (Some x) found y is names gives =
 module _ (matches : ArgMatches) (found : Option (Bor (List ℕ) × Bor ArgMatches))
     (names : option_map (λ p. p.0.now) found ≡ subcommand_name_of matches)
     (rows : option_map (λ p. rows_of (found_of p.1.now)) found ≡ option_map (λ p. p.1) (subcommand_rows (out-ArgMatches matches).subcommand))
-    (terminals : Terminals) (words : Words) where
+    (terminals : Terminals) (words : Invocation) where
   met_words : (one : Bor (List ℕ) × Bor ArgMatches) → found ≡ Some one
       → subcommand_rows_of matches ≡ Some (one.0.now, given_in one.1.now)
   unfolding given_in

@@ -11,8 +11,8 @@ use Rattle.command_line.specs.Meaning.{FailsBy, IsMeant, Meets, Shows, status_of
 use Rattle.command_line.specs.Parameters.{AreTellings, all_taken, command_app, program}
 use Rattle.command_line.specs.declared.options.Choices.{Choices}
 use Rattle.command_line.specs.declared.terminals.Terminals.{Terminals}
-use Rattle.command_line.specs.declared.words.Words.{Words}
-use Rattle.command_line.specs.declared.words.Words.TheVariants.{Shown}
+use Rattle.command_line.specs.declared.words.Invocation.{Invocation}
+use Rattle.command_line.specs.declared.words.Invocation.TheVariants.{Shown}
 use Rattle.line_protocol.specs.declared.faults.StreamFault.{StreamFault}
 use Rattle.line_protocol.specs.declared.faults.StreamFault.TheVariants.{Memory, Write}
 
@@ -61,11 +61,11 @@ module _ (line : List (List ℕ)) (terminals : Terminals) (error : Error) (shows
     | inr shown ↦ shown
   ]
 
-  pub shown_is_meant : {E : Type 0} (result : Result Words E)
+  pub shown_is_meant : {E : Type 0} (result : Result Invocation E)
       → IfOk result (λ words. (kind_of error ≡ kind.OutOfMemory → ⊥) × (words ≡ Shown (status_of (kind_of error)))) → IfOk result (IsMeant line terminals)
   shown_is_meant result shown = IfOk-weaker result _ _ (λ words is. inl (kind_of error, known is.0, is.1)) shown
 
-  pub show_fails : (result : Result Words StreamFault) → IfErr result (λ fault. (fault ≡ Memory)
+  pub show_fails : (result : Result Invocation StreamFault) → IfErr result (λ fault. (fault ≡ Memory)
       ⊎ ((fault ≡ Write) × (kind_of error ≡ kind.OutOfMemory → ⊥) × (status_of (kind_of error) ≡ 0))) → IfErr result (FailsBy line)
   show_fails result fails = IfErr-weaker result _ _ weaken fails
     where

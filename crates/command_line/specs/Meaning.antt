@@ -39,8 +39,8 @@ use Rattle.command_line.specs.declared.telling.Telling.{Telling}
 use Rattle.command_line.specs.declared.telling.Telling.TheVariants.{Auto, Always, Never}
 use Rattle.command_line.specs.declared.terminals.Terminals.{Terminals}
 use Rattle.command_line.specs.declared.test_words.Testing.{Testing}
-use Rattle.command_line.specs.declared.words.Words.{Words}
-use Rattle.command_line.specs.declared.words.Words.TheVariants.{Asked, Network, Router, Shown}
+use Rattle.command_line.specs.declared.words.Invocation.{Invocation}
+use Rattle.command_line.specs.declared.words.Invocation.TheVariants.{Asked, Network, Router, Shown}
 
 -- the numbers that are meant where none is said: the nodes of a domain of RIP, and the classes of routes that are tried
 abbrev pub usual_size : ℕ
@@ -202,20 +202,20 @@ AreRefused command.Run given = HasWrongFilter given
 AreRefused _ given = ⊥
 
 -- what the words of a command come to
-abbrev pub ComesTo : CommandName → List Row → Terminals → Words → Type 0
+abbrev pub ComesTo : CommandName → List Row → Terminals → Invocation → Type 0
 ComesTo named given terminals (Asked asked) = AskFor named given terminals asked
 ComesTo named given terminals Network = named ≡ command.Net
 ComesTo named given terminals (Router words) = (named ≡ command.Router) × AskForRouter given words
 ComesTo named given terminals (Shown status) = AreRefused named given × (status ≡ 2)
 
 -- What the parser of words met, a command's name and the words behind it, comes to this. It meets no other name, and always one.
-abbrev pub MetComesTo : Option (List ℕ × List Row) → Terminals → Words → Type 0
+abbrev pub MetComesTo : Option (List ℕ × List Row) → Terminals → Invocation → Type 0
 MetComesTo None terminals words = words ≡ Shown 2
 MetComesTo (Some met) terminals words =
     MatchOption (command_of met.0) (words ≡ Shown 2) (λ named. ComesTo named met.1 terminals words)
 
 -- words that ask for standard input more than once are refused
-abbrev pub once : Words → Words
+abbrev pub once : Invocation → Invocation
 once words = if nat_lt 1 (readings words) then Shown 2 else words
 
 -- the status of what the parser of words shows in place of matches: help and the version are no mistake
@@ -238,9 +238,9 @@ pub record Shows (line : List (List ℕ)) (shown : ErrorKind) : Type 0 where
   pub among : IsAmong shown (fault_of (program choices) line)
 
 -- what the words of a command line come to
-abbrev pub IsMeant : List (List ℕ) → Terminals → Words → Type 0
+abbrev pub IsMeant : List (List ℕ) → Terminals → Invocation → Type 0
 IsMeant line terminals words = ((shown : ErrorKind) × Shows line shown × (words ≡ Shown (status_of shown)))
-    ⊎ ((met : Option (List ℕ × List Row)) × (meant : Words) × Meets line met × MetComesTo met terminals meant
+    ⊎ ((met : Option (List ℕ × List Row)) × (meant : Invocation) × Meets line met × MetComesTo met terminals meant
     × (words ≡ once meant))
 
 -- The words of a command line do not come to anything: memory was refused, or help was to be shown and was not taken.

@@ -13,8 +13,8 @@ use Rattle.command_line.specs.CommandNames.{name_of}
 use Rattle.command_line.specs.declared.command_names.CommandName.{CommandName}
 use Rattle.command_line.specs.declared.command_names.CommandName.TheVariants as command
 use Rattle.command_line.specs.declared.options.Choices.{Choices}
-use Rattle.command_line.specs.declared.options.Kind.{Kind}
-use Rattle.command_line.specs.declared.options.Kind.TheVariants.{Flag, Letter, Text, Texts, When, Number, Count, Argument, Arguments}
+use Rattle.command_line.specs.declared.options.ParameterKind.{ParameterKind}
+use Rattle.command_line.specs.declared.options.ParameterKind.TheVariants.{Flag, Letter, Text, Texts, When, Number, Count, Argument, Arguments}
 use Rattle.command_line.specs.declared.options.Parameter.{Parameter}
 
 -- these are what `--explain` may say
@@ -32,7 +32,7 @@ abbrev pub flag : List ℕ → Rule
 flag name = record (new_rule name) { long = Some name; action = Some SetTrue }
 
 -- what is written in this way
-abbrev pub written : Choices → List ℕ → Kind → Rule
+abbrev pub written : Choices → List ℕ → ParameterKind → Rule
 written choices name Flag = flag name
 written choices name (Letter letter) = record (flag name) { short = Some letter }
 written choices name Text = option name
@@ -50,13 +50,13 @@ written choices name Arguments = record (argument name) {
 pub record Taken : Type 0 where
   pub taker : List ℕ
   pub name : List ℕ
-  pub kind : Kind
+  pub kind : ParameterKind
   pub is_required : Bool
 
-abbrev pub takes : CommandName → List ℕ → Kind → Taken
+abbrev pub takes : CommandName → List ℕ → ParameterKind → Taken
 takes command name kind = record { taker = name_of command; name = name; kind = kind; is_required = false }
 
-abbrev pub needs : CommandName → List ℕ → Kind → Taken
+abbrev pub needs : CommandName → List ℕ → ParameterKind → Taken
 needs command name kind = record { taker = name_of command; name = name; kind = kind; is_required = true }
 
 -- all that is taken, in the order in which the help shows it

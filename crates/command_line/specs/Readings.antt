@@ -4,8 +4,8 @@ use Rattle.command_line.specs.Reads.{filter_sources, sources_of}
 use Rattle.command_line.specs.declared.requests.Request.{Request}
 use Rattle.command_line.specs.declared.requests.Source.{Source}
 use Rattle.command_line.specs.declared.requests.Source.TheVariants.{Input, File}
-use Rattle.command_line.specs.declared.words.Words.{Words}
-use Rattle.command_line.specs.declared.words.Words.TheVariants.{Asked, Network, Router, Shown}
+use Rattle.command_line.specs.declared.words.Invocation.{Invocation}
+use Rattle.command_line.specs.declared.words.Invocation.TheVariants.{Asked, Network, Router, Shown}
 
 -- a source is standard input
 abbrev pub is_input : Source → Bool
@@ -26,7 +26,7 @@ abbrev pub readings_of : Request → ℕ
 readings_of request = inputs_among (sources_of request)
 
 -- how often the words read it: a router reads what its filters leave of it, if anything is left
-abbrev pub readings : Words → ℕ
+abbrev pub readings : Invocation → ℕ
 readings (Asked asked) = readings_of asked
 readings Network = 0
 readings (Router words) = max 1 (inputs_among (filter_sources words.filters.items))

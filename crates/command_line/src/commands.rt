@@ -5,7 +5,7 @@ ghost use Rattle.clap.specs.Words.{app_of, new_app, rule_of, shape_of};
 ghost use Rattle.command_line.specs.Parameters as spec;
 
 use crate::help::help_of;
-use crate::options::{Choices, Kind, Parameter, arg_of};
+use crate::options::{Choices, Parameter, ParameterKind, arg_of};
 use clap::{Arg, Command};
 use std::alloc::{AllocError, Global};
 
@@ -219,7 +219,7 @@ const SIZE: Parameter = Parameter {
     name: "size",
     value: "N",
     help: "The number of nodes of the routing domain (2 to 250)",
-    kind: Kind::Number,
+    kind: ParameterKind::Number,
     is_required: true,
 };
 
@@ -228,7 +228,7 @@ const CODE: Parameter = Parameter {
     name: "code",
     value: "",
     help: "Read a code file in hexadecimal in place of a filter",
-    kind: Kind::Flag,
+    kind: ParameterKind::Flag,
     is_required: false,
 };
 
@@ -237,7 +237,7 @@ const NAMES: Parameter = Parameter {
     name: "names",
     value: "",
     help: "Begin each line of the output with the name of its file, as `FILE: `",
-    kind: Kind::Flag,
+    kind: ParameterKind::Flag,
     is_required: false,
 };
 
@@ -246,7 +246,7 @@ const QUIET: Parameter = Parameter {
     name: "quiet",
     value: "",
     help: "Print nothing but the lines that refuse something",
-    kind: Kind::Letter('q'),
+    kind: ParameterKind::Letter('q'),
     is_required: false,
 };
 
@@ -255,7 +255,7 @@ const WARN: Parameter = Parameter {
     name: "warn",
     value: "",
     help: "Say on standard error what `ncroute lint` says of each filter that is verified",
-    kind: Kind::Flag,
+    kind: ParameterKind::Flag,
     is_required: false,
 };
 
@@ -264,7 +264,7 @@ const EXPLAIN: Parameter = Parameter {
     name: "explain",
     value: "WHEN",
     help: "When to say on standard error why something is refused, with its line and column; auto, the default, does so on a terminal and for files that are named",
-    kind: Kind::When,
+    kind: ParameterKind::When,
     is_required: false,
 };
 
@@ -273,7 +273,7 @@ const CHECKED: Parameter = Parameter {
     name: "file",
     value: "FILE",
     help: "A file to check in place of standard input; - is standard input",
-    kind: Kind::Arguments,
+    kind: ParameterKind::Arguments,
     is_required: false,
 };
 
@@ -282,7 +282,7 @@ const OPTIONAL_SIZE: Parameter = Parameter {
     name: "size",
     value: "N",
     help: "Verify the filters for a routing domain of N nodes (2 to 250; 16)",
-    kind: Kind::Number,
+    kind: ParameterKind::Number,
     is_required: false,
 };
 
@@ -291,7 +291,7 @@ const LIMIT: Parameter = Parameter {
     name: "limit",
     value: "CLASSES",
     help: "Try at most this many classes of routes (1000000)",
-    kind: Kind::Count,
+    kind: ParameterKind::Count,
     is_required: false,
 };
 
@@ -300,7 +300,7 @@ const OLD_FILE: Parameter = Parameter {
     name: "old",
     value: "OLD",
     help: "The file of the filter as it was; - is standard input",
-    kind: Kind::Argument,
+    kind: ParameterKind::Argument,
     is_required: true,
 };
 
@@ -309,7 +309,7 @@ const NEW_FILE: Parameter = Parameter {
     name: "new",
     value: "NEW",
     help: "The file of the filter as it will be; - is standard input",
-    kind: Kind::Argument,
+    kind: ParameterKind::Argument,
     is_required: true,
 };
 
@@ -318,7 +318,7 @@ const EXPLAINED: Parameter = Parameter {
     name: "code",
     value: "CODE",
     help: "A code by which something was refused, as P2, or a letter, whose codes are listed; without it the letters are",
-    kind: Kind::Argument,
+    kind: ParameterKind::Argument,
     is_required: false,
 };
 
@@ -327,7 +327,7 @@ const TRIED: Parameter = Parameter {
     name: "file",
     value: "FILE",
     help: "The file of the filter's text",
-    kind: Kind::Argument,
+    kind: ParameterKind::Argument,
     is_required: true,
 };
 
@@ -336,7 +336,7 @@ const WHY: Parameter = Parameter {
     name: "why",
     value: "",
     help: "Say of each route which place decided, and what happened on the way",
-    kind: Kind::Flag,
+    kind: ParameterKind::Flag,
     is_required: false,
 };
 
@@ -345,7 +345,7 @@ const COVERAGE: Parameter = Parameter {
     name: "coverage",
     value: "",
     help: "After all routes, say how many of them came to each command",
-    kind: Kind::Flag,
+    kind: ParameterKind::Flag,
     is_required: false,
 };
 
@@ -354,7 +354,7 @@ const LINTED: Parameter = Parameter {
     name: "file",
     value: "FILE",
     help: "The file of a filter in place of standard input; - is standard input",
-    kind: Kind::Arguments,
+    kind: ParameterKind::Arguments,
     is_required: false,
 };
 
@@ -363,7 +363,7 @@ const OUT: Parameter = Parameter {
     name: "out",
     value: "FOLDER",
     help: "Write each filter into a new file of this folder, which has to be there",
-    kind: Kind::Text,
+    kind: ParameterKind::Text,
     is_required: false,
 };
 
@@ -372,7 +372,7 @@ const IMPORTED: Parameter = Parameter {
     name: "file",
     value: "FILE",
     help: "The configuration, in place of standard input; - is standard input",
-    kind: Kind::Argument,
+    kind: ParameterKind::Argument,
     is_required: false,
 };
 
@@ -381,7 +381,7 @@ const VERIFIED_SIZE: Parameter = Parameter {
     name: "size",
     value: "N",
     help: "Verify the code for a routing domain of N nodes (2 to 250), and say what is known before each instruction",
-    kind: Kind::Number,
+    kind: ParameterKind::Number,
     is_required: false,
 };
 
@@ -390,7 +390,7 @@ const LISTED: Parameter = Parameter {
     name: "file",
     value: "FILE",
     help: "The file to list in place of standard input; - is standard input",
-    kind: Kind::Argument,
+    kind: ParameterKind::Argument,
     is_required: false,
 };
 
@@ -399,7 +399,7 @@ const TEST_FILES: Parameter = Parameter {
     name: "file",
     value: "FILE",
     help: "A test file in place of standard input; - is standard input",
-    kind: Kind::Arguments,
+    kind: ParameterKind::Arguments,
     is_required: false,
 };
 
@@ -408,7 +408,7 @@ const OLD: Parameter = Parameter {
     name: "old",
     value: "",
     help: "Write the older form, NCF1",
-    kind: Kind::Flag,
+    kind: ParameterKind::Flag,
     is_required: false,
 };
 
@@ -417,7 +417,7 @@ const SCRIPT: Parameter = Parameter {
     name: "file",
     value: "FILE",
     help: "The file of the commands in place of standard input; - is standard input",
-    kind: Kind::Argument,
+    kind: ParameterKind::Argument,
     is_required: false,
 };
 
@@ -426,7 +426,7 @@ const REPLAYED: Parameter = Parameter {
     name: "file",
     value: "FILE",
     help: "The text of a history, in place of standard input; - is standard input",
-    kind: Kind::Argument,
+    kind: ParameterKind::Argument,
     is_required: false,
 };
 
@@ -435,7 +435,7 @@ const ROUTER_SIZE: Parameter = Parameter {
     name: "size",
     value: "N",
     help: "The number of nodes of the routing domain (2 to 250)",
-    kind: Kind::Number,
+    kind: ParameterKind::Number,
     is_required: true,
 };
 
@@ -444,7 +444,7 @@ const NODE: Parameter = Parameter {
     name: "node",
     value: "ME",
     help: "The node that the router is, below N",
-    kind: Kind::Number,
+    kind: ParameterKind::Number,
     is_required: true,
 };
 
@@ -453,7 +453,7 @@ const HISTORY_LIMIT: Parameter = Parameter {
     name: "limit",
     value: "L",
     help: "The most entries of the history (1 to 1,000,000)",
-    kind: Kind::Number,
+    kind: ParameterKind::Number,
     is_required: false,
 };
 
@@ -462,7 +462,7 @@ const RETRY: Parameter = Parameter {
     name: "retry",
     value: "SECONDS",
     help: "Reopen a closed link after this many seconds (1 or more)",
-    kind: Kind::Number,
+    kind: ParameterKind::Number,
     is_required: false,
 };
 
@@ -471,7 +471,7 @@ const PREFIX: Parameter = Parameter {
     name: "prefix",
     value: "V=PREFIX",
     help: "The prefix of node V; otherwise it is 10.V.0.0/16",
-    kind: Kind::Texts,
+    kind: ParameterKind::Texts,
     is_required: false,
 };
 
@@ -480,7 +480,7 @@ const NAMED_FILTER: Parameter = Parameter {
     name: "filter",
     value: "NAME=FILE",
     help: "Give the filter of FILE this name; where one is refused, nothing is started",
-    kind: Kind::Texts,
+    kind: ParameterKind::Texts,
     is_required: false,
 };
 
@@ -489,7 +489,7 @@ const IMPORT: Parameter = Parameter {
     name: "import",
     value: "W=NAME",
     help: "The filter of what neighbour W tells",
-    kind: Kind::Texts,
+    kind: ParameterKind::Texts,
     is_required: false,
 };
 
@@ -498,7 +498,7 @@ const EXPORT: Parameter = Parameter {
     name: "export",
     value: "W=NAME",
     help: "The filter of what neighbour W is told",
-    kind: Kind::Texts,
+    kind: ParameterKind::Texts,
     is_required: false,
 };
 
@@ -507,7 +507,7 @@ const LINK: Parameter = Parameter {
     name: "link",
     value: "W=IN,OUT",
     help: "Read what neighbour W says from IN, and write what it is told to OUT",
-    kind: Kind::Texts,
+    kind: ParameterKind::Texts,
     is_required: false,
 };
 
@@ -516,7 +516,7 @@ const SAVE: Parameter = Parameter {
     name: "save",
     value: "FILE",
     help: "Keep the router's history in FILE, which must not be there yet; see `ncroute replay`",
-    kind: Kind::Text,
+    kind: ParameterKind::Text,
     is_required: false,
 };
 
@@ -525,7 +525,7 @@ const STAY: Parameter = Parameter {
     name: "stay",
     value: "",
     help: "Go on where standard input ends, until the process is ended",
-    kind: Kind::Flag,
+    kind: ParameterKind::Flag,
     is_required: false,
 };
 
@@ -534,7 +534,7 @@ const FILTER: Parameter = Parameter {
     name: "filter",
     value: "NAME=FILE",
     help: "Give the filter of FILE this name when the domain is set up; a run whose filter is refused ends there",
-    kind: Kind::Texts,
+    kind: ParameterKind::Texts,
     is_required: false,
 };
 
@@ -543,7 +543,7 @@ const STOP: Parameter = Parameter {
     name: "stop",
     value: "",
     help: "End at the first refused line, and say on standard error which line that is",
-    kind: Kind::Flag,
+    kind: ParameterKind::Flag,
     is_required: false,
 };
 
@@ -552,6 +552,6 @@ const SCRIPTS: Parameter = Parameter {
     name: "file",
     value: "FILE",
     help: "A file of the commands in place of standard input; - is standard input; several are one script, in order",
-    kind: Kind::Arguments,
+    kind: ParameterKind::Arguments,
     is_required: false,
 };

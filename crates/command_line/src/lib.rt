@@ -29,4 +29,4 @@ pub use router_words::RouterWords;
 pub use telling::{Telling, is_explained};
 pub use terminals::{Terminals, tell_that_input_is_read, waits_for_people};
 pub use test_words::Testing;
-pub use words::{Words, read, request_of};
+pub use words::{Invocation, read, request_of};

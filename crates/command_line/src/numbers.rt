@@ -1,7 +1,7 @@
 //! Negative numbers behind options.
 
 use crate::commands::all_parameters;
-use crate::options::Kind;
+use crate::options::ParameterKind;
 use std::convert::AsStr;
 
 /// The first option with a negative number behind it, and that number.
@@ -29,8 +29,8 @@ fn takes_number(option: &str) -> bool {
 }
 
 /// Whether a parameter of this kind takes a number.
-fn is_numbered(kind: Kind) -> bool {
-    matches!(kind, Kind::Number | Kind::Count)
+fn is_numbered(kind: ParameterKind) -> bool {
+    matches!(kind, ParameterKind::Number | ParameterKind::Count)
 }
 
 /// Whether a word is a negative number.

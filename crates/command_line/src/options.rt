@@ -9,7 +9,7 @@ use std::alloc::Global;
 
 /// How an option or an argument is written, and what it takes.
 #[derive(Clone, Copy)]
-pub enum Kind {
+pub enum ParameterKind {
     /// An option that stands there or not.
     Flag,
     /// One that may also be a letter behind a dash.
@@ -40,7 +40,7 @@ pub struct Parameter {
     /// What its help says of it.
     pub help: &'static str,
     /// How it is written, and what it takes.
-    pub kind: Kind,
+    pub kind: ParameterKind,
     /// There is no default.
     pub is_required: bool,
 }
@@ -69,18 +69,20 @@ fn written<'a>(alloc: Global, parameter: &Parameter, choices: Choices<'a>) -> Ar
 {
     let arg = Arg::new(alloc, parameter.name);
     match parameter.kind {
-        Kind::Flag => flag(arg, parameter.name),
-        Kind::Letter(letter) => flag(arg, parameter.name).short(letter),
-        Kind::Argument => arg.value_name(parameter.value),
-        Kind::Arguments => arg
+        ParameterKind::Flag => flag(arg, parameter.name),
+        ParameterKind::Letter(letter) => flag(arg, parameter.name).short(letter),
+        ParameterKind::Argument => arg.value_name(parameter.value),
+        ParameterKind::Arguments => arg
             .value_name(parameter.value)
             .action(ArgAction::Append)
             .num_args(0..),
-        Kind::Text => option(arg, parameter),
-        Kind::Texts => option(arg, parameter).action(ArgAction::Append),
-        Kind::When => option(arg, parameter).value_parser(ValueParser::Names(choices.words)),
-        Kind::Number => option(arg, parameter).value_parser(clap::value_parser!(u32)),
-        Kind::Count => option(arg, parameter).value_parser(clap::value_parser!(u64)),
+        ParameterKind::Text => option(arg, parameter),
+        ParameterKind::Texts => option(arg, parameter).action(ArgAction::Append),
+        ParameterKind::When => option(arg, parameter).value_parser(ValueParser::Names(
+            choices.words,
+        )),
+        ParameterKind::Number => option(arg, parameter).value_parser(clap::value_parser!(u32)),
+        ParameterKind::Count => option(arg, parameter).value_parser(clap::value_parser!(u64)),
     }
 }
 

@@ -5,7 +5,7 @@ ghost use Rattle.command_line.specs.Reads.{filter_sources};
 
 use crate::filter_words::NamedFile;
 use crate::requests::{Request, Source};
-use crate::words::Words;
+use crate::words::Invocation;
 
 /// Which of the standard streams that people type into or read are terminals.
 #[derive(Clone, Copy)]
@@ -34,13 +34,13 @@ fn filters_among(filters: &[NamedFile]) -> usize
 }
 
 /// How often what is asked for reads standard input to its end. A router reads what is left of it, if anything is.
-fn count_readings(words: &Words) -> usize
+fn count_readings(words: &Invocation) -> usize
     ensures { result ≡ min (spec.readings words.now) (2 ^ 64 - 1) }
 {
     match words {
-        Words::Router(words) => filters_among(words.filters.as_slice()).max(1),
-        Words::Asked(request) => count_of(request),
-        Words::Network | Words::Shown(_) => 0,
+        Invocation::Router(words) => filters_among(words.filters.as_slice()).max(1),
+        Invocation::Asked(request) => count_of(request),
+        Invocation::Network | Invocation::Shown(_) => 0,
     }
 }
 
@@ -77,14 +77,14 @@ fn input_in(source: &Source) -> usize
 }
 
 /// Whether what is asked for reads standard input more than once, and would find nothing there the second time.
-pub fn reads_input_again(words: &Words) -> bool
+pub fn reads_input_again(words: &Invocation) -> bool
     ensures { result ≡ nat_lt 1 (spec.readings words.now) }
 {
     count_readings(words) > 1
 }
 
 /// Whether people are waited for: standard input is read, and they type it.
-pub fn waits_for_people(words: &Words, terminals: Terminals) -> bool
+pub fn waits_for_people(words: &Invocation, terminals: Terminals) -> bool
     ensures { result ≡ terminals.input && nat_lt 0 (spec.readings words.now) }
 {
     terminals.input && count_readings(words) > 0

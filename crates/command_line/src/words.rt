@@ -37,7 +37,7 @@ const WRONG_WORDS: u8 = 2;
 
 /// What the words of the command line come to.
 #[derive(Drop)]
-pub enum Words {
+pub enum Invocation {
     /// They ask for this.
     Asked(Request),
     /// They ask for the network of routers.
@@ -53,7 +53,7 @@ pub enum Words {
 pub fn read<R: Env + AllocGlobal + Print + Eprint>(
     rt: &R,
     terminals: Terminals,
-) -> Result<Words, StreamFault>
+) -> Result<Invocation, StreamFault>
     ensures once { IfOk result (λ asked. readings asked ≤ 1) }
     ensures meant { IfOk result (λ asked. (line : List (List ℕ)) × IsMeant line terminals asked) }
     ensures fails { IfErr result (λ fault. (line : List (List ℕ)) × FailsBy line fault) }
@@ -71,7 +71,7 @@ pub fn request_of<R: Print + Eprint, S: AsStr>(
     alloc: Global,
     words: &[S],
     terminals: Terminals,
-) -> Result<Words, StreamFault>
+) -> Result<Invocation, StreamFault>
     ensures once { IfOk result (λ asked. readings asked ≤ 1) }
     ensures meant { IfOk result (IsMeant (map S.text words.now) terminals) }
     ensures fails { IfErr result (FailsBy (map S.text words.now)) }
@@ -94,7 +94,7 @@ fn matches_of<'a, S: AsStr>(alloc: Global, words: &'a [S]) -> Result<ArgMatches<
 }
 
 /// These words, unless they ask for standard input more than once.
-fn reading_once<R: Eprint>(rt: &R, words: Words) -> Words
+fn reading_once<R: Eprint>(rt: &R, words: Invocation) -> Invocation
     ensures once { readings result ≤ 1 }
     ensures kept { result ≡ once words }
 {
@@ -104,7 +104,7 @@ fn reading_once<R: Eprint>(rt: &R, words: Words) -> Words
     let _ = eprintln!(rt;
         "error: standard input can be read once, and these words name it more than once: as `-`, or by naming no FILE"
     );
-    Words::Shown(WRONG_WORDS)
+    Invocation::Shown(WRONG_WORDS)
 }
 
 /// What the words come to, where the parser of words accepted them.
@@ -113,16 +113,16 @@ fn words_in<R: Eprint>(
     alloc: Global,
     matches: &ArgMatches<'_>,
     terminals: Terminals,
-) -> Result<Words, AllocError>
+) -> Result<Invocation, AllocError>
     ensures { IfOk result (MetComesTo (subcommand_rows_of matches.now) terminals) }
 {
     // The parser accepts no words without a command, and no other command.
     let Some((name, words)) = matches.subcommand() else {
-        return Ok(Words::Shown(WRONG_WORDS));
+        return Ok(Invocation::Shown(WRONG_WORDS));
     };
     match command_named(name) {
         Some(command) => command_words(rt, alloc, command, words, terminals),
-        None => Ok(Words::Shown(WRONG_WORDS)),
+        None => Ok(Invocation::Shown(WRONG_WORDS)),
     }
 }
 
@@ -133,22 +133,22 @@ fn command_words<R: Eprint>(
     command: CommandName,
     words: &ArgMatches<'_>,
     terminals: Terminals,
-) -> Result<Words, AllocError>
+) -> Result<Invocation, AllocError>
     ensures { IfOk result (ComesTo command (given_in words.now) terminals) }
 {
     match command {
         CommandName::Check => check_words(alloc, words, terminals),
         CommandName::Diff => asked(diff_in(alloc, words, terminals)),
         CommandName::Domain => asked(domain_in(alloc, words, terminals)),
-        CommandName::Eval => Ok(Words::Asked(eval_in(words, terminals))),
+        CommandName::Eval => Ok(Invocation::Asked(eval_in(words, terminals))),
         CommandName::Explain => explained_in(rt, alloc, words, terminals),
         CommandName::Filter => filter_words(rt, alloc, words, terminals),
         CommandName::Import => asked(import_in(alloc, words, terminals)),
         CommandName::Lint => asked(lint_in(alloc, words, terminals)),
         CommandName::List => asked(list_in(alloc, words, terminals)),
-        CommandName::Net => Ok(Words::Network),
+        CommandName::Net => Ok(Invocation::Network),
         CommandName::Replay => asked(replay_in(alloc, words, terminals)),
-        CommandName::Rewrite => Ok(Words::Asked(rewrite_in(words, terminals))),
+        CommandName::Rewrite => Ok(Invocation::Asked(rewrite_in(words, terminals))),
         CommandName::Router => router_words(rt, alloc, words, terminals),
         CommandName::Run => run_words(rt, alloc, words, terminals),
         CommandName::Test => asked(test_in(alloc, words, terminals)),
@@ -156,11 +156,11 @@ fn command_words<R: Eprint>(
 }
 
 /// The words that ask for this.
-fn asked(request: Result<Request, AllocError>) -> Result<Words, AllocError>
-    ensures { IfOk result (λ words. (made : _) × (request ≡ Ok made) × (words ≡ Words.Asked made)) }
+fn asked(request: Result<Request, AllocError>) -> Result<Invocation, AllocError>
+    ensures { IfOk result (λ words. (made : _) × (request ≡ Ok made) × (words ≡ Invocation.Asked made)) }
 {
     match request {
-        Ok(request) => Ok(Words::Asked(request)),
+        Ok(request) => Ok(Invocation::Asked(request)),
         Err(error) => Err(error),
     }
 }
@@ -171,20 +171,20 @@ fn filter_words<R: Eprint>(
     alloc: Global,
     filter: &ArgMatches<'_>,
     terminals: Terminals,
-) -> Result<Words, AllocError>
+) -> Result<Invocation, AllocError>
     ensures { IfOk result (ComesTo command.Filter (given_in filter.now) terminals) }
 {
     if asks_twice(filter) {
         let _ = eprintln!(rt; "error: --why and --coverage cannot be given together");
-        return Ok(Words::Shown(WRONG_WORDS));
+        return Ok(Invocation::Shown(WRONG_WORDS));
     }
     if let Some(request) = filter_in(alloc, filter, terminals)? {
-        return Ok(Words::Asked(request));
+        return Ok(Invocation::Asked(request));
     }
     let _ = eprintln!(rt;
         "error: the routes come from standard input, so the filter has to be in a file"
     );
-    Ok(Words::Shown(WRONG_WORDS))
+    Ok(Invocation::Shown(WRONG_WORDS))
 }
 
 /// What the words of `router` come to.
@@ -193,11 +193,11 @@ fn router_words<R: Eprint>(
     alloc: Global,
     router: &ArgMatches<'_>,
     terminals: Terminals,
-) -> Result<Words, AllocError>
+) -> Result<Invocation, AllocError>
     ensures { IfOk result (ComesTo command.Router (given_in router.now) terminals) }
 {
     match router_in(alloc, router)? {
-        Ok(words) => Ok(Words::Router(words)),
+        Ok(words) => Ok(Invocation::Router(words)),
         Err(wrong) => Ok(show_wrong_filter(rt, wrong)),
     }
 }
@@ -207,14 +207,14 @@ fn check_words(
     alloc: Global,
     check: &ArgMatches<'_>,
     terminals: Terminals,
-) -> Result<Words, AllocError>
+) -> Result<Invocation, AllocError>
     ensures { IfOk result (ComesTo command.Check (given_in check.now) terminals) }
 {
     // The parser accepts no words without a size.
     let Some(size) = number_given(check, "size") else {
-        return Ok(Words::Shown(WRONG_WORDS));
+        return Ok(Invocation::Shown(WRONG_WORDS));
     };
-    Ok(Words::Asked(check_in(alloc, check, size, terminals)?))
+    Ok(Invocation::Asked(check_in(alloc, check, size, terminals)?))
 }
 
 /// What the words of `run` come to.
@@ -223,18 +223,18 @@ fn run_words<R: Eprint>(
     alloc: Global,
     run: &ArgMatches<'_>,
     terminals: Terminals,
-) -> Result<Words, AllocError>
+) -> Result<Invocation, AllocError>
     ensures { IfOk result (ComesTo command.Run (given_in run.now) terminals) }
 {
     match run_in(alloc, run, terminals)? {
-        Ok(request) => Ok(Words::Asked(request)),
+        Ok(request) => Ok(Invocation::Asked(request)),
         Err(wrong) => Ok(show_wrong_filter(rt, wrong)),
     }
 }
 
 /// Says what is wrong with a word that was to name a filter.
-fn show_wrong_filter<R: Eprint>(rt: &R, wrong: WrongFilter<'_>) -> Words
-    ensures { result ≡ Words.Shown 2 }
+fn show_wrong_filter<R: Eprint>(rt: &R, wrong: WrongFilter<'_>) -> Invocation
+    ensures { result ≡ Invocation.Shown 2 }
 {
     let _ = match wrong {
         WrongFilter::Word(word) => eprintln!(rt;
@@ -244,7 +244,7 @@ fn show_wrong_filter<R: Eprint>(rt: &R, wrong: WrongFilter<'_>) -> Words
             "error: '--filter {word}' gives a name that an earlier --filter gives"
         ),
     };
-    Words::Shown(WRONG_WORDS)
+    Invocation::Shown(WRONG_WORDS)
 }
 
 /// Shows what is wrong with these words, or help. A negative number behind an option is for the parser of words an option that it
@@ -253,8 +253,8 @@ fn show_wrong<R: Print + Eprint, S: AsStr>(
     rt: &R,
     words: &[S],
     error: &Error,
-) -> Result<Words, StreamFault>
-    ensures shown { IfOk result (λ shown. (kind_of error.now ≢ ErrorKind.OutOfMemory) × (shown ≡ Words.Shown (status_of (kind_of error.now)))) }
+) -> Result<Invocation, StreamFault>
+    ensures shown { IfOk result (λ shown. (kind_of error.now ≢ ErrorKind.OutOfMemory) × (shown ≡ Invocation.Shown (status_of (kind_of error.now)))) }
     ensures fails { IfErr result (λ fault. (fault ≡ StreamFault.Memory)
         ⊎ ((fault ≡ StreamFault.Write) × (kind_of error.now ≢ ErrorKind.OutOfMemory) × (status_of (kind_of error.now) ≡ 0))) }
 {
@@ -263,7 +263,7 @@ fn show_wrong<R: Print + Eprint, S: AsStr>(
             let _ = eprintln!(rt;
                 "error: invalid value '{number}' for '{option}': a number is at least 0"
             );
-            return Ok(Words::Shown(WRONG_WORDS));
+            return Ok(Invocation::Shown(WRONG_WORDS));
         }
     }
     show(rt, error)
@@ -271,8 +271,8 @@ fn show_wrong<R: Print + Eprint, S: AsStr>(
 
 /// Shows what the parser of words answered in place of matches: help on standard output, or what is wrong with the words on
 /// standard error. Wrong words have their status also where standard error takes no text.
-fn show<R: Print + Eprint>(rt: &R, error: &Error) -> Result<Words, StreamFault>
-    ensures shown { IfOk result (λ shown. (kind_of error.now ≢ ErrorKind.OutOfMemory) × (shown ≡ Words.Shown (status_of (kind_of error.now)))) }
+fn show<R: Print + Eprint>(rt: &R, error: &Error) -> Result<Invocation, StreamFault>
+    ensures shown { IfOk result (λ shown. (kind_of error.now ≢ ErrorKind.OutOfMemory) × (shown ≡ Invocation.Shown (status_of (kind_of error.now)))) }
     ensures fails { IfErr result (λ fault. (fault ≡ StreamFault.Memory)
         ⊎ ((fault ≡ StreamFault.Write) × (kind_of error.now ≢ ErrorKind.OutOfMemory) × (status_of (kind_of error.now) ≡ 0))) }
 {
@@ -281,10 +281,10 @@ fn show<R: Print + Eprint>(rt: &R, error: &Error) -> Result<Words, StreamFault>
     }
     let printed = error.print(rt);
     if error.use_stderr() {
-        return Ok(Words::Shown(WRONG_WORDS));
+        return Ok(Invocation::Shown(WRONG_WORDS));
     }
     printed.map_err(|_| StreamFault::Write)?;
-    Ok(Words::Shown(0))
+    Ok(Invocation::Shown(0))
 }
 
 /// What `explain` asks for: the page of a code, the codes of a class, or the classes.
@@ -293,15 +293,15 @@ fn explained_in<R: Eprint>(
     alloc: Global,
     explain: &ArgMatches<'_>,
     terminals: Terminals,
-) -> Result<Words, AllocError>
+) -> Result<Invocation, AllocError>
     ensures { IfOk result (ComesTo command.Explain (given_in explain.now) terminals) }
 {
     let code = word_given(explain, "code").unwrap_or("");
     if let Some(page) = page_of(alloc, code)? {
-        return Ok(Words::Asked(Request::Explain { page }));
+        return Ok(Invocation::Asked(Request::Explain { page }));
     }
     let _ = eprintln!(rt;
         "error: there is no code '{code}': a code is a letter and a number, as P2; `ncroute explain` lists the letters"
     );
-    Ok(Words::Shown(WRONG_WORDS))
+    Ok(Invocation::Shown(WRONG_WORDS))
 }

@@ -3,7 +3,7 @@ use Rattle.std.proofs.Common.{◌≡◌, ℕ, Bool, true, List, Option, Result, 
 use Rattle.filter_code.specs.CodeView.{CodeView}
 use Rattle.filter_source.specs.declared.refusal.Refusal.{Refusal}
 use Rattle.line_protocol.specs.Answers.{Answer}
-use Rattle.line_protocol.specs.declared.answers.Reply.{Reply}
+use Rattle.line_protocol.specs.declared.answers.LineReply.{LineReply}
 use Rattle.operator_cmds.specs.Replies.{Answers}
 use Rattle.operator_cmds.specs.Script.{AnswersSource}
 use Rattle.operator_cmds.proofs.Answering.{answers}
@@ -17,7 +17,7 @@ abbrev domain : PlanView → Named → Bool → Option (List (List Best)) → Pl
 domain plan filters begun marked = record { plan = plan; filters = filters; begun = begun; marked = marked }
 
 -- what is answered to a domain whose fields are these; `p` is how it was
-module _ {E : Type 0} (done : Result Reply E) (old new : List ℕ) (p : PlanningView) (plan : PlanView) (begun : Bool)
+module _ {E : Type 0} (done : Result LineReply E) (old new : List ℕ) (p : PlanningView) (plan : PlanView) (begun : Bool)
     (marked : Option (List (List Best))) (number : ℕ) where
   -- a question, which leaves the plan as it was
   pub asked : (later : PlanView) (filters : Named) (question : Question) → domain plan filters begun marked ≡ p → later ≡ plan

@@ -6,7 +6,7 @@ use Rattle.filter_code.specs.CodeView.{CodeView}
 use Rattle.filter_source.specs.declared.refusal.Refusal.{Refusal}
 use Rattle.filter_verifier.specs.VerifiedView.{VerifiedView}
 use Rattle.line_protocol.specs.Answers.{Answer}
-use Rattle.line_protocol.specs.declared.answers.Reply.{Reply}
+use Rattle.line_protocol.specs.declared.answers.LineReply.{LineReply}
 use Rattle.operator_cmds.specs.Replies.{Answers}
 use Rattle.operator_cmds.specs.Script.{AnswersSource}
 use Rattle.domain_cmds.specs.State.{Named, filter_named}
@@ -30,7 +30,7 @@ module _ (Gives : CodeView → Type 0) (Lacks : Refusal → Type 0) (size number
       subst (λ (o : Option VerifiedView). IfSome o (λ f. f.size ≡ size)) (sym (same other)) (before other)
 
   -- whatever becomes of a source, all filters still fit
-  pub still_fit : {E : Type 0} (done : Result Reply E) (old new : List ℕ)
+  pub still_fit : {E : Type 0} (done : Result LineReply E) (old new : List ℕ)
       → IfOk done (Answers (λ answer. AnswersSource Gives Lacks size number name (filter_named m) answer (filter_named n)) old new)
       → OnErr done (n ≡ m) → AllFit size (filter_named n)
   still_fit (Ok reply) old new h left = answered_fit (record { text = h.0; reply = reply }) h.2

@@ -2,7 +2,7 @@
 ghost use Rattle.std.specs.Prelude.{◌≡◌, ◌<◌, ◌&&◌, ◌++◌, ◌∷◌, [], nat_lt, IfOk, IsTrue, OnErr};
 ghost use Rattle.std.specs.Io.{StartsWith};
 ghost use Rattle.std.specs.Option.{option_map};
-ghost use Rattle.line_protocol.specs.declared.answers.Reply.TheVariants.{Answered};
+ghost use Rattle.line_protocol.specs.declared.answers.LineReply.TheVariants.{Answered};
 ghost use Rattle.operator_cmds.specs.Replies.{Answers};
 ghost use Rattle.domain_cmds.specs.Script as spec;
 
@@ -13,18 +13,18 @@ use crate::resting::RestingPlan;
 use crate::routes::{Column, all_columns, make_column};
 use crate::text::{push_changes, push_drawing, push_path, push_route, push_settled, push_table};
 use domain_routes::Plan;
-use line_protocol::Reply;
+use line_protocol::LineReply;
 use operator_cmds::refuse;
 use std::alloc::{AllocError, Global};
 use std::sync::Arc;
 
 /// Ends the line of an answer.
-fn end_line(out: &mut Vec<u8>) -> Result<Reply, AllocError>
+fn end_line(out: &mut Vec<u8>) -> Result<LineReply, AllocError>
     ensures ok { IfOk result (λ reply. (out.new.items ≡ out.old.items ++ 10 ∷ []) × (reply ≡ Answered)) }
     ensures err { OnErr result (StartsWith out.new.items out.old.items) }
 {
     out.push(b'\n')?;
-    Ok(Reply::Answered)
+    Ok(LineReply::Answered)
 }
 
 /// Whether both are nodes of the domain.
@@ -43,7 +43,7 @@ fn answer_route(
     u: u16,
     v: u16,
     out: &mut Vec<u8>,
-) -> Result<Reply, AllocError>
+) -> Result<LineReply, AllocError>
     ensures ok { IfOk result (Answers (spec.IsToldRoute plan.now number u v) out.old.items out.new.items) }
     ensures err { OnErr result (StartsWith out.new.items out.old.items) }
 {
@@ -63,7 +63,7 @@ fn answer_path(
     u: u16,
     v: u16,
     out: &mut Vec<u8>,
-) -> Result<Reply, AllocError>
+) -> Result<LineReply, AllocError>
     ensures ok { IfOk result (Answers (spec.IsToldPath plan.now number u v) out.old.items out.new.items) }
     ensures err { OnErr result (StartsWith out.new.items out.old.items) }
 {
@@ -82,7 +82,7 @@ fn answer_table(
     number: u32,
     u: u16,
     out: &mut Vec<u8>,
-) -> Result<Reply, AllocError>
+) -> Result<LineReply, AllocError>
     ensures ok { IfOk result (Answers (spec.IsToldTable domain.old number u) out.old.items out.new.items) }
     ensures err { OnErr result (StartsWith out.new.items out.old.items) }
     ensures same { domain.new ≡ domain.old }
@@ -103,7 +103,7 @@ fn answer_draw(
     number: u32,
     v: u16,
     out: &mut Vec<u8>,
-) -> Result<Reply, AllocError>
+) -> Result<LineReply, AllocError>
     ensures ok { IfOk result (Answers (spec.IsToldDrawing plan.now number v) out.old.items out.new.items) }
     ensures err { OnErr result (StartsWith out.new.items out.old.items) }
 {
@@ -140,7 +140,7 @@ fn answer_changes(
     domain: &mut RestingPlan,
     marked: &Option<Arc<Vec<Column>>>,
     out: &mut Vec<u8>,
-) -> Result<Reply, AllocError>
+) -> Result<LineReply, AllocError>
     ensures ok { IfOk result (Answers (spec.IsToldChanges domain.old (option_map (λ m. m.value.items) marked.now)) out.old.items out.new.items) }
     ensures err { OnErr result (StartsWith out.new.items out.old.items) }
     ensures same { domain.new ≡ domain.old }
@@ -158,7 +158,7 @@ fn answer_settle(
     playing: &mut Playing,
     number: u32,
     out: &mut Vec<u8>,
-) -> Result<Reply, AllocError>
+) -> Result<LineReply, AllocError>
     ensures ok { IfOk result (Answers (spec.IsToldSettled number) out.old.items out.new.items) }
     ensures err { OnErr result (StartsWith out.new.items out.old.items) }
 {
@@ -180,7 +180,7 @@ pub(crate) fn answer_question(
     playing: &mut Playing,
     number: u32,
     out: &mut Vec<u8>,
-) -> Result<Reply, AllocError>
+) -> Result<LineReply, AllocError>
     ensures ok { IfOk result (Answers (spec.AnswersQuestion question domain.old (option_map (λ m. m.value.items) marked.now) number) out.old.items out.new.items) }
     ensures err { OnErr result (StartsWith out.new.items out.old.items) }
     ensures same { domain.new ≡ domain.old }

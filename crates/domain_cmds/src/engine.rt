@@ -6,7 +6,7 @@ use crate::command::Command;
 use crate::fault::StateFault;
 use crate::planning::Planning;
 use crate::read::read_command;
-use line_protocol::{Reply, Service, StreamFault, answer_lines};
+use line_protocol::{LineReply, Service, StreamFault, answer_lines};
 use operator_cmds::{CommandFault, Nobody, RefusedLine, Watch, confirm, refuse};
 use std::alloc::{AllocError, Global};
 use std::io::{Read, Write};
@@ -32,7 +32,7 @@ impl Service for Engine {
         number: u32,
         line: &[u8],
         out: &mut Vec<u8>,
-    ) -> Result<Reply, AllocError> {
+    ) -> Result<LineReply, AllocError> {
         match read_command(alloc, line) {
             Ok(command) => self.carry_out(alloc, number, command, out),
             Err(CommandFault::Memory) => Err(AllocError),
@@ -79,7 +79,7 @@ impl Engine {
         number: u32,
         command: Command<'_>,
         out: &mut Vec<u8>,
-    ) -> Result<Reply, AllocError>
+    ) -> Result<LineReply, AllocError>
         ensures ok { IfOk result (Answers (λ answer. AnswersCommand self.old.planning number (view_of command.entry) answer
             self.new.planning) out.old.items out.new.items) }
         ensures err { OnErr result (StartsWith out.new.items out.old.items) }
@@ -121,10 +121,10 @@ impl<S: Watch + Drop> Service for Watched<S> {
         number: u32,
         line: &[u8],
         out: &mut Vec<u8>,
-    ) -> Result<Reply, AllocError> {
+    ) -> Result<LineReply, AllocError> {
         let begun = out.len();
         let reply = self.engine.answer(alloc, number, line, out)?;
-        if reply == Reply::Refused {
+        if reply == LineReply::Refused {
             let answer = out.as_slice().get(begun..).unwrap_or(&[]);
             self.watcher
                 .see_refused(alloc, &self.engine.refused_line(number, line, answer));

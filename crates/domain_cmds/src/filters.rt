@@ -8,8 +8,8 @@ ghost use Rattle.domain_cmds.specs.State.{filter_named};
 
 use filter_source::Diagnosis;
 use filter_verifier::Verified;
-use line_protocol::Reply;
-use operator_cmds::{NamedFilters, Source, name_source};
+use line_protocol::LineReply;
+use operator_cmds::{FilterSource, NamedFilters, name_source};
 use std::alloc::{AllocError, Global};
 use std::collections::BTreeMap;
 use std::marker::Model;
@@ -55,9 +55,9 @@ impl Filters {
         alloc: Global,
         number: u32,
         name: &[u8],
-        source: Source<'_>,
+        source: FilterSource<'_>,
         out: &mut Vec<u8>,
-    ) -> Result<Reply, AllocError>
+    ) -> Result<LineReply, AllocError>
         ensures size { self.new.size ≡ self.old.size }
         ensures ok { IfOk result (Answers (λ answer. AnswersSource (gives source.entry) (lacks source.entry) self.old.size number name.now
             (filter_named self.old.named) answer (filter_named self.new.named)) out.old.items out.new.items) }

@@ -12,8 +12,8 @@ use crate::resting::RestingPlan;
 use crate::routes::Column;
 use domain_routes::Plan;
 use filter_source::Diagnosis;
-use line_protocol::Reply;
-use operator_cmds::{Direction, NamedFilters, Source, confirm, default_prefixes, refuse};
+use line_protocol::LineReply;
+use operator_cmds::{Direction, FilterSource, NamedFilters, confirm, default_prefixes, refuse};
 use prefix_patterns::Prefix;
 use std::alloc::{AllocError, Global};
 use std::marker::Model;
@@ -118,7 +118,7 @@ impl Planning {
         number: u32,
         command: Command<'_>,
         out: &mut Vec<u8>,
-    ) -> Result<Reply, AllocError>
+    ) -> Result<LineReply, AllocError>
         ensures ok { IfOk result (Answers (λ answer. spec.AnswersPlanned self.old number (view_of command.entry) answer self.new) out.old.items out.new.items) }
         ensures err { OnErr result (StartsWith out.new.items out.old.items) }
     {
@@ -126,10 +126,16 @@ impl Planning {
             Command::Domain(_) => refuse(out, StateFault::TooLate.code(), u64::from(number)),
             Command::Prefix { node, prefix } => self.set_prefix(number, node, prefix, out),
             Command::Load { name, text } => {
-                self.load(alloc, number, name, Source::Text(text), out)
+                self.load(alloc, number, name, FilterSource::Text(text), out)
             }
             Command::Code { name, bytes } => {
-                self.load(alloc, number, name, Source::File(bytes.as_slice()), out)
+                self.load(
+                    alloc,
+                    number,
+                    name,
+                    FilterSource::File(bytes.as_slice()),
+                    out,
+                )
             }
             Command::Link { linked, u, w } => self.set_linked(number, u, w, linked, out),
             Command::Use {
@@ -150,7 +156,7 @@ impl Planning {
         node: u16,
         prefix: Prefix,
         out: &mut Vec<u8>,
-    ) -> Result<Reply, AllocError>
+    ) -> Result<LineReply, AllocError>
         ensures ok { IfOk result (Answers (λ answer. spec.AnswersPrefix self.old number node prefix answer self.new) out.old.items out.new.items) }
         ensures err { OnErr result (StartsWith out.new.items out.old.items) }
     {
@@ -170,9 +176,9 @@ impl Planning {
         alloc: Global,
         number: u32,
         name: &[u8],
-        source: Source<'_>,
+        source: FilterSource<'_>,
         out: &mut Vec<u8>,
-    ) -> Result<Reply, AllocError>
+    ) -> Result<LineReply, AllocError>
         ensures ok { IfOk result (Answers (λ answer. spec.AnswersLoad (gives source.entry) (lacks source.entry) self.old number name.now answer self.new) out.old.items out.new.items) }
         ensures err { OnErr result (StartsWith out.new.items out.old.items) }
     {
@@ -187,7 +193,7 @@ impl Planning {
         w: u16,
         linked: bool,
         out: &mut Vec<u8>,
-    ) -> Result<Reply, AllocError>
+    ) -> Result<LineReply, AllocError>
         ensures ok { IfOk result (Answers (λ answer. spec.AnswersLink linked self.old number u w answer self.new) out.old.items out.new.items) }
         ensures err { OnErr result (StartsWith out.new.items out.old.items) }
     {
@@ -212,7 +218,7 @@ impl Planning {
         w: u16,
         name: &[u8],
         out: &mut Vec<u8>,
-    ) -> Result<Reply, AllocError>
+    ) -> Result<LineReply, AllocError>
         ensures ok { IfOk result (Answers (λ answer. spec.AnswersUse (filter_named self.old.filters name.now) (λ filter. spec.filtering direction filter u w self.old.plan) self.old number u w answer self.new) out.old.items out.new.items) }
         ensures err { OnErr result (StartsWith out.new.items out.old.items) }
     {
@@ -236,7 +242,7 @@ impl Planning {
         number: u32,
         question: Question,
         out: &mut Vec<u8>,
-    ) -> Result<Reply, AllocError>
+    ) -> Result<LineReply, AllocError>
         ensures ok { IfOk result (Answers (λ answer. spec.Asks (spec.AnswersQuestion question self.old.plan self.old.marked number) self.old answer self.new) out.old.items out.new.items) }
         ensures err { OnErr result (StartsWith out.new.items out.old.items) }
     {
@@ -253,7 +259,7 @@ impl Planning {
     }
 
     /// Answers `mark`: remembers all routes at rest.
-    fn mark(&mut self, alloc: Global, out: &mut Vec<u8>) -> Result<Reply, AllocError>
+    fn mark(&mut self, alloc: Global, out: &mut Vec<u8>) -> Result<LineReply, AllocError>
         ensures ok { IfOk result (Answers (λ answer. spec.AnswersMark self.old answer self.new) out.old.items out.new.items) }
         ensures err { OnErr result (StartsWith out.new.items out.old.items) }
     {

@@ -14,7 +14,7 @@ use std::alloc::{AllocError, Global};
 
 /// What the tokens were cut from, and what ended them.
 #[derive(Clone, Copy)]
-pub struct Source<'a> {
+pub struct LexedText<'a> {
     /// The whole text.
     pub text: &'a [u8],
     /// Why there are no more tokens, where that is not the end of the text.
@@ -25,7 +25,7 @@ pub struct Source<'a> {
 #[derive(Clone, Copy)]
 pub struct Input<'a> {
     /// Where the tokens are from.
-    pub source: &'a Source<'a>,
+    pub source: &'a LexedText<'a>,
     /// The tokens that are left.
     pub tokens: &'a [Token],
 }

@@ -16,7 +16,7 @@ mod tree;
 pub use expected::Expected;
 pub use expr::parse_expr;
 pub use fault::{ParseFault, TEXT_LIMIT};
-pub use input::{Input, Source};
+pub use input::{Input, LexedText};
 pub use range_reader::parse_ranges_from;
 pub use tree::{
     Attribute, Expr, MaskLength, Members, Membership, Name, Op, Set, SetPattern, SetRange, Suffix,

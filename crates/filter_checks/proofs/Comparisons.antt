@@ -5,7 +5,7 @@ use Rattle.filter_code.specs.CodeView.{CodeView}
 use Rattle.filter_reports.specs.Checking.{IsDiagnosis}
 use Rattle.filter_reports.specs.Faults.{stream_fault}
 use Rattle.filter_reports.specs.declared.fault.ProgramFault.{ProgramFault}
-use Rattle.filter_diff.specs.declared.part.Part.{Part}
+use Rattle.filter_diff.specs.declared.route_part.RoutePart.{RoutePart}
 use Rattle.filter_source.specs.declared.diagnosis.Diagnosis.{Diagnosis}
 use Rattle.filter_reports.proofs.VerifiedFilters.{is_filter, keeps_self}
 use Rattle.filter_reports.specs.VerifiedFilters.{IsVerifiedOf}
@@ -20,7 +20,7 @@ use Rattle.filter_checks.specs.declared.comparing.Compared.{Compared}
 use Rattle.filter_checks.specs.declared.comparing.Compared.TheVariants as compared
 
 -- the lines of parts, and lines that are cut
-pub parts_cut : (fault : StreamFault) (old new : CodeView) (size : ℕ) (parts : List Part) (text shown : List ℕ)
+pub parts_cut : (fault : StreamFault) (old new : CodeView) (size : ℕ) (parts : List RoutePart) (text shown : List ℕ)
     (held holds : Option (List ℕ)) → fault ≡ Write → shown ≡ text → text ≡ parts_text parts → AreParts old new size parts
     → AppendsFront held holds shown → IsCutParts fault old new size held holds
 parts_cut fault old new size parts text shown held holds is same text_is are cut =

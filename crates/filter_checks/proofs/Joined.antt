@@ -4,15 +4,15 @@ use Rattle.filter_code.specs.CodeView.{CodeView}
 use Rattle.filter_code.specs.RouteView.{RouteView}
 use Rattle.filter_diff.specs.Joins.{StandFor}
 use Rattle.filter_diff.specs.Parts.{InOne, IsSame}
-use Rattle.filter_diff.specs.declared.part.Part.{Part}
+use Rattle.filter_diff.specs.declared.route_part.RoutePart.{RoutePart}
 use Rattle.filter_checks.specs.Comparing.{AreParts}
 
-same_or_joined : (old new : CodeView) (route : RouteView) (parts others : List Part) → (InOne route others → InOne route parts)
+same_or_joined : (old new : CodeView) (route : RouteView) (parts others : List RoutePart) → (InOne route others → InOne route parts)
     → IsSame old new route ⊎ InOne route others → IsSame old new route ⊎ InOne route parts
 same_or_joined old new route parts others f (inl same) = inl same
 same_or_joined old new route parts others f (inr among) = inr (f among)
 
-pub parts_joined : (old new : CodeView) (size : ℕ) (parts others : List Part) → StandFor parts others → AreParts old new size others
+pub parts_joined : (old new : CodeView) (size : ℕ) (parts others : List RoutePart) → StandFor parts others → AreParts old new size others
     → AreParts old new size parts
 parts_joined old new size parts others stand are = record {
   complete = λ route is_in. same_or_joined old new route parts others (stand.routes route) (are.complete route is_in);
@@ -20,7 +20,7 @@ parts_joined old new size parts others stand are = record {
   real = stand.real size are.real;
 }
 
-pub all_joined : {E : Type 0} (old new : CodeView) (size : ℕ) (others : List Part) (r : Result (Vec Part Global) E)
+pub all_joined : {E : Type 0} (old new : CodeView) (size : ℕ) (others : List RoutePart) (r : Result (Vec RoutePart Global) E)
     → IfOk r (λ joined. StandFor joined.items others) → AreParts old new size others → IfOk r (λ joined. AreParts old new size joined.items)
 all_joined old new size others (Ok joined) stand are = parts_joined old new size joined.items others stand are
 all_joined old new size others (Err why) stand are = tt

@@ -15,8 +15,8 @@ use Rattle.filter_diff.specs.Answers.{answer_of, differs}
 use Rattle.filter_diff.specs.Endings.{outcome_at}
 use Rattle.filter_diff.specs.Parts.{Has, HasRoute, Holds, InOne, IsIn, IsReal, IsSame, IsTrueOf, is_difference}
 use Rattle.filter_diff.specs.declared.answer.Answer.{Answer}
-use Rattle.filter_diff.specs.declared.part.Finding.{Finding}
-use Rattle.filter_diff.specs.declared.part.Part.{Part}
+use Rattle.filter_diff.specs.declared.route_part.Finding.{Finding}
+use Rattle.filter_diff.specs.declared.route_part.RoutePart.{RoutePart}
 use Rattle.filter_parser.specs.SyntaxText.{FilterView}
 use Rattle.filter_verifier.specs.Safe.{IsRouteOf}
 use Rattle.filter_checks.specs.Comparing.{AreParts}
@@ -26,7 +26,7 @@ use Rattle.filter_diff.specs.declared.checking.Counterexample.{Counterexample}
 use Rattle.filter_diff.specs.declared.expectation.Expectation.{Expectation}
 use Rattle.filter_code.specs.declared.outcome.Outcome.TheVariants as outcome
 use Rattle.filter_diff.specs.declared.answer.Answer.TheVariants as answer
-use Rattle.filter_diff.specs.declared.part.Finding.TheVariants as finding
+use Rattle.filter_diff.specs.declared.route_part.Finding.TheVariants as finding
 
 -- an outcome says one verdict, and a verdict has one outcome
 one_verdict : (v w : Verdict) (end : Outcome) → Says v end → Says w end → v ≡ w
@@ -50,7 +50,7 @@ of_domain : (size : ℕ) (route : RouteView) → IsIn size route → IsRouteOf s
 of_domain size route h = record { size_is = h.domain; reachable = h.reachable; net_fits = h.fits }
 
 module _ (f g : FilterView) (p q : CodeView) (size : ℕ) (of_f : SaysTheSame f p size) (of_g : SaysTheSame g q size) where
-  same_or_in : (route : RouteView) (parts : List Part) → IsRouteOf size route → IsSame p q route ⊎ InOne route parts
+  same_or_in : (route : RouteView) (parts : List RoutePart) → IsRouteOf size route → IsSame p q route ⊎ InOne route parts
       → (meaning f route ≡ meaning g route) ⊎ InOne route parts
   same_or_in route parts h (inl same) =
       inl (one_verdict (meaning f route) (meaning g route) (outcome_of q route) (subst (Says (meaning f route)) same (of_f.says route h))
@@ -68,7 +68,7 @@ module _ (f g : FilterView) (p q : CodeView) (size : ℕ) (of_f : SaysTheSame f 
         (subst (Says (meaning g route)) is.new_is (of_g.says route h)));
   }
 
-pub of_filters : (f g : FilterView) (p q : CodeView) (size : ℕ) (parts : List Part) → SaysTheSame f p size → SaysTheSame g q size
+pub of_filters : (f g : FilterView) (p q : CodeView) (size : ℕ) (parts : List RoutePart) → SaysTheSame f p size → SaysTheSame g q size
     → AreParts p q size parts → ArePartsOf f g size parts
 of_filters f g p q size parts of_f of_g are = record {
   complete = λ route h. same_or_in f g p q size of_f of_g route parts h (are.complete route (in_domain size route h));
@@ -86,7 +86,7 @@ out_of_none : {A : Type 0} (route : RouteView) → A ⊎ InOne route [] → A
 out_of_none route (inl a) = a
 out_of_none route (inr none) = absurd none
 
-pub all_same : (f g : FilterView) (size : ℕ) (parts : List Part) → ArePartsOf f g size parts → answer_of parts ≡ answer.Same
+pub all_same : (f g : FilterView) (size : ℕ) (parts : List RoutePart) → ArePartsOf f g size parts → answer_of parts ≡ answer.Same
     → (route : RouteView) → IsRouteOf size route → meaning f route ≡ meaning g route
 all_same f g size [] are e route h = out_of_none route (are.complete route h)
 all_same f g size (part ∷ parts) are e route h = absurd (either_differs (list_any differs (part ∷ parts)) e)
@@ -96,7 +96,7 @@ chosen : (b : Bool) → (if b then answer.Differ else answer.Undecided) ≡ answ
 chosen true e = refl
 chosen false e = let no : ⊥ = cc in absurd no
 
-one_of : (parts : List Part) → answer_of parts ≡ answer.Differ → list_any differs parts ≡ true
+one_of : (parts : List RoutePart) → answer_of parts ≡ answer.Differ → list_any differs parts ≡ true
 one_of [] e = let no : ⊥ = cc in absurd no
 one_of (part ∷ parts) e = chosen (list_any differs (part ∷ parts)) e
 
@@ -105,7 +105,7 @@ disagree : (f g : FilterView) (found : Finding) (route : RouteView) → is_diffe
 disagree f g finding.Undecided route e h = let no : ⊥ = cc in absurd no
 disagree f g (finding.Differ before after) route e h = h.differ
 
-pub one_differs : (f g : FilterView) (size : ℕ) (parts : List Part) → ArePartsOf f g size parts → answer_of parts ≡ answer.Differ
+pub one_differs : (f g : FilterView) (size : ℕ) (parts : List RoutePart) → ArePartsOf f g size parts → answer_of parts ≡ answer.Differ
     → (route : RouteView) × IsRouteOf size route × (meaning f route ≢ meaning g route)
 one_differs f g size parts are e =
     let any = Any-from_list_any differs parts (one_of parts e) in
@@ -115,7 +115,7 @@ one_differs f g size parts are e =
     let is = any.3 in
     let is_one = any.4 in
     let some : HasRoute size part = subst (HasRoute size) is (are.some at part within) in
-    let sound = subst (λ (p : Part). (route : RouteView) → IsRouteOf size route → Has p route → HoldsOf f g p.finding route) is
+    let sound = subst (λ (p : RoutePart). (route : RouteView) → IsRouteOf size route → Has p route → HoldsOf f g p.finding route) is
     (are.sound at part within) in
     let of_size = of_domain size some.route some.is_in in
     (some.route, of_size, disagree f g part.finding some.route is_one (sound some.route of_size some.has))

@@ -8,7 +8,7 @@ use Rattle.filter_diff.specs.Answers.{answer_of}
 use Rattle.filter_diff.specs.Parts.{Cover, IsReal, IsTrueOf}
 use Rattle.filter_diff.specs.declared.answer.Answer.{Answer}
 use Rattle.filter_diff.specs.declared.answer.Answer.TheVariants as answer
-use Rattle.filter_diff.specs.declared.part.Part.{Part}
+use Rattle.filter_diff.specs.declared.route_part.RoutePart.{RoutePart}
 use Rattle.filter_parser.specs.SyntaxText.{FilterView}
 use Rattle.filter_source.specs.declared.diagnosis.Diagnosis.{Diagnosis}
 use Rattle.filter_reports.specs.VerifiedFilters.{IsFilterOf}
@@ -27,7 +27,7 @@ IsJudged size text (Some told) = IsDiagnosis size false text told
 
 -- These are parts of the routes outside of which the two codes have the same outcome; each has a route, and on each of its routes holds
 -- what is found of it.
-pub record AreParts (old new : CodeView) (size : ℕ) (parts : List Part) : Type 0 where
+pub record AreParts (old new : CodeView) (size : ℕ) (parts : List RoutePart) : Type 0 where
   pub complete : Cover old new size parts
   pub sound : All (IsTrueOf old new size) parts
   pub real : All (IsReal size) parts
@@ -40,7 +40,7 @@ compared_as answer.Undecided = compared.Undecided
 
 -- The lines of such parts were written. `held` and `holds` are what the writer held before and holds now.
 pub record WritesParts (old new : CodeView) (size : ℕ) (held holds : Option (List ℕ)) (end : Compared) : Type 0 where
-  pub parts : List Part
+  pub parts : List RoutePart
   pub are_parts : AreParts old new size parts
   pub written : Appends held holds (parts_text parts)
   pub comes_to : end ≡ compared_as (answer_of parts)
@@ -49,7 +49,7 @@ pub record WritesParts (old new : CodeView) (size : ℕ) (held holds : Option (L
 abbrev pub IsCutParts : StreamFault → CodeView → CodeView → ℕ → Option (List ℕ) → Option (List ℕ) → Type 0
 IsCutParts fault old new size held holds =
     ((fault ≡ Memory) × Appends held holds [])
-    ⊎ ((parts : List Part) × AreParts old new size parts × IsCut fault held holds (parts_text parts))
+    ⊎ ((parts : List RoutePart) × AreParts old new size parts × IsCut fault held holds (parts_text parts))
 
 -- Standard error got what is told of one text, and then of another. `tells` and `told` are what it held before and holds now.
 pub record TellsBoth (is_explained : Bool) (old new : Named) (before after : Option Diagnosis) (tells told : Option (List ℕ)) : Type 0 where

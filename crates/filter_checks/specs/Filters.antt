@@ -6,9 +6,9 @@ use Rattle.filter_reports.specs.Saying.{Says}
 use Rattle.filter_compiler.specs.Verdicts.{meaning}
 use Rattle.filter_diff.specs.Endings.{outcome_at}
 use Rattle.filter_diff.specs.Parts.{Has, HasRoute, InOne}
-use Rattle.filter_diff.specs.declared.part.Finding.{Finding}
-use Rattle.filter_diff.specs.declared.part.Finding.TheVariants as finding
-use Rattle.filter_diff.specs.declared.part.Part.{Part}
+use Rattle.filter_diff.specs.declared.route_part.Finding.{Finding}
+use Rattle.filter_diff.specs.declared.route_part.Finding.TheVariants as finding
+use Rattle.filter_diff.specs.declared.route_part.RoutePart.{RoutePart}
 use Rattle.filter_parser.specs.SyntaxText.{FilterView}
 use Rattle.filter_verifier.specs.Safe.{IsRouteOf}
 
@@ -25,7 +25,7 @@ HoldsOf f g (finding.Differ before after) route = Disagree f g (outcome_at route
 
 -- of each route in a domain of the size two filters say the same, or it lies in one of the parts; what is found of a part holds of each of
 -- its routes, and there is one
-pub record ArePartsOf (f g : FilterView) (size : ℕ) (parts : List Part) : Type 0 where
+pub record ArePartsOf (f g : FilterView) (size : ℕ) (parts : List RoutePart) : Type 0 where
   pub complete : (route : RouteView) → IsRouteOf size route → (meaning f route ≡ meaning g route) ⊎ InOne route parts
   pub sound : All (λ part. (route : RouteView) → IsRouteOf size route → Has part route → HoldsOf f g part.finding route) parts
   pub some : All (HasRoute size) parts

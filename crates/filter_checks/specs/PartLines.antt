@@ -6,9 +6,9 @@ use Rattle.filter_code.specs.declared.outcome.Outcome.TheVariants as outcome
 use Rattle.filter_diff.specs.Answers.{undecided}
 use Rattle.filter_diff.specs.declared.ending.Ending.{Ending}
 use Rattle.filter_diff.specs.declared.ending.Ending.TheVariants as ending
-use Rattle.filter_diff.specs.declared.part.Finding.{Finding}
-use Rattle.filter_diff.specs.declared.part.Finding.TheVariants as finding
-use Rattle.filter_diff.specs.declared.part.Part.{Part}
+use Rattle.filter_diff.specs.declared.route_part.Finding.{Finding}
+use Rattle.filter_diff.specs.declared.route_part.Finding.TheVariants as finding
+use Rattle.filter_diff.specs.declared.route_part.RoutePart.{RoutePart}
 use Rattle.prefix_patterns.specs.Spelling.{prefix_text}
 
 -- the outcome of a run
@@ -32,15 +32,15 @@ endings_text finding.Undecided = []
 endings_text (finding.Differ before after) = codes ": " ++ ending_text before ++ codes " | " ++ ending_text after
 
 -- the prefixes of a part, as a pattern of the language
-abbrev pub pattern_text : Part → List ℕ
+abbrev pub pattern_text : RoutePart → List ℕ
 pattern_text part = prefix_text part.prefix ++ codes "{" ++ decimal part.shortest ++ codes "," ++ decimal part.longest ++ codes "}"
 
 -- its metrics
-abbrev pub metrics_text : Part → List ℕ
+abbrev pub metrics_text : RoutePart → List ℕ
 metrics_text part = codes ", metrics " ++ decimal part.least ++ codes ".." ++ decimal part.greatest
 
 -- the line of a part
-abbrev pub part_line : Part → List ℕ
+abbrev pub part_line : RoutePart → List ℕ
 part_line part = finding_word part.finding ++ pattern_text part ++ metrics_text part ++ endings_text part.finding ++ 10 ∷ []
 
 -- how many parts are undecided, where there are several
@@ -51,15 +51,15 @@ abbrev pub several_words : ℕ → List ℕ
 several_words count = undecided_on ++ decimal count ++ codes " parts"
 
 -- the last line: on all routes that lie in no part, or how many parts are undecided
-abbrev pub last_words : ℕ → List Part → List ℕ
+abbrev pub last_words : ℕ → List RoutePart → List ℕ
 last_words zero [] = codes "same on all routes"
 last_words zero (part ∷ parts) = codes "same on all other routes"
 last_words (suc zero) parts = codes "undecided on 1 part"
 last_words (suc (suc more)) parts = several_words (suc (suc more))
 
-abbrev pub last_line : List Part → List ℕ
+abbrev pub last_line : List RoutePart → List ℕ
 last_line parts = last_words (count_by undecided parts) parts ++ 10 ∷ []
 
 -- the lines of all parts, and the last line
-abbrev pub parts_text : List Part → List ℕ
+abbrev pub parts_text : List RoutePart → List ℕ
 parts_text parts = flat_map part_line parts ++ last_line parts

@@ -10,7 +10,7 @@ ghost use Rattle.filter_checks.specs.declared.comparing.Compared.TheVariants as 
 
 use crate::part_lines::parts_text;
 use filter_code::Code;
-use filter_diff::{Answer, Part, answer_of, compare, join_all};
+use filter_diff::{Answer, RoutePart, answer_of, compare, join_all};
 use filter_reports::{NamedText, ProgramFault, tell_refusal, verified_filter};
 use filter_source::{Diagnosis, Failure};
 use filter_verifier::Verified;
@@ -49,7 +49,7 @@ fn find_parts(
     new: &Code,
     size: u32,
     limit: u64,
-) -> Result<Vec<Part>, AllocError>
+) -> Result<Vec<RoutePart>, AllocError>
     requires { size ≤ largest_size }
     ensures { IfOk result (λ parts. spec.AreParts old.now new.now size parts.items) }
 {

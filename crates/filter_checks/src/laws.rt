@@ -10,7 +10,7 @@ ghost use Rattle.filter_diff.specs.Expectations.{IsCovered, IsMet, IsShown, rout
 ghost use Rattle.filter_diff.specs.declared.answer.Answer.TheVariants as answer;
 ghost use Rattle.filter_diff.specs.declared.checking.Counterexample.{Counterexample as TheCounterexample};
 ghost use Rattle.filter_diff.specs.declared.expectation.Expectation.{Expectation as TheExpectation};
-ghost use Rattle.filter_diff.specs.declared.part.Part.{Part as PartView};
+ghost use Rattle.filter_diff.specs.declared.route_part.RoutePart.{RoutePart as RoutePartView};
 ghost use Rattle.filter_parser.specs.SyntaxText.{FilterView};
 ghost use Rattle.filter_verifier.specs.Safe.{IsRouteOf};
 ghost use Rattle.filter_checks.specs.Comparing.{AreParts};
@@ -18,16 +18,16 @@ ghost use Rattle.filter_checks.specs.Filters.{ArePartsOf};
 
 /// What parts say of two codes they say of two filters, where the codes say of each route what the filters say, as verified code does.
 pub fn parts_are_of_filters()
-    ensures { (f g : FilterView) (p q : CodeView) (size : ℕ) (parts : List PartView) → SaysTheSame f p size → SaysTheSame g q size
+    ensures { (f g : FilterView) (p q : CodeView) (size : ℕ) (parts : List RoutePartView) → SaysTheSame f p size → SaysTheSame g q size
         → AreParts p q size parts → ArePartsOf f g size parts }
 {}
 
 /// Two filters say the same of every route in a domain of the size if the comparison comes to `Same`, and not of every one if it comes
 /// to `Differ`.
 pub fn comparison_is_of_filters()
-    ensures same { (f g : FilterView) (size : ℕ) (parts : List PartView) → ArePartsOf f g size parts → answer_of parts ≡ answer.Same
+    ensures same { (f g : FilterView) (size : ℕ) (parts : List RoutePartView) → ArePartsOf f g size parts → answer_of parts ≡ answer.Same
         → (route : RouteView) → IsRouteOf size route → meaning f route ≡ meaning g route }
-    ensures differ { (f g : FilterView) (size : ℕ) (parts : List PartView) → ArePartsOf f g size parts → answer_of parts ≡ answer.Differ
+    ensures differ { (f g : FilterView) (size : ℕ) (parts : List RoutePartView) → ArePartsOf f g size parts → answer_of parts ≡ answer.Differ
         → (route : RouteView) × IsRouteOf size route × (meaning f route ≢ meaning g route) }
 {}
 

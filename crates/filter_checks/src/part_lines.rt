@@ -3,7 +3,7 @@ ghost use Rattle.std.specs.Prelude.{◌≡◌, ◌++◌, IfOk, OnOk};
 ghost use Rattle.filter_checks.specs.PartLines as spec;
 
 use filter_code::Outcome;
-use filter_diff::{Ending, Finding, Part, count_undecided};
+use filter_diff::{Ending, Finding, RoutePart, count_undecided};
 use filter_reports::push_prefix;
 use line_protocol::push_decimal;
 use std::alloc::{AllocError, Global};
@@ -63,7 +63,7 @@ fn push_endings(out: &mut Vec<u8>, found: Finding) -> Result<(), AllocError>
 }
 
 /// Puts the prefixes of a part at the end of `out`, as a pattern.
-fn push_pattern(alloc: Global, out: &mut Vec<u8>, part: &Part) -> Result<(), AllocError>
+fn push_pattern(alloc: Global, out: &mut Vec<u8>, part: &RoutePart) -> Result<(), AllocError>
     ensures { OnOk result (out.new.items ≡ out.old.items ++ spec.pattern_text part.now) }
 {
     push_prefix(alloc, out, part.prefix)?;
@@ -76,7 +76,7 @@ fn push_pattern(alloc: Global, out: &mut Vec<u8>, part: &Part) -> Result<(), All
 }
 
 /// Puts the metrics of a part at the end of `out`.
-fn push_metrics(out: &mut Vec<u8>, part: &Part) -> Result<(), AllocError>
+fn push_metrics(out: &mut Vec<u8>, part: &RoutePart) -> Result<(), AllocError>
     ensures { OnOk result (out.new.items ≡ out.old.items ++ spec.metrics_text part.now) }
 {
     out.extend_from_slice(b", metrics ")?;
@@ -86,7 +86,7 @@ fn push_metrics(out: &mut Vec<u8>, part: &Part) -> Result<(), AllocError>
 }
 
 /// Puts the line of a part at the end of `out`.
-fn push_part(alloc: Global, out: &mut Vec<u8>, part: &Part) -> Result<(), AllocError>
+fn push_part(alloc: Global, out: &mut Vec<u8>, part: &RoutePart) -> Result<(), AllocError>
     ensures { OnOk result (out.new.items ≡ out.old.items ++ spec.part_line part.now) }
 {
     push_finding_word(out, part.finding)?;
@@ -115,7 +115,11 @@ fn push_several_words(out: &mut Vec<u8>, count: usize) -> Result<(), AllocError>
 }
 
 /// Puts the words of the last line at the end of `out`, where so many of the parts are undecided.
-fn push_last_words(out: &mut Vec<u8>, parts: &[Part], undecided: usize) -> Result<(), AllocError>
+fn push_last_words(
+    out: &mut Vec<u8>,
+    parts: &[RoutePart],
+    undecided: usize,
+) -> Result<(), AllocError>
     ensures { OnOk result (out.new.items ≡ out.old.items ++ spec.last_words undecided parts.now) }
 {
     if undecided == 0 {
@@ -132,7 +136,7 @@ fn push_last_words(out: &mut Vec<u8>, parts: &[Part], undecided: usize) -> Resul
 }
 
 /// The lines of parts of the routes, and the last line, on all other routes.
-pub fn parts_text(alloc: Global, parts: &[Part]) -> Result<Vec<u8>, AllocError>
+pub fn parts_text(alloc: Global, parts: &[RoutePart]) -> Result<Vec<u8>, AllocError>
     ensures { IfOk result (λ text. text.items ≡ spec.parts_text parts.now) }
 {
     let mut out = Vec::new(alloc);

@@ -13,7 +13,7 @@ use Rattle.filter_compiler.specs.Translation.{commands_code, commands_sets, expr
 use Rattle.filter_compiler.specs.Translation.{opening_sets, parts_code, parts_sets, ranges_set, sets_of}
 use Rattle.filter_compiler.specs.declared.numbers.SetNumbers.{SetNumbers}
 use Rattle.filter_compiler.specs.declared.output.Output.{Output}
-use Rattle.filter_compiler.specs.Written.{Emits, Holds, IsCounted, Part, Puts, command_part, commands_part, labelled_part, member_part, parts_part, Notes}
+use Rattle.filter_compiler.specs.Written.{Emits, Holds, IsCounted, TranslatedPart, Puts, command_part, commands_part, labelled_part, member_part, parts_part, Notes}
 use Rattle.filter_compiler.proofs.Jumps.{jump_over}
 use Rattle.filter_compiler.proofs.Puts.{as_part, joined, past_both, past_none, puts_then, then}
 use Rattle.filter_compiler.proofs.Trees.{numbered, sets_assoc}
@@ -96,7 +96,7 @@ past_limit a b code long same lost = record {
   };
 }
 
-pub cut_emits : (a b : Output) (k l : SetNumbers) (part : Part) → 1024 < a.length → b.length ≡ a.length → b.kept ≡ false
+pub cut_emits : (a b : Output) (k l : SetNumbers) (part : TranslatedPart) → 1024 < a.length → b.length ≡ a.length → b.kept ≡ false
     → ((n : SetCounts) → IsCounted n k → IsCounted (past n part.sets) l) → Emits a b k l part
 cut_emits a b k l part long same lost after = record { puts = λ n counted. past_limit a b (part.code n) long same lost; counts = after }
 

@@ -6,7 +6,7 @@ use Rattle.std.proofs.Math.Seq.{set-append_seam}
 use Rattle.filter_code.specs.declared.instruction.Instr.{Instr}
 use Rattle.filter_compiler.specs.declared.numbers.SetNumbers.{SetNumbers}
 use Rattle.filter_compiler.specs.declared.output.Output.{Output}
-use Rattle.filter_compiler.specs.Written.{Emits, Part, Puts, Holds, patched}
+use Rattle.filter_compiler.specs.Written.{Emits, TranslatedPart, Puts, Holds, patched}
 use Rattle.filter_compiler.proofs.Within.{exchanged}
 
 -- the distance among instructions that are kept, and the place
@@ -31,7 +31,7 @@ module _ (out : Output) (before rest : List Instr) (empty : Instr) (at : ℕ) (j
       exchanged out (patched out at (jump (out.length - at - 1))) _ _ refl refl same (patched_code h is) h
 
 -- a jump over a part
-abbrev pub jump_over : (ℕ → Instr) → Part → Part
+abbrev pub jump_over : (ℕ → Instr) → TranslatedPart → TranslatedPart
 jump_over jump p = record { code = λ n. jump (length (p.code n)) ∷ p.code n; sets = p.sets }
 
 over_code : {a b c d : Output} {empty : Instr} {code : List Instr} {distance : ℕ} (jump : ℕ → Instr) → Puts a b (empty ∷ []) → Puts b c code
@@ -43,6 +43,6 @@ over_code {a} {b} {c} {d} {empty} {code} {distance} jump first second far is = r
       (patched_holds c before code empty a.length jump (subst (Holds c) (append_assoc before (empty ∷ []) code) h2) h.counted);
 }
 
-pub over : {a b c d : Output} {k l : SetNumbers} {empty : Instr} {p : Part} {distance : ℕ} (jump : ℕ → Instr) → Puts a b (empty ∷ [])
+pub over : {a b c d : Output} {k l : SetNumbers} {empty : Instr} {p : TranslatedPart} {distance : ℕ} (jump : ℕ → Instr) → Puts a b (empty ∷ [])
     → Emits b c k l p → distance ≡ c.length - a.length - 1 → d ≡ patched c a.length (jump distance) → Emits a d k l (jump_over jump p)
 over jump first second far is = record { puts = λ n counted. over_code jump first (second.puts n counted) far is; counts = second.counts }

@@ -10,10 +10,10 @@ use Rattle.filter_parser.specs.declared.tree.command.Label.TheVariants as label
 use Rattle.expression_parser.specs.declared.tree.set.SetRange.{SetRange}
 use Rattle.filter_compiler.specs.Translation.{has_labelled}
 
-abbrev Part : Type 0
-Part = Label × Vec Command Global
+abbrev CasePart : Type 0
+CasePart = Label × Vec Command Global
 
-abbrev pub some_label : List Part → Bool
+abbrev pub some_label : List CasePart → Bool
 some_label parts = has_labelled (parts_of (map view_part parts))
 
 -- what is left of a list before one of its elements
@@ -21,19 +21,19 @@ pub rest_is : {X : Type 0} (xs : List X) (i : ℕ) (x : X) → i < length xs →
 rest_is xs i x low is =
     drop-cons xs i x low ∙ (ap (λ y. y ∷ drop (suc i) xs) (sym is) ∙ ap (λ n. x ∷ drop n xs) (sym (add-one i)))
 
-pub labelled_here : (xs : List Part) (i : ℕ) (x : Part) (ranges : Vec SetRange Global) → i < length xs → x ≡ get_or xs i x
+pub labelled_here : (xs : List CasePart) (i : ℕ) (x : CasePart) (ranges : Vec SetRange Global) → i < length xs → x ≡ get_or xs i x
     → x.0 ≡ label.Ranges ranges → some_label (drop i xs) ≡ true
 labelled_here xs i x ranges low is ranged =
     ap some_label (rest_is xs i x low is)
     ∙ ap (λ l. has_labelled (part_then (view_label l) (commands_of (map view_command x.1.items)) (parts_of (map view_part (drop (i + 1) xs))))) ranged
 
-pub labelled_later : (xs : List Part) (i : ℕ) (x : Part) (at : ℕ) → i < length xs → x ≡ get_or xs i x
+pub labelled_later : (xs : List CasePart) (i : ℕ) (x : CasePart) (at : ℕ) → i < length xs → x ≡ get_or xs i x
     → x.0 ≡ label.Else at → some_label (drop i xs) ≡ some_label (drop (i + 1) xs)
 labelled_later xs i x at low is other =
     ap some_label (rest_is xs i x low is)
     ∙ ap (λ l. has_labelled (part_then (view_label l) (commands_of (map view_command x.1.items)) (parts_of (map view_part (drop (i + 1) xs))))) other
 
-pub labelled_end : (xs : List Part) (i : ℕ) → length xs ≤ i → some_label (drop i xs) ≡ false
+pub labelled_end : (xs : List CasePart) (i : ℕ) → length xs ≤ i → some_label (drop i xs) ≡ false
 labelled_end [] i past = nothing_left i
   where
     nothing_left : (i : ℕ) → some_label (drop i []) ≡ false

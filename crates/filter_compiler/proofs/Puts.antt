@@ -5,7 +5,7 @@ use Rattle.filter_code.specs.declared.instruction.Instr.{Instr}
 use Rattle.filter_compiler.specs.SetOrder.{Sets, SetCounts, no_sets, past, with_sets}
 use Rattle.filter_compiler.specs.declared.numbers.SetNumbers.{SetNumbers}
 use Rattle.filter_compiler.specs.declared.output.Output.{Output}
-use Rattle.filter_compiler.specs.Written.{Emits, IsCounted, Part, Puts, Holds, code_alone}
+use Rattle.filter_compiler.specs.Written.{Emits, IsCounted, TranslatedPart, Puts, Holds, code_alone}
 
 abbrev counts_of : ℕ → ℕ → SetCounts
 counts_of patterns ints = record { patterns = patterns; ints = ints }
@@ -32,7 +32,7 @@ puts_then {a} {b} {c} {x} {y} first second = record {
 }
 
 -- parts with the same code wherever they stand
-pub as_part : (a b : Output) (k l : SetNumbers) (p q : Part) → ((n : SetCounts) → p.code n ≡ q.code n) → p.sets ≡ q.sets
+pub as_part : (a b : Output) (k l : SetNumbers) (p q : TranslatedPart) → ((n : SetCounts) → p.code n ≡ q.code n) → p.sets ≡ q.sets
     → Emits a b k l p → Emits a b k l q
 as_part a b k l p q codes sets emits = record {
   puts = λ n counted. subst (Puts a b) (codes n) (emits.puts n counted);
@@ -47,10 +47,10 @@ alone {a} {b} {k} {x} puts = record {
 }
 
 -- one part and another one
-abbrev pub joined : Part → Part → Part
+abbrev pub joined : TranslatedPart → TranslatedPart → TranslatedPart
 joined p q = record { code = λ n. p.code n ++ q.code (past n p.sets); sets = with_sets p.sets q.sets }
 
-pub then : {a b c : Output} {k l m : SetNumbers} {p q : Part} → Emits a b k l p → Emits b c l m q → Emits a c k m (joined p q)
+pub then : {a b c : Output} {k l m : SetNumbers} {p q : TranslatedPart} → Emits a b k l p → Emits b c l m q → Emits a c k m (joined p q)
 then {a} {b} {c} {k} {l} {m} {p} {q} first second = record {
   puts = λ n counted. puts_then (first.puts n counted) (second.puts (past n p.sets) (first.counts n counted));
   counts = λ n counted.
@@ -58,16 +58,16 @@ then {a} {b} {c} {k} {l} {m} {p} {q} first second = record {
 }
 
 -- a part with instructions after it, and with instructions before it
-abbrev pub with_code : Part → List Instr → Part
+abbrev pub with_code : TranslatedPart → List Instr → TranslatedPart
 with_code p instrs = record { code = λ n. p.code n ++ instrs; sets = p.sets }
 
-pub then_code : {a b c : Output} {k l : SetNumbers} {p : Part} {instrs : List Instr} → Emits a b k l p → Puts b c instrs
+pub then_code : {a b c : Output} {k l : SetNumbers} {p : TranslatedPart} {instrs : List Instr} → Emits a b k l p → Puts b c instrs
     → Emits a c k l (with_code p instrs)
 then_code first second = record { puts = λ n counted. puts_then (first.puts n counted) second; counts = first.counts }
 
-abbrev pub code_with : List Instr → Part → Part
+abbrev pub code_with : List Instr → TranslatedPart → TranslatedPart
 code_with instrs p = record { code = λ n. instrs ++ p.code n; sets = p.sets }
 
-pub code_then : {a b c : Output} {k l : SetNumbers} {instrs : List Instr} {p : Part} → Puts a b instrs → Emits b c k l p
+pub code_then : {a b c : Output} {k l : SetNumbers} {instrs : List Instr} {p : TranslatedPart} → Puts a b instrs → Emits b c k l p
     → Emits a c k l (code_with instrs p)
 code_then first second = record { puts = λ n counted. puts_then first (second.puts n counted); counts = second.counts }

@@ -18,35 +18,35 @@ use Rattle.filter_compiler.specs.declared.output.Output.{Output}
 use Rattle.filter_compiler.specs.declared.sets.SetLists.{SetLists}
 
 -- a part of a translation: its instructions, where so many sets come before it in the text, and its sets
-pub record Part : Type 0 where
+pub record TranslatedPart : Type 0 where
   pub code : SetCounts → List Instr
   pub sets : Sets
 
 -- instructions without sets
-abbrev pub code_alone : List Instr → Part
+abbrev pub code_alone : List Instr → TranslatedPart
 code_alone instrs = record { code = λ n. instrs; sets = no_sets }
 
 -- an expression, and an operator with the operand at its right, among these declarations
-abbrev pub expression_part : List DeclView → ExprView → Part
+abbrev pub expression_part : List DeclView → ExprView → TranslatedPart
 expression_part decls tree = record { code = λ n. expression_code decls n tree; sets = sets_of tree }
 
-abbrev pub right_part : List DeclView → Op → ExprView → Part
+abbrev pub right_part : List DeclView → Op → ExprView → TranslatedPart
 right_part decls op right = record { code = λ n. joined_code op [] (expression_code decls n right); sets = sets_of right }
 
 -- the question whether an operand is in a set
-abbrev pub member_part : Membership → SetView → Part
+abbrev pub member_part : Membership → SetView → TranslatedPart
 member_part op set = record { code = λ n. member_code op (question set n); sets = one_set set }
 
 -- a command, and commands one after another
-abbrev pub command_part : List DeclView → CommandView → Part
+abbrev pub command_part : List DeclView → CommandView → TranslatedPart
 command_part decls command = record { code = λ n. command_code decls n command; sets = command_sets command }
 
-abbrev pub commands_part : List DeclView → CommandsView → Part
+abbrev pub commands_part : List DeclView → CommandsView → TranslatedPart
 commands_part decls commands = record { code = λ n. commands_code decls n commands; sets = commands_sets commands }
 
 -- a labelled part of a `case` up to its last command: with one more instruction its commands are passed over where the argument is not
 -- in its label
-abbrev pub labelled_part : List DeclView → List Instr → List RangeView → CommandsView → Part
+abbrev pub labelled_part : List DeclView → List Instr → List RangeView → CommandsView → TranslatedPart
 labelled_part decls argument ranges commands = record {
   code = λ n.
       let code = commands_code decls (past n (ranges_set ranges)) commands in
@@ -55,7 +55,7 @@ labelled_part decls argument ranges commands = record {
 }
 
 -- the parts of a `case` among these declarations, with the code of its argument and, where it came before, that of the `else` part
-abbrev pub parts_part : List DeclView → List Instr → List Instr → PartsView → Part
+abbrev pub parts_part : List DeclView → List Instr → List Instr → PartsView → TranslatedPart
 parts_part decls argument other parts = record { code = λ n. parts_code decls argument other n parts; sets = parts_sets parts }
 
 -- the numbers of the next sets, as far as they can be counted
@@ -75,7 +75,7 @@ pub record Puts (old new : Output) (instrs : List Instr) : Type 0 where
 
 -- a part whose first sets have these numbers was put into the one output: the other is what came of it, and the next sets have the
 -- other numbers
-pub record Emits (old new : Output) (first next : SetNumbers) (part : Part) : Type 0 where
+pub record Emits (old new : Output) (first next : SetNumbers) (part : TranslatedPart) : Type 0 where
   pub puts : (n : SetCounts) → IsCounted n first → Puts old new (part.code n)
   pub counts : (n : SetCounts) → IsCounted n first → IsCounted (past n part.sets) next
 

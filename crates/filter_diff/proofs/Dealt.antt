@@ -8,23 +8,23 @@ use Rattle.filter_diff.specs.Classes.{IsOf}
 use Rattle.filter_diff.specs.Parts.{Has, InOne, IsIn, IsSame}
 use Rattle.filter_diff.specs.Searches.{IsDealt, IsLeft}
 use Rattle.filter_diff.specs.declared.class.Class.{Class}
-use Rattle.filter_diff.specs.declared.part.Part.{Part}
+use Rattle.filter_diff.specs.declared.route_part.RoutePart.{RoutePart}
 use Rattle.filter_diff.proofs.Splits.{left_last, left_more}
 
-in_more : (route : RouteView) (xs ys : List Part) → InOne route xs → InOne route (xs ++ ys)
+in_more : (route : RouteView) (xs ys : List RoutePart) → InOne route xs → InOne route (xs ++ ys)
 in_more route [] ys none = elim none [ ]
 in_more route (x ∷ xs) ys (inl here) = inl here
 in_more route (x ∷ xs) ys (inr there) = inr (in_more route xs ys there)
 
-in_last : (route : RouteView) (xs : List Part) (p : Part) → Has p route → InOne route (xs ++ (p ∷ []))
+in_last : (route : RouteView) (xs : List RoutePart) (p : RoutePart) → Has p route → InOne route (xs ++ (p ∷ []))
 in_last route [] p has = inl has
 in_last route (x ∷ xs) p has = inr (in_last route xs p has)
 
 -- a part more
-pub in_kept : (route : RouteView) (xs ys : List Part) (p : Part) → ys ≡ xs ++ (p ∷ []) → InOne route xs → InOne route ys
+pub in_kept : (route : RouteView) (xs ys : List RoutePart) (p : RoutePart) → ys ≡ xs ++ (p ∷ []) → InOne route xs → InOne route ys
 in_kept route xs ys p e h = subst (InOne route) (sym e) (in_more route xs (p ∷ []) h)
 
-pub in_new : (route : RouteView) (xs ys : List Part) (p : Part) → ys ≡ xs ++ (p ∷ []) → Has p route → InOne route ys
+pub in_new : (route : RouteView) (xs ys : List RoutePart) (p : RoutePart) → ys ≡ xs ++ (p ∷ []) → Has p route → InOne route ys
 in_new route xs ys p e has = subst (InOne route) (sym e) (in_last route xs p has)
 
 -- a class more
@@ -35,13 +35,13 @@ pub left_new : (route : RouteView) (xs ys : List Class) (c : Class) → ys ≡ x
 left_new route xs ys c e of = subst (IsLeft route) (sym e) (left_last route xs c of)
 
 -- more parts, and more classes
-pub dealt_parts : (old new : CodeView) (route : RouteView) (ps qs : List Part) (cs : List Class) → (InOne route ps → InOne route qs) →
+pub dealt_parts : (old new : CodeView) (route : RouteView) (ps qs : List RoutePart) (cs : List Class) → (InOne route ps → InOne route qs) →
     IsDealt old new ps cs route → IsDealt old new qs cs route
 dealt_parts old new route ps qs cs f (inl (inl same)) = inl (inl same)
 dealt_parts old new route ps qs cs f (inl (inr found)) = inl (inr (f found))
 dealt_parts old new route ps qs cs f (inr left) = inr left
 
-pub dealt_left : (old new : CodeView) (route : RouteView) (ps : List Part) (cs ds : List Class) → (IsLeft route cs → IsLeft route ds) →
+pub dealt_left : (old new : CodeView) (route : RouteView) (ps : List RoutePart) (cs ds : List Class) → (IsLeft route cs → IsLeft route ds) →
     IsDealt old new ps cs route → IsDealt old new ps ds route
 dealt_left old new route ps cs ds f (inl found) = inl found
 dealt_left old new route ps cs ds f (inr left) = inr (f left)
@@ -61,13 +61,13 @@ pub left_taken : (route : RouteView) (cs ds : List Class) (c : Class) → cs ≡
     IsLeft route ds ⊎ IsOf c route
 left_taken route cs ds c e left = left_split route ds c (subst (IsLeft route) e left)
 
-pub dealt_taken : (old new : CodeView) (route : RouteView) (ps : List Part) (cs ds : List Class) (c : Class) → cs ≡ ds ++ (c ∷ []) →
+pub dealt_taken : (old new : CodeView) (route : RouteView) (ps : List RoutePart) (cs ds : List Class) (c : Class) → cs ≡ ds ++ (c ∷ []) →
     IsDealt old new ps cs route → IsDealt old new ps ds route ⊎ IsOf c route
 dealt_taken old new route ps cs ds c e (inl found) = inl (inl found)
 dealt_taken old new route ps cs ds c e (inr left) = before (left_split route ds c (subst (IsLeft route) e left))
 
 -- none is left
-pub dealt_all : (old new : CodeView) (route : RouteView) (ps : List Part) (cs : List Class) → cs ≡ [] → IsDealt old new ps cs route →
+pub dealt_all : (old new : CodeView) (route : RouteView) (ps : List RoutePart) (cs : List Class) → cs ≡ [] → IsDealt old new ps cs route →
     IsSame old new route ⊎ InOne route ps
 dealt_all old new route ps cs e (inl found) = found
 dealt_all old new route ps cs e (inr left) = absurd (subst (IsLeft route) e left)
@@ -113,14 +113,14 @@ pub of_resized : (next : Class) (size : ℕ) (route : RouteView) → IsIn size r
 of_resized next size route is_in of =
     record { begins = of.begins; long = of.long; fits = of.fits; received = of.received; size = is_in.domain }
 
-tried_either : (old new : CodeView) (route : RouteView) (ps qs : List Part) (ds es : List Class) (next : Class) (size : ℕ) → IsIn size route →
+tried_either : (old new : CodeView) (route : RouteView) (ps qs : List RoutePart) (ds es : List Class) (next : Class) (size : ℕ) → IsIn size route →
     (IsDealt old new ps ds route → IsDealt old new qs es route) → (IsOf (resized next size) route → IsDealt old new qs es route) →
     IsDealt old new ps ds route ⊎ IsOf next route → IsDealt old new qs es route
 tried_either old new route ps qs ds es next size is_in kept here (inl dealt) = kept dealt
 tried_either old new route ps qs ds es next size is_in kept here (inr of) = here (of_resized next size route is_in of)
 
 -- the class that is taken is dealt with, and the others stay so
-pub tried : (old new : CodeView) (route : RouteView) (ps qs : List Part) (cs ds es : List Class) (next : Class) (size : ℕ) →
+pub tried : (old new : CodeView) (route : RouteView) (ps qs : List RoutePart) (cs ds es : List Class) (next : Class) (size : ℕ) →
     cs ≡ ds ++ (next ∷ []) → IsIn size route → (IsDealt old new ps ds route → IsDealt old new qs es route) →
     (IsOf (resized next size) route → IsDealt old new qs es route) → IsDealt old new ps cs route → IsDealt old new qs es route
 tried old new route ps qs cs ds es next size items is_in kept here dealt =

@@ -18,8 +18,8 @@ use Rattle.filter_diff.specs.Symbols.{config_at}
 use Rattle.filter_diff.specs.Turns.{Parts, Takes}
 use Rattle.filter_diff.specs.declared.class.Class.{Class}
 use Rattle.filter_diff.specs.declared.mark.Mark.{Mark}
-use Rattle.filter_diff.specs.declared.part.Finding.TheVariants as finding
-use Rattle.filter_diff.specs.declared.part.Part.{Part}
+use Rattle.filter_diff.specs.declared.route_part.Finding.TheVariants as finding
+use Rattle.filter_diff.specs.declared.route_part.RoutePart.{RoutePart}
 use Rattle.filter_diff.specs.declared.symbol.Symbol.{Symbol}
 use Rattle.filter_diff.specs.declared.ending.Ending.{Ending}
 use Rattle.filter_diff.specs.declared.turn.Turn.{Turn}
@@ -139,7 +139,7 @@ pub record HasOne (class : Class) : Type 0 where
   pub is_in : IsIn class.size route
   pub of : IsOf class route
 
-abbrev part_with : Class → ℕ → ℕ → Part
+abbrev part_with : Class → ℕ → ℕ → RoutePart
 part_with class least greatest = record {
   prefix = class.known;
   shortest = class.len;

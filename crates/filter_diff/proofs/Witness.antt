@@ -6,19 +6,19 @@ use Rattle.std.proofs.lemmas.List.{length-replicate}
 use Rattle.filter_code.specs.RouteView.{RouteView}
 use Rattle.prefix_patterns.specs.Matching.{shared_length}
 use Rattle.filter_diff.specs.Parts.{Has, HasRoute, IsMatched, IsReal}
-use Rattle.filter_diff.specs.declared.part.Part.{Part}
+use Rattle.filter_diff.specs.declared.route_part.RoutePart.{RoutePart}
 
 -- the prefix of a part with zeros behind it, up to the least length
-abbrev first_net : Part → List Bool
+abbrev first_net : RoutePart → List Bool
 first_net part = part.prefix ++ replicate (part.shortest - length part.prefix) false
 
-first_length : (part : Part) → length part.prefix ≤ part.shortest → length (first_net part) ≡ part.shortest
+first_length : (part : RoutePart) → length part.prefix ≤ part.shortest → length (first_net part) ≡ part.shortest
 first_length part h =
     let both = length-append part.prefix (replicate (part.shortest - length part.prefix) false) in
     let zeros = length-replicate (part.shortest - length part.prefix) false in
     omega (arith, both, zeros)
 
-pub has_route : (size : ℕ) (part : Part) → IsReal size part → HasRoute size part
+pub has_route : (size : ℕ) (part : RoutePart) → IsReal size part → HasRoute size part
 has_route size part real =
     let long = first_length part real.pattern in
     record {
@@ -41,7 +41,7 @@ has_route size part real =
 shared_all : (net prefix : List Bool) → length prefix ≤ length net → shared_length net prefix ≡ length prefix
 shared_all net prefix h = omega arith
 
-as_matched : (part : Part) (route : RouteView) → length part.prefix ≤ part.shortest → Has part route → IsMatched part route
+as_matched : (part : RoutePart) (route : RouteView) → length part.prefix ≤ part.shortest → Has part route → IsMatched part route
 as_matched part route h has =
     let shared = shared_all route.net part.prefix (omega (arith, has.shortest)) in
     record {
@@ -54,7 +54,7 @@ as_matched part route h has =
       greatest = has.greatest;
     }
 
-as_has : (part : Part) (route : RouteView) → length part.prefix ≤ part.shortest → IsMatched part route → Has part route
+as_has : (part : RoutePart) (route : RouteView) → length part.prefix ≤ part.shortest → IsMatched part route → Has part route
 as_has part route h is =
     let shared = shared_all route.net part.prefix (omega (arith, is.matched.low)) in
     record {
@@ -65,5 +65,5 @@ as_has part route h is =
       greatest = is.greatest;
     }
 
-pub as_pattern : (size : ℕ) (part : Part) (route : RouteView) → IsReal size part → Has part route ↔ IsMatched part route
+pub as_pattern : (size : ℕ) (part : RoutePart) (route : RouteView) → IsReal size part → Has part route ↔ IsMatched part route
 as_pattern size part route real = (as_matched part route real.pattern, as_has part route real.pattern)

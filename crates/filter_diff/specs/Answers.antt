@@ -4,16 +4,16 @@ use Rattle.std.specs.List.{list_any}
 use Rattle.filter_diff.specs.Parts.{is_difference, is_undecided}
 use Rattle.filter_diff.specs.declared.answer.Answer.{Answer}
 use Rattle.filter_diff.specs.declared.answer.Answer.TheVariants as answer
-use Rattle.filter_diff.specs.declared.part.Part.{Part}
+use Rattle.filter_diff.specs.declared.route_part.RoutePart.{RoutePart}
 
 -- a part that differs, and one that is undecided
-abbrev pub differs : Part → Bool
+abbrev pub differs : RoutePart → Bool
 differs part = is_difference part.finding
 
-abbrev pub undecided : Part → Bool
+abbrev pub undecided : RoutePart → Bool
 undecided part = is_undecided part.finding
 
 -- the same where there are no parts, and otherwise a difference if one of them differs
-abbrev pub answer_of : List Part → Answer
+abbrev pub answer_of : List RoutePart → Answer
 answer_of [] = answer.Same
 answer_of (part ∷ parts) = if list_any differs (part ∷ parts) then answer.Differ else answer.Undecided

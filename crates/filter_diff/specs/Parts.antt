@@ -7,9 +7,9 @@ use Rattle.filter_code.specs.CodeView.{CodeView}
 use Rattle.filter_code.specs.Machine.{outcome_of}
 use Rattle.filter_code.specs.declared.outcome.Outcome.{Outcome}
 use Rattle.filter_diff.specs.Endings.{outcome_at}
-use Rattle.filter_diff.specs.declared.part.Finding.{Finding}
-use Rattle.filter_diff.specs.declared.part.Finding.TheVariants as finding
-use Rattle.filter_diff.specs.declared.part.Part.{Part}
+use Rattle.filter_diff.specs.declared.route_part.Finding.{Finding}
+use Rattle.filter_diff.specs.declared.route_part.Finding.TheVariants as finding
+use Rattle.filter_diff.specs.declared.route_part.RoutePart.{RoutePart}
 
 -- the routes of a domain: a prefix of at most 32 bits, and a metric of at most the size
 pub record IsIn (size : ℕ) (route : RouteView) : Type 0 where
@@ -18,7 +18,7 @@ pub record IsIn (size : ℕ) (route : RouteView) : Type 0 where
   pub domain : route.size ≡ size
 
 -- a route of a part: its prefix lies within that of the part, and its length and its metric are in the part's ranges
-pub record Has (part : Part) (route : RouteView) : Type 0 where
+pub record Has (part : RoutePart) (route : RouteView) : Type 0 where
   pub within : LiesWithin route.net part.prefix
   pub shortest : part.shortest ≤ length route.net
   pub longest : length route.net ≤ part.longest
@@ -26,7 +26,7 @@ pub record Has (part : Part) (route : RouteView) : Type 0 where
   pub greatest : route.metric ≤ part.greatest
 
 -- a part is the routes of a pattern of prefixes and of a range of metrics, and at least one of them is in the domain of the size
-pub record IsReal (size : ℕ) (part : Part) : Type 0 where
+pub record IsReal (size : ℕ) (part : RoutePart) : Type 0 where
   pub pattern : length part.prefix ≤ part.shortest
   pub lengths : part.shortest ≤ part.longest
   pub fits : part.longest ≤ address_length
@@ -34,16 +34,16 @@ pub record IsReal (size : ℕ) (part : Part) : Type 0 where
   pub reachable : part.greatest ≤ size
 
 -- a route of the domain that a part has
-pub record HasRoute (size : ℕ) (part : Part) : Type 0 where
+pub record HasRoute (size : ℕ) (part : RoutePart) : Type 0 where
   pub route : RouteView
   pub is_in : IsIn size route
   pub has : Has part route
 
 -- the prefixes of a part as a pattern, and a route that matches it and whose metric is in the part's range
-abbrev pub pattern_of : Part → PrefixPattern
+abbrev pub pattern_of : RoutePart → PrefixPattern
 pattern_of part = record { bits = part.prefix; low = part.shortest; high = part.longest }
 
-pub record IsMatched (part : Part) (route : RouteView) : Type 0 where
+pub record IsMatched (part : RoutePart) (route : RouteView) : Type 0 where
   pub matched : Matches route.net (pattern_of part)
   pub least : part.least ≤ route.metric
   pub greatest : route.metric ≤ part.greatest
@@ -73,14 +73,14 @@ is_undecided finding.Undecided = true
 is_undecided (finding.Differ before after) = false
 
 -- a part's finding holds of each of its routes
-abbrev pub IsTrueOf : CodeView → CodeView → ℕ → Part → Type 0
+abbrev pub IsTrueOf : CodeView → CodeView → ℕ → RoutePart → Type 0
 IsTrueOf old new size part = (route : RouteView) → IsIn size route → Has part route → Holds old new part.finding route
 
 -- a route lies in one of the parts
-abbrev pub InOne : RouteView → List Part → Type 0
+abbrev pub InOne : RouteView → List RoutePart → Type 0
 InOne route [] = ⊥
 InOne route (part ∷ parts) = Has part route ⊎ InOne route parts
 
 -- each route of the domain has the same outcome, or lies in one of the parts
-abbrev pub Cover : CodeView → CodeView → ℕ → List Part → Type 0
+abbrev pub Cover : CodeView → CodeView → ℕ → List RoutePart → Type 0
 Cover old new size parts = (route : RouteView) → IsIn size route → IsSame old new route ⊎ InOne route parts

@@ -9,7 +9,7 @@ use Rattle.filter_diff.specs.declared.class.Class.{Class}
 use Rattle.filter_diff.specs.declared.ending.Ending.{Ending}
 use Rattle.filter_diff.specs.declared.found.Found.{Found}
 use Rattle.filter_diff.specs.declared.found.Found.TheVariants as found
-use Rattle.filter_diff.specs.declared.part.Part.{Part}
+use Rattle.filter_diff.specs.declared.route_part.RoutePart.{RoutePart}
 
 -- two endings are the same at each route, or different at each
 abbrev pub Compare : Ending → Ending → Found → Type 0
@@ -31,12 +31,12 @@ pub record HasBit (class : Class) (bit : Bool) (longer : Class) : Type 0 where
   pub size : longer.size ≡ class.size
 
 -- a part has just the routes of a class
-pub record IsPartOf (class : Class) (part : Part) : Type 0 where
+pub record IsPartOf (class : Class) (part : RoutePart) : Type 0 where
   pub of_class : (route : RouteView) → IsIn class.size route → Has part route → IsOf class route
   pub of_part : (route : RouteView) → IsIn class.size route → IsOf class route → Has part route
 
 -- the parts that were found and the classes that are left have routes of the domain of a size
-pub record AreReal (size : ℕ) (parts : List Part) (classes : List Class) : Type 0 where
+pub record AreReal (size : ℕ) (parts : List RoutePart) (classes : List Class) : Type 0 where
   pub found : All (IsReal size) parts
   pub left : All (IsOfSize size) classes
 
@@ -46,5 +46,5 @@ IsLeft route [] = ⊥
 IsLeft route (class ∷ classes) = IsOf class route ⊎ IsLeft route classes
 
 -- a route has the same outcome, or lies in one of the parts, or is left
-abbrev pub IsDealt : CodeView → CodeView → List Part → List Class → RouteView → Type 0
+abbrev pub IsDealt : CodeView → CodeView → List RoutePart → List Class → RouteView → Type 0
 IsDealt old new parts classes route = (IsSame old new route ⊎ InOne route parts) ⊎ IsLeft route classes

@@ -3,7 +3,7 @@ ghost use Rattle.std.specs.Prelude.{◌≡◌, ◌≤◌, count_by, length};
 ghost use Rattle.std.specs.List.{list_any};
 ghost use Rattle.filter_diff.specs.Answers as spec;
 
-use crate::part::{Finding, Part};
+use crate::route_part::{Finding, RoutePart};
 
 /// What a comparison comes to.
 #[derive(Clone, Copy, PartialEq, Eq)]
@@ -16,7 +16,7 @@ pub enum Answer {
     Undecided,
 }
 
-impl Part {
+impl RoutePart {
     /// Whether the two codes differ on its routes.
     pub fn differs(&self) -> bool
         ensures { result ≡ spec.differs self.now }
@@ -33,21 +33,21 @@ impl Part {
 }
 
 /// Whether one of the parts differs.
-pub fn has_difference(parts: &[Part]) -> bool
+pub fn has_difference(parts: &[RoutePart]) -> bool
     ensures { result ≡ list_any spec.differs parts.now }
 {
     parts.iter().any(|part| part.differs())
 }
 
 /// How many of the parts are undecided.
-pub fn count_undecided(parts: &[Part]) -> usize
+pub fn count_undecided(parts: &[RoutePart]) -> usize
     ensures { result ≡ count_by spec.undecided parts.now }
 {
     parts.iter().filter(|part| part.is_undecided()).count()
 }
 
 /// What parts come to: the same if and only if there are none.
-pub fn answer_of(parts: &[Part]) -> Answer
+pub fn answer_of(parts: &[RoutePart]) -> Answer
     ensures { result ≡ spec.answer_of parts.now }
 {
     if parts.is_empty() {

@@ -9,7 +9,7 @@ ghost use Rattle.filter_diff.specs.Classes.{IsOf, IsOfSize};
 ghost use Rattle.filter_diff.specs.Searches.{IsLeft};
 
 use crate::class::Class;
-use crate::part::{Finding, Part};
+use crate::route_part::{Finding, RoutePart};
 use crate::search::{push_part, visit};
 use filter_code::Code;
 use prefix_patterns::{ADDRESS_LENGTH, Ip, Prefix};
@@ -22,7 +22,7 @@ pub const CLASS_LIMIT: u64 = 1_000_000;
 #[derive(Drop)]
 pub struct Comparison {
     /// The parts of the routes on which they differ, and those on which it is not decided.
-    pub parts: Vec<Part>,
+    pub parts: Vec<RoutePart>,
     /// How many classes of routes were tried: the work that was done.
     pub tried: u64,
 }

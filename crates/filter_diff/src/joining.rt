@@ -2,9 +2,9 @@
 
 ghost use Rattle.std.specs.Prelude.{◌≡◌, ◌+◌, ◌≤◌, ◌++◌, [], ◌∷◌, true, false, IfOk, IfSome, IsTrue, List, OnOk};
 ghost use Rattle.filter_diff.specs.Joins.{Joins, StandFor};
-ghost use Rattle.filter_diff.specs.declared.part.Part.{Part as PartView};
+ghost use Rattle.filter_diff.specs.declared.route_part.RoutePart.{RoutePart as RoutePartView};
 
-use crate::part::Part;
+use crate::route_part::RoutePart;
 use crate::search::longer;
 use prefix_patterns::Prefix;
 use std::alloc::{AllocError, Global};
@@ -23,28 +23,28 @@ fn same_prefix(a: &Prefix, b: &Prefix) -> bool
 }
 
 /// Whether the same was found of two parts.
-fn same_finding(a: &Part, b: &Part) -> bool
+fn same_finding(a: &RoutePart, b: &RoutePart) -> bool
     ensures { IsTrue result → a.now.finding ≡ b.now.finding }
 {
     a.finding == b.finding
 }
 
 /// Whether two parts have the same lengths.
-fn same_lengths(a: &Part, b: &Part) -> bool
+fn same_lengths(a: &RoutePart, b: &RoutePart) -> bool
     ensures { IsTrue result → (a.now.shortest ≡ b.now.shortest) × (a.now.longest ≡ b.now.longest) }
 {
     a.shortest == b.shortest && a.longest == b.longest
 }
 
 /// Whether two parts have the same metrics.
-fn same_metrics(a: &Part, b: &Part) -> bool
+fn same_metrics(a: &RoutePart, b: &RoutePart) -> bool
     ensures { IsTrue result → (a.now.least ≡ b.now.least) × (a.now.greatest ≡ b.now.greatest) }
 {
     a.least == b.least && a.greatest == b.greatest
 }
 
 /// Whether the lengths of a part are followed by those of another.
-fn lengths_follow(a: &Part, b: &Part) -> bool
+fn lengths_follow(a: &RoutePart, b: &RoutePart) -> bool
     ensures { IsTrue result → (a.now.shortest ≤ a.now.longest) × (a.now.longest + 1 ≡ b.now.shortest) × (b.now.shortest ≤ b.now.longest) }
 {
     a.shortest <= a.longest
@@ -53,7 +53,7 @@ fn lengths_follow(a: &Part, b: &Part) -> bool
 }
 
 /// Whether the metrics of a part are followed by those of another.
-fn metrics_follow(a: &Part, b: &Part) -> bool
+fn metrics_follow(a: &RoutePart, b: &RoutePart) -> bool
     ensures { IsTrue result → (a.now.least ≤ a.now.greatest) × (a.now.greatest + 1 ≡ b.now.least) × (b.now.least ≤ b.now.greatest) }
 {
     a.least <= a.greatest
@@ -62,7 +62,7 @@ fn metrics_follow(a: &Part, b: &Part) -> bool
 }
 
 /// The part of two with neighbouring lengths, the shorter first.
-fn join_lengths(a: &Part, b: &Part) -> Option<Part>
+fn join_lengths(a: &RoutePart, b: &RoutePart) -> Option<RoutePart>
     ensures { IfSome result (λ whole. Joins a.now b.now whole) }
 {
     if !same_finding(a, b) {
@@ -77,7 +77,7 @@ fn join_lengths(a: &Part, b: &Part) -> Option<Part>
     if !lengths_follow(a, b) {
         return None;
     }
-    Some(Part {
+    Some(RoutePart {
         prefix: a.prefix,
         shortest: a.shortest,
         longest: b.longest,
@@ -88,7 +88,7 @@ fn join_lengths(a: &Part, b: &Part) -> Option<Part>
 }
 
 /// The part of two with neighbouring metrics, the smaller first.
-fn join_metrics(a: &Part, b: &Part) -> Option<Part>
+fn join_metrics(a: &RoutePart, b: &RoutePart) -> Option<RoutePart>
     ensures { IfSome result (λ whole. Joins a.now b.now whole) }
 {
     if !same_finding(a, b) {
@@ -103,7 +103,7 @@ fn join_metrics(a: &Part, b: &Part) -> Option<Part>
     if !metrics_follow(a, b) {
         return None;
     }
-    Some(Part {
+    Some(RoutePart {
         prefix: a.prefix,
         shortest: a.shortest,
         longest: a.longest,
@@ -133,7 +133,7 @@ fn whole_of(zero: &Prefix, one: &Prefix) -> Option<Prefix>
 }
 
 /// The part of two whose prefixes are the halves of one, the first half first. Its prefixes are longer than that.
-fn join_halves(a: &Part, b: &Part) -> Option<Part>
+fn join_halves(a: &RoutePart, b: &RoutePart) -> Option<RoutePart>
     ensures { IfSome result (λ whole. Joins a.now b.now whole) }
 {
     if !same_finding(a, b) {
@@ -149,7 +149,7 @@ fn join_halves(a: &Part, b: &Part) -> Option<Part>
         return None;
     }
     match whole_of(&a.prefix, &b.prefix) {
-        Some(prefix) => Some(Part {
+        Some(prefix) => Some(RoutePart {
             prefix,
             shortest: a.shortest,
             longest: a.longest,
@@ -162,7 +162,7 @@ fn join_halves(a: &Part, b: &Part) -> Option<Part>
 }
 
 /// The part of two that join, the first of them first.
-fn join_in_order(a: &Part, b: &Part) -> Option<Part>
+fn join_in_order(a: &RoutePart, b: &RoutePart) -> Option<RoutePart>
     ensures { IfSome result (λ whole. Joins a.now b.now whole) }
 {
     match join_halves(a, b) {
@@ -175,7 +175,7 @@ fn join_in_order(a: &Part, b: &Part) -> Option<Part>
 }
 
 /// The part of two that join.
-fn join(a: &Part, b: &Part) -> Option<Part>
+fn join(a: &RoutePart, b: &RoutePart) -> Option<RoutePart>
     ensures { IfSome result (λ whole. Joins a.now b.now whole) }
 {
     match join_in_order(a, b) {
@@ -185,8 +185,8 @@ fn join(a: &Part, b: &Part) -> Option<Part>
 }
 
 /// Joins a part with one of the last parts, or appends it.
-fn add(parts: &mut Vec<Part>, part: &Part) -> Result<(), AllocError>
-    ensures { OnOk result ((others : List PartView) → StandFor parts.old.items others → StandFor parts.new.items (others ++ (part.now ∷ []))) }
+fn add(parts: &mut Vec<RoutePart>, part: &RoutePart) -> Result<(), AllocError>
+    ensures { OnOk result ((others : List RoutePartView) → StandFor parts.old.items others → StandFor parts.new.items (others ++ (part.now ∷ []))) }
 {
     for at in parts.len().saturating_sub(LOOK_BACK)..parts.len() {
         if let Some(whole) = join(&parts[at], part) {
@@ -199,7 +199,7 @@ fn add(parts: &mut Vec<Part>, part: &Part) -> Result<(), AllocError>
 }
 
 /// Goes once over all parts, and joins each with one before it.
-fn join_once(alloc: Global, parts: &[Part]) -> Result<Vec<Part>, AllocError>
+fn join_once(alloc: Global, parts: &[RoutePart]) -> Result<Vec<RoutePart>, AllocError>
     ensures { IfOk result (λ joined. StandFor joined.items parts.now) }
 {
     let mut joined = Vec::new(alloc);
@@ -210,7 +210,7 @@ fn join_once(alloc: Global, parts: &[Part]) -> Result<Vec<Part>, AllocError>
 }
 
 /// Joins parts until no two join that lie near each other.
-pub fn join_all(alloc: Global, parts: Vec<Part>) -> Result<Vec<Part>, AllocError>
+pub fn join_all(alloc: Global, parts: Vec<RoutePart>) -> Result<Vec<RoutePart>, AllocError>
     ensures { IfOk result (λ joined. StandFor joined.items parts.items) }
 {
     let mut found = parts;

@@ -10,7 +10,7 @@ ghost use Rattle.filter_diff.specs.declared.ending.Ending.TheVariants as ending;
 use crate::class::Class;
 use crate::ending::Ending;
 use crate::found::Found;
-use crate::part::{Finding, Part};
+use crate::route_part::{Finding, RoutePart};
 use crate::trials::trial;
 use crate::turn::Turn;
 use filter_code::{Code, Outcome, Route, run_checked};
@@ -138,7 +138,7 @@ fn with_bit(class: &Class, bit: bool) -> Option<Class>
 }
 
 /// The part with the routes of a class.
-pub(crate) fn part_of(class: &Class, finding: Finding) -> Part
+pub(crate) fn part_of(class: &Class, finding: Finding) -> RoutePart
     ensures routes { IsPartOf class.now result }
     ensures finding { result.finding ≡ finding }
     ensures real { IsOfSize class.now.size class.now → IsReal class.now.size result }
@@ -147,7 +147,7 @@ pub(crate) fn part_of(class: &Class, finding: Finding) -> Part
         Some(metric) => (metric, metric),
         None => (0, class.size),
     };
-    Part {
+    RoutePart {
         prefix: class.known,
         shortest: class.len,
         longest: class.len,
@@ -205,7 +205,7 @@ pub(crate) fn push_part(
     new: &Code,
     class: &Class,
     finding: Finding,
-    parts: &mut Vec<Part>,
+    parts: &mut Vec<RoutePart>,
 ) -> Result<(), AllocError>
     requires found { Always class.now (λ route. Holds old.now new.now finding route) }
     requires real { IsOfSize class.now.size class.now }
@@ -224,7 +224,7 @@ fn split_metric(
     old: &Code,
     new: &Code,
     class: &Class,
-    parts: &mut Vec<Part>,
+    parts: &mut Vec<RoutePart>,
     todo: &mut Vec<Class>,
 ) -> Result<(), AllocError>
     requires small { class.now.size ≤ 250 }
@@ -250,7 +250,7 @@ fn split_bits(
     old: &Code,
     new: &Code,
     class: &Class,
-    parts: &mut Vec<Part>,
+    parts: &mut Vec<RoutePart>,
     todo: &mut Vec<Class>,
 ) -> Result<(), AllocError>
     requires small { class.now.size ≤ 250 }
@@ -276,7 +276,7 @@ pub(crate) fn visit(
     old: &Code,
     new: &Code,
     class: &Class,
-    parts: &mut Vec<Part>,
+    parts: &mut Vec<RoutePart>,
     todo: &mut Vec<Class>,
 ) -> Result<(), AllocError>
     requires small { class.now.size ≤ 250 }

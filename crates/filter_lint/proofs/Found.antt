@@ -5,7 +5,7 @@ use Rattle.std.proofs.lemmas.List.Elements.{All-append, All-cons, All-nil}
 use Rattle.filter_diff.specs.declared.mark.Mark.{Mark}
 use Rattle.filter_lint.specs.Commands.{reached_up_to, was_reached}
 use Rattle.filter_lint.specs.Finding.{all_of, below}
-use Rattle.filter_lint.specs.Sources.{SourceView}
+use Rattle.filter_lint.specs.SurveyedFilters.{SurveyedFilterView}
 use Rattle.filter_lint.specs.declared.warning.Warning.{Warning}
 
 below_suc : (said : ℕ → Option Warning) (n : ℕ) → below said (suc n) ≡ below said n ++ option_to_list (said n)
@@ -24,16 +24,16 @@ one_more said n before after so_far grown =
     grown ∙ (ap (λ (all : List Warning). all ++ option_to_list (said n)) so_far ∙ (sym (below_suc said n) ∙ ap (below said) (sym (add-one n))))
 
 -- the command before the first instruction, and before the next one
-pub none_before : (source : SourceView) (marks : List Mark) → was_reached source marks 0 ≡ true
+pub none_before : (source : SurveyedFilterView) (marks : List Mark) → was_reached source marks 0 ≡ true
 unfolding was_reached
 none_before source marks = refl
 
-reached_suc : (source : SourceView) (marks : List Mark) (n : ℕ)
+reached_suc : (source : SurveyedFilterView) (marks : List Mark) (n : ℕ)
     → was_reached source marks (suc n) ≡ reached_up_to source marks n (was_reached source marks n)
 unfolding was_reached
 reached_suc source marks n = refl
 
-pub next_reached : (source : SourceView) (marks : List Mark) (n : ℕ) (was is : Bool) → was ≡ was_reached source marks n
+pub next_reached : (source : SurveyedFilterView) (marks : List Mark) (n : ℕ) (was is : Bool) → was ≡ was_reached source marks n
     → is ≡ reached_up_to source marks n was → is ≡ was_reached source marks (n + 1)
 next_reached source marks n was is before after =
     after ∙ (ap (reached_up_to source marks n) before ∙ (sym (reached_suc source marks n) ∙ ap (was_reached source marks) (sym (add-one n))))

@@ -16,7 +16,7 @@ use Rattle.filter_lint.specs.Hints.{hints}
 use Rattle.filter_lint.specs.Known.{top_one, top_two}
 use Rattle.filter_lint.specs.Metrics.{sets_metric, unreachable_at}
 use Rattle.filter_lint.specs.Sets.{asked_by, covered_at, covered_by, covered_of, covered_where, covering}
-use Rattle.filter_lint.specs.Sources.{SourceView, is_first, known_at, known_of}
+use Rattle.filter_lint.specs.SurveyedFilters.{SurveyedFilterView, is_first, known_at, known_of}
 use Rattle.filter_lint.specs.Truths.{IsTrueOf}
 use Rattle.filter_lint.specs.Variables.{declared_by, is_load_of, unread_at}
 use Rattle.filter_lint.specs.declared.warning.Bounds.{Bounds}
@@ -33,7 +33,7 @@ known_there true f here a e = e
 known_there false f here a e = let no : ⊥ = cc in absurd no
 
 module _ (program : CodeView) (size : ℕ) (text places : List ℕ) where
-  abbrev here : SourceView
+  abbrev here : SurveyedFilterView
   here = record { text = text; program = program; places = places; size = size }
 
   -- an operation

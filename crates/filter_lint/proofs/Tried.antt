@@ -7,7 +7,7 @@ use Rattle.filter_diff.specs.Reaching.{IsReach}
 use Rattle.filter_diff.specs.declared.mark.Reach.{Reach}
 use Rattle.filter_lint.specs.Hints.{hints}
 use Rattle.filter_lint.specs.Rules.{on_routes, said_of, said_on_routes}
-use Rattle.filter_lint.specs.Sources.{SourceView}
+use Rattle.filter_lint.specs.SurveyedFilters.{SurveyedFilterView}
 use Rattle.filter_lint.specs.Truths.{IsTrueOf}
 use Rattle.filter_lint.specs.declared.warning.Warning.{Warning}
 use Rattle.filter_lint.proofs.Hinted.{hints_are_so}
@@ -20,7 +20,7 @@ same_reach p program n size asked watched reach code_is size_is watched_is is =
     subst (λ (q : CodeView). IsReach q size watched reach) code_is
     (subst (λ (m : ℕ). IsReach p m watched reach) size_is (subst (λ (w : List Bool). IsReach p n w reach) watched_is is))
 
-module _ (source : SourceView) (watched : List Bool) (reach : Reach) (is_reach : IsReach source.program source.size watched reach) where
+module _ (source : SurveyedFilterView) (watched : List Bool) (reach : Reach) (is_reach : IsReach source.program source.size watched reach) where
   routes_are_so : (b : Bool) → reach.is_complete ≡ b
       → All (IsTrueOf source.program source.size source.places) (if b then on_routes source reach.marks.items else [])
   routes_are_so false e = All-nil (IsTrueOf source.program source.size source.places)

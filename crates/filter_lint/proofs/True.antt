@@ -13,7 +13,7 @@ use Rattle.filter_lint.specs.Conditions.{constant_at, constant_by, constant_cond
 use Rattle.filter_lint.specs.Lowering.{metrics_not_lowered, not_lowered, not_lowered_at}
 use Rattle.filter_lint.specs.Rules.{on_routes}
 use Rattle.filter_lint.specs.Sites.{site_at}
-use Rattle.filter_lint.specs.Sources.{SourceView}
+use Rattle.filter_lint.specs.SurveyedFilters.{SurveyedFilterView}
 use Rattle.filter_lint.specs.Truths.{IsConstant, IsTrueOf}
 use Rattle.filter_lint.specs.declared.site.Site.{Site}
 use Rattle.filter_lint.specs.declared.warning.Cause.TheVariants as cause
@@ -156,7 +156,7 @@ module _ (program : CodeView) (size : ℕ) (text places : List ℕ) where
     pub on_routes_are_so : All (IsTrueOf program size places)
         (on_routes (record { text = text; program = program; places = places; size = size }) found.marks.items)
     on_routes_are_so =
-        let here : SourceView = record { text = text; program = program; places = places; size = size } in
+        let here : SurveyedFilterView = record { text = text; program = program; places = places; size = size } in
         let P : Warning → Type 0 = IsTrueOf program size places in
         All-append P (constant_conditions here found.marks.items) _
         (all_below P (constant_at here found.marks.items) condition_is_so (length program.instrs))

@@ -4,7 +4,7 @@ use Rattle.filter_code.specs.declared.instruction.Instr.{Instr}
 use Rattle.filter_code.specs.declared.instruction.Instr.TheVariants as instr
 use Rattle.filter_lint.specs.Finding.{below}
 use Rattle.filter_lint.specs.Known.{top_two}
-use Rattle.filter_lint.specs.Sources.{SourceView, is_first, known_at}
+use Rattle.filter_lint.specs.SurveyedFilters.{SurveyedFilterView, is_first, known_at}
 use Rattle.filter_lint.specs.declared.warning.Bounds.{Bounds}
 use Rattle.filter_lint.specs.declared.warning.Cause.TheVariants as cause
 use Rattle.filter_lint.specs.declared.warning.Operation.{Operation}
@@ -30,7 +30,7 @@ wraps at byte what left right =
     if may_wrap what left right then Some (record { instruction = at; byte = byte; cause = cause.Wraps what left right }) else None
 
 -- what is said of the instruction of an index: of those that come from one byte, it is said of the first
-abbrev pub wraps_at : SourceView → ℕ → Option Warning
+abbrev pub wraps_at : SurveyedFilterView → ℕ → Option Warning
 wraps_at source at = option_and_then
     (λ i. option_and_then
     (λ byte. option_and_then
@@ -42,5 +42,5 @@ wraps_at source at = option_and_then
     (slice_get source.program.instrs at)
 
 -- what is said of all instructions
-abbrev pub wrapping_operations : SourceView → List Warning
+abbrev pub wrapping_operations : SurveyedFilterView → List Warning
 wrapping_operations source = below (wraps_at source) (length source.program.instrs)

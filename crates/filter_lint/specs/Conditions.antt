@@ -5,7 +5,7 @@ use Rattle.filter_code.specs.declared.instruction.Instr.TheVariants as instr
 use Rattle.filter_diff.specs.declared.mark.Mark.{Mark}
 use Rattle.filter_lint.specs.Finding.{below}
 use Rattle.filter_lint.specs.Sites.{site_at}
-use Rattle.filter_lint.specs.Sources.{SourceView}
+use Rattle.filter_lint.specs.SurveyedFilters.{SurveyedFilterView}
 use Rattle.filter_lint.specs.declared.site.Site.{Site}
 use Rattle.filter_lint.specs.declared.site.Site.TheVariants as site
 use Rattle.filter_lint.specs.declared.warning.Cause.TheVariants as cause
@@ -36,7 +36,7 @@ constant_by text at (instr.JumpIfNot skipped) byte mark = constant text at byte 
 constant_by text at _ byte mark = None
 
 -- the same of the instruction of an index
-abbrev pub constant_at : SourceView → List Mark → ℕ → Option Warning
+abbrev pub constant_at : SurveyedFilterView → List Mark → ℕ → Option Warning
 constant_at source marks at = option_and_then
     (λ i. option_and_then
     (λ byte. option_and_then (constant_by source.text at i byte) (slice_get marks at))
@@ -44,5 +44,5 @@ constant_at source marks at = option_and_then
     (slice_get source.program.instrs at)
 
 -- what is said of all conditions
-abbrev pub constant_conditions : SourceView → List Mark → List Warning
+abbrev pub constant_conditions : SurveyedFilterView → List Mark → List Warning
 constant_conditions source marks = below (constant_at source marks) (length source.program.instrs)

@@ -1,6 +1,6 @@
 -- What callers cite.
 pub mod Linting
-pub mod Sources
+pub mod SurveyedFilters
 pub mod WarningLines
 -- What only the bodies of this crate are proved against.
 pub mod Arithmetic

@@ -3,7 +3,7 @@
 use Rattle.std.specs.Prelude.{ℕ, if◌then◌else◌, List, length, Option, Some, None, option_and_then, slice_get}
 use Rattle.filter_diff.specs.declared.mark.Mark.{Mark}
 use Rattle.filter_lint.specs.Finding.{below}
-use Rattle.filter_lint.specs.Sources.{SourceView}
+use Rattle.filter_lint.specs.SurveyedFilters.{SurveyedFilterView}
 use Rattle.filter_lint.specs.declared.warning.Cause.TheVariants as cause
 use Rattle.filter_lint.specs.declared.warning.Warning.{Warning}
 
@@ -13,11 +13,11 @@ not_lowered at byte mark =
     if mark.is_raised then Some (record { instruction = at; byte = byte; cause = cause.NotLowered }) else None
 
 -- the same of the instruction of an index
-abbrev pub not_lowered_at : SourceView → List Mark → ℕ → Option Warning
+abbrev pub not_lowered_at : SurveyedFilterView → List Mark → ℕ → Option Warning
 not_lowered_at source marks at = option_and_then
     (λ byte. option_and_then (not_lowered at byte) (slice_get marks at))
     (slice_get source.places at)
 
 -- what is said of all assignments of the metric
-abbrev pub metrics_not_lowered : SourceView → List Mark → List Warning
+abbrev pub metrics_not_lowered : SurveyedFilterView → List Mark → List Warning
 metrics_not_lowered source marks = below (not_lowered_at source marks) (length source.program.instrs)

@@ -4,7 +4,7 @@ use Rattle.filter_code.specs.declared.instruction.Instr.{Instr}
 use Rattle.filter_code.specs.declared.instruction.Instr.TheVariants as instr
 use Rattle.filter_lint.specs.Finding.{below}
 use Rattle.filter_lint.specs.Known.{top_one}
-use Rattle.filter_lint.specs.Sources.{SourceView, known_at}
+use Rattle.filter_lint.specs.SurveyedFilters.{SurveyedFilterView, known_at}
 use Rattle.filter_lint.specs.declared.warning.Cause.TheVariants as cause
 use Rattle.filter_lint.specs.declared.warning.Warning.{Warning}
 
@@ -14,7 +14,7 @@ sets_metric instr.SetMetric = true
 sets_metric _ = false
 
 -- what is said of the instruction of an index
-abbrev pub unreachable_at : SourceView → ℕ → Option Warning
+abbrev pub unreachable_at : SurveyedFilterView → ℕ → Option Warning
 unreachable_at source at = option_and_then
     (λ i. option_and_then
     (λ byte. option_and_then
@@ -25,5 +25,5 @@ unreachable_at source at = option_and_then
     (slice_get source.program.instrs at)
 
 -- what is said of all instructions
-abbrev pub unreachable_metrics : SourceView → List Warning
+abbrev pub unreachable_metrics : SurveyedFilterView → List Warning
 unreachable_metrics source = below (unreachable_at source) (length source.program.instrs)

@@ -8,20 +8,20 @@ use Rattle.filter_lint.specs.Commands.{unreached_commands}
 use Rattle.filter_lint.specs.Conditions.{constant_conditions}
 use Rattle.filter_lint.specs.Hints.{hints}
 use Rattle.filter_lint.specs.Lowering.{metrics_not_lowered}
-use Rattle.filter_lint.specs.Sources.{SourceView}
+use Rattle.filter_lint.specs.SurveyedFilters.{SurveyedFilterView}
 use Rattle.filter_lint.specs.Watching.{watched_places}
 use Rattle.filter_lint.specs.declared.rules.Warnings.{Warnings}
 use Rattle.filter_lint.specs.declared.warning.Warning.{Warning}
 
 -- what is said where all routes were tried
-abbrev pub on_routes : SourceView → List Mark → List Warning
+abbrev pub on_routes : SurveyedFilterView → List Mark → List Warning
 on_routes source marks = constant_conditions source marks ++ (unreached_commands source marks ++ metrics_not_lowered source marks)
 
-abbrev pub said_on_routes : SourceView → Reach → List Warning
+abbrev pub said_on_routes : SurveyedFilterView → Reach → List Warning
 said_on_routes source reach = if reach.is_complete then on_routes source reach.marks.items else []
 
 -- all that is said, where this is found of the instructions that runs come to
-abbrev pub said_of : SourceView → Reach → List Warning
+abbrev pub said_of : SurveyedFilterView → Reach → List Warning
 said_of source reach = said_on_routes source reach ++ hints source
 
 -- the warnings that follow from what is found of the instructions that runs come to

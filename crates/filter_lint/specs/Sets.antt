@@ -4,7 +4,7 @@ use Rattle.filter_code.specs.declared.instruction.Instr.{Instr}
 use Rattle.filter_code.specs.declared.instruction.Instr.TheVariants as instr
 use Rattle.prefix_patterns.specs.Matching.{PrefixPattern, lies_within}
 use Rattle.filter_lint.specs.Finding.{all_of, below}
-use Rattle.filter_lint.specs.Sources.{SourceView}
+use Rattle.filter_lint.specs.SurveyedFilters.{SurveyedFilterView}
 use Rattle.filter_lint.specs.declared.sets.Asked.{Asked}
 use Rattle.filter_lint.specs.declared.warning.Cause.TheVariants as cause
 use Rattle.filter_lint.specs.declared.warning.Warning.{Warning}
@@ -45,7 +45,7 @@ asked_by (instr.Member number) = Some number
 asked_by _ = None
 
 -- what the instruction of an index asks
-abbrev pub asked_at : SourceView → ℕ → Option Asked
+abbrev pub asked_at : SurveyedFilterView → ℕ → Option Asked
 asked_at source at = option_and_then
     (λ i. option_and_then
     (λ byte. option_and_then (λ set. Some (record { instruction = at; byte = byte; set = set })) (asked_by i))
@@ -61,9 +61,9 @@ abbrev pub covered_where : List (List PrefixPattern) → Option Asked → List W
 covered_where sets None = []
 covered_where sets (Some asked) = covered_of (slice_get sets asked.set) asked
 
-abbrev pub covered_by : SourceView → ℕ → List Warning
+abbrev pub covered_by : SurveyedFilterView → ℕ → List Warning
 covered_by source at = covered_where source.program.sets (asked_at source at)
 
 -- what is said of all sets
-abbrev pub covered_patterns : SourceView → List Warning
+abbrev pub covered_patterns : SurveyedFilterView → List Warning
 covered_patterns source = all_of (covered_by source) (length source.program.instrs)

@@ -4,7 +4,7 @@ use Rattle.std.specs.List.{list_any}
 use Rattle.filter_code.specs.declared.instruction.Instr.{Instr}
 use Rattle.filter_code.specs.declared.instruction.Instr.TheVariants as instr
 use Rattle.filter_lint.specs.Finding.{below}
-use Rattle.filter_lint.specs.Sources.{SourceView}
+use Rattle.filter_lint.specs.SurveyedFilters.{SurveyedFilterView}
 use Rattle.filter_lint.specs.declared.warning.Cause.TheVariants as cause
 use Rattle.filter_lint.specs.declared.warning.Warning.{Warning}
 
@@ -19,7 +19,7 @@ declared_by (instr.Store number) at = if at == 2 * number + 1 then Some number e
 declared_by _ at = None
 
 -- what is said of an instruction
-abbrev pub unread_at : SourceView → ℕ → Option Warning
+abbrev pub unread_at : SurveyedFilterView → ℕ → Option Warning
 unread_at source at = option_and_then
     (λ i. option_and_then
     (λ byte. option_and_then
@@ -30,5 +30,5 @@ unread_at source at = option_and_then
     (slice_get source.program.instrs at)
 
 -- what is said of all variables
-abbrev pub unread_variables : SourceView → List Warning
+abbrev pub unread_variables : SurveyedFilterView → List Warning
 unread_variables source = below (unread_at source) (length source.program.instrs)

@@ -5,7 +5,7 @@ use Rattle.filter_code.specs.declared.instruction.Instr.TheVariants as instr
 use Rattle.filter_verifier.specs.InStateView.{InStateView, Unreached, UnlikeDepths, Known}
 use Rattle.filter_verifier.specs.declared.fact.Fact.{Fact}
 use Rattle.filter_verifier.specs.declared.fact.Fact.TheVariants as fact
-use Rattle.filter_lint.specs.Sources.{SourceView, known_at}
+use Rattle.filter_lint.specs.SurveyedFilters.{SurveyedFilterView, known_at}
 
 -- an int that is known to be at least the metric received
 abbrev pub is_least : Option Fact → Bool
@@ -32,7 +32,7 @@ abbrev pub is_asked : Option Instr → Option InStateView → Bool
 is_asked (Some instr.Max) known = is_open known
 is_asked i known = false
 
-abbrev pub is_watched : SourceView → ℕ → Bool
+abbrev pub is_watched : SurveyedFilterView → ℕ → Bool
 is_watched source at = is_asked (slice_get source.program.instrs at) (known_at source at)
 
 -- whether each of the first n is one
@@ -40,5 +40,5 @@ unfoldable pub watched : (ℕ → Bool) → ℕ → List Bool
 watched is zero = []
 watched is (suc n) = watched is n ++ (is n ∷ [])
 
-abbrev pub watched_places : SourceView → List Bool
+abbrev pub watched_places : SurveyedFilterView → List Bool
 watched_places source = watched (is_watched source) (length source.program.instrs)

@@ -3,7 +3,7 @@ ghost use Rattle.std.specs.Prelude.{◌≡◌, IfOk};
 ghost use Rattle.filter_lint.specs.Arithmetic as spec;
 
 use crate::finding::found_below;
-use crate::source::Source;
+use crate::surveyed_filter::SurveyedFilter;
 use crate::warning::{Bounds, Cause, Operation, Warning};
 use filter_code::Instr;
 use std::alloc::{AllocError, Global};
@@ -53,7 +53,7 @@ fn wraps(
 
 /// What is said of the instruction of an index. Of the instructions that come from one byte, as those of the argument of a `case` do,
 /// it is said of the first.
-fn wraps_at(source: &Source, at: usize) -> Option<Warning>
+fn wraps_at(source: &SurveyedFilter, at: usize) -> Option<Warning>
     ensures { result ≡ spec.wraps_at source.now at }
 {
     let instr = source.instr(at)?;
@@ -70,7 +70,7 @@ fn wraps_at(source: &Source, at: usize) -> Option<Warning>
 /// What is said of all operations, in the order of the code.
 pub(crate) fn wrapping_operations(
     alloc: Global,
-    source: &Source,
+    source: &SurveyedFilter,
 ) -> Result<Vec<Warning>, AllocError>
     ensures { IfOk result (λ found. found.items ≡ spec.wrapping_operations source.now) }
 {

@@ -4,7 +4,7 @@ ghost use Rattle.filter_lint.specs.Commands as spec;
 
 use crate::finding::push_found;
 use crate::site::is_if;
-use crate::source::Source;
+use crate::surveyed_filter::SurveyedFilter;
 use crate::warning::{Cause, Warning};
 use filter_code::Instr;
 use filter_diff::Mark;
@@ -23,7 +23,7 @@ fn is_of_command(text: &[u8], instr: Instr, byte: usize) -> bool
 }
 
 /// The byte of the command that the instruction of an index stands for. The last instruction stands for none: it is the REJECT at the end.
-fn command_at(source: &Source, at: usize) -> Option<usize>
+fn command_at(source: &SurveyedFilter, at: usize) -> Option<usize>
     ensures { result ≡ spec.command_at source.now at }
 {
     if source.instrs().len().saturating_sub(at) <= 1 {
@@ -49,7 +49,12 @@ fn is_reached(marks: &[Mark], at: usize) -> bool
 }
 
 /// What is said of the instruction of an index, where it is known whether the command before it is reached.
-fn unreached_at(source: &Source, marks: &[Mark], at: usize, was_reached: bool) -> Option<Warning>
+fn unreached_at(
+    source: &SurveyedFilter,
+    marks: &[Mark],
+    at: usize,
+    was_reached: bool,
+) -> Option<Warning>
     ensures { result ≡ spec.unreached_at source.now marks.now at was_reached }
 {
     let byte = command_at(source, at)?;
@@ -64,7 +69,7 @@ fn unreached_at(source: &Source, marks: &[Mark], at: usize, was_reached: bool) -
 }
 
 /// Whether the last command up to an index is reached, where it is known of the one before.
-fn reached_up_to(source: &Source, marks: &[Mark], at: usize, was_reached: bool) -> bool
+fn reached_up_to(source: &SurveyedFilter, marks: &[Mark], at: usize, was_reached: bool) -> bool
     ensures { result ≡ spec.reached_up_to source.now marks.now at was_reached }
 {
     match command_at(source, at) {
@@ -76,7 +81,7 @@ fn reached_up_to(source: &Source, marks: &[Mark], at: usize, was_reached: bool) 
 /// What is said of all commands, in the order of the code: of the first of some that are not reached one after another.
 pub(crate) fn unreached_commands(
     alloc: Global,
-    source: &Source,
+    source: &SurveyedFilter,
     marks: &[Mark],
 ) -> Result<Vec<Warning>, AllocError>
     ensures { IfOk result (λ found. found.items ≡ spec.unreached_commands source.now marks.now) }

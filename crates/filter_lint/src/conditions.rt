@@ -4,7 +4,7 @@ ghost use Rattle.filter_lint.specs.Conditions as spec;
 
 use crate::finding::found_below;
 use crate::site::{Site, site_at};
-use crate::source::Source;
+use crate::surveyed_filter::SurveyedFilter;
 use crate::warning::{Cause, Warning};
 use filter_code::Instr;
 use filter_diff::Mark;
@@ -60,7 +60,7 @@ fn constant_by(text: &[u8], at: usize, instr: Instr, byte: usize, mark: &Mark) -
 }
 
 /// The same of the instruction of an index.
-fn constant_at(source: &Source, marks: &[Mark], at: usize) -> Option<Warning>
+fn constant_at(source: &SurveyedFilter, marks: &[Mark], at: usize) -> Option<Warning>
     ensures { result ≡ spec.constant_at source.now marks.now at }
 {
     let instr = source.instr(at)?;
@@ -74,7 +74,7 @@ fn constant_at(source: &Source, marks: &[Mark], at: usize) -> Option<Warning>
 /// What is said of all conditions, in the order of the code.
 pub(crate) fn constant_conditions(
     alloc: Global,
-    source: &Source,
+    source: &SurveyedFilter,
     marks: &[Mark],
 ) -> Result<Vec<Warning>, AllocError>
     ensures { IfOk result (λ found. found.items ≡ spec.constant_conditions source.now marks.now) }

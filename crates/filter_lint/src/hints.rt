@@ -5,7 +5,7 @@ ghost use Rattle.filter_lint.specs.Hints as spec;
 use crate::arithmetic::wrapping_operations;
 use crate::metrics::unreachable_metrics;
 use crate::sets::covered_patterns;
-use crate::source::Source;
+use crate::surveyed_filter::SurveyedFilter;
 use crate::variables::unread_variables;
 use crate::warning::Warning;
 use std::alloc::{AllocError, Global};
@@ -14,7 +14,7 @@ use std::alloc::{AllocError, Global};
 pub(crate) fn push_hints(
     alloc: Global,
     out: &mut Vec<Warning>,
-    source: &Source,
+    source: &SurveyedFilter,
 ) -> Result<(), AllocError>
     ensures { OnOk result (out.new.items ≡ out.old.items ++ spec.hints source.now) }
 {

@@ -2,9 +2,9 @@
 ghost use Rattle.std.specs.Prelude.{◌≡◌, option_and_then};
 ghost use Rattle.filter_verifier.specs.Sweep.{in_state_view};
 ghost use Rattle.filter_lint.specs.Known as spec;
-ghost use Rattle.filter_lint.specs.Sources.{known_at};
+ghost use Rattle.filter_lint.specs.SurveyedFilters.{known_at};
 
-use crate::source::Source;
+use crate::surveyed_filter::SurveyedFilter;
 use crate::warning::Bounds;
 use filter_verifier::{Fact, InState, Range};
 
@@ -62,7 +62,7 @@ fn top_one(state: &InState) -> Option<Bounds>
     }
 }
 
-impl<'a> Source<'a> {
+impl<'a> SurveyedFilter<'a> {
     /// The bounds of the two ints on top of the stack before the instruction of an index, the upper one last, if they are known.
     pub(crate) fn top_two(&self, at: usize) -> Option<(Bounds, Bounds)>
         ensures { result ≡ option_and_then spec.top_two (known_at self.now at) }

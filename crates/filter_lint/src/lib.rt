@@ -15,7 +15,7 @@ mod rules;
 mod sets;
 mod site;
 mod slashes;
-mod source;
+mod surveyed_filter;
 mod variables;
 mod warning;
 mod warning_lines;

@@ -3,7 +3,7 @@ ghost use Rattle.std.specs.Prelude.{◌≡◌, IfOk};
 ghost use Rattle.filter_lint.specs.Lowering as spec;
 
 use crate::finding::found_below;
-use crate::source::Source;
+use crate::surveyed_filter::SurveyedFilter;
 use crate::warning::{Cause, Warning};
 use filter_diff::Mark;
 use std::alloc::{AllocError, Global};
@@ -23,7 +23,7 @@ fn not_lowered(at: usize, byte: usize, mark: &Mark) -> Option<Warning>
 }
 
 /// What is said of the instruction of an index.
-fn not_lowered_at(source: &Source, marks: &[Mark], at: usize) -> Option<Warning>
+fn not_lowered_at(source: &SurveyedFilter, marks: &[Mark], at: usize) -> Option<Warning>
     ensures { result ≡ spec.not_lowered_at source.now marks.now at }
 {
     let byte = source.place(at)?;
@@ -36,7 +36,7 @@ fn not_lowered_at(source: &Source, marks: &[Mark], at: usize) -> Option<Warning>
 /// What is said of all assignments of the metric, in the order of the code.
 pub(crate) fn metrics_not_lowered(
     alloc: Global,
-    source: &Source,
+    source: &SurveyedFilter,
     marks: &[Mark],
 ) -> Result<Vec<Warning>, AllocError>
     ensures { IfOk result (λ found. found.items ≡ spec.metrics_not_lowered source.now marks.now) }

@@ -3,7 +3,7 @@ ghost use Rattle.std.specs.Prelude.{◌≡◌, IfOk};
 ghost use Rattle.filter_lint.specs.Metrics as spec;
 
 use crate::finding::found_below;
-use crate::source::Source;
+use crate::surveyed_filter::SurveyedFilter;
 use crate::warning::{Cause, Warning};
 use filter_code::Instr;
 use std::alloc::{AllocError, Global};
@@ -19,7 +19,7 @@ fn sets_metric(instr: Instr) -> bool
 }
 
 /// What is said of the instruction of an index.
-fn unreachable_at(source: &Source, at: usize) -> Option<Warning>
+fn unreachable_at(source: &SurveyedFilter, at: usize) -> Option<Warning>
     ensures { result ≡ spec.unreachable_at source.now at }
 {
     let instr = source.instr(at)?;
@@ -39,7 +39,7 @@ fn unreachable_at(source: &Source, at: usize) -> Option<Warning>
 /// What is said of all that set the metric, in the order of the code.
 pub(crate) fn unreachable_metrics(
     alloc: Global,
-    source: &Source,
+    source: &SurveyedFilter,
 ) -> Result<Vec<Warning>, AllocError>
     ensures { IfOk result (λ found. found.items ≡ spec.unreachable_metrics source.now) }
 {

@@ -8,7 +8,7 @@ use crate::commands::unreached_commands;
 use crate::conditions::constant_conditions;
 use crate::hints::push_hints;
 use crate::lowering::metrics_not_lowered;
-use crate::source::Source;
+use crate::surveyed_filter::SurveyedFilter;
 use crate::warning::Warning;
 use crate::watching::watched_places;
 use filter_code::Code;
@@ -26,7 +26,11 @@ pub(crate) struct Warnings {
 }
 
 /// What is said where all routes were tried.
-fn on_routes(alloc: Global, source: &Source, marks: &[Mark]) -> Result<Vec<Warning>, AllocError>
+fn on_routes(
+    alloc: Global,
+    source: &SurveyedFilter,
+    marks: &[Mark],
+) -> Result<Vec<Warning>, AllocError>
     ensures { IfOk result (λ found. found.items ≡ spec.on_routes source.now marks.now) }
 {
     let mut found = constant_conditions(alloc, source, marks)?;
@@ -40,7 +44,7 @@ fn on_routes(alloc: Global, source: &Source, marks: &[Mark]) -> Result<Vec<Warni
 /// What is said where the routes were tried: nothing if these were not all.
 fn said_on_routes(
     alloc: Global,
-    source: &Source,
+    source: &SurveyedFilter,
     reached: &Reach,
 ) -> Result<Vec<Warning>, AllocError>
     ensures { IfOk result (λ found. found.items ≡ spec.said_on_routes source.now reached.now) }
@@ -52,7 +56,11 @@ fn said_on_routes(
 }
 
 /// All that is said of a filter's code, where this is found of the instructions that runs come to.
-fn said_of(alloc: Global, source: &Source, reached: &Reach) -> Result<Vec<Warning>, AllocError>
+fn said_of(
+    alloc: Global,
+    source: &SurveyedFilter,
+    reached: &Reach,
+) -> Result<Vec<Warning>, AllocError>
     ensures { IfOk result (λ found. found.items ≡ spec.said_of source.now reached.now) }
 {
     let mut found = said_on_routes(alloc, source, reached)?;
@@ -61,7 +69,7 @@ fn said_of(alloc: Global, source: &Source, reached: &Reach) -> Result<Vec<Warnin
 }
 
 /// The warnings of a filter. At most so many classes of routes are tried as the limit says.
-fn find_in(alloc: Global, source: &Source, limit: u64) -> Result<Warnings, AllocError>
+fn find_in(alloc: Global, source: &SurveyedFilter, limit: u64) -> Result<Warnings, AllocError>
     requires { source.now.size ≤ largest_size }
     ensures found { IfOk result (spec.AreFound source.now.program source.now.text source.now.places source.now.size) }
     ensures sound { IfOk result (λ all. All (IsTrueOf source.now.program source.now.size source.now.places) all.found.items) }
@@ -95,6 +103,6 @@ pub(crate) fn find_warnings(
     ensures sound { IfOk result (λ all. All (IsTrueOf code.now size places.now) all.found.items) }
 {
     let survey = survey_code(alloc, code, size)?;
-    let source = Source::new(text, code, places, size, &survey);
+    let source = SurveyedFilter::new(text, code, places, size, &survey);
     find_in(alloc, &source, limit)
 }

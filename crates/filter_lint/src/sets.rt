@@ -4,7 +4,7 @@ ghost use Rattle.prefix_patterns.specs.Matching.{Matches};
 ghost use Rattle.filter_lint.specs.Sets as spec;
 
 use crate::finding::found_below;
-use crate::source::Source;
+use crate::surveyed_filter::SurveyedFilter;
 use crate::warning::{Cause, Warning};
 use filter_code::Instr;
 use prefix_patterns::Pattern;
@@ -102,7 +102,7 @@ fn asked_by(instr: Instr) -> Option<u8>
 }
 
 /// What the instruction of an index asks.
-fn asked_at(source: &Source, at: usize) -> Option<Asked>
+fn asked_at(source: &SurveyedFilter, at: usize) -> Option<Asked>
     ensures { result ≡ spec.asked_at source.now at }
 {
     let instr = source.instr(at)?;
@@ -116,7 +116,7 @@ fn asked_at(source: &Source, at: usize) -> Option<Asked>
 }
 
 /// What is said of the set that the instruction of an index asks for.
-fn covered_by(alloc: Global, source: &Source, at: usize) -> Result<Vec<Warning>, AllocError>
+fn covered_by(alloc: Global, source: &SurveyedFilter, at: usize) -> Result<Vec<Warning>, AllocError>
     ensures { IfOk result (λ found. found.items ≡ spec.covered_by source.now at) }
 {
     match asked_at(source, at) {
@@ -129,7 +129,10 @@ fn covered_by(alloc: Global, source: &Source, at: usize) -> Result<Vec<Warning>,
 }
 
 /// What is said of all sets, in the order of the code.
-pub(crate) fn covered_patterns(alloc: Global, source: &Source) -> Result<Vec<Warning>, AllocError>
+pub(crate) fn covered_patterns(
+    alloc: Global,
+    source: &SurveyedFilter,
+) -> Result<Vec<Warning>, AllocError>
     ensures { IfOk result (λ found. found.items ≡ spec.covered_patterns source.now) }
 {
     let mut found = Vec::new(alloc);

@@ -4,7 +4,7 @@ ghost use Rattle.std.specs.List.{list_any};
 ghost use Rattle.filter_lint.specs.Variables as spec;
 
 use crate::finding::found_below;
-use crate::source::Source;
+use crate::surveyed_filter::SurveyedFilter;
 use crate::warning::{Cause, Warning};
 use filter_code::Instr;
 use std::alloc::{AllocError, Global};
@@ -37,7 +37,7 @@ fn declared_by(instr: Instr, at: usize) -> Option<u8>
 }
 
 /// What is said of the instruction of an index.
-fn unread_at(source: &Source, at: usize) -> Option<Warning>
+fn unread_at(source: &SurveyedFilter, at: usize) -> Option<Warning>
     ensures { result ≡ spec.unread_at source.now at }
 {
     let instr = source.instr(at)?;
@@ -54,7 +54,10 @@ fn unread_at(source: &Source, at: usize) -> Option<Warning>
 }
 
 /// What is said of all variables, in the order of their declarations.
-pub(crate) fn unread_variables(alloc: Global, source: &Source) -> Result<Vec<Warning>, AllocError>
+pub(crate) fn unread_variables(
+    alloc: Global,
+    source: &SurveyedFilter,
+) -> Result<Vec<Warning>, AllocError>
     ensures { IfOk result (λ found. found.items ≡ spec.unread_variables source.now) }
 {
     found_below(alloc, source.instrs().len(), |at| unread_at(source, at))

@@ -2,10 +2,10 @@
 //! that the value is at least the metric received.
 ghost use Rattle.std.specs.Prelude.{◌≡◌, IfOk};
 ghost use Rattle.filter_verifier.specs.Sweep.{in_state_view};
-ghost use Rattle.filter_lint.specs.Sources.{known_at};
+ghost use Rattle.filter_lint.specs.SurveyedFilters.{known_at};
 ghost use Rattle.filter_lint.specs.Watching as spec;
 
-use crate::source::Source;
+use crate::surveyed_filter::SurveyedFilter;
 use filter_code::Instr;
 use filter_verifier::{Fact, InState};
 use std::alloc::{AllocError, Global};
@@ -41,7 +41,7 @@ fn is_known(state: &InState) -> bool
 }
 
 /// Whether it is not known before the instruction of an index.
-fn is_open(source: &Source, at: usize) -> bool
+fn is_open(source: &SurveyedFilter, at: usize) -> bool
     ensures { result ≡ spec.is_open (known_at source.now at) }
 {
     match source.known(at) {
@@ -51,7 +51,7 @@ fn is_open(source: &Source, at: usize) -> bool
 }
 
 /// Whether the instruction of an index is a MAX of which the search is asked.
-fn is_watched(source: &Source, at: usize) -> bool
+fn is_watched(source: &SurveyedFilter, at: usize) -> bool
     ensures { result ≡ spec.is_watched source.now at }
 {
     match source.instr(at) {
@@ -61,7 +61,10 @@ fn is_watched(source: &Source, at: usize) -> bool
 }
 
 /// Whether each instruction is one.
-pub(crate) fn watched_places(alloc: Global, source: &Source) -> Result<Vec<bool>, AllocError>
+pub(crate) fn watched_places(
+    alloc: Global,
+    source: &SurveyedFilter,
+) -> Result<Vec<bool>, AllocError>
     ensures { IfOk result (λ watched. watched.items ≡ spec.watched_places source.now) }
 {
     let mut watched = Vec::new(alloc);

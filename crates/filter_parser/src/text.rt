@@ -16,7 +16,7 @@ use crate::filter::parse_filter;
 use crate::head::with_head;
 use crate::tree::Filter;
 use crate::unparsed::Unparsed;
-use expression_parser::{Input, ParseFault, Source, TEXT_LIMIT};
+use expression_parser::{Input, LexedText, ParseFault, TEXT_LIMIT};
 use filter_tokens::{Lexed, Token, TokenFault, lex};
 use std::alloc::Global;
 
@@ -41,7 +41,7 @@ fn filter_of_tokens(
     ensures head { IfErr result (λ e. HasHead text.now e.fault) }
     ensures around { IfErr result (λ e. StandsRound text.now (parse_place e.fault) e.around) }
 {
-    let source = Source { text, end: fault };
+    let source = LexedText { text, end: fault };
     let read = parse_filter(
         alloc,
         Input {

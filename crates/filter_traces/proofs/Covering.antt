@@ -2,7 +2,7 @@
 use Rattle.std.proofs.Common.{◌≡◌, ℕ, [], Some, None, Result, Ok, Err, refl, ap}
 use Rattle.filter_code.specs.RouteView.{RouteView}
 use Rattle.line_protocol.specs.Answers.{Answer, refusal}
-use Rattle.line_protocol.specs.declared.answers.Reply.TheVariants as reply
+use Rattle.line_protocol.specs.declared.answers.LineReply.TheVariants as reply
 use Rattle.route_answers.specs.RouteLine.{line_code}
 use Rattle.route_answers.specs.declared.line_fault.LineFault.{LineFault}
 use Rattle.filter_traces.specs.Coverage.{cover_read, fault_in}

@@ -9,7 +9,7 @@ use Rattle.filter_compiler.specs.Verdicts.{Verdict, meaning}
 use Rattle.filter_parser.specs.SyntaxText.{FilterView}
 use Rattle.filter_verifier.specs.Safe.{IsSafe}
 use Rattle.line_protocol.specs.Answers.{Answer}
-use Rattle.line_protocol.specs.declared.answers.Reply.TheVariants as reply
+use Rattle.line_protocol.specs.declared.answers.LineReply.TheVariants as reply
 use Rattle.filter_reports.proofs.Saying.{says_the_same}
 use Rattle.route_answers.specs.Eval.{Line}
 use Rattle.filter_reports.specs.Saying.{Says, SaysTheSame}

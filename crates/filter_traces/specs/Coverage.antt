@@ -6,7 +6,7 @@ use Rattle.filter_code.specs.RouteView.{RouteView}
 use Rattle.filter_parser.specs.SyntaxText.{FilterView}
 use Rattle.line_protocol.specs.Answers.{Answer, refusal}
 use Rattle.line_protocol.specs.Lines.{numbered}
-use Rattle.line_protocol.specs.declared.answers.Reply.TheVariants as reply
+use Rattle.line_protocol.specs.declared.answers.LineReply.TheVariants as reply
 use Rattle.line_protocol.specs.declared.faults.StreamFault.{StreamFault}
 use Rattle.filter_reports.specs.Checking.{IsDiagnosis}
 use Rattle.route_answers.specs.Eval.{Line}

@@ -13,7 +13,7 @@ use Rattle.filter_source.specs.Sources.{Translates}
 use Rattle.filter_source.specs.TextPlaces.{ArePlacesOf}
 use Rattle.filter_verifier.specs.Safe.{IsSafe}
 use Rattle.line_protocol.specs.Answers.{Answer, refusal}
-use Rattle.line_protocol.specs.declared.answers.Reply.TheVariants as reply
+use Rattle.line_protocol.specs.declared.answers.LineReply.TheVariants as reply
 use Rattle.line_protocol.specs.declared.faults.StreamFault.{StreamFault}
 use Rattle.filter_reports.specs.Checking.{IsDiagnosis}
 use Rattle.route_answers.specs.Eval.{Line}

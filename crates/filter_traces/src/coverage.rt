@@ -12,7 +12,7 @@ ghost use Rattle.line_protocol.specs.Lines.{numbered};
 use crate::traced::{Traced, trace_filter};
 use filter_reports::{ProgramFault, write_refusal};
 use filter_source::Failure;
-use line_protocol::{Reply, Service, answer_lines_within, push_refusal, write_text};
+use line_protocol::{LineReply, Service, answer_lines_within, push_refusal, write_text};
 use route_answers::{Filtered, LineFault, ROUTES_LIMIT, read_route};
 use std::alloc::{AllocError, Global};
 use std::io::{Read, Write};
@@ -40,13 +40,13 @@ impl<'a> Service for Counter<'a> {
         number: u32,
         line: &[u8],
         out: &mut Vec<u8>,
-    ) -> Result<Reply, AllocError> {
+    ) -> Result<LineReply, AllocError> {
         match self.count_line(line) {
             Some(fault) => {
                 push_refusal(out, fault.code(), u64::from(number))?;
-                Ok(Reply::Refused)
+                Ok(LineReply::Refused)
             }
-            None => Ok(Reply::Answered),
+            None => Ok(LineReply::Answered),
         }
     }
 }

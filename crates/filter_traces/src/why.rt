@@ -13,7 +13,7 @@ use crate::traced::{Traced, trace_filter};
 use filter_code::{Outcome, Route};
 use filter_reports::{ProgramFault, push_prefix, write_refusal};
 use filter_source::Failure;
-use line_protocol::{Reply, Service, answer_lines_within, push_decimal, push_refusal};
+use line_protocol::{LineReply, Service, answer_lines_within, push_decimal, push_refusal};
 use route_answers::{Filtered, ROUTES_LIMIT, read_route};
 use std::alloc::{AllocError, Global};
 use std::io::{Read, Write};
@@ -74,7 +74,7 @@ impl<'a> Traced<'a> {
         number: u32,
         line: &[u8],
         out: &mut Vec<u8>,
-    ) -> Result<Reply, AllocError>
+    ) -> Result<LineReply, AllocError>
         ensures ok { IfOk result (λ reply.
             (out.new.items ≡ out.old.items ++ (code_why self.now (number, line.now)).text)
             × (reply ≡ (code_why self.now (number, line.now)).reply)) }
@@ -84,11 +84,11 @@ impl<'a> Traced<'a> {
             Ok(route) => {
                 let text = self.why(alloc, &route)?;
                 out.extend_from_slice(text.as_slice())?;
-                Ok(Reply::Answered)
+                Ok(LineReply::Answered)
             }
             Err(fault) => {
                 push_refusal(out, fault.code(), u64::from(number))?;
-                Ok(Reply::Refused)
+                Ok(LineReply::Refused)
             }
         }
     }
@@ -115,7 +115,7 @@ impl<'a> Service for Explainer<'a> {
         number: u32,
         line: &[u8],
         out: &mut Vec<u8>,
-    ) -> Result<Reply, AllocError> {
+    ) -> Result<LineReply, AllocError> {
         self.traced.answer_why(alloc, number, line, out)
     }
 }

@@ -7,7 +7,7 @@ use Rattle.filter_code.specs.declared.value.Kind.{Kind}
 use Rattle.filter_code.specs.declared.value.Value.{Value}
 use Rattle.filter_code.specs.declared.value.Value.TheVariants as value
 use Rattle.filter_code.specs.CodeView.{CodeView}
-use Rattle.filter_code.specs.Table.{Frame, Source, Nowhere, Top, TopTwo, Local, Operands, Zero, One, Two, Drawn, Bad, Good}
+use Rattle.filter_code.specs.Table.{Frame, OperandSource, Nowhere, Top, TopTwo, Local, Operands, Zero, One, Two, Drawn, Bad, Good}
 use Rattle.filter_code.specs.Table.{Taking, Any, Each, Both, each_is, both_are, has_kinds, signature}
 use Rattle.filter_code.specs.Table.{fits_kinds, name_exists, names_in, one_of, two_of, value_in, taken, passing, source_of, draw}
 use Rattle.filter_code.specs.Values.{kind_of}
@@ -123,7 +123,7 @@ pub record FrameIsAs (received : ℕ) (frame : Frame Value) (facts : Frame Fact)
   pub on_stack : Pairwise (IsAs received) frame.stack facts.stack
   pub in_locals : Pairwise (PlaceIsAs received) frame.locals facts.locals
 
-taken_are : (received : ℕ) (source : Source) (frame : Frame Value) (facts : Frame Fact) → FrameIsAs received frame facts →
+taken_are : (received : ℕ) (source : OperandSource) (frame : Frame Value) (facts : Frame Fact) → FrameIsAs received frame facts →
     DrawnAre received (taken source frame) (taken source facts)
 taken_are received Nowhere frame facts p = (tt, p.on_stack)
 taken_are received Top frame facts p = one_is received frame.stack facts.stack p.on_stack

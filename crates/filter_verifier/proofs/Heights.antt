@@ -10,7 +10,7 @@ use Rattle.filter_code.specs.declared.instruction.Instr.TheVariants as instr
 use Rattle.filter_code.specs.declared.outcome.FaultKind.TheVariants as fault
 use Rattle.filter_code.specs.Machine.{on_one, on_two, whole, overfills, with_given}
 use Rattle.filter_code.specs.CodeView.{CodeView}
-use Rattle.filter_code.specs.Table.{Frame, Source, Nowhere, Top, TopTwo, Local, Operands, Zero, One, Two, Drawn, Bad, Good}
+use Rattle.filter_code.specs.Table.{Frame, OperandSource, Nowhere, Top, TopTwo, Local, Operands, Zero, One, Two, Drawn, Bad, Good}
 use Rattle.filter_code.specs.Table.{each_is, both_are, is_int, is_bool, is_ip, is_prefix, are_ordered, are_nested, fits_kinds}
 use Rattle.filter_code.specs.Table.{name_exists, names_in, one_of, two_of, value_in, taken, passing, source_of, draw, taken_off, gives}
 use Rattle.filter_code.specs.Table.{height_after}
@@ -29,7 +29,7 @@ use Rattle.filter_verifier.specs.AbstractFrameView.{AbstractFrameView}
 use Rattle.filter_code.specs.Limits.{stack_limit}
 
 -- as many operands as a source has
-abbrev pub IsTakenFrom : Source → Operands Fact → Type 0
+abbrev pub IsTakenFrom : OperandSource → Operands Fact → Type 0
 IsTakenFrom Nowhere Zero = Unit {0}
 IsTakenFrom Top (One f) = Unit {0}
 IsTakenFrom TopTwo (Two f g) = Unit {0}
@@ -142,7 +142,7 @@ given_count size (instr.InSet s) operands rest t e = one_more (fact_given size (
 given_count size _ operands rest t e = none_more rest
 
 -- what is drawn is as many operands as the source has, off the stack
-abbrev IsDrawnFrom : Source → List Fact → Drawn Fact → Type 0
+abbrev IsDrawnFrom : OperandSource → List Fact → Drawn Fact → Type 0
 IsDrawnFrom source stack (Bad why) = Unit {0}
 IsDrawnFrom source stack (Good operands rest) = IsTakenFrom source operands × (length rest ≡ length stack - taken_off source)
 
@@ -160,7 +160,7 @@ local_taken index None stack = tt
 local_taken index (Some None) stack = tt
 local_taken index (Some (Some f)) stack = (tt, omega arith)
 
-taken_from : (source : Source) (frame : Frame Fact) → IsDrawnFrom source frame.stack (taken source frame)
+taken_from : (source : OperandSource) (frame : Frame Fact) → IsDrawnFrom source frame.stack (taken source frame)
 taken_from Nowhere frame = (tt, omega arith)
 taken_from Top frame = one_taken frame.stack
 taken_from TopTwo frame = two_taken frame.stack

@@ -14,8 +14,8 @@ use Rattle.hex.specs.Hex.{encode_lower}
 use Rattle.netchange_core.specs.Codes.{refusal_code}
 use Rattle.netchange_core.specs.OpeningView.{OpeningView}
 use Rattle.netchange_core.specs.declared.message.Message.{Message}
-use Rattle.netchange_core.specs.declared.reply.Refusal.{Refusal}
-use Rattle.netchange_core.specs.declared.reply.Refusal.TheVariants as refusal
+use Rattle.netchange_core.specs.declared.reply.EventRefusal.{EventRefusal}
+use Rattle.netchange_core.specs.declared.reply.EventRefusal.TheVariants as refusal
 use Rattle.netchange_core.specs.declared.reply.Reply.{Reply}
 use Rattle.netchange_core.specs.declared.reply.Reply.TheVariants as reply
 use Rattle.netchange_core.specs.declared.reply.Via.{Via}
@@ -64,7 +64,7 @@ keyword_again : (k : Keyword) (ws : List (List ℕ)) → first_keyword (keyword_
 unfolding first_keyword
 keyword_again k ws = rw (keyword_text_again k) refl
 
-code_again : (why : Refusal) → refusal_in (refusal_code why) ≡ Some why
+code_again : (why : EventRefusal) → refusal_in (refusal_code why) ≡ Some why
 unfolding refusal_in
 code_again refusal.NoNode = refl
 code_again refusal.AlreadyUp = refl

@@ -13,8 +13,8 @@ use Rattle.hex.specs.Hex.{encode_lower, is_hex_digit, lower_digits}
 use Rattle.netchange_core.specs.Codes.{refusal_code}
 use Rattle.netchange_core.specs.OpeningView.{OpeningView}
 use Rattle.netchange_core.specs.declared.message.Message.{Message}
-use Rattle.netchange_core.specs.declared.reply.Refusal.{Refusal}
-use Rattle.netchange_core.specs.declared.reply.Refusal.TheVariants as refusal
+use Rattle.netchange_core.specs.declared.reply.EventRefusal.{EventRefusal}
+use Rattle.netchange_core.specs.declared.reply.EventRefusal.TheVariants as refusal
 use Rattle.netchange_core.specs.declared.reply.Reply.{Reply}
 use Rattle.netchange_core.specs.declared.reply.Reply.TheVariants as reply
 use Rattle.netchange_core.specs.declared.reply.Via.{Via}
@@ -55,7 +55,7 @@ plain-keyword word.Local = computed (keyword_text word.Local) (lit< tt) refl
 plain-keyword word.Via = computed (keyword_text word.Via) (lit< tt) refl
 plain-keyword word.Nowhere = computed (keyword_text word.Nowhere) (lit< tt) refl
 
-plain-code : (why : Refusal) → IsPlain (refusal_code why)
+plain-code : (why : EventRefusal) → IsPlain (refusal_code why)
 plain-code refusal.NoNode = computed (refusal_code refusal.NoNode) (lit< tt) refl
 plain-code refusal.AlreadyUp = computed (refusal_code refusal.AlreadyUp) (lit< tt) refl
 plain-code refusal.Stale = computed (refusal_code refusal.Stale) (lit< tt) refl

@@ -2,8 +2,8 @@
 use Rattle.std.specs.Prelude.{ℕ, Bool, List, [], ◌∷◌, Option, find, codes}
 use Rattle.std.specs.Str.{bytes_eq}
 use Rattle.netchange_core.specs.Codes.{refusal_code}
-use Rattle.netchange_core.specs.declared.reply.Refusal.{Refusal}
-use Rattle.netchange_core.specs.declared.reply.Refusal.TheVariants as refusal
+use Rattle.netchange_core.specs.declared.reply.EventRefusal.{EventRefusal}
+use Rattle.netchange_core.specs.declared.reply.EventRefusal.TheVariants as refusal
 use Rattle.history_file.specs.declared.keyword.Keyword.{Keyword}
 use Rattle.history_file.specs.declared.keyword.Keyword.TheVariants as word
 
@@ -39,14 +39,14 @@ unfoldable pub keyword_in : List ℕ → Option Keyword
 keyword_in text = find (is_spelled text) keywords
 
 -- all reasons of a refusal
-abbrev pub refusals : List Refusal
+abbrev pub refusals : List EventRefusal
 refusals = refusal.NoNode ∷ refusal.AlreadyUp ∷ refusal.Stale ∷ refusal.BadDest ∷ refusal.BadDist ∷ refusal.OtherSize
     ∷ refusal.NoSession ∷ []
 
 -- whether a refusal has this code
-abbrev pub has_code : List ℕ → Refusal → Bool
+abbrev pub has_code : List ℕ → EventRefusal → Bool
 has_code text why = bytes_eq (refusal_code why) text
 
 -- the refusal that has this code
-unfoldable pub refusal_in : List ℕ → Option Refusal
+unfoldable pub refusal_in : List ℕ → Option EventRefusal
 refusal_in text = find (has_code text) refusals

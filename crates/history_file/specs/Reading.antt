@@ -3,7 +3,7 @@
 use Rattle.std.specs.Prelude.{◌≡◌, ℕ, Bool, List, [], ◌∷◌, Option, Some, None, Result, Ok, Err, ⊤}
 use Rattle.filter_code.specs.CodeView.{CodeView}
 use Rattle.filter_source.specs.Sources.{code_in_hexadecimal}
-use Rattle.filter_source.specs.declared.refusal.Refusal.{Refusal as SourceRefusal}
+use Rattle.filter_source.specs.declared.refusal.Refusal.{Refusal}
 use Rattle.filter_verifier.specs.FirstFault.{the_fault}
 use Rattle.filter_verifier.specs.VerifiedView.{VerifiedView}
 use Rattle.filter_verifier.specs.declared.fault.VerifyFault.{VerifyFault}
@@ -54,7 +54,7 @@ abbrev pub unless_fault : Option VerifyFault → VerifiedView → Option Verifie
 unless_fault None f = Some f
 unless_fault (Some why) f = None
 
-abbrev pub verified_code : ℕ → Result CodeView SourceRefusal → Option VerifiedView
+abbrev pub verified_code : ℕ → Result CodeView Refusal → Option VerifiedView
 verified_code size (Ok program) = unless_fault (the_fault program size) (record { program = program; size = size })
 verified_code size (Err why) = None
 

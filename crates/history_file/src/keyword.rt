@@ -2,7 +2,7 @@
 ghost use Rattle.std.specs.Prelude.{◌≡◌, find};
 ghost use Rattle.history_file.specs.Keywords as spec;
 
-use netchange_core::Refusal;
+use netchange_core::EventRefusal;
 
 /// A word that says what follows it.
 #[derive(Clone, Copy, PartialEq, Eq)]
@@ -59,14 +59,14 @@ static KEYWORDS: [Keyword; 15] = [
 ];
 
 /// All reasons of a refusal.
-static REFUSALS: [Refusal; 7] = [
-    Refusal::NoNode,
-    Refusal::AlreadyUp,
-    Refusal::Stale,
-    Refusal::BadDest,
-    Refusal::BadDist,
-    Refusal::OtherSize,
-    Refusal::NoSession,
+static REFUSALS: [EventRefusal; 7] = [
+    EventRefusal::NoNode,
+    EventRefusal::AlreadyUp,
+    EventRefusal::Stale,
+    EventRefusal::BadDest,
+    EventRefusal::BadDist,
+    EventRefusal::OtherSize,
+    EventRefusal::NoSession,
 ];
 
 impl Keyword {
@@ -118,14 +118,14 @@ fn first_spelled(keywords: &[Keyword], word: &[u8]) -> Option<Keyword>
 
 /// The refusal that has this code.
 #[tactic(auto, unfolding(crate::specs::Keywords::refusal_in))]
-pub(crate) fn find_refusal(word: &[u8]) -> Option<Refusal>
+pub(crate) fn find_refusal(word: &[u8]) -> Option<EventRefusal>
     ensures { spec.refusal_in word.now ≡ result }
 {
     first_coded(&REFUSALS, word)
 }
 
 /// The first of the refusals that has this code.
-fn first_coded(refusals: &[Refusal], word: &[u8]) -> Option<Refusal>
+fn first_coded(refusals: &[EventRefusal], word: &[u8]) -> Option<EventRefusal>
     ensures { find (spec.has_code word.now) refusals.now ≡ result }
 {
     for why in refusals {

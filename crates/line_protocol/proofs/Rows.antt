@@ -4,7 +4,7 @@ use Rattle.std.specs.Fmt.{digits}
 use Rattle.line_protocol.specs.Lines.{numbered, whole_lines}
 use Rattle.line_protocol.specs.Words.{words, trimmed}
 use Rattle.line_protocol.specs.Answers.{Answer, refusal, text_of, refusals, is_over}
-use Rattle.line_protocol.specs.declared.answers.Reply.TheVariants.{Answered, Ended}
+use Rattle.line_protocol.specs.declared.answers.LineReply.TheVariants.{Answered, Ended}
 
 -- one carriage return before a line feed is dropped, and none at the end of the input; empty lines and comments count
 lines_cut : numbered (codes "a\r\n\n# c\nb\r\r\nc\r") ≡ (1, codes "a") ∷ (4, codes "b\r") ∷ (5, codes "c\r") ∷ []

@@ -10,11 +10,11 @@ use Rattle.line_protocol.specs.Answers.{Answer, is_refusal, is_end, is_over, tex
 use Rattle.line_protocol.specs.Lines.{answerable_from, is_skipped}
 use Rattle.line_protocol.specs.Runs.{Runs, RunsFront}
 use Rattle.line_protocol.specs.Steps.{Advances}
-use Rattle.line_protocol.specs.declared.answers.Reply.{Reply}
-use Rattle.line_protocol.specs.declared.answers.Reply.TheVariants.{Answered, Refused, Ended}
+use Rattle.line_protocol.specs.declared.answers.LineReply.{LineReply}
+use Rattle.line_protocol.specs.declared.answers.LineReply.TheVariants.{Answered, Refused, Ended}
 
 -- a reply counts as a refusal or not
-abbrev pub refused_by : Reply → ℕ
+abbrev pub refused_by : LineReply → ℕ
 refused_by reply = cond (is_refusal reply) 1 0
 
 or_false : (b : Bool) → (b || false) ≡ b
@@ -38,14 +38,14 @@ is_over-append given more = list_any-append (λ answer. is_end answer.reply) giv
 
 module _ {S : Type 0} (answers : S → ℕ → List ℕ → Answer → S → Type 0) where
   one_line : (before after : S) (line : ℕ × List ℕ) (answer : Answer) → answers before line.0 line.1 answer after →
-      (reply : Reply) → answer.reply ≡ reply
+      (reply : LineReply) → answer.reply ≡ reply
       → Runs answers before (line ∷ []) (answer ∷ []) after
   one_line before after line answer h Answered e = (after, h, rw e refl)
   one_line before after line answer h Refused e = (after, h, rw e refl)
   one_line before after line answer h Ended e = (after, h, rw e (refl, refl))
 
   -- the service answered one line
-  pub answered : (before after : S) (number : ℕ) (line old new : List ℕ) (reply : Reply) (already refused : ℕ) (over : Bool) →
+  pub answered : (before after : S) (number : ℕ) (line old new : List ℕ) (reply : LineReply) (already refused : ℕ) (over : Bool) →
       is_skipped line ≡ false
       → (text : List ℕ) × (new ≡ old ++ text) × answers before number line (record { text = text; reply = reply }) after
       → refused ≡ already + refused_by reply → over ≡ is_end reply

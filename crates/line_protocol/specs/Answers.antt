@@ -1,22 +1,22 @@
 -- The answer to a line. This project's own choice.
 use Rattle.std.specs.Prelude.{ℕ, Bool, true, false, List, [], ◌∷◌, ◌++◌, count_by, flat_map, codes, decimal}
 use Rattle.std.specs.List.{list_any}
-use Rattle.line_protocol.specs.declared.answers.Reply.{Reply}
-use Rattle.line_protocol.specs.declared.answers.Reply.TheVariants.{Answered, Refused, Ended}
+use Rattle.line_protocol.specs.declared.answers.LineReply.{LineReply}
+use Rattle.line_protocol.specs.declared.answers.LineReply.TheVariants.{Answered, Refused, Ended}
 
 -- the answer to one line: the bytes that are written, and whether the line was refused or ended the stream
 pub record Answer : Type 0 where
   pub text : List ℕ
-  pub reply : Reply
+  pub reply : LineReply
 
 -- a reply that counts as a refusal
-abbrev pub is_refusal : Reply → Bool
+abbrev pub is_refusal : LineReply → Bool
 is_refusal Answered = false
 is_refusal Refused = true
 is_refusal Ended = true
 
 -- a reply after which nothing is answered
-abbrev pub is_end : Reply → Bool
+abbrev pub is_end : LineReply → Bool
 is_end Answered = false
 is_end Refused = false
 is_end Ended = true

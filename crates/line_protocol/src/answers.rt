@@ -8,7 +8,7 @@ use std::alloc::{AllocError, Global};
 
 /// What the answer to a line means for the stream.
 #[derive(Clone, Copy, PartialEq, Eq)]
-pub enum Reply {
+pub enum LineReply {
     /// The line was answered.
     Answered,
     /// The line was refused.
@@ -33,7 +33,7 @@ pub trait Service {
         number: u32,
         line: &[u8],
         out: &mut Vec<u8>,
-    ) -> Result<Reply, AllocError>
+    ) -> Result<LineReply, AllocError>
         ensures ok { IfOk result (λ reply. (text : List ℕ) × (out.new.items ≡ out.old.items ++ text)
             × answers self.old number line.now (record { text = text; reply = reply }) self.new) }
         ensures err { OnErr result (StartsWith out.new.items out.old.items) }

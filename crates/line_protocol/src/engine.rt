@@ -10,7 +10,7 @@ ghost use Rattle.line_protocol.specs.Limits.{input_limit};
 ghost use Rattle.line_protocol.specs.Steps.{Advances, AnswersFront, BreaksOff, EndsOff, NoneEnds};
 
 use crate::INPUT_LIMIT;
-use crate::answers::{Reply, Service};
+use crate::answers::{LineReply, Service};
 use crate::faults::StreamFault;
 use crate::streams::{read_some, write_text};
 use memchr::memchr;
@@ -157,9 +157,9 @@ fn answer_line<S: Service>(
         Ok(reply) => {
             progress.number += 1;
             match reply {
-                Reply::Answered => {}
-                Reply::Refused => progress.refused += 1,
-                Reply::Ended => {
+                LineReply::Answered => {}
+                LineReply::Refused => progress.refused += 1,
+                LineReply::Ended => {
                     progress.refused += 1;
                     progress.over = true;
                 }

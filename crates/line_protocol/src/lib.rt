@@ -14,7 +14,7 @@ mod input;
 mod streams;
 mod words;
 
-pub use answers::{Reply, Service, push_decimal, push_refusal};
+pub use answers::{LineReply, Service, push_decimal, push_refusal};
 pub use engine::{answer_lines, answer_lines_within};
 pub use faults::StreamFault;
 pub use input::read_input;

@@ -13,7 +13,7 @@ use Rattle.ncroute.specs.Reading.{IsRead, IsUnread, StopsTelling, TellsUnread, n
 use Rattle.ncroute.specs.Streaming.{Streams}
 use Rattle.ncroute.specs.declared.texts.Unread.{Unread}
 use Rattle.ncroute.specs.declared.texts.Unread.TheVariants as unread
-use Rattle.ncroute.specs.declared.watcher.Part.{Part}
+use Rattle.ncroute.specs.declared.watcher.ScriptPart.{ScriptPart}
 
 -- a text has no line that no line feed ends: its last byte is one, or it has none
 abbrev pub is_end : Option ℕ → Bool
@@ -32,8 +32,8 @@ abbrev pub lines_of : List ℕ → ℕ
 lines_of script = min (count_by is_line_feed script) 4294967295
 
 -- a source is the next part of a script: it has the source's name, and begins behind the lines that are there
-abbrev pub AddsPart : Source → List ℕ → List Part → List Part → Type 0
-AddsPart source script before after = (part : Part) × (part.name.now ≡ name_of source) × (part.before ≡ lines_of script) × (after ≡ before ++ part ∷ [])
+abbrev pub AddsPart : Source → List ℕ → List ScriptPart → List ScriptPart → Type 0
+AddsPart source script before after = (part : ScriptPart) × (part.name.now ≡ name_of source) × (part.before ≡ lines_of script) × (after ≡ before ++ part ∷ [])
 
 -- `opens name` says what may come of opening a file of this name.
 module _ (opens : List ℕ → Result (Option (List ℕ)) Error → Type 0) where

@@ -1,8 +1,8 @@
 -- What the program does for the words of its command line, and its exit status. (This project's own choice.)
 use Rattle.std.specs.Prelude.{◌≡◌, ◌⊎◌, ℕ, List, Option, Result, Ok, Err}
 use Rattle.std.specs.declared.io.Error.{Error}
-use Rattle.command_line.specs.declared.words.Words.{Words}
-use Rattle.command_line.specs.declared.words.Words.TheVariants.{Asked, Network, Router, Shown}
+use Rattle.command_line.specs.declared.words.Invocation.{Invocation}
+use Rattle.command_line.specs.declared.words.Invocation.TheVariants.{Asked, Network, Router, Shown}
 use Rattle.filter_reports.specs.declared.fault.ProgramFault.TheVariants.{Stream}
 use Rattle.line_protocol.specs.declared.faults.StreamFault.{StreamFault}
 use Rattle.ncroute.specs.Ending.{fault_line}
@@ -15,7 +15,7 @@ use Rattle.ncroute.specs.Streaming.{Streams, TellsFront}
 -- Words that were shown something have their status, and nothing else is done. `opens name` and `creates name` say what may come of opening
 -- and of making a file of this name, and `leaves name` what a new one held when it was closed.
 abbrev pub Responds : (List ℕ → Result (Option (List ℕ)) Error → Type 0) → (List ℕ → Result (Option (List ℕ)) Error → Type 0)
-    → (List ℕ → Option (List ℕ) → Type 0) → Result Words StreamFault → Streams → Streams → ℕ → Type 0
+    → (List ℕ → Option (List ℕ) → Type 0) → Result Invocation StreamFault → Streams → Streams → ℕ → Type 0
 Responds opens creates leaves (Ok (Asked what)) before after status = Serves opens creates leaves what before after status
     ⊎ (FailsToReport opens creates leaves what before after × (status ≡ fault_status what))
 Responds opens creates leaves (Ok Network) before after status = ServesNetwork before after status

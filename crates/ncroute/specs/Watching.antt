@@ -10,18 +10,18 @@ use Rattle.script_words.specs.Telling.{Tells}
 use Rattle.script_words.specs.declared.forms.ScriptKind.{ScriptKind}
 use Rattle.script_words.specs.declared.forms.ScriptKind.TheVariants as kind
 use Rattle.ncroute.specs.Places.{last_such}
-use Rattle.ncroute.specs.declared.watcher.Part.{Part}
+use Rattle.ncroute.specs.declared.watcher.ScriptPart.{ScriptPart}
 
 -- the part that has the line of a number: the last one before which there are fewer lines
-abbrev pub part_of : List Part → ℕ → Option Part
+abbrev pub part_of : List ScriptPart → ℕ → Option ScriptPart
 part_of parts number = last_such (λ part. nat_lt part.before number) parts
 
 -- the name of a part, and the number of a line in it; a script with no such part has no name
-abbrev pub name_in : Option Part → List ℕ
+abbrev pub name_in : Option ScriptPart → List ℕ
 name_in None = []
 name_in (Some part) = part.name.now
 
-abbrev pub number_in : ℕ → Option Part → ℕ
+abbrev pub number_in : ℕ → Option ScriptPart → ℕ
 number_in number None = number
 number_in number (Some part) = number - part.before
 

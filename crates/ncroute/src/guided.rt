@@ -10,7 +10,7 @@ use crate::ending::{FAILED, status_of};
 use crate::filters::{LoadedFilters, read_given, tell_unfit};
 use crate::script::Lines;
 use crate::texts::{Folder, name_of, tell_unmade};
-use crate::watcher::{Guide, Part, whole};
+use crate::watcher::{Guide, ScriptPart, whole};
 use command_line::{Running, Source};
 use filter_reports::ProgramFault;
 use line_protocol::{INPUT_LIMIT, StreamFault};
@@ -24,7 +24,7 @@ use std::io::{self, Read, Write};
 fn answer<R: Read, W: Write, V: Write + Drop, E: Write>(
     alloc: Global,
     how: &Running,
-    parts: &[Part<'_>],
+    parts: &[ScriptPart<'_>],
     filters: &[NamedFilter],
     saver: V,
     reader: &mut R,
@@ -57,7 +57,7 @@ fn answer<R: Read, W: Write, V: Write + Drop, E: Write>(
 fn answer_lines<R: Read, W: Write, V: Write + Drop, E: Write>(
     alloc: Global,
     how: &Running,
-    parts: &[Part<'_>],
+    parts: &[ScriptPart<'_>],
     filters: &[NamedFilter],
     saver: V,
     lines: Lines<'_>,
@@ -99,7 +99,7 @@ fn answer_lines<R: Read, W: Write, V: Write + Drop, E: Write>(
 fn save_to<R: Read, W: Write, V: Write + Drop, E: Write>(
     alloc: Global,
     how: &Running,
-    parts: &[Part<'_>],
+    parts: &[ScriptPart<'_>],
     filters: &[NamedFilter],
     saver: V,
     lines: Lines<'_>,
@@ -126,7 +126,7 @@ pub fn guide_script<F: Folder, R: Read, W: Write, E: Write>(
     files: &F,
     alloc: Global,
     how: &Running,
-    parts: &[Part<'_>],
+    parts: &[ScriptPart<'_>],
     filters: &[NamedFilter],
     lines: Lines<'_>,
     console: &mut Console<R, W, E>,

@@ -10,7 +10,7 @@ use crate::filters::{LoadedFilters, read_given};
 use crate::guided::guide_script;
 use crate::script::Lines;
 use crate::texts::{Folder, Unread, name_of, read_source, tell_unread};
-use crate::watcher::Part;
+use crate::watcher::ScriptPart;
 use command_line::{Running, Source};
 use filter_reports::{ProgramFault, place_in};
 use line_protocol::INPUT_LIMIT;
@@ -24,7 +24,7 @@ struct Joined<'a> {
     /// The text.
     text: Vec<u8>,
     /// The parts that the sources are, in order.
-    parts: Vec<Part<'a>>,
+    parts: Vec<ScriptPart<'a>>,
 }
 
 /// A source that was not read, and why.
@@ -78,7 +78,7 @@ fn read_next<'a, F: Folder, R: Read>(
     ensures part { OnOk result (AddsPart source.now joined.old.text.items joined.old.parts.items joined.new.parts.items) }
     ensures unread { IfErr result (λ why. LeavesNext (F.opens files.now) source.now why (R.remaining reader.old) (R.remaining reader.new)) }
 {
-    let part = Part {
+    let part = ScriptPart {
         name: name_of(source),
         before: count_lines(joined.text.as_slice()),
     };
@@ -91,7 +91,7 @@ fn read_next<'a, F: Folder, R: Read>(
 
 impl<'a> Joined<'a> {
     /// Adds the text of a part.
-    fn add(&mut self, part: Part<'a>, text: &[u8]) -> Result<(), AllocError>
+    fn add(&mut self, part: ScriptPart<'a>, text: &[u8]) -> Result<(), AllocError>
         ensures text { OnOk result (self.new.text.items ≡ self.old.text.items ++ ended text.now) }
         ensures part { OnOk result (self.new.parts.items ≡ self.old.parts.items ++ part.entry ∷ []) }
     {

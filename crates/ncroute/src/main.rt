@@ -27,7 +27,7 @@ mod trying;
 mod watcher;
 mod wrong_words;
 
-use command_line::{Terminals, Words, tell_that_input_is_read, waits_for_people};
+use command_line::{Invocation, Terminals, tell_that_input_is_read, waits_for_people};
 use console::Console;
 use respond::respond;
 use std::fs;

@@ -14,7 +14,7 @@ use crate::network::serve_network;
 use crate::requests::{fault_status, serve};
 use crate::routing::serve_router;
 use crate::texts::Folder;
-use command_line::{Request, RouterWords, Words};
+use command_line::{Invocation, Request, RouterWords};
 use filter_reports::ProgramFault;
 use line_protocol::StreamFault;
 use router_daemon::LinkFolder;
@@ -98,7 +98,7 @@ pub fn respond<
 >(
     rt: &R,
     alloc: Global,
-    words: Result<Words, StreamFault>,
+    words: Result<Invocation, StreamFault>,
     console: &mut Console<I, W, E>,
     voice: T,
 ) -> u8
@@ -107,12 +107,12 @@ where
     ensures { Responds (R.opens rt.now) (R.creates rt.now) (R.leaves rt.now) words console.old console.new result }
 {
     match words {
-        Ok(Words::Asked(request)) => status_of_request(rt, alloc, &request, console),
-        Ok(Words::Router(words)) => {
+        Ok(Invocation::Asked(request)) => status_of_request(rt, alloc, &request, console),
+        Ok(Invocation::Router(words)) => {
             status_of_router::<R, FI, FO, T, I, W, E>(rt, alloc, &words, console, voice)
         }
-        Ok(Words::Network) => status_of_network(rt, alloc, console),
-        Ok(Words::Shown(status)) => status,
+        Ok(Invocation::Network) => status_of_network(rt, alloc, console),
+        Ok(Invocation::Shown(status)) => status,
         Err(fault) => status_of_fault(console, fault),
     }
 }

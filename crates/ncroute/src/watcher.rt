@@ -57,7 +57,7 @@ fn kind_of(engine: Engine) -> ScriptKind
 
 /// A part of a script that comes from one source.
 #[derive(Clone, Copy)]
-pub struct Part<'a> {
+pub struct ScriptPart<'a> {
     /// The name by which people know the source.
     pub name: &'a [u8],
     /// The number of lines of the script before it.
@@ -65,15 +65,15 @@ pub struct Part<'a> {
 }
 
 /// A script that people know by one name.
-pub fn whole(name: &[u8]) -> Part<'_>
+pub fn whole(name: &[u8]) -> ScriptPart<'_>
     ensures name { result.name.now ≡ name.now }
     ensures before { result.before ≡ 0 }
 {
-    Part { name, before: 0 }
+    ScriptPart { name, before: 0 }
 }
 
 /// The part that has the line of a number, and the line's number in it. The parts are in order, and there is one.
-fn place_of<'a>(parts: &[Part<'a>], number: u32) -> (&'a [u8], u32)
+fn place_of<'a>(parts: &[ScriptPart<'a>], number: u32) -> (&'a [u8], u32)
     ensures name { result.0.now ≡ name_in (part_of parts.now number) }
     ensures number { result.1 ≡ number_in number (part_of parts.now number) }
 {
@@ -90,7 +90,7 @@ fn place_of<'a>(parts: &[Part<'a>], number: u32) -> (&'a [u8], u32)
 #[derive(Drop)]
 pub struct Guide<'a, E: Write> {
     /// The parts of the script.
-    pub parts: &'a [Part<'a>],
+    pub parts: &'a [ScriptPart<'a>],
     /// What people read.
     pub errors: &'a mut E,
     /// Why a line is refused is told.

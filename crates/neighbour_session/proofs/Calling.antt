@@ -1,8 +1,8 @@
 -- Calls that begin and end a session.
 use Rattle.std.proofs.Common.{◌≡◌, sym, ap, subst, refl, ℕ, ◌+◌, ◌==◌, Bool, true, false, cond, ◌⊎◌, inl, inr, List, [], ◌∷◌, ◌++◌}
 use Rattle.netchange_core.specs.declared.event.Event.TheVariants as event
-use Rattle.netchange_core.specs.declared.reply.Refusal.{Refusal}
-use Rattle.netchange_core.specs.declared.reply.Refusal.TheVariants as refusal
+use Rattle.netchange_core.specs.declared.reply.EventRefusal.{EventRefusal}
+use Rattle.netchange_core.specs.declared.reply.EventRefusal.TheVariants as refusal
 use Rattle.netchange_core.specs.declared.reply.Reply.{Reply}
 use Rattle.netchange_core.specs.declared.reply.Reply.TheVariants as reply
 use Rattle.netchange_core.specs.Best.{distance}
@@ -21,13 +21,13 @@ use Rattle.neighbour_session.specs.Calls.{IsUnclosed, IsUnopened, OpensNone, end
 
 -- the reply to an Up opens a session, or refuses
 IsUpReply : Reply → Type 0
-IsUpReply r = ((s : ℕ) × (r ≡ reply.Opened s)) ⊎ ((why : Refusal) × (r ≡ reply.Refused why))
+IsUpReply r = ((s : ℕ) × (r ≡ reply.Opened s)) ⊎ ((why : EventRefusal) × (r ≡ reply.Refused why))
 
 of_two : (b : Bool) (x y : After) → IsUpReply x.reply → IsUpReply y.reply → IsUpReply (cond b x y).reply
 of_two true x y p q = p
 of_two false x y p q = q
 
-is_refusal : (why : Refusal) → IsUpReply (reply.Refused why)
+is_refusal : (why : EventRefusal) → IsUpReply (reply.Refused why)
 unfolding IsUpReply
 is_refusal why = inr (why, refl)
 
@@ -51,7 +51,7 @@ last_reply w [] e h = h.0
 last_reply w (x ∷ xs) e h = last_reply (next w x.event).world xs e h.1
 
 -- an Up that opened no session was refused
-not_opened : (r : Reply) → IsUpReply r → ((s : ℕ) → r ≡ reply.Opened s → ⊥) → (why : Refusal) × (r ≡ reply.Refused why)
+not_opened : (r : Reply) → IsUpReply r → ((s : ℕ) → r ≡ reply.Opened s → ⊥) → (why : EventRefusal) × (r ≡ reply.Refused why)
 unfolding IsUpReply
 not_opened r h other = elim h [ inl p ↦ absurd (other p.0 p.1) | inr p ↦ p ]
 

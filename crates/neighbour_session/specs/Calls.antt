@@ -1,7 +1,7 @@
 -- The calls that begin and end a session. (This project's own choice.)
 use Rattle.std.specs.Prelude.{◌≡◌, ℕ}
 use Rattle.netchange_core.specs.declared.event.Event.TheVariants as event
-use Rattle.netchange_core.specs.declared.reply.Refusal.{Refusal}
+use Rattle.netchange_core.specs.declared.reply.EventRefusal.{EventRefusal}
 use Rattle.netchange_core.specs.declared.reply.Reply.TheVariants as reply
 use Rattle.route_history.specs.declared.fault.CallFault.{CallFault}
 use Rattle.route_history.specs.declared.fault.CallFault.TheVariants as fault
@@ -25,7 +25,7 @@ pub record Opens (r : RouterView) (node : ℕ) (old : PassView) (session : ℕ) 
 pub record OpensNone (r : RouterView) (node : ℕ) (old new : PassView) : Type 0 where
   pub answer : Answer
   pub entered : Answered r old (event.Up node) answer new
-  pub why : Refusal
+  pub why : EventRefusal
   pub refused : answer.reply ≡ reply.Refused why
 
 -- why no session was opened: the router refused it; or nothing was entered

@@ -23,13 +23,13 @@ fn fail(failures: &mut u64) -> LinkFault
 }
 
 /// The reader that a link was given.
-pub(crate) trait Source {
+pub(crate) trait GivenReader {
     ghost use Rattle.message_streams.specs.Views.{ReaderView};
 
     ghost reader: { ReaderView };
 }
 
-impl Source for Brand {
+impl GivenReader for Brand {
     ghost use Rattle.neighbour_session.specs.Links.{nobodys_reader};
 
     ghost reader = { nobodys_reader };
@@ -40,7 +40,7 @@ impl Source for Brand {
 /// It waits for a line. It has ended where the stream ended after a whole line; any other end of the reader is a failure. It takes no
 /// messages.
 #[derive(Drop)]
-pub(crate) struct InputLink<I: Read, S: Source> {
+pub(crate) struct InputLink<I: Read, S: GivenReader> {
     input: MessageReader<I>,
     // The reader as it was after the message that was handed out last.
     last: Snapshot<MessageReader<I>>,
@@ -50,7 +50,7 @@ pub(crate) struct InputLink<I: Read, S: Source> {
     of: PhantomData<S>,
 }
 
-impl<I: Read, S: Source> Model for InputLink<I, S> {
+impl<I: Read, S: GivenReader> Model for InputLink<I, S> {
     ghost use Rattle.neighbour_session.specs.Links.{InputView, IsInput, input_view};
 
     ghost Value = { InputView };
@@ -60,7 +60,7 @@ impl<I: Read, S: Source> Model for InputLink<I, S> {
     ghost invariant = { λ l. IsInput S.reader l.last.value l.input };
 }
 
-impl<I: Read, S: Source> InputLink<I, S> {
+impl<I: Read, S: GivenReader> InputLink<I, S> {
     ghost use Rattle.neighbour_session.specs.Links.{ReadsLines, input_view};
 
     /// A link over this reader.
@@ -100,7 +100,7 @@ impl<I: Read, S: Source> InputLink<I, S> {
     }
 }
 
-impl<I: Read, S: Source> Link for InputLink<I, S> {
+impl<I: Read, S: GivenReader> Link for InputLink<I, S> {
     ghost told = { λ l. l.told };
 
     fn recv<R: Wait>(&mut self, _rt: &R) -> Result<Got, LinkFault> {

@@ -7,7 +7,7 @@ ghost use Rattle.slot_lock.specs.Passes.{IsPassOf};
 use crate::crew::{Crew, READER};
 use crate::ends::SessionEnd;
 use crate::finish::end_session;
-use crate::links::{InputLink, Source};
+use crate::links::{GivenReader, InputLink};
 use message_streams::MessageReader;
 use route_session::{Cause, read_session};
 use slot_lock::{Pass, Router};
@@ -20,7 +20,7 @@ use std::sync::Wait;
 const TURNS: u32 = 1_000;
 
 /// Why a link hands out no more.
-fn end_of_link<I: Read, S: Source>(link: &InputLink<I, S>) -> SessionEnd
+fn end_of_link<I: Read, S: GivenReader>(link: &InputLink<I, S>) -> SessionEnd
     ensures { result ≡ spec.link_end link.now.reader.end link.now.reader.line }
 {
     match link.end() {
@@ -33,7 +33,10 @@ fn end_of_link<I: Read, S: Source>(link: &InputLink<I, S>) -> SessionEnd
 }
 
 /// Why a reader's session is over; None where it is not.
-fn end_of_reader<I: Read, S: Source>(cause: Cause, link: &InputLink<I, S>) -> Option<SessionEnd>
+fn end_of_reader<I: Read, S: GivenReader>(
+    cause: Cause,
+    link: &InputLink<I, S>,
+) -> Option<SessionEnd>
     ensures over { IfSome result (λ why. spec.IsReaderStopped cause link.now.reader why) }
     ensures goes_on { IfNone result (cause ≡ Cause.Turns) }
 {
@@ -47,7 +50,7 @@ fn end_of_reader<I: Read, S: Source>(cause: Cause, link: &InputLink<I, S>) -> Op
 }
 
 /// Enters what the stream of a neighbour says until the session is over: why it is.
-fn read_all<S: Source, R: Wait + Clock, I: Read + Drop, C: Crew>(
+fn read_all<S: GivenReader, R: Wait + Clock, I: Read + Drop, C: Crew>(
     rt: &R,
     router: &Router,
     pass: &mut Pass,

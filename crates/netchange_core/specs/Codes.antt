@@ -1,10 +1,10 @@
 -- The codes of the refusals. (This project's own choice.)
 use Rattle.std.specs.Prelude.{ℕ, List, codes}
-use Rattle.netchange_core.specs.declared.reply.Refusal.{Refusal}
-use Rattle.netchange_core.specs.declared.reply.Refusal.TheVariants as refusal
+use Rattle.netchange_core.specs.declared.reply.EventRefusal.{EventRefusal}
+use Rattle.netchange_core.specs.declared.reply.EventRefusal.TheVariants as refusal
 
 -- the code of a refusal, as ASCII text
-abbrev pub refusal_code : Refusal → List ℕ
+abbrev pub refusal_code : EventRefusal → List ℕ
 refusal_code refusal.NoNode = codes "N1"
 refusal_code refusal.AlreadyUp = codes "N2"
 refusal_code refusal.Stale = codes "N3"

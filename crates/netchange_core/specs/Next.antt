@@ -5,8 +5,8 @@ use Rattle.filter_verifier.specs.VerifiedView.{VerifiedView}
 use Rattle.netchange_core.specs.declared.event.Event.{Event}
 use Rattle.netchange_core.specs.declared.event.Event.TheVariants as event
 use Rattle.netchange_core.specs.declared.message.Message.{Message}
-use Rattle.netchange_core.specs.declared.reply.Refusal.{Refusal}
-use Rattle.netchange_core.specs.declared.reply.Refusal.TheVariants as refusal
+use Rattle.netchange_core.specs.declared.reply.EventRefusal.{EventRefusal}
+use Rattle.netchange_core.specs.declared.reply.EventRefusal.TheVariants as refusal
 use Rattle.netchange_core.specs.declared.reply.Reply.{Reply}
 use Rattle.netchange_core.specs.declared.reply.Reply.TheVariants as reply
 use Rattle.netchange_core.specs.Best.{best, distance}
@@ -23,7 +23,7 @@ abbrev pub answered : World → Reply → Answered
 answered w r = record { world = w; reply = r }
 
 -- a refused event changes nothing
-abbrev pub refused : World → Refusal → Answered
+abbrev pub refused : World → EventRefusal → Answered
 refused w why = answered w (reply.Refused why)
 
 -- the message that tells a neighbour with this export filter a distance

@@ -9,7 +9,7 @@ ghost use Rattle.netchange_core.specs.World.{changed};
 
 use crate::changing::{export, import};
 use crate::neighbour::is_no_neighbour;
-use crate::reply::{Refusal, Reply};
+use crate::reply::{EventRefusal, Reply};
 use crate::room::{make_room, make_room_for};
 use crate::state::State;
 use filter_verifier::Verified;
@@ -50,10 +50,10 @@ impl State {
         ensures { Handles self.old (set_import (world_of self.old) node filter.now.value) self.new result }
     {
         if is_no_neighbour(&self.opening, node) {
-            return Ok(Reply::Refused(Refusal::NoNode));
+            return Ok(Reply::Refused(EventRefusal::NoNode));
         }
         if filter.size() != u32::from(self.opening.size()) {
-            return Ok(Reply::Refused(Refusal::OtherSize));
+            return Ok(Reply::Refused(EventRefusal::OtherSize));
         }
         let filter = Arc::try_clone(filter)?;
         self.import(usize::from(node), filter)
@@ -69,10 +69,10 @@ impl State {
         ensures { Handles self.old (set_export (world_of self.old) node filter.now.value) self.new result }
     {
         if is_no_neighbour(&self.opening, node) {
-            return Ok(Reply::Refused(Refusal::NoNode));
+            return Ok(Reply::Refused(EventRefusal::NoNode));
         }
         if filter.size() != u32::from(self.opening.size()) {
-            return Ok(Reply::Refused(Refusal::OtherSize));
+            return Ok(Reply::Refused(EventRefusal::OtherSize));
         }
         let filter = Arc::try_clone(filter)?;
         let neighbour = &mut self.neighbours[usize::from(node)];

@@ -7,7 +7,7 @@ ghost use Rattle.netchange_core.specs.Next.{answered, next, show};
 
 use crate::event::Event;
 use crate::message::Message;
-use crate::reply::{Refusal, Reply};
+use crate::reply::{EventRefusal, Reply};
 use crate::state::State;
 use std::alloc::AllocError;
 
@@ -18,7 +18,7 @@ impl State {
         ensures { show (world_of self.now) node ≡ answered (world_of self.now) result }
     {
         if self.opening.size() <= node {
-            return Reply::Refused(Refusal::BadDest);
+            return Reply::Refused(EventRefusal::BadDest);
         }
         let route = self.destinations[usize::from(node)].route;
         Reply::Route {
@@ -37,7 +37,7 @@ impl State {
             Event::Up(node) => self.up(*node),
             Event::Down(session) => match self.holder(*session) {
                 Some(hop) => self.down(hop, *session),
-                None => Ok(Reply::Refused(Refusal::Stale)),
+                None => Ok(Reply::Refused(EventRefusal::Stale)),
             },
             Event::Receive(session, dest, dist) => match self.holder(*session) {
                 Some(hop) => {
@@ -47,11 +47,11 @@ impl State {
                     };
                     self.receive(hop, message)
                 }
-                None => Ok(Reply::Refused(Refusal::Stale)),
+                None => Ok(Reply::Refused(EventRefusal::Stale)),
             },
             Event::Take(session, max) => match self.holder(*session) {
                 Some(hop) => self.take(hop, *max),
-                None => Ok(Reply::Refused(Refusal::Stale)),
+                None => Ok(Reply::Refused(EventRefusal::Stale)),
             },
             Event::SetImport(node, filter) => self.set_import(*node, filter),
             Event::SetExport(node, filter) => self.set_export(*node, filter),

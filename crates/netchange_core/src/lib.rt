@@ -30,5 +30,5 @@ pub use filter::filtered_distance;
 pub use laws::best_route_leads;
 pub use message::{Message, Messages};
 pub use opening::Opening;
-pub use reply::{Refusal, Reply, ReplyRef, Via};
+pub use reply::{EventRefusal, Reply, ReplyRef, Via};
 pub use tables::Tables;

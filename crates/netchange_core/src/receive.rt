@@ -14,7 +14,7 @@ use crate::changing::advertise;
 use crate::filter::filtered_distance;
 use crate::message::Message;
 use crate::recomputing::{put, route_after};
-use crate::reply::{Refusal, Reply};
+use crate::reply::{EventRefusal, Reply};
 use crate::room::make_room_if_differs;
 use crate::state::State;
 use crate::telling::tell_if_differs;
@@ -31,10 +31,10 @@ impl State {
         let Message { dest, dist } = message;
         let opening = &self.opening;
         if opening.size() <= dest {
-            return Ok(Reply::Refused(Refusal::BadDest));
+            return Ok(Reply::Refused(EventRefusal::BadDest));
         }
         if opening.size() < dist {
-            return Ok(Reply::Refused(Refusal::BadDist));
+            return Ok(Reply::Refused(EventRefusal::BadDist));
         }
         let near = filtered_distance(opening, &self.neighbours[hop].imports, dest, dist);
         let destination = &mut self.destinations[usize::from(dest)];

@@ -19,7 +19,7 @@ pub enum Via {
 
 /// Why an event was refused. A refused event changes nothing.
 #[derive(Clone, Copy, Debug, Error)]
-pub enum Refusal {
+pub enum EventRefusal {
     /// N1: the node is the router itself, or not in the domain.
     #[error("the node is the router itself, or not in the domain")]
     NoNode,
@@ -43,7 +43,7 @@ pub enum Refusal {
     NoSession,
 }
 
-impl Refusal {
+impl EventRefusal {
     ghost use Rattle.netchange_core.specs.Codes.{refusal_code};
 
     /// The refusal's code, `N1` to `N7`.
@@ -51,13 +51,13 @@ impl Refusal {
         ensures { result.now ≡ refusal_code self }
     {
         match self {
-            Refusal::NoNode => "N1",
-            Refusal::AlreadyUp => "N2",
-            Refusal::Stale => "N3",
-            Refusal::BadDest => "N4",
-            Refusal::BadDist => "N5",
-            Refusal::OtherSize => "N6",
-            Refusal::NoSession => "N7",
+            EventRefusal::NoNode => "N1",
+            EventRefusal::AlreadyUp => "N2",
+            EventRefusal::Stale => "N3",
+            EventRefusal::BadDest => "N4",
+            EventRefusal::BadDist => "N5",
+            EventRefusal::OtherSize => "N6",
+            EventRefusal::NoSession => "N7",
         }
     }
 }
@@ -82,7 +82,7 @@ pub enum Reply {
         via: Via,
     },
     /// The event was refused.
-    Refused(Refusal),
+    Refused(EventRefusal),
 }
 
 /// A reply whose messages, if it has any, stand somewhere else, one after another.
@@ -105,7 +105,7 @@ pub enum ReplyRef<'a> {
         via: Via,
     },
     /// The event was refused.
-    Refused(Refusal),
+    Refused(EventRefusal),
 }
 
 impl Reply {

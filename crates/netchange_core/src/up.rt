@@ -6,7 +6,7 @@ ghost use Rattle.netchange_core.specs.Next.{up};
 
 use crate::changing::join;
 use crate::neighbour::is_no_neighbour;
-use crate::reply::{Refusal, Reply};
+use crate::reply::{EventRefusal, Reply};
 use crate::room::reserve;
 use crate::sessions::Present;
 use crate::state::State;
@@ -19,14 +19,14 @@ impl State {
         ensures { Handles self.old (up (world_of self.old) node) self.new result }
     {
         if is_no_neighbour(&self.opening, node) {
-            return Ok(Reply::Refused(Refusal::NoNode));
+            return Ok(Reply::Refused(EventRefusal::NoNode));
         }
         let neighbour = &mut self.neighbours[usize::from(node)];
         if neighbour.session.is_some() {
-            return Ok(Reply::Refused(Refusal::AlreadyUp));
+            return Ok(Reply::Refused(EventRefusal::AlreadyUp));
         }
         if self.sessions.count == u32::MAX {
-            return Ok(Reply::Refused(Refusal::NoSession));
+            return Ok(Reply::Refused(EventRefusal::NoSession));
         }
         reserve(neighbour, usize::from(self.opening.size()))?;
         self.sessions.present.reserve(1)?;

@@ -19,7 +19,7 @@ use Rattle.history_file.specs.Views as views
 use Rattle.line_protocol.specs.Answers.{Answer, is_end}
 use Rattle.line_protocol.specs.Lines.{numbered}
 use Rattle.line_protocol.specs.Runs.{Runs}
-use Rattle.line_protocol.specs.declared.answers.Reply.TheVariants.{Answered}
+use Rattle.line_protocol.specs.declared.answers.LineReply.TheVariants.{Answered}
 use Rattle.netchange_core.specs.Calls.{opened, session_of}
 use Rattle.netchange_core.specs.Next as next_specs
 use Rattle.netchange_core.specs.Next.{next, up, down, receive, take_from, set_import, set_export, show}

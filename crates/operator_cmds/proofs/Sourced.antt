@@ -16,13 +16,13 @@ use Rattle.filter_verifier.specs.FirstFault.{the_fault}
 use Rattle.filter_verifier.specs.Safe.{IsSafe}
 use Rattle.filter_verifier.specs.VerifiedView.{VerifiedView}
 use Rattle.line_protocol.specs.Answers.{Answer}
-use Rattle.line_protocol.specs.declared.answers.Reply.{Reply}
-use Rattle.line_protocol.specs.declared.answers.Reply.TheVariants.{Answered}
+use Rattle.line_protocol.specs.declared.answers.LineReply.{LineReply}
+use Rattle.line_protocol.specs.declared.answers.LineReply.TheVariants.{Answered}
 use Rattle.operator_cmds.specs.Replies.{Adds, Answers, refused}
 use Rattle.operator_cmds.specs.Script.{AnswersFilter, AnswersSource, Filters, GetsName, GivesFile, GivesText, IsDiagnosedBy, IsRefusedBy, IsRefusedFile, IsVerified, NamesSource, ScriptView, TellsSource, diagnoses, gives, lacks}
 use Rattle.operator_cmds.specs.Stages.{StageView, Empty, Setting, Open, size_in}
-use Rattle.operator_cmds.specs.declared.filter.Source.{Source}
-use Rattle.operator_cmds.specs.declared.filter.Source.TheVariants as source
+use Rattle.operator_cmds.specs.declared.filter.FilterSource.{FilterSource}
+use Rattle.operator_cmds.specs.declared.filter.FilterSource.TheVariants as source
 use Rattle.operator_cmds.proofs.Answering.{answers, given}
 
 same : (size other : ℕ) → Some other ≡ Some size → size ≡ other
@@ -53,7 +53,7 @@ is_refused : (Gives : CodeView → Type 0) (Lacks : Refusal → Type 0) (Tells :
 is_refused Gives Lacks Tells ArePlaces size told (inl h) = inl h.0
 is_refused Gives Lacks Tells ArePlaces size told (inr h) = inr (h.0, h.1, h.2)
 
-pub refused_source : (given : Source) (size : ℕ) (told : Diagnosis) → diagnoses given size told
+pub refused_source : (given : FilterSource) (size : ℕ) (told : Diagnosis) → diagnoses given size told
     → IsRefusedBy (gives given) (lacks given) size told.refusal
 refused_source (source.Text text) size told h =
     is_refused (GivesText text.now) (IsRefusedText text.now) (TellsOfText text.now) (ArePlacesOf text.now) size told h
@@ -73,7 +73,7 @@ module _ (Gives : CodeView → Type 0) (Lacks : Refusal → Type 0) (number : �
   taken size before after filter old new is added gets = (verified_line filter.program, added, inl (filter, is, (refl, gets)))
 
   -- a refusal is answered by its code and its place, and changes no name
-  pub turned_away : (size : ℕ) (names : Filters) (why : Refusal) (code : List ℕ) (at : ℕ) (reply : Reply) (old new : List ℕ)
+  pub turned_away : (size : ℕ) (names : Filters) (why : Refusal) (code : List ℕ) (at : ℕ) (reply : LineReply) (old new : List ℕ)
       → IsRefusedBy Gives Lacks size why → code ≡ refusal_code why → at ≡ place_in_line why number → Adds (refused code at) old new reply
       → Answers (λ answer. AnswersSource Gives Lacks size number name names answer names) old new reply
   turned_away size names why code at reply old new is e f h =
@@ -89,7 +89,7 @@ module _ (Gives : CodeView → Type 0) (Lacks : Refusal → Type 0) (number : �
       subst (λ (n : ℕ). NamesSource Gives Lacks n number name before answer after) (same size journal.opening.size e) h
 
   -- the answer to a source, for domains of the size of a stage, is that of the stage
-  pub sourced : {E : Type 0} (stage : StageView) (size : ℕ) (before after : ScriptView) (done : Result Reply E) (old new : List ℕ)
+  pub sourced : {E : Type 0} (stage : StageView) (size : ℕ) (before after : ScriptView) (done : Result LineReply E) (old new : List ℕ)
       → size_in stage ≡ Some size → after.stage ≡ before.stage
       → IfOk done (Answers (λ answer. AnswersSource Gives Lacks size number name before.filters answer after.filters) old new)
       → IfOk done (Answers (λ answer. AnswersFilter stage Gives Lacks number name before answer after) old new)
@@ -100,7 +100,7 @@ module _ (Gives : CodeView → Type 0) (Lacks : Refusal → Type 0) (number : �
 
 -- a refusal is told of the source that is refused
 pub told_of : (IsTold : Diagnosis → Type 0) (number : ℕ) (before after : Option Diagnosis) (told : Diagnosis) (code : List ℕ) (at : ℕ)
-    (reply : Reply) (old new : List ℕ) → IsTold told → code ≡ refusal_code told.refusal → at ≡ place_in_line told.refusal number
+    (reply : LineReply) (old new : List ℕ) → IsTold told → code ≡ refusal_code told.refusal → at ≡ place_in_line told.refusal number
     → after ≡ Some told → Adds (refused code at) old new reply → Answers (λ answer. TellsSource IsTold number before answer after) old new reply
 told_of IsTold number before after told code at reply old new is e f kept h =
     given reply (refused code at) (λ answer. TellsSource IsTold number before answer after) old new

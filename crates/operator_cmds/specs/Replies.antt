@@ -1,8 +1,8 @@
 -- The lines that a script answers. (This project's own choice.)
 use Rattle.std.specs.Prelude.{◌≡◌, ℕ, List, [], ◌∷◌, ◌++◌, flat_map, codes, decimal}
 use Rattle.line_protocol.specs.Answers.{Answer, refusal}
-use Rattle.line_protocol.specs.declared.answers.Reply.{Reply as LineReply}
-use Rattle.line_protocol.specs.declared.answers.Reply.TheVariants as line_reply
+use Rattle.line_protocol.specs.declared.answers.LineReply.{LineReply}
+use Rattle.line_protocol.specs.declared.answers.LineReply.TheVariants as line_reply
 use Rattle.netchange_core.specs.Codes as netchange
 use Rattle.netchange_core.specs.declared.message.Message.{Message}
 use Rattle.netchange_core.specs.declared.reply.Reply.{Reply}

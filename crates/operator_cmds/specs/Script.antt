@@ -16,7 +16,7 @@ use Rattle.filter_verifier.specs.FirstFault.{the_fault}
 use Rattle.filter_verifier.specs.Safe.{IsSafe}
 use Rattle.filter_verifier.specs.VerifiedView.{VerifiedView}
 use Rattle.line_protocol.specs.Answers.{Answer}
-use Rattle.line_protocol.specs.declared.answers.Reply.TheVariants.{Answered}
+use Rattle.line_protocol.specs.declared.answers.LineReply.TheVariants.{Answered}
 use Rattle.netchange_core.specs.Next.{next}
 use Rattle.netchange_core.specs.OpeningView.{OpeningView}
 use Rattle.netchange_core.specs.World.{World}
@@ -36,8 +36,8 @@ use Rattle.operator_cmds.specs.Replies.{answered, refused, reply_answer}
 use Rattle.operator_cmds.specs.Stages.{StageView, Empty, Setting, Open, journal_in, new_journal, session_in, session_number}
 use Rattle.operator_cmds.specs.declared.event.Direction.{Direction}
 use Rattle.operator_cmds.specs.declared.event.Direction.TheVariants as direction
-use Rattle.operator_cmds.specs.declared.filter.Source.{Source}
-use Rattle.operator_cmds.specs.declared.filter.Source.TheVariants as source
+use Rattle.operator_cmds.specs.declared.filter.FilterSource.{FilterSource}
+use Rattle.operator_cmds.specs.declared.filter.FilterSource.TheVariants as source
 
 -- the filter of each name
 abbrev pub Filters : Type 0
@@ -175,15 +175,15 @@ abbrev pub IsFileDiagnosis : List ℕ → ℕ → Diagnosis → Type 0
 IsFileDiagnosis bytes size = IsDiagnosedBy (GivesFile bytes) (IsRefusedFile bytes) TellsOfFile (λ places. places ≡ []) size
 
 -- what a source gives, why it gives nothing, and what is told of it where it is refused
-abbrev pub gives : Source → CodeView → Type 0
+abbrev pub gives : FilterSource → CodeView → Type 0
 gives (source.Text text) = GivesText text.now
 gives (source.File bytes) = GivesFile bytes.now
 
-abbrev pub lacks : Source → Refusal → Type 0
+abbrev pub lacks : FilterSource → Refusal → Type 0
 lacks (source.Text text) = IsRefusedText text.now
 lacks (source.File bytes) = IsRefusedFile bytes.now
 
-abbrev pub diagnoses : Source → ℕ → Diagnosis → Type 0
+abbrev pub diagnoses : FilterSource → ℕ → Diagnosis → Type 0
 diagnoses (source.Text text) = IsTextDiagnosis text.now
 diagnoses (source.File bytes) = IsFileDiagnosis bytes.now
 

@@ -7,7 +7,7 @@ ghost use Rattle.operator_cmds.specs.Replies.{Answers};
 
 use crate::reply::{answer_reply, refuse};
 use filter_verifier::Verified;
-use line_protocol::Reply;
+use line_protocol::LineReply;
 use netchange_core::Event;
 use route_history::{CallFault, Journal};
 use std::alloc::AllocError;
@@ -46,7 +46,11 @@ pub fn session_number(session: Option<u32>) -> u32
 
 /// Enters an event in the journal, and answers it. A full journal refuses it with the number of its entries.
 #[inline(always)]
-pub fn enter(journal: &mut Journal, event: Event, out: &mut Vec<u8>) -> Result<Reply, AllocError>
+pub fn enter(
+    journal: &mut Journal,
+    event: Event,
+    out: &mut Vec<u8>,
+) -> Result<LineReply, AllocError>
     ensures ok { IfOk result (Answers (λ answer. AnswersIn journal.old event answer journal.new) out.old.items out.new.items) }
     ensures err { OnErr result (StartsWith out.new.items out.old.items) }
 {

@@ -12,7 +12,7 @@ use filter_source::{
     Diagnosis, Failure, compile_text_mapped, push_verified, read_file, verify_code, verify_mapped,
 };
 use filter_verifier::Verified;
-use line_protocol::Reply;
+use line_protocol::LineReply;
 use std::alloc::{AllocError, Global};
 use std::collections::BTreeMap;
 use std::sync::Arc;
@@ -22,7 +22,7 @@ pub type NamedFilters = BTreeMap<Vec<u8>, Arc<Verified>>;
 
 /// What a filter is made of.
 #[derive(Clone, Copy)]
-pub enum Source<'a> {
+pub enum FilterSource<'a> {
     /// A text.
     Text(&'a [u8]),
     /// The bytes of a code file.
@@ -47,13 +47,13 @@ fn verify_file(alloc: Global, bytes: &[u8], size: u16) -> Result<Verified, Failu
 }
 
 /// The verified code of a source, for domains of a size.
-fn verify_source(alloc: Global, source: Source<'_>, size: u16) -> Result<Verified, Failure>
+fn verify_source(alloc: Global, source: FilterSource<'_>, size: u16) -> Result<Verified, Failure>
     ensures verified { IfOk result (λ v. spec.IsVerified (spec.gives source.entry) size v) }
     ensures refused { IfErr result (OnDiagnosis (spec.diagnoses source.entry size)) }
 {
     match source {
-        Source::Text(text) => verify_text(alloc, text, size),
-        Source::File(bytes) => verify_file(alloc, bytes, size),
+        FilterSource::Text(text) => verify_text(alloc, text, size),
+        FilterSource::File(bytes) => verify_file(alloc, bytes, size),
     }
 }
 
@@ -78,11 +78,11 @@ pub fn name_source(
     filters: &mut NamedFilters,
     number: u32,
     name: &[u8],
-    source: Source<'_>,
+    source: FilterSource<'_>,
     size: u16,
     told: &mut Option<Diagnosis>,
     out: &mut Vec<u8>,
-) -> Result<Reply, AllocError>
+) -> Result<LineReply, AllocError>
     ensures ok { IfOk result (Answers (λ answer. spec.AnswersSource (spec.gives source.entry) (spec.lacks source.entry) size number name.now
         (filter_at filters.old) answer (filter_at filters.new)) out.old.items out.new.items) }
     ensures told { IfOk result (Answers (λ answer. spec.TellsSource (spec.diagnoses source.entry size) number told.old answer told.new)
@@ -95,7 +95,7 @@ pub fn name_source(
         Ok(filter) => {
             push_verified(out, &filter)?;
             give_name(alloc, filters, name, Arc::new(alloc, filter)?)?;
-            Ok(Reply::Answered)
+            Ok(LineReply::Answered)
         }
         Err(Failure::Refused(refused)) => {
             let why = refused.refusal;

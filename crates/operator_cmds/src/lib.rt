@@ -20,7 +20,7 @@ pub use command::{Command, Look, Network};
 pub use domain::default_prefixes;
 pub use event::{Direction, enter, session_number};
 pub use fault::{CommandFault, StateFault};
-pub use filter::{NamedFilters, Source, give_name, name_source, verify_text};
+pub use filter::{FilterSource, NamedFilters, give_name, name_source, verify_text};
 pub use laws::{one_line_one_entry, two_runs_are_answered_alike};
 pub use look::{answer_history, answer_look};
 pub use name::is_name;

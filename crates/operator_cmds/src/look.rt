@@ -10,7 +10,7 @@ use crate::command::Look;
 use crate::fault::CommandFault;
 use crate::reply::{push_pair, refuse};
 use history_file::push_entry;
-use line_protocol::{Reply, push_decimal};
+use line_protocol::{LineReply, push_decimal};
 use netchange_core::{BestRoute, Tables, Via};
 use route_history::{Entries, Journal};
 use std::alloc::{AllocError, Global};
@@ -114,7 +114,7 @@ pub fn answer_look(
     tables: &Tables,
     number: u32,
     look: Look,
-) -> Result<Reply, AllocError>
+) -> Result<LineReply, AllocError>
     ensures ok { IfOk result (Adds (spec.looked tables.now number look) out.old.items out.new.items) }
     ensures err { OnErr result (StartsWith out.new.items out.old.items) }
 {
@@ -124,7 +124,7 @@ pub fn answer_look(
     out.extend_from_slice(look_word(look).as_bytes())?;
     push_nodes(out, tables, look)?;
     out.push(b'\n')?;
-    Ok(Reply::Answered)
+    Ok(LineReply::Answered)
 }
 
 /// Adds what stands before an entry, where so many were told before it.
@@ -175,7 +175,7 @@ pub fn answer_history(
     out: &mut Vec<u8>,
     journal: &Journal,
     from: u32,
-) -> Result<Reply, AllocError>
+) -> Result<LineReply, AllocError>
     ensures ok { IfOk result (Adds (answered (spec.history_text journal.now.entries from)) out.old.items out.new.items) }
     ensures err { OnErr result (StartsWith out.new.items out.old.items) }
 {
@@ -185,5 +185,5 @@ pub fn answer_history(
     out.extend_from_slice(b"history")?;
     push_entries(alloc, out, from, entries, count)?;
     out.push(b'\n')?;
-    Ok(Reply::Answered)
+    Ok(LineReply::Answered)
 }

@@ -4,26 +4,26 @@ ghost use Rattle.std.specs.Io.{StartsWith};
 ghost use Rattle.netchange_core.specs.Whole.{whole_reply};
 ghost use Rattle.operator_cmds.specs.Replies as spec;
 
-use line_protocol::{Reply, push_decimal, push_refusal};
+use line_protocol::{LineReply, push_decimal, push_refusal};
 use netchange_core::{Message, ReplyRef, Via};
 use std::alloc::AllocError;
 
 /// Refuses a line with a code and a place.
-pub fn refuse(out: &mut Vec<u8>, code: &str, at: u64) -> Result<Reply, AllocError>
+pub fn refuse(out: &mut Vec<u8>, code: &str, at: u64) -> Result<LineReply, AllocError>
     ensures ok { IfOk result (spec.Adds (spec.refused code.now at) out.old.items out.new.items) }
     ensures err { OnErr result (StartsWith out.new.items out.old.items) }
 {
     push_refusal(out, code, at)?;
-    Ok(Reply::Refused)
+    Ok(LineReply::Refused)
 }
 
 /// Answers a line of which nothing is told but that it was carried out.
-pub fn confirm(out: &mut Vec<u8>) -> Result<Reply, AllocError>
+pub fn confirm(out: &mut Vec<u8>) -> Result<LineReply, AllocError>
     ensures ok { IfOk result (spec.Adds (spec.answered (codes "ok")) out.old.items out.new.items) }
     ensures err { OnErr result (StartsWith out.new.items out.old.items) }
 {
     out.extend_from_slice(b"ok\n")?;
-    Ok(Reply::Answered)
+    Ok(LineReply::Answered)
 }
 
 /// Adds through whom a route goes.
@@ -260,7 +260,11 @@ fn push_done(out: &mut Vec<u8>, changed: u16) -> Result<(), AllocError>
 
 /// Answers an event by the router's reply to it, which has this position in the journal.
 #[inline(always)]
-pub fn answer_reply(out: &mut Vec<u8>, at: u32, reply: ReplyRef<'_>) -> Result<Reply, AllocError>
+pub fn answer_reply(
+    out: &mut Vec<u8>,
+    at: u32,
+    reply: ReplyRef<'_>,
+) -> Result<LineReply, AllocError>
     ensures ok { IfOk result (spec.Adds (spec.reply_answer at (whole_reply reply.entry)) out.old.items out.new.items) }
     ensures err { OnErr result (StartsWith out.new.items out.old.items) }
 {
@@ -271,5 +275,5 @@ pub fn answer_reply(out: &mut Vec<u8>, at: u32, reply: ReplyRef<'_>) -> Result<R
         ReplyRef::Route { dist, via } => push_route(out, dist, via)?,
         ReplyRef::Refused(why) => return refuse(out, why.code(), u64::from(at)),
     }
-    Ok(Reply::Answered)
+    Ok(LineReply::Answered)
 }

@@ -15,7 +15,7 @@ use Rattle.filter_source.specs.declared.refusal.Refusal.{Refusal}
 use Rattle.filter_verifier.specs.Safe.{IsRouteOf}
 use Rattle.line_protocol.proofs.LineLemmas.{lines-append, lines-one, open_text}
 use Rattle.line_protocol.specs.Lines.{answerable_from, is_line_feed, is_skipped}
-use Rattle.line_protocol.specs.declared.answers.Reply.TheVariants as reply
+use Rattle.line_protocol.specs.declared.answers.LineReply.TheVariants as reply
 use Rattle.prefix_patterns.specs.Token.{IsPrefix}
 use Rattle.filter_reports.proofs.Printed.{none_in}
 use Rattle.filter_reports.proofs.TextFiles.{text_has_file}

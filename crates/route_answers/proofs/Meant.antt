@@ -13,7 +13,7 @@ use Rattle.filter_verifier.specs.Safe.{IsRouteOf, IsSafe}
 use Rattle.line_protocol.specs.Answers.{Answer}
 use Rattle.line_protocol.specs.Limits.{line_limit}
 use Rattle.line_protocol.specs.Words.{words}
-use Rattle.line_protocol.specs.declared.answers.Reply.TheVariants as reply
+use Rattle.line_protocol.specs.declared.answers.LineReply.TheVariants as reply
 use Rattle.prefix_patterns.proofs.Tokens.{prefix_in-found}
 use Rattle.prefix_patterns.specs.Reading.{number_in, prefix_in}
 use Rattle.route_answers.proofs.Evaluated.{short_prefix}

@@ -9,7 +9,7 @@ use Rattle.filter_code.specs.declared.outcome.Outcome.TheVariants as outcome
 use Rattle.line_protocol.specs.Answers.{Answer, refusal, refusals, text_of}
 use Rattle.line_protocol.specs.Lines.{numbered}
 use Rattle.line_protocol.specs.Words.{trimmed}
-use Rattle.line_protocol.specs.declared.answers.Reply.TheVariants as reply
+use Rattle.line_protocol.specs.declared.answers.LineReply.TheVariants as reply
 use Rattle.filter_source.specs.Limits.{source_limit}
 use Rattle.filter_source.specs.Refusals.{place_in_line, refusal_code}
 use Rattle.filter_source.specs.Sources.{code_in_hexadecimal}

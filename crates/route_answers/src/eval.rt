@@ -15,7 +15,7 @@ use crate::watch::{Nobody, RefusedRoute, WatchRoutes, WhyRefused};
 use filter_code::Code;
 use filter_reports::ProgramFault;
 use filter_source::{Failure, check_length, read_hexadecimal};
-use line_protocol::{Reply, Service, answer_lines, push_refusal, trim_blanks, write_text};
+use line_protocol::{LineReply, Service, answer_lines, push_refusal, trim_blanks, write_text};
 use std::alloc::{AllocError, Global};
 use std::io::{Read, Write};
 
@@ -42,7 +42,7 @@ impl<S: WatchRoutes + Drop> Service for Evaluator<S> {
         number: u32,
         line: &[u8],
         out: &mut Vec<u8>,
-    ) -> Result<Reply, AllocError> {
+    ) -> Result<LineReply, AllocError> {
         if self.code.is_awaiting() {
             return self.take_code(alloc, number, line, out);
         }
@@ -62,7 +62,7 @@ impl<S: WatchRoutes + Drop> Evaluator<S> {
         number: u32,
         line: &[u8],
         out: &mut Vec<u8>,
-    ) -> Result<Reply, AllocError>
+    ) -> Result<LineReply, AllocError>
         requires { self.old.code ≡ None }
         ensures ok { IfOk result (λ reply. (text : List ℕ) × (out.new.items ≡ out.old.items ++ text)
             × TakesCode number (code_in line.now) (record { text = text; reply = reply }) self.new.code) }
@@ -71,7 +71,7 @@ impl<S: WatchRoutes + Drop> Evaluator<S> {
         match read_code_line(alloc, line) {
             Ok(code) => {
                 self.code = Judge::of(code);
-                Ok(Reply::Answered)
+                Ok(LineReply::Answered)
             }
             Err(Failure::Refused(told)) => {
                 let why = told.refusal;
@@ -83,7 +83,7 @@ impl<S: WatchRoutes + Drop> Evaluator<S> {
                     line,
                     WhyRefused::Code(told),
                 );
-                Ok(Reply::Ended)
+                Ok(LineReply::Ended)
             }
             Err(Failure::Memory) => Err(AllocError),
         }
@@ -119,7 +119,7 @@ fn answer_route<S: WatchRoutes>(
     number: u32,
     line: &[u8],
     out: &mut Vec<u8>,
-) -> Result<Reply, AllocError>
+) -> Result<LineReply, AllocError>
     ensures ok { IfSome code.old (λ program. IfOk result (λ reply.
         (out.new.items ≡ out.old.items ++ (route_answer program (number, line.now)).text)
         × (reply ≡ (route_answer program (number, line.now)).reply))) }
@@ -130,7 +130,7 @@ fn answer_route<S: WatchRoutes>(
         return answer_unusual(alloc, code, watcher, number, line, out);
     };
     code.answer(alloc, &route, out)?;
-    Ok(Reply::Answered)
+    Ok(LineReply::Answered)
 }
 
 /// Does what `answer_route` does with a line that is not in the usual spelling.
@@ -143,7 +143,7 @@ fn answer_unusual<S: WatchRoutes>(
     number: u32,
     line: &[u8],
     out: &mut Vec<u8>,
-) -> Result<Reply, AllocError>
+) -> Result<LineReply, AllocError>
     ensures ok { IfSome code.old (λ program. IfOk result (λ reply.
         (out.new.items ≡ out.old.items ++ (route_answer program (number, line.now)).text)
         × (reply ≡ (route_answer program (number, line.now)).reply))) }
@@ -153,12 +153,12 @@ fn answer_unusual<S: WatchRoutes>(
     match read_words(line, None) {
         Ok(route) => {
             code.answer_rarely(alloc, &route, out)?;
-            Ok(Reply::Answered)
+            Ok(LineReply::Answered)
         }
         Err(fault) => {
             push_refusal(out, fault.code(), u64::from(number))?;
             show(alloc, watcher, number, line, WhyRefused::Route(fault));
-            Ok(Reply::Refused)
+            Ok(LineReply::Refused)
         }
     }
 }

@@ -13,7 +13,7 @@ use filter_machine::{Verdict, run};
 use filter_reports::ProgramFault;
 use filter_source::Diagnosis;
 use filter_verifier::Verified;
-use line_protocol::{Reply, Service, answer_lines_within, push_refusal};
+use line_protocol::{LineReply, Service, answer_lines_within, push_refusal};
 use std::alloc::{AllocError, Global};
 use std::io::{Read, Write};
 
@@ -52,7 +52,7 @@ impl<S: WatchRoutes + Drop> Service for RouteFilter<S> {
         number: u32,
         line: &[u8],
         out: &mut Vec<u8>,
-    ) -> Result<Reply, AllocError> {
+    ) -> Result<LineReply, AllocError> {
         answer_route(alloc, &self.verified, &mut self.watcher, number, line, out)
     }
 }
@@ -79,7 +79,7 @@ fn answer_route<S: WatchRoutes>(
     number: u32,
     line: &[u8],
     out: &mut Vec<u8>,
-) -> Result<Reply, AllocError>
+) -> Result<LineReply, AllocError>
     ensures ok { IfOk result (λ reply.
         (out.new.items ≡ out.old.items ++ (code_answer verified.now.program verified.now.size (number, line.now)).text)
         × (reply ≡ (code_answer verified.now.program verified.now.size (number, line.now)).reply)) }
@@ -89,7 +89,7 @@ fn answer_route<S: WatchRoutes>(
         Ok(route) => {
             let ran = run(verified, &route.net(), route.metric());
             push_verdict(out, ran.verdict)?;
-            Ok(Reply::Answered)
+            Ok(LineReply::Answered)
         }
         Err(fault) => {
             push_refusal(out, fault.code(), u64::from(number))?;
@@ -100,7 +100,7 @@ fn answer_route<S: WatchRoutes>(
                 why: WhyRefused::Route(fault),
             };
             watcher.see_refused(alloc, &refused);
-            Ok(Reply::Refused)
+            Ok(LineReply::Refused)
         }
     }
 }

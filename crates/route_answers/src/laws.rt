@@ -12,7 +12,7 @@ ghost use Rattle.filter_reports.specs.Check.{FitsLine, GivesCode, printed};
 ghost use Rattle.filter_reports.specs.Saying.{Says, SaysTheSame};
 ghost use Rattle.hex.specs.Hex.{encode_lower};
 ghost use Rattle.line_protocol.specs.Lines.{answerable_from};
-ghost use Rattle.line_protocol.specs.declared.answers.Reply.TheVariants as reply;
+ghost use Rattle.line_protocol.specs.declared.answers.LineReply.TheVariants as reply;
 ghost use Rattle.route_answers.specs.Eval.{code_in, eval_answers, route_answer, verdict};
 ghost use Rattle.route_answers.specs.RouteLine.{IsLineFault, IsRouteLine, route_in};
 ghost use Rattle.route_answers.specs.Sizes.{ReadsFirst, clipped};

@@ -3,7 +3,7 @@ use Rattle.std.proofs.Common.{◌≡◌, ◌∙◌, sym, ap, subst, refl, ℕ, �
 use Rattle.netchange_core.specs.declared.event.Event.{Event}
 use Rattle.netchange_core.specs.declared.event.Event.TheVariants as event
 use Rattle.netchange_core.specs.declared.message.Message.{Message}
-use Rattle.netchange_core.specs.declared.reply.Refusal.{Refusal}
+use Rattle.netchange_core.specs.declared.reply.EventRefusal.{EventRefusal}
 use Rattle.netchange_core.specs.declared.reply.Reply.TheVariants as reply
 use Rattle.netchange_core.specs.Best.{best}
 use Rattle.netchange_core.specs.Calls.{carried, session_of}
@@ -68,5 +68,5 @@ pub shown_advances : (w : World) (s v : ℕ) → AreOwn w →
 shown_advances w s v own =
     unchanged w s (event.Show v) (answered w (reply.Route (best w v).dist (best w v).via)) own refl refl (quiet_show w s v (holder w s))
 
-pub refused_advances : (w : World) (s : ℕ) (e : Event) (why : Refusal) → AreOwn w → Advances w s e (refused w why)
+pub refused_advances : (w : World) (s : ℕ) (e : Event) (why : EventRefusal) → AreOwn w → Advances w s e (refused w why)
 refused_advances w s e why own = unchanged w s e (refused w why) own refl refl refl

@@ -10,7 +10,7 @@ ghost use Rattle.route_history.specs.Noted.{StandsIn, kept_reply};
 ghost use Rattle.route_history.specs.Whole.{whole_entry};
 
 use crate::entry::EntryRef;
-use netchange_core::{Event, Message, Refusal, Reply, ReplyRef, Tables, Via};
+use netchange_core::{Event, EventRefusal, Message, Reply, ReplyRef, Tables, Via};
 use std::alloc::{AllocError, Global};
 use std::marker::Model;
 
@@ -22,7 +22,7 @@ pub(crate) enum Kept {
     Done { changed: u16 },
     Messages { count: u16, first: u32 },
     Route { dist: u16, via: Via },
-    Refused(Refusal),
+    Refused(EventRefusal),
 }
 
 /// What is kept of an entry.

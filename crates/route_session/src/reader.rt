@@ -9,7 +9,7 @@ ghost use Rattle.slot_lock.specs.Passes.{IsPassOf};
 use crate::ends::{Cause, ReadEnd};
 use crate::gate::Gate;
 use crate::link::{Got, Link, LinkFault};
-use netchange_core::{Event, Message, Refusal, Reply};
+use netchange_core::{Event, EventRefusal, Message, Reply};
 use route_history::CallFault;
 use slot_lock::{Pass, Router};
 use std::rt::Clock;
@@ -19,7 +19,7 @@ use std::sync::Wait;
 pub(crate) fn is_stale(reply: &Reply) -> bool
     ensures { IsTrue result ↔ (reply.now ≡ stale) }
 {
-    matches!(reply, Reply::Refused(Refusal::Stale))
+    matches!(reply, Reply::Refused(EventRefusal::Stale))
 }
 
 /// Enters what a link hands out: each message is a Receive of the session. A turn asks the link once, if the gate lets it go.

@@ -2,7 +2,7 @@
 use Rattle.std.proofs.Common.{◌≡◌, ℕ, Bool, true, false, List, Result, Ok, Err, IfOk, refl, sym, subst, ◌∙◌}
 use Rattle.std.specs.Prelude.{MatchBool}
 use Rattle.line_protocol.specs.Answers.{Answer}
-use Rattle.line_protocol.specs.declared.answers.Reply.{Reply as LineReply}
+use Rattle.line_protocol.specs.declared.answers.LineReply.{LineReply}
 use Rattle.operator_cmds.specs.CommandView.{CommandView}
 use Rattle.operator_cmds.specs.Commands.{Read, command_in}
 use Rattle.operator_cmds.specs.Faults.{fault_code}

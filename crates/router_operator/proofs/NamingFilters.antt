@@ -4,14 +4,14 @@ use Rattle.std.specs.BTreeMap.{BTreeMap}
 use Rattle.std.specs.declared.sync.Arc.{Arc}
 use Rattle.filter_verifier.specs.VerifiedView.{VerifiedView}
 use Rattle.line_protocol.specs.Answers.{Answer}
-use Rattle.line_protocol.specs.declared.answers.Reply.{Reply as LineReply}
+use Rattle.line_protocol.specs.declared.answers.LineReply.{LineReply}
 use Rattle.netchange_core.specs.declared.event.Event.{Event}
 use Rattle.operator_cmds.specs.Replies.{Answers}
 use Rattle.operator_cmds.specs.Script as script
 use Rattle.operator_cmds.specs.Script.{AnswersSource, NamesSource, gives, lacks}
 use Rattle.operator_cmds.specs.State.{filter_at}
-use Rattle.operator_cmds.specs.declared.filter.Source.{Source}
-use Rattle.operator_cmds.specs.declared.filter.Source.TheVariants as source
+use Rattle.operator_cmds.specs.declared.filter.FilterSource.{FilterSource}
+use Rattle.operator_cmds.specs.declared.filter.FilterSource.TheVariants as source
 use Rattle.operator_cmds.proofs.Naming.{Key}
 use Rattle.slot_lock.specs.Passes.{PassView, RouterView}
 use Rattle.router_operator.specs.OperatorView.{IsAt, OperatorView, script_of}
@@ -22,7 +22,7 @@ abbrev Filters : Type 0
 Filters = BTreeMap Key (Arc VerifiedView Global)
 
 -- the answer to a source is the answer to the command that gives it
-by_source : (s : Source) (before after : OperatorView) (number : ℕ) (name : List ℕ) (answer : Answer)
+by_source : (s : FilterSource) (before after : OperatorView) (number : ℕ) (name : List ℕ) (answer : Answer)
     → NamesSource (gives s) (lacks s) before.router.opening.size number name (script_of before) answer (script_of after)
     → script.AnswersCommand (script_of before) number (loading name s) answer (script_of after)
 by_source (source.Text text) before after number name answer h = h
@@ -38,14 +38,14 @@ module _ (old : OperatorView) (router : RouterView) (pass : PassView) (m n : Fil
   abbrev later : OperatorView
   later = record { router = router; pass = pass; names = n.entries; links = links; has_quit = quit }
 
-  as_script : (s : Source) (number : ℕ) (name : List ℕ) (answer : Answer)
+  as_script : (s : FilterSource) (number : ℕ) (name : List ℕ) (answer : Answer)
       → AnswersSource (gives s) (lacks s) size number name (filter_at m) answer (filter_at n) → AsScript start number (loading name s) answer later
   as_script s number name answer h =
       let is_so : AnswersSource (gives s) (lacks s) router.opening.size number name (filter_at m) answer (filter_at n) =
       subst (λ (k : ℕ). AnswersSource (gives s) (lacks s) k number name (filter_at m) answer (filter_at n)) at.nodes h in
       record { answers = by_source s start later number name answer (record { stage = refl; filters = is_so }); names = refl }
 
-  pub loads : {E : Type 0} (r : Result LineReply E) (s : Source) (number : ℕ) (name before after : List ℕ)
+  pub loads : {E : Type 0} (r : Result LineReply E) (s : FilterSource) (number : ℕ) (name before after : List ℕ)
       → IfOk r (Answers (λ answer. AnswersSource (gives s) (lacks s) size number name (filter_at m) answer (filter_at n)) before after)
       → IfOk r (Answers (λ answer. AsScript old number (loading name s) answer later) before after)
   loads r s number name before after h =

@@ -1,7 +1,7 @@
 -- A look, and an event after it.
 use Rattle.std.proofs.Common.{◌≡◌, ℕ, Option, List, Result, IfOk, refl, subst, ap, ◌∙◌, inl}
 use Rattle.line_protocol.specs.Answers.{Answer}
-use Rattle.line_protocol.specs.declared.answers.Reply.{Reply as LineReply}
+use Rattle.line_protocol.specs.declared.answers.LineReply.{LineReply}
 use Rattle.netchange_core.specs.declared.event.Event.TheVariants as event
 use Rattle.operator_cmds.specs.Replies.{Adds, Answers}
 use Rattle.operator_cmds.specs.Stages.{Open, session_in, session_number}

@@ -8,7 +8,7 @@ use Rattle.std.specs.declared.alloc.Global.{Global}
 use Rattle.filter_verifier.specs.VerifiedView.{VerifiedView}
 use Rattle.line_protocol.specs.Answers.{Answer}
 use Rattle.line_protocol.specs.Words.{words}
-use Rattle.line_protocol.specs.declared.answers.Reply.TheVariants.{Ended}
+use Rattle.line_protocol.specs.declared.answers.LineReply.TheVariants.{Ended}
 use Rattle.netchange_core.specs.declared.event.Event.{Event}
 use Rattle.netchange_core.specs.declared.event.Event.TheVariants as event
 use Rattle.operator_cmds.specs.CommandView.{CommandView, Network, Prefix, Load, Code, Import, Export, Up, Down, Receive, Take, Show, Look, History}
@@ -21,8 +21,8 @@ use Rattle.operator_cmds.specs.Script.{entered, tables_of, told_of}
 use Rattle.operator_cmds.specs.Stages.{Open, session_in, session_number}
 use Rattle.operator_cmds.specs.WordLists.{one_of}
 use Rattle.operator_cmds.specs.declared.fault.CommandFault.TheVariants as fault
-use Rattle.operator_cmds.specs.declared.filter.Source.{Source}
-use Rattle.operator_cmds.specs.declared.filter.Source.TheVariants as source
+use Rattle.operator_cmds.specs.declared.filter.FilterSource.{FilterSource}
+use Rattle.operator_cmds.specs.declared.filter.FilterSource.TheVariants as source
 use Rattle.route_history.specs.Beginning.{Begins}
 use Rattle.route_history.specs.History.{IsLegal}
 use Rattle.route_history.specs.JournalView.{JournalView}
@@ -62,7 +62,7 @@ pub record AsScript (before : OperatorView) (number : ℕ) (command : CommandVie
   pub names : OnlyNames before after
 
 -- the command that gives the filter of a source a name
-abbrev pub loading : List ℕ → Source → CommandView
+abbrev pub loading : List ℕ → FilterSource → CommandView
 loading name (source.Text text) = Load name text.now
 loading name (source.File bytes) = Code name bytes.now
 

@@ -5,7 +5,7 @@ ghost use Rattle.operator_cmds.specs.Replies.{Answers};
 ghost use Rattle.router_operator.specs.Looking.{AnswersCall};
 
 use crate::listener::Listener;
-use line_protocol::Reply;
+use line_protocol::LineReply;
 use netchange_core::Event;
 use operator_cmds::{answer_reply, refuse};
 use route_history::CallFault;
@@ -43,7 +43,7 @@ pub(crate) fn answer_call<R: Wait + Clock, L: Listener>(
     exported: Option<u16>,
     called: Result<Answer, CallFault>,
     out: &mut Vec<u8>,
-) -> Result<Reply, AllocError>
+) -> Result<LineReply, AllocError>
     ensures ok { IfOk result (Answers (AnswersCall limit called) out.old.items out.new.items) }
     ensures err { OnErr result (StartsWith out.new.items out.old.items) }
 {

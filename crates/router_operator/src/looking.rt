@@ -1,6 +1,6 @@
 //! Looks at a router that others call: the journal is shown, and nothing is entered.
 
-use line_protocol::Reply;
+use line_protocol::LineReply;
 use operator_cmds::{Look, answer_history, answer_look};
 use route_history::Journal;
 use slot_lock::Observer;
@@ -25,7 +25,7 @@ pub(crate) struct Looking {
     /// What is written so far.
     pub(crate) text: Vec<u8>,
     /// What is answered. Before the look it is nothing, which is told as refused memory.
-    pub(crate) reply: Result<Reply, AllocError>,
+    pub(crate) reply: Result<LineReply, AllocError>,
 }
 
 impl Looking {
@@ -35,7 +35,7 @@ impl Looking {
     ghost use Rattle.router_operator.specs.Looking.{told};
 
     /// Answers the look, behind what is written so far.
-    fn answer(&mut self, journal: &Journal) -> Result<Reply, AllocError>
+    fn answer(&mut self, journal: &Journal) -> Result<LineReply, AllocError>
         ensures ok { IfOk result (Adds (told self.old.asked self.old.number journal.now) self.old.text.items self.new.text.items) }
         ensures err { OnErr result (StartsWith self.new.text.items self.old.text.items) }
     {

@@ -17,10 +17,10 @@ use crate::looking::{Asked, FindingSession, Looking};
 use crate::naming::Naming;
 use crate::questions::{has_link, is_quit};
 use filter_verifier::Verified;
-use line_protocol::{Reply, Service, StreamFault, answer_lines_within};
+use line_protocol::{LineReply, Service, StreamFault, answer_lines_within};
 use netchange_core::Event;
 use operator_cmds::{
-    Command, CommandFault, Direction, Source, confirm, name_source, read_command, refuse,
+    Command, CommandFault, Direction, FilterSource, confirm, name_source, read_command, refuse,
     session_number,
 };
 use slot_lock::{Pass, Router};
@@ -87,7 +87,7 @@ impl<'a, R: Wait + Clock, L: Listener, J: Naming> Service for Operator<'a, R, L,
         number: u32,
         line: &[u8],
         out: &mut Vec<u8>,
-    ) -> Result<Reply, AllocError> {
+    ) -> Result<LineReply, AllocError> {
         if is_quit(line) {
             return self.quit(out);
         }
@@ -163,14 +163,14 @@ impl<'a, R: Wait + Clock, L: Listener, J: Naming> Operator<'a, R, L, J> {
     }
 
     /// Answers `quit`.
-    fn quit(&mut self, out: &mut Vec<u8>) -> Result<Reply, AllocError>
+    fn quit(&mut self, out: &mut Vec<u8>) -> Result<LineReply, AllocError>
         ensures ok { IfOk result (Answers (λ answer. spec.Quits self.old answer self.new) out.old.items out.new.items) }
         ensures err { OnErr result (StartsWith out.new.items out.old.items) }
         ensures left { OnErr result (self.new ≡ self.old) }
     {
         confirm(out)?;
         self.has_quit = true;
-        Ok(Reply::Ended)
+        Ok(LineReply::Ended)
     }
 
     /// Carries out the command of a line, and answers it.
@@ -180,7 +180,7 @@ impl<'a, R: Wait + Clock, L: Listener, J: Naming> Operator<'a, R, L, J> {
         number: u32,
         command: Command<'_>,
         out: &mut Vec<u8>,
-    ) -> Result<Reply, AllocError>
+    ) -> Result<LineReply, AllocError>
         ensures ok { IfOk result (Answers (λ answer. spec.AnswersCommand self.old number (view_of command.entry) answer self.new)
             out.old.items out.new.items) }
         ensures err { OnErr result (StartsWith out.new.items out.old.items) }
@@ -194,10 +194,16 @@ impl<'a, R: Wait + Clock, L: Listener, J: Naming> Operator<'a, R, L, J> {
                 refuse(out, CommandFault::Words.code(), u64::from(number))
             }
             Command::Load { name, text } => {
-                self.load(alloc, number, name, Source::Text(text), out)
+                self.load(alloc, number, name, FilterSource::Text(text), out)
             }
             Command::Code { name, bytes } => {
-                self.load(alloc, number, name, Source::File(bytes.as_slice()), out)
+                self.load(
+                    alloc,
+                    number,
+                    name,
+                    FilterSource::File(bytes.as_slice()),
+                    out,
+                )
             }
             Command::Import { node, name } => {
                 self.use_filter(number, Direction::Import, node, name, out)
@@ -219,9 +225,9 @@ impl<'a, R: Wait + Clock, L: Listener, J: Naming> Operator<'a, R, L, J> {
         alloc: Global,
         number: u32,
         name: &[u8],
-        source: Source<'_>,
+        source: FilterSource<'_>,
         out: &mut Vec<u8>,
-    ) -> Result<Reply, AllocError>
+    ) -> Result<LineReply, AllocError>
         ensures ok { IfOk result (Answers (λ answer. spec.AsScript self.old number (spec.loading name.now source.entry) answer self.new)
             out.old.items out.new.items) }
         ensures err { OnErr result (StartsWith out.new.items out.old.items) }
@@ -248,7 +254,7 @@ impl<'a, R: Wait + Clock, L: Listener, J: Naming> Operator<'a, R, L, J> {
         node: u16,
         name: &[u8],
         out: &mut Vec<u8>,
-    ) -> Result<Reply, AllocError>
+    ) -> Result<LineReply, AllocError>
         ensures ok { IfOk result (Answers (λ answer. spec.AnswersUse (filter_of self.old.names name.now) (script.setting direction node)
             number self.old answer self.new) out.old.items out.new.items) }
         ensures err { OnErr result (StartsWith out.new.items out.old.items) }
@@ -262,7 +268,12 @@ impl<'a, R: Wait + Clock, L: Listener, J: Naming> Operator<'a, R, L, J> {
     }
 
     /// Answers `up`. The link of a node brings it up itself.
-    fn bring_up(&mut self, number: u32, node: u16, out: &mut Vec<u8>) -> Result<Reply, AllocError>
+    fn bring_up(
+        &mut self,
+        number: u32,
+        node: u16,
+        out: &mut Vec<u8>,
+    ) -> Result<LineReply, AllocError>
         ensures ok { IfOk result (Answers (λ answer. spec.UnlessLinked node number (spec.AnswersEvent self.old (event.Up node)) self.old
             answer self.new) out.old.items out.new.items) }
         ensures err { OnErr result (StartsWith out.new.items out.old.items) }
@@ -275,7 +286,12 @@ impl<'a, R: Wait + Clock, L: Listener, J: Naming> Operator<'a, R, L, J> {
     }
 
     /// Answers `down`, likewise.
-    fn take_down(&mut self, number: u32, node: u16, out: &mut Vec<u8>) -> Result<Reply, AllocError>
+    fn take_down(
+        &mut self,
+        number: u32,
+        node: u16,
+        out: &mut Vec<u8>,
+    ) -> Result<LineReply, AllocError>
         ensures ok { IfOk result (Answers (λ answer. spec.UnlessLinked node number (spec.AnswersDown node self.old) self.old
             answer self.new) out.old.items out.new.items) }
         ensures err { OnErr result (StartsWith out.new.items out.old.items) }
@@ -293,7 +309,7 @@ impl<'a, R: Wait + Clock, L: Listener, J: Naming> Operator<'a, R, L, J> {
     }
 
     /// Enters an event, and answers it by the router's reply.
-    fn enter(&mut self, event: Event, out: &mut Vec<u8>) -> Result<Reply, AllocError>
+    fn enter(&mut self, event: Event, out: &mut Vec<u8>) -> Result<LineReply, AllocError>
         ensures ok { IfOk result (Answers (λ answer. spec.AnswersEvent self.old event answer self.new) out.old.items out.new.items) }
         ensures err { OnErr result (StartsWith out.new.items out.old.items) }
         ensures left { OnErr result (spec.BreaksOff self.old self.new) }
@@ -310,7 +326,7 @@ impl<'a, R: Wait + Clock, L: Listener, J: Naming> Operator<'a, R, L, J> {
         number: u32,
         asked: Asked,
         out: &mut Vec<u8>,
-    ) -> Result<Reply, AllocError>
+    ) -> Result<LineReply, AllocError>
         ensures ok { IfOk result (Answers (λ answer. spec.AnswersLook (told asked number) self.old answer self.new)
             out.old.items out.new.items) }
         ensures err { OnErr result (StartsWith out.new.items out.old.items) }

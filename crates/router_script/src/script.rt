@@ -6,11 +6,11 @@ use crate::stage::{Setup, Stage};
 use crate::watch::run_watched_script;
 use filter_source::Diagnosis;
 use filter_verifier::Verified;
-use line_protocol::{Reply, Service, StreamFault};
+use line_protocol::{LineReply, Service, StreamFault};
 use netchange_core::Event;
 use operator_cmds::{
-    Command, CommandFault, Direction, Look, NamedFilters, Network, Nobody, PlainCommand,
-    RefusedLine, Source, StateFault, answer_history, answer_look, confirm, enter, give_name,
+    Command, CommandFault, Direction, FilterSource, Look, NamedFilters, Network, Nobody,
+    PlainCommand, RefusedLine, StateFault, answer_history, answer_look, confirm, enter, give_name,
     name_source, read_command, read_plain, refuse, session_number,
 };
 use prefix_patterns::Prefix;
@@ -49,7 +49,7 @@ impl Service for Script {
         number: u32,
         line: &[u8],
         out: &mut Vec<u8>,
-    ) -> Result<Reply, AllocError> {
+    ) -> Result<LineReply, AllocError> {
         match read_plain(line) {
             Some(plain) => self.carry_out_plain(alloc, number, plain, out),
             None => self.answer_words(alloc, number, line, out),
@@ -155,7 +155,7 @@ impl Script {
         number: u32,
         plain: PlainCommand,
         out: &mut Vec<u8>,
-    ) -> Result<Reply, AllocError>
+    ) -> Result<LineReply, AllocError>
         ensures ok { IfOk result (Answers (λ answer. spec.AnswersCommand (script_of self.old) number (plain_view plain) answer
             (script_of self.new)) out.old.items out.new.items) }
         ensures err { OnErr result (StartsWith out.new.items out.old.items) }
@@ -181,7 +181,7 @@ impl Script {
         number: u32,
         line: &[u8],
         out: &mut Vec<u8>,
-    ) -> Result<Reply, AllocError>
+    ) -> Result<LineReply, AllocError>
         ensures ok { IfOk result (Answers (λ answer. spec.AnswersLine (script_of self.old) number line.now answer
             (script_of self.new)) out.old.items out.new.items) }
         ensures err { OnErr result (StartsWith out.new.items out.old.items) }
@@ -200,7 +200,7 @@ impl Script {
         number: u32,
         command: Command<'_>,
         out: &mut Vec<u8>,
-    ) -> Result<Reply, AllocError>
+    ) -> Result<LineReply, AllocError>
         ensures ok { IfOk result (Answers (λ answer. spec.AnswersCommand (script_of self.old) number (view_of command.entry) answer
             (script_of self.new)) out.old.items out.new.items) }
         ensures err { OnErr result (StartsWith out.new.items out.old.items) }
@@ -209,10 +209,16 @@ impl Script {
             Command::Network(network) => self.set_up(alloc, number, network, out),
             Command::Prefix { node, prefix } => self.set_prefix(alloc, number, node, prefix, out),
             Command::Load { name, text } => {
-                self.load(alloc, number, name, Source::Text(text), out)
+                self.load(alloc, number, name, FilterSource::Text(text), out)
             }
             Command::Code { name, bytes } => {
-                self.load(alloc, number, name, Source::File(bytes.as_slice()), out)
+                self.load(
+                    alloc,
+                    number,
+                    name,
+                    FilterSource::File(bytes.as_slice()),
+                    out,
+                )
             }
             Command::Import { node, name } => {
                 self.use_filter(alloc, number, Direction::Import, node, name, out)
@@ -246,7 +252,7 @@ impl Script {
         number: u32,
         network: Network,
         out: &mut Vec<u8>,
-    ) -> Result<Reply, AllocError>
+    ) -> Result<LineReply, AllocError>
         ensures ok { IfOk result (Answers (λ answer. spec.AnswersNetwork (stage_of self.old.stage) number network.size network.me
             network.limit (script_of self.old) answer (script_of self.new)) out.old.items out.new.items) }
         ensures err { OnErr result (StartsWith out.new.items out.old.items) }
@@ -270,7 +276,7 @@ impl Script {
         node: u16,
         prefix: Prefix,
         out: &mut Vec<u8>,
-    ) -> Result<Reply, AllocError>
+    ) -> Result<LineReply, AllocError>
         ensures ok { IfOk result (Answers (λ answer. spec.AnswersPrefix (stage_of self.old.stage) number node prefix
             (script_of self.old) answer (script_of self.new)) out.old.items out.new.items) }
         ensures err { OnErr result (StartsWith out.new.items out.old.items) }
@@ -294,9 +300,9 @@ impl Script {
         alloc: Global,
         number: u32,
         name: &[u8],
-        source: Source<'_>,
+        source: FilterSource<'_>,
         out: &mut Vec<u8>,
-    ) -> Result<Reply, AllocError>
+    ) -> Result<LineReply, AllocError>
         ensures ok { IfOk result (Answers (λ answer. spec.AnswersFilter (stage_of self.old.stage) (spec.gives source.entry)
             (spec.lacks source.entry) number name.now (script_of self.old) answer (script_of self.new)) out.old.items out.new.items) }
         ensures told { IfSome (size_in (stage_of self.old.stage)) (λ size. IfOk result (Answers (λ answer.
@@ -328,7 +334,7 @@ impl Script {
         node: u16,
         name: &[u8],
         out: &mut Vec<u8>,
-    ) -> Result<Reply, AllocError>
+    ) -> Result<LineReply, AllocError>
         ensures ok { IfOk result (Answers (λ answer. spec.AnswersUse (filter_at self.old.filters name.now)
             (spec.setting direction node) number (script_of self.old) answer (script_of self.new)) out.old.items out.new.items) }
         ensures err { OnErr result (StartsWith out.new.items out.old.items) }
@@ -343,7 +349,7 @@ impl Script {
     }
 
     /// Refuses a command with a name that no filter has.
-    fn refuse_name(&self, number: u32, out: &mut Vec<u8>) -> Result<Reply, AllocError>
+    fn refuse_name(&self, number: u32, out: &mut Vec<u8>) -> Result<LineReply, AllocError>
         ensures ok { IfOk result (Answers (λ answer. spec.RefusesName (stage_of self.now.stage) number (script_of self.now) answer
             (script_of self.now)) out.old.items out.new.items) }
         ensures err { OnErr result (StartsWith out.new.items out.old.items) }
@@ -363,7 +369,7 @@ impl Script {
         number: u32,
         look: Look,
         out: &mut Vec<u8>,
-    ) -> Result<Reply, AllocError>
+    ) -> Result<LineReply, AllocError>
         ensures ok { IfOk result (Answers (λ answer. spec.AnswersLook number (λ j. looked (spec.tables_of j) number look)
             (script_of self.now) answer (script_of self.now)) out.old.items out.new.items) }
         ensures err { OnErr result (StartsWith out.new.items out.old.items) }
@@ -385,7 +391,7 @@ impl Script {
         number: u32,
         from: u32,
         out: &mut Vec<u8>,
-    ) -> Result<Reply, AllocError>
+    ) -> Result<LineReply, AllocError>
         ensures ok { IfOk result (Answers (λ answer. spec.AnswersLook number (λ j. answered (history_text j.entries from))
             (script_of self.now) answer (script_of self.now)) out.old.items out.new.items) }
         ensures err { OnErr result (StartsWith out.new.items out.old.items) }
@@ -408,7 +414,7 @@ impl Script {
         number: u32,
         event: Event,
         out: &mut Vec<u8>,
-    ) -> Result<Reply, AllocError>
+    ) -> Result<LineReply, AllocError>
         ensures ok { IfOk result (Answers (λ answer. spec.AnswersEvent (stage_of self.old.stage) number event
             (script_of self.old) answer (script_of self.new)) out.old.items out.new.items) }
         ensures err { OnErr result (StartsWith out.new.items out.old.items) }
@@ -427,7 +433,7 @@ impl Script {
         number: u32,
         event: Event,
         out: &mut Vec<u8>,
-    ) -> Result<Reply, AllocError>
+    ) -> Result<LineReply, AllocError>
         ensures ok { IfOk result (Answers (λ answer. spec.AnswersEvent (stage_of self.old.stage) number event
             (script_of self.old) answer (script_of self.new)) out.old.items out.new.items) }
         ensures err { OnErr result (StartsWith out.new.items out.old.items) }

@@ -3,7 +3,7 @@ ghost use Rattle.std.specs.Prelude.{◌≡◌, IfErr, IfOk, IfSome};
 ghost use Rattle.operator_cmds.specs.Running.{IsBrokenOff, IsCarriedOut};
 
 use crate::script::{Script, ScriptFault};
-use line_protocol::{Reply, Service, answer_lines};
+use line_protocol::{LineReply, Service, answer_lines};
 use operator_cmds::Watch;
 use std::alloc::{AllocError, Global};
 use std::io::{Read, Write};
@@ -33,10 +33,10 @@ impl<S: Watch + Drop> Service for Watched<S> {
         number: u32,
         line: &[u8],
         out: &mut Vec<u8>,
-    ) -> Result<Reply, AllocError> {
+    ) -> Result<LineReply, AllocError> {
         let begun = out.len();
         let reply = self.script.answer(alloc, number, line, out)?;
-        if reply == Reply::Refused {
+        if reply == LineReply::Refused {
             let answer = out.as_slice().get(begun..).unwrap_or(&[]);
             self.watcher
                 .see_refused(alloc, &self.script.refused_line(number, line, answer));

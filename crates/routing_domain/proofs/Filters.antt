@@ -6,7 +6,7 @@ use Rattle.std.proofs.lemmas.Bool.{cases_eq, cond_both, eqb-true}
 use Rattle.std.proofs.lemmas.List.Elements.{All-append}
 use Rattle.filter_verifier.specs.VerifiedView.{VerifiedView}
 use Rattle.netchange_core.specs.declared.event.Event.TheVariants as event
-use Rattle.netchange_core.specs.declared.reply.Refusal.TheVariants as refusal
+use Rattle.netchange_core.specs.declared.reply.EventRefusal.TheVariants as refusal
 use Rattle.netchange_core.specs.declared.reply.Reply.TheVariants as reply
 use Rattle.netchange_core.specs.Best.{best, best_by, distance, neighbour_distance, neighbour_distances}
 use Rattle.netchange_core.specs.Kept.{IsNeighbour}

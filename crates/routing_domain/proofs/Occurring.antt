@@ -5,8 +5,8 @@ use Rattle.std.proofs.lemmas.Bool.{cases_Bool, cond_both}
 use Rattle.netchange_core.specs.declared.event.Event.{Event}
 use Rattle.netchange_core.specs.declared.event.Event.TheVariants as event
 use Rattle.netchange_core.specs.declared.message.Message.{Message}
-use Rattle.netchange_core.specs.declared.reply.Refusal.{Refusal}
-use Rattle.netchange_core.specs.declared.reply.Refusal.TheVariants as refusal
+use Rattle.netchange_core.specs.declared.reply.EventRefusal.{EventRefusal}
+use Rattle.netchange_core.specs.declared.reply.EventRefusal.TheVariants as refusal
 use Rattle.netchange_core.specs.declared.reply.Reply.TheVariants as reply
 use Rattle.netchange_core.specs.Best.{best, distance}
 use Rattle.netchange_core.specs.Next.{Answered, advertising, answered, count_changes, down, exporting, gone, importing, is_no_neighbour, joined, last_session, next, receive, recomputed, refused, take_from}
@@ -96,10 +96,10 @@ down_cuts_back d u w s o from to held =
     )
 
 -- an event that is refused leaves the world
-abbrev StaysIfRefused : World → Refusal → Answered → Type 0
+abbrev StaysIfRefused : World → EventRefusal → Answered → Type 0
 StaysIfRefused w why a = a.reply ≡ reply.Refused why → a.world ≡ w
 
-refused_stays : (w : World) (e : Event) (why : Refusal) → StaysIfRefused w why (next w e)
+refused_stays : (w : World) (e : Event) (why : EventRefusal) → StaysIfRefused w why (next w e)
 refused_stays w (event.Up k) why =
     let last = answered (record (changed w k (joined w.opening (distance w) (w.sessions + 1))) { sessions = w.sessions + 1 }) (reply.Opened (w.sessions + 1)) in
     cond_both (is_no_neighbour w.opening k) (refused w refusal.NoNode)
@@ -144,7 +144,7 @@ refused_stays w (event.Show v) why =
     cond_both (nat_le w.opening.size v) (refused w refusal.BadDest) (answered w (reply.Route (best w v).dist (best w v).via))
     (StaysIfRefused w why) (λ _ _. refl) (λ _ _. refl)
 
-pub refused_changes_nothing : (d : Domain) (u : ℕ) (e : Event) (why : Refusal) → (next (d.router u) e).reply ≡ reply.Refused why → enters d u e ≡ d
+pub refused_changes_nothing : (d : Domain) (u : ℕ) (e : Event) (why : EventRefusal) → (next (d.router u) e).reply ≡ reply.Refused why → enters d u e ≡ d
 refused_changes_nothing d u e why h = ap (λ r. with_router d u r) (refused_stays (d.router u) e why h) ∙ router_same d u
 
 -- a domain in order is quiet if its links are

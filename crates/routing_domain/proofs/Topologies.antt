@@ -7,7 +7,7 @@ use Rattle.std.proofs.lemmas.Bool.{cases_eq, cond_both, eqb-true, or_from}
 use Rattle.filter_verifier.specs.VerifiedView.{VerifiedView}
 use Rattle.netchange_core.specs.declared.event.Event.TheVariants as event
 use Rattle.netchange_core.specs.declared.message.Message.{Message}
-use Rattle.netchange_core.specs.declared.reply.Refusal.TheVariants as refusal
+use Rattle.netchange_core.specs.declared.reply.EventRefusal.TheVariants as refusal
 use Rattle.netchange_core.specs.Best.{distance}
 use Rattle.netchange_core.specs.Next.{Answered, advertising, dequeued, exporting, gone, importing, joined, receive, recomputed, refused}
 use Rattle.netchange_core.specs.FilteredDistance.{filtered_distance}

@@ -4,7 +4,7 @@ ghost use Rattle.std.specs.Prelude.{◌≡◌, ℕ, ◌+◌, ◌<◌, Some, List
 ghost use Rattle.netchange_core.specs.declared.event.Event.{Event};
 ghost use Rattle.netchange_core.specs.declared.event.Event.TheVariants as event;
 ghost use Rattle.netchange_core.specs.declared.message.Message.{Message};
-ghost use Rattle.netchange_core.specs.declared.reply.Refusal.{Refusal};
+ghost use Rattle.netchange_core.specs.declared.reply.EventRefusal.{EventRefusal};
 ghost use Rattle.netchange_core.specs.declared.reply.Reply.TheVariants as reply;
 ghost use Rattle.netchange_core.specs.Next.{answered, next};
 ghost use Rattle.routing_domain.specs.Domain.{Domain, IsInOrder, neighbour};
@@ -48,5 +48,5 @@ pub fn cutting_is_down()
 
 /// An event that is refused changes nothing.
 pub fn refused_events_change_nothing()
-    ensures same { (d : Domain) → (u : ℕ) → (e : Event) → (why : Refusal) → (next (d.router u) e).reply ≡ reply.Refused why → enters d u e ≡ d }
+    ensures same { (d : Domain) → (u : ℕ) → (e : Event) → (why : EventRefusal) → (next (d.router u) e).reply ≡ reply.Refused why → enters d u e ≡ d }
 {}

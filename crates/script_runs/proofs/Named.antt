@@ -9,7 +9,7 @@ use Rattle.filter_source.specs.declared.failure.Failure.{Failure}
 use Rattle.filter_source.specs.declared.failure.Failure.TheVariants as failure
 use Rattle.filter_verifier.specs.VerifiedView.{VerifiedView}
 use Rattle.line_protocol.specs.Answers.{Answer}
-use Rattle.line_protocol.specs.declared.answers.Reply.{Reply}
+use Rattle.line_protocol.specs.declared.answers.LineReply.{LineReply}
 use Rattle.operator_cmds.specs.Replies.{Answers}
 use Rattle.operator_cmds.specs.Script.{AnswersLine, GivesText, IsTextDiagnosis, IsVerified, Names, ScriptView}
 use Rattle.operator_cmds.specs.Stages.{size_in}
@@ -43,15 +43,15 @@ naming_keeps size xs None a b h = names_keep size xs a b h
 naming_keeps size xs (Some unfit) a b h = names_keep size (take unfit.index xs) a b h.1
 
 -- The answer that was written stays, or it is taken back.
-pub told_answer : (unfit : Option Unfit) (begun : ℕ) (reply given : Reply) (old text new : List ℕ) → begun ≡ length old
+pub told_answer : (unfit : Option Unfit) (begun : ℕ) (reply given : LineReply) (old text new : List ℕ) → begun ≡ length old
     → Tells unfit begun reply (old ++ text) new given
     → (t : List ℕ) × (new ≡ old ++ t) × (record { text = t; reply = given } ≡ told_unless unfit (record { text = text; reply = reply }))
 told_answer None begun reply given old text new is (kept, same) =
-    (text, kept, ap (λ (r : Reply). record { text = text; reply = r }) same)
+    (text, kept, ap (λ (r : LineReply). record { text = text; reply = r }) same)
 told_answer (Some unfit) begun reply given old text new is (cut, over) = (
   [],
   cut ∙ ap (λ n. take n (old ++ text)) is ∙ take-append_seam old text ∙ sym (append-nil old),
-  ap (λ (r : Reply). record { text = []; reply = r }) over,
+  ap (λ (r : LineReply). record { text = []; reply = r }) over,
 )
 
 -- a filter whose text and name these are gets its name
@@ -81,8 +81,8 @@ stopped_at size xs i x text a b failure.Memory (Ok unfit) within is is_text name
 stopped_at size xs i x text a b why (Err e) within is is_text names refused h = tt
 
 -- The line that set the domain up is answered, by what became of its answer.
-pub prepared : {E : Type 0} (before after : PreparedView) (mid : ScriptView) (number : ℕ) (line text : List ℕ) (reply : Reply)
-    (size begun : ℕ) (earlier later : Option ℕ) (old written new : List ℕ) (r : Result Reply E) → begun ≡ length old
+pub prepared : {E : Type 0} (before after : PreparedView) (mid : ScriptView) (number : ℕ) (line text : List ℕ) (reply : LineReply)
+    (size begun : ℕ) (earlier later : Option ℕ) (old written new : List ℕ) (r : Result LineReply E) → begun ≡ length old
     → earlier ≡ size_in before.script.stage → later ≡ size_in mid.stage → size_set_up earlier later ≡ Some size → written ≡ old ++ text
     → AnswersLine before.script number line (record { text = text; reply = reply }) mid
     → OnOk r (AreNamed size before.filters after.unfit mid after.script) → after.filters ≡ before.filters

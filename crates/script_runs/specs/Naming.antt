@@ -2,7 +2,7 @@
 use Rattle.std.specs.Prelude.{◌≡◌, ℕ, List, [], ◌∷◌, Option, Some, None, slice_get, take}
 use Rattle.filter_verifier.specs.VerifiedView.{VerifiedView}
 use Rattle.line_protocol.specs.Answers.{Answer}
-use Rattle.line_protocol.specs.declared.answers.Reply.TheVariants.{Ended}
+use Rattle.line_protocol.specs.declared.answers.LineReply.TheVariants.{Ended}
 use Rattle.operator_cmds.specs.Script.{AnswersLine, GivesText, IsTextDiagnosis, IsVerified, Names, ScriptView, fresh}
 use Rattle.operator_cmds.specs.Stages.{size_in}
 use Rattle.script_runs.specs.declared.naming.NamedFilter.{NamedFilter}

@@ -4,8 +4,8 @@ use Rattle.filter_source.specs.declared.failure.Failure.{Failure}
 use Rattle.filter_source.specs.declared.failure.Failure.TheVariants as failure
 use Rattle.history_file.specs.Text.{entry_line, opening_line}
 use Rattle.history_file.specs.Views.{entry_view}
-use Rattle.line_protocol.specs.declared.answers.Reply.{Reply}
-use Rattle.line_protocol.specs.declared.answers.Reply.TheVariants.{Ended}
+use Rattle.line_protocol.specs.declared.answers.LineReply.{LineReply}
+use Rattle.line_protocol.specs.declared.answers.LineReply.TheVariants.{Ended}
 use Rattle.line_protocol.specs.declared.faults.StreamFault.{StreamFault}
 use Rattle.line_protocol.specs.declared.faults.StreamFault.TheVariants.{Write, Memory}
 use Rattle.operator_cmds.specs.Stages.{StageView, Empty, Setting, Open}
@@ -40,7 +40,7 @@ abbrev pub IsToldOf : Result ℕ StreamFault → Result ℕ StreamFault → Type
 IsToldOf ended told = (told ≡ ended) ⊎ ((ended ≡ Err Memory) × (told ≡ Err Write))
 
 -- what becomes of an answer that was written behind the first `begun` bytes: where a filter is refused it is taken back, and the script ends
-abbrev pub Tells : Option Unfit → ℕ → Reply → List ℕ → List ℕ → Reply → Type 0
+abbrev pub Tells : Option Unfit → ℕ → LineReply → List ℕ → List ℕ → LineReply → Type 0
 Tells None begun reply before after given = (after ≡ before) × (given ≡ reply)
 Tells (Some unfit) begun reply before after given = (after ≡ take begun before) × (given ≡ Ended)
 

@@ -1,12 +1,12 @@
 -- A script that ends at its first refused line. (This project's own choice.)
 use Rattle.std.specs.Prelude.{◌≡◌, ℕ, Bool, true, false, List}
 use Rattle.line_protocol.specs.Answers.{Answer}
-use Rattle.line_protocol.specs.declared.answers.Reply.{Reply}
-use Rattle.line_protocol.specs.declared.answers.Reply.TheVariants.{Answered, Refused, Ended}
+use Rattle.line_protocol.specs.declared.answers.LineReply.{LineReply}
+use Rattle.line_protocol.specs.declared.answers.LineReply.TheVariants.{Answered, Refused, Ended}
 use Rattle.script_runs.specs.Naming.{AnswersPrepared, PreparedView}
 
 -- what a reply means for the stream, where a refused line may be the last
-abbrev pub reply_where : Bool → Reply → Reply
+abbrev pub reply_where : Bool → LineReply → LineReply
 reply_where true Answered = Answered
 reply_where true Refused = Ended
 reply_where true Ended = Ended

@@ -10,7 +10,7 @@ ghost use Rattle.script_runs.specs.State.{prepared_of};
 
 use filter_source::{Diagnosis, Failure};
 use filter_verifier::Verified;
-use line_protocol::{Reply, Service};
+use line_protocol::{LineReply, Service};
 use operator_cmds::verify_text;
 use router_script::Script;
 use std::alloc::{AllocError, Global};
@@ -100,14 +100,19 @@ fn size_set_up(earlier: Option<u16>, later: Option<u16>) -> Option<u16>
 
 /// What is answered to the line that sets the domain up: where a filter is refused nothing is, and the script ends. `begun` is how much
 /// had been written before that answer.
-fn tell_unless(unfit: &Option<Unfit>, begun: usize, reply: Reply, out: &mut Vec<u8>) -> Reply
+fn tell_unless(
+    unfit: &Option<Unfit>,
+    begun: usize,
+    reply: LineReply,
+    out: &mut Vec<u8>,
+) -> LineReply
     ensures { news.Tells unfit.now begun reply out.old.items out.new.items result }
 {
     match unfit {
         None => reply,
         Some(_) => {
             out.truncate(begun);
-            Reply::Ended
+            LineReply::Ended
         }
     }
 }
@@ -131,7 +136,7 @@ impl<'a> Prepared<'a> {
         number: u32,
         line: &[u8],
         out: &mut Vec<u8>,
-    ) -> Result<Reply, AllocError>
+    ) -> Result<LineReply, AllocError>
         ensures ok { IfOk result (Answers (λ answer. spec.AnswersPrepared (prepared_of self.old) number line.now answer
             (prepared_of self.new)) out.old.items out.new.items) }
         ensures err { OnErr result (StartsWith out.new.items out.old.items) }
@@ -152,9 +157,9 @@ impl<'a> Prepared<'a> {
         alloc: Global,
         size: u16,
         begun: usize,
-        reply: Reply,
+        reply: LineReply,
         out: &mut Vec<u8>,
-    ) -> Result<Reply, AllocError>
+    ) -> Result<LineReply, AllocError>
         ensures named { OnOk result (spec.AreNamed size self.old.filters.now self.new.unfit (script_of self.old.script)
             (script_of self.new.script)) }
         ensures filters { self.new.filters.now ≡ self.old.filters.now }

@@ -10,7 +10,7 @@ ghost use Rattle.script_runs.specs.Stopping as stopping;
 
 use crate::naming::{NamedFilter, Prepared, Unfit};
 use history_file::{write_entry, write_opening};
-use line_protocol::{Reply, Service, StreamFault, answer_lines, write_text};
+use line_protocol::{LineReply, Service, StreamFault, answer_lines, write_text};
 use operator_cmds::Watch;
 use route_history::{Journal, LARGEST_LIMIT};
 use router_script::{Script, ScriptFault};
@@ -109,7 +109,7 @@ impl<'a, V: Write + Drop, S: Watch + Drop> Service for Saving<'a, V, S> {
         number: u32,
         line: &[u8],
         out: &mut Vec<u8>,
-    ) -> Result<Reply, AllocError> {
+    ) -> Result<LineReply, AllocError> {
         let begun = out.len();
         let saved = count_entries(&self.prepared.script);
         let reply = self.prepared.answer(alloc, number, line, out)?;
@@ -121,18 +121,25 @@ impl<'a, V: Write + Drop, S: Watch + Drop> Service for Saving<'a, V, S> {
 
 impl<'a, V: Write + Drop, S: Watch + Drop> Saving<'a, V, S> {
     /// Shows a line that is refused, with its answer, to who watches, and makes it the last one where the script ends there.
-    fn end(&mut self, alloc: Global, number: u32, line: &[u8], told: &[u8], reply: Reply) -> Reply
+    fn end(
+        &mut self,
+        alloc: Global,
+        number: u32,
+        line: &[u8],
+        told: &[u8],
+        reply: LineReply,
+    ) -> LineReply
         ensures script { prepared_of self.new.prepared ≡ prepared_of self.old.prepared }
         ensures saver { self.new.saver ≡ self.old.saver }
         ensures stops { self.new.stops ≡ self.old.stops }
         ensures reply { result ≡ stopping.reply_where self.old.stops reply }
     {
-        if reply != Reply::Refused {
+        if reply != LineReply::Refused {
             return reply;
         }
         let refused = self.prepared.script.refused_line(number, line, told);
         self.watcher.see_refused(alloc, &refused);
-        if self.stops { Reply::Ended } else { reply }
+        if self.stops { LineReply::Ended } else { reply }
     }
 
     /// Saves what is not saved of the history, of which so many entries are.

@@ -14,7 +14,7 @@ use std::alloc::{AllocError, Global};
 
 /// The code and the place of an answer `refused CODE AT`.
 #[derive(Clone, Copy)]
-struct Refusal<'a> {
+struct CodeAndPlace<'a> {
     /// The code.
     code: &'a [u8],
     /// The place.
@@ -31,11 +31,11 @@ struct Placed<'a> {
 }
 
 /// The code and the place of an answer, if it has three words.
-fn refusal_in(answer: &[u8]) -> Option<Refusal<'_>>
+fn refusal_in(answer: &[u8]) -> Option<CodeAndPlace<'_>>
     ensures { option_map (λ r. r.code.now) result ≡ code_in answer.now }
 {
     let (_, code, at) = three_words(place_in(answer, 0).behind)?;
-    Some(Refusal { code, at })
+    Some(CodeAndPlace { code, at })
 }
 
 /// The cause that an answer names, if it names one.

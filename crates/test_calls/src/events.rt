@@ -13,7 +13,7 @@ pub const KINDS: u16 = 7;
 
 /// Which events a caller enters, by their number.
 #[derive(Clone, Copy)]
-pub enum Kind {
+pub enum EventKind {
     /// Ups, of neighbour 1 and so on.
     Up,
     /// Looks at the router's own route.
@@ -61,12 +61,12 @@ fn event_in_turn<R: Host>(rt: &R, number: u16) -> Event {
 }
 
 /// The event of a kind that has a number.
-pub fn event_of<R: Host>(rt: &R, kind: Kind, number: u16) -> Event {
+pub fn event_of<R: Host>(rt: &R, kind: EventKind, number: u16) -> Event {
     match kind {
-        Kind::Up => Event::Up(number.saturating_add(1)),
-        Kind::Look => Event::Show(0),
-        Kind::Tell(session) => Event::Receive(session, 3, number % 5),
-        Kind::Each => event_in_turn(rt, number),
+        EventKind::Up => Event::Up(number.saturating_add(1)),
+        EventKind::Look => Event::Show(0),
+        EventKind::Tell(session) => Event::Receive(session, 3, number % 5),
+        EventKind::Each => event_in_turn(rt, number),
     }
 }
 

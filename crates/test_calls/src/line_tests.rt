@@ -2,7 +2,9 @@
 
 use crate::asserts::{Host, must, must_bytes};
 use crate::streams::{Pieces, Sink};
-use line_protocol::{INPUT_LIMIT, Reply, Service, StreamFault, answer_lines_within, push_decimal};
+use line_protocol::{
+    INPUT_LIMIT, LineReply, Service, StreamFault, answer_lines_within, push_decimal,
+};
 use std::alloc::{AllocError, Global};
 use std::io::ErrorKind;
 
@@ -22,15 +24,15 @@ impl Service for Echo {
         number: u32,
         line: &[u8],
         out: &mut Vec<u8>,
-    ) -> Result<Reply, AllocError> {
+    ) -> Result<LineReply, AllocError> {
         push_decimal(out, u64::from(number))?;
         out.extend_from_slice(line)?;
         out.push(b'\n')?;
         match line.first() {
-            Some(b'!') => Ok(Reply::Refused),
-            Some(b'.') => Ok(Reply::Ended),
+            Some(b'!') => Ok(LineReply::Refused),
+            Some(b'.') => Ok(LineReply::Ended),
             Some(b'?') => Err(AllocError),
-            _ => Ok(Reply::Answered),
+            _ => Ok(LineReply::Answered),
         }
     }
 }

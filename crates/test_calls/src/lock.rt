@@ -2,7 +2,7 @@
 
 use crate::asserts::{RouterHost, done, must, some};
 use crate::callers::{Caller, Way, close, open};
-use crate::events::{KINDS, Kind, event_of, must_count};
+use crate::events::{EventKind, KINDS, event_of, must_count};
 use crate::histories::{must_answer, must_have, said};
 use netchange_core::Event;
 use route_history::Journal;
@@ -28,7 +28,7 @@ fn passes_keep_their_shares(rt: HostRuntime) {
 /// What a caller does again and again: it enters events of a kind, each in some ways one after another.
 #[derive(Clone, Copy)]
 struct Work {
-    kind: Kind,
+    kind: EventKind,
     ways: &'static [Way],
 }
 
@@ -85,45 +85,45 @@ struct Crowd {
 
 /// A caller that brings neighbours up.
 const UPS: Work = Work {
-    kind: Kind::Up,
+    kind: EventKind::Up,
     ways: &[Way::Try],
 };
 
 /// A caller that looks at the router's own route once the lock is free, and one that tries.
 const LOOKS: Work = Work {
-    kind: Kind::Look,
+    kind: EventKind::Look,
     ways: &[Way::Call],
 };
 
 const LOOKS_AT_ONCE: Work = Work {
-    kind: Kind::Look,
+    kind: EventKind::Look,
     ways: &[Way::Try],
 };
 
 /// A caller that tells of distances under session 1, and one under session 2.
 const TELLS_FIRST: Work = Work {
-    kind: Kind::Tell(1),
+    kind: EventKind::Tell(1),
     ways: &[Way::TryAgain],
 };
 
 const TELLS_SECOND: Work = Work {
-    kind: Kind::Tell(2),
+    kind: EventKind::Tell(2),
     ways: &[Way::TryAgain],
 };
 
 /// Callers that enter events of each kind: twice, by a try and by a call; until they are entered; and by calls that wait.
 const TWICE: Work = Work {
-    kind: Kind::Each,
+    kind: EventKind::Each,
     ways: &[Way::Try, Way::Call],
 };
 
 const TRIES_AGAIN: Work = Work {
-    kind: Kind::Each,
+    kind: EventKind::Each,
     ways: &[Way::TryAgain],
 };
 
 const CALLS: Work = Work {
-    kind: Kind::Each,
+    kind: EventKind::Each,
     ways: &[Way::Call],
 };
 
@@ -213,7 +213,7 @@ fn answers_of<R: RouterHost>(rt: &R, mut caller: Caller<'_>, crowd: &Crowd) -> V
 
 /// What each caller of a crowd told was entered in order.
 fn must_tell<R: RouterHost>(rt: &R, journal: &Journal, work: &Work, calls: u16) {
-    let Kind::Tell(session) = work.kind else {
+    let EventKind::Tell(session) = work.kind else {
         return;
     };
     let told = said(rt, journal, session).entered;

@@ -5,7 +5,7 @@
 
 use crate::asserts::{RouterHost, must};
 use crate::callers::Way;
-use crate::memory_code::{Source, built, read, sourced, verified, verified_source, written};
+use crate::memory_code::{CodeSource, built, read, sourced, verified, verified_source, written};
 use crate::memory_filters::{compiled, judged, judged_plainly, mapped, parsed};
 use crate::memory_lines::{answered, run};
 use crate::memory_routers::{called, started};
@@ -26,7 +26,7 @@ enum Call {
     Compile,
     CompileMapped,
     Verify,
-    Source(Source),
+    Source(CodeSource),
     VerifyCode,
     OpenTables,
     Apply(Change),
@@ -55,9 +55,13 @@ const CALLS: [(Call, &str, &str); 29] = [
     (Call::Compile, "compile", "G3"),
     (Call::CompileMapped, "compile_mapped", "G3"),
     (Call::Verify, "verify", "V10"),
-    (Call::Source(Source::Text), "compile_text", "Memory"),
-    (Call::Source(Source::File), "read_file", "Memory"),
-    (Call::Source(Source::Digits), "read_hexadecimal", "Memory"),
+    (Call::Source(CodeSource::Text), "compile_text", "Memory"),
+    (Call::Source(CodeSource::File), "read_file", "Memory"),
+    (
+        Call::Source(CodeSource::Digits),
+        "read_hexadecimal",
+        "Memory",
+    ),
     (Call::VerifyCode, "verify_code", "Memory"),
     (Call::OpenTables, "Tables::open", "AllocError"),
     (Call::Apply(Change::Up), "Tables::apply", "AllocError"),

@@ -69,7 +69,7 @@ pub fn verified<R: Host>(rt: &R) -> Answered {
 
 /// What a code is made of.
 #[derive(Clone, Copy)]
-pub enum Source {
+pub enum CodeSource {
     Text,
     File,
     Digits,
@@ -79,14 +79,14 @@ pub enum Source {
 const UP_TWO_FILE: &[u8] = b"NCF1\0\0\0\x08\x13\x01\0\0\0\x02\x20\x14\x24\x15\x70\x71";
 
 /// Makes that code of a source.
-pub fn sourced(alloc: Global, source: Source) -> Answered {
+pub fn sourced(alloc: Global, source: CodeSource) -> Answered {
     let made = match source {
-        Source::Text => compile_text(
+        CodeSource::Text => compile_text(
             alloc,
             b"filter up2 { rip_metric = rip_metric + 2; accept; }",
         ),
-        Source::File => read_file(alloc, UP_TWO_FILE),
-        Source::Digits => read_hexadecimal(alloc, b"4e43463100000008130100000002201424157071"),
+        CodeSource::File => read_file(alloc, UP_TWO_FILE),
+        CodeSource::Digits => read_hexadecimal(alloc, b"4e43463100000008130100000002201424157071"),
     };
     match made {
         Ok(code) => Ok(code.instrs().len() == 8),

@@ -16,7 +16,7 @@ use filter_verifier::VerifyFault;
 use line_protocol::StreamFault;
 use link_lines::GreetingFault;
 use message_streams::StreamEnd;
-use netchange_core::{Event, Refusal};
+use netchange_core::{Event, EventRefusal};
 use prefix_patterns::{Ip, Prefix, SetFault};
 use route_history::{CallFault, Journal};
 use route_session::RunFault;
@@ -32,7 +32,7 @@ enum Shown {
     Run(FaultKind),
     Verify(VerifyFault),
     Set(SetFault),
-    Event(Refusal),
+    Event(EventRefusal),
     Ints(int_sets::SetFault),
     /// The fault of a program whose streams failed so.
     Program(StreamFault),
@@ -409,31 +409,31 @@ const SHOWN: [(Shown, &str); 119] = [
     ),
     (Shown::Set(SetFault::Memory), "out of memory"),
     (
-        Shown::Event(Refusal::NoNode),
+        Shown::Event(EventRefusal::NoNode),
         "the node is the router itself, or not in the domain",
     ),
     (
-        Shown::Event(Refusal::AlreadyUp),
+        Shown::Event(EventRefusal::AlreadyUp),
         "the node is an up neighbour already",
     ),
     (
-        Shown::Event(Refusal::Stale),
+        Shown::Event(EventRefusal::Stale),
         "no neighbour is up in this session",
     ),
     (
-        Shown::Event(Refusal::BadDest),
+        Shown::Event(EventRefusal::BadDest),
         "the destination is not in the domain",
     ),
     (
-        Shown::Event(Refusal::BadDist),
+        Shown::Event(EventRefusal::BadDist),
         "the distance is above the size of the domain",
     ),
     (
-        Shown::Event(Refusal::OtherSize),
+        Shown::Event(EventRefusal::OtherSize),
         "the filter was verified for domains of another size",
     ),
     (
-        Shown::Event(Refusal::NoSession),
+        Shown::Event(EventRefusal::NoSession),
         "no session number is left",
     ),
     (

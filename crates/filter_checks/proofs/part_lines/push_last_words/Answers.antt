@@ -1,9 +1,9 @@
 use Rattle.std.proofs.Common.{◌≡◌, ◌++◌, ◌≤◌, OnOk, ℕ, zero, suc, List, refl, sym, subst, arith}
-use Rattle.filter_diff.specs.declared.part.Part.{Part}
+use Rattle.filter_diff.specs.declared.route_part.RoutePart.{RoutePart}
 use Rattle.filter_checks.specs.PartLines.{last_words, several_words}
 use Rattle.filter_checks.proofs.part_lines.push_last_words.Goals as goal
 
-several : (count : ℕ) (parts : List Part) → 2 ≤ count → last_words count parts ≡ several_words count
+several : (count : ℕ) (parts : List RoutePart) → 2 ≤ count → last_words count parts ≡ several_words count
 several zero parts h = absurd (omega (arith, h))
 several (suc zero) parts h = absurd (omega (arith, h))
 several (suc (suc more)) parts h = refl

@@ -6,6 +6,6 @@ use Rattle.neighbour_session.proofs.links.InputLink.lines_are_told.Goals as goal
 pub returns : goal.returns
 returns g c =
     let i = c.self.inside in
-    let first = g.S.Source.reader in
+    let first = g.S.GivenReader.reader in
     subst (λ (v : InputView). ReadsLines first v.told.handed v.reader) c.self.view_is
     (input_lines first i.last.value i.input c.self.invariant)

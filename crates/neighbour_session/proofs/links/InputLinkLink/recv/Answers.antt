@@ -12,13 +12,13 @@ invariant_of-self-in-Ok g c =
     let new = c.next_message.new.self in
     let read = c.in-Ok.ensures.message in
     let last : c.of.result.value ≡ new = search rules in
-    subst (λ (r : ReaderView). IsInput g.S.Source.reader r new) (sym last)
-    (input_read g.S.Source.reader i.last.value i.input new c.in-Ok.message c.self.invariant read.1 read.2 read.0 read.3)
+    subst (λ (r : ReaderView). IsInput g.S.GivenReader.reader r new) (sym last)
+    (input_read g.S.GivenReader.reader i.last.value i.input new c.in-Ok.message c.self.invariant read.1 read.2 read.0 read.3)
 
 pub returns-in-Ok : goal.returns-in-Ok
 returns-in-Ok g c =
     let i = c.self.inside in
-    let first = g.S.Source.reader in
+    let first = g.S.GivenReader.reader in
     let new = c.next_message.new.self in
     let message = c.in-Ok.message in
     let read = c.in-Ok.ensures.message in

@@ -1,6 +1,6 @@
 -- A line is answered as the script answers it, then its news is written, and then it may end the script.
 use Rattle.std.proofs.Common.{Bool, ap, ◌∙◌}
-use Rattle.line_protocol.specs.declared.answers.Reply.{Reply}
+use Rattle.line_protocol.specs.declared.answers.LineReply.{LineReply}
 use Rattle.script_runs.specs.State.{prepared_of}
 use Rattle.script_runs.specs.Stopping.{reply_where}
 use Rattle.script_runs.proofs.Added.{answered}
@@ -19,7 +19,7 @@ returns-clause-ok g c =
           c.args.number c.args.line.now (record { text = text; reply = c.in_ok-reply.reply }) (record { text = text; reply = c.end.result })
           c.count_entries-saved.ensures told c.save.ensures.script c.end.ensures.script
           (rw c.end.ensures.saver c.in_ok-save.ensures.ok)
-          (ap (λ (r : Reply). record { text = text; reply = r })
+          (ap (λ (r : LineReply). record { text = text; reply = r })
           (c.end.ensures.reply ∙ ap (λ (b : Bool). reply_where b c.in_ok-reply.reply) c.save.ensures.stops))
           (c.end.ensures.stops ∙ c.save.ensures.stops),
     )

@@ -10,7 +10,7 @@ use Rattle.filter_verifier.specs.Surveys.{surveyed}
 use Rattle.filter_verifier.specs.declared.in_state.InState.{InState}
 
 -- the text, the code, the byte of the text that each instruction comes from, and the size of the domains
-pub record SourceView : Type 0 where
+pub record SurveyedFilterView : Type 0 where
   pub text : List ℕ
   pub program : CodeView
   pub places : List ℕ
@@ -26,7 +26,7 @@ pub record AreKnown (program : CodeView) (size : ℕ) (states : List InState) : 
   pub each : (k : ℕ) → k < length states → state_at states k ≡ in_state program size k
 
 -- and before the instruction of an index
-abbrev pub known_at : SourceView → ℕ → Option InStateView
+abbrev pub known_at : SurveyedFilterView → ℕ → Option InStateView
 known_at source at =
     if nat_lt at (known_of source.program source.size) then Some (in_state source.program source.size at) else None
 

@@ -3,7 +3,7 @@ ghost use Rattle.std.specs.Prelude.{◌≡◌, ◌==◌, slice_get};
 ghost use Rattle.std.specs.List.{list_any};
 ghost use Rattle.std.specs.Option.{option_map};
 ghost use Rattle.filter_verifier.specs.Sweep.{in_state_view};
-ghost use Rattle.filter_lint.specs.Sources as spec;
+ghost use Rattle.filter_lint.specs.SurveyedFilters as spec;
 
 use filter_code::{Code, Instr};
 use filter_verifier::{InState, Survey};
@@ -13,9 +13,9 @@ use std::marker::Model;
 /// A filter's text, its code, for each instruction the byte of the text that it comes from, and what the verifier knows before the
 /// instructions in domains of a size.
 ///
-/// A contract sees it as a `SourceView`.
+/// A contract sees it as a `SurveyedFilterView`.
 #[derive(Drop)]
-pub(crate) struct Source<'a> {
+pub(crate) struct SurveyedFilter<'a> {
     text: &'a [u8],
     code: &'a Code,
     places: &'a [usize],
@@ -23,10 +23,10 @@ pub(crate) struct Source<'a> {
     survey: &'a Survey,
 }
 
-impl<'a> Model for Source<'a> {
-    ghost use Rattle.filter_lint.specs.Sources.{AreKnown, SourceView};
+impl<'a> Model for SurveyedFilter<'a> {
+    ghost use Rattle.filter_lint.specs.SurveyedFilters.{AreKnown, SurveyedFilterView};
 
-    ghost Value = { SourceView };
+    ghost Value = { SurveyedFilterView };
 
     ghost view = { λ s. record { text = s.text.now; program = s.code.now; places = s.places.now; size = s.size } };
 
@@ -40,7 +40,7 @@ fn has(places: &[usize], byte: usize) -> bool
     places.iter().any(|place| *place == byte)
 }
 
-impl<'a> Source<'a> {
+impl<'a> SurveyedFilter<'a> {
     /// That of a text, where the survey is that of its code.
     pub(crate) fn new(
         text: &'a [u8],
@@ -48,11 +48,11 @@ impl<'a> Source<'a> {
         places: &'a [usize],
         size: u32,
         survey: &'a Survey,
-    ) -> Source<'a>
+    ) -> SurveyedFilter<'a>
         requires { spec.AreKnown code.now size survey.now.in_states.items }
         ensures { result ≡ record { text = text.now; program = code.now; places = places.now; size = size } }
     {
-        Source {
+        SurveyedFilter {
             text,
             code,
             places,

@@ -12,7 +12,7 @@ pub enum Finding {
 
 /// A part of the routes: those whose prefix lies within one prefix, and whose length and metric are in two ranges.
 #[derive(Clone, Copy)]
-pub struct Part {
+pub struct RoutePart {
     /// The prefix within which the prefixes lie.
     pub prefix: Prefix,
     /// The least length of a prefix.
