@@ -1,7 +1,8 @@
 #!/usr/bin/env python3
-"""Writes the man pages of `ncroute` and its completions for bash, zsh and fish, all from what `ncroute --help` and the help of each command say.
+"""Writes the man pages of `ncroute` from what `ncroute --help` and the help of each command say and from the documents of `docs/` (as
+manual_documents.py has them), and its completions for bash, zsh and fish from the help alone.
 
-usage: make_manual.py NCROUTE FOLDER     (NCROUTE: the program as it is built; FOLDER gets share/man/man1, share/bash-completion, share/zsh, share/fish)
+usage: make_manual.py NCROUTE FOLDER     (NCROUTE: the program as it is built; FOLDER gets share/man, share/bash-completion, share/zsh, share/fish)
 """
 import os
 import re
@@ -9,7 +10,8 @@ import subprocess
 import sys
 import tempfile
 
-NAME = "ncroute"
+sys.dont_write_bytecode = True
+from manual_documents import NAME, documents, reference, roff  # noqa: E402
 
 
 class Option:
@@ -74,16 +76,15 @@ def commands_of(ncroute):
 # ---- man pages
 
 
-def roff(text):
-    """A text as roff has it: no sign means anything else, and no line is a request."""
-    escaped = text.replace("\\", "\\e").replace("-", "\\-").replace("'", "\\(aq").replace("`", "\\(ga").replace("^", "\\(ha").replace("~", "\\(ti")
-    return re.sub(r"(?m)^([.'])", r"\\&\1", escaped)
+def head(page, about):
+    """How a page begins. No word is cut, and no line stretched: what a page shows is often code."""
+    name, section = page
+    return [f'.TH {name.upper()} {section} "" "Gomthau" "Gomthau"', ".nh", ".ad l", ".SH NAME", f"{roff(name)} \\- {about}"]
 
 
-def page(command, others):
-    title = f"{NAME}-{command.name}" if command.name else NAME
-    lines = [f'.TH {title.upper()} 1 "" "Gomthau" "Gomthau"', ".SH NAME", f"{roff(title)} \\- {roff(command.about)}"]
-    lines += [".SH SYNOPSIS", ".nf", roff(command.usage), ".fi"]
+def of_command(command):
+    """What the help of a command says, as roff."""
+    lines = [".SH SYNOPSIS", ".nf", roff(command.usage), ".fi"]
     if command.commands:
         lines += [".SH COMMANDS"] + [line for name, about in command.commands for line in (".TP", f".B {roff(name)}", roff(about))]
     if command.arguments:
@@ -94,15 +95,32 @@ def page(command, others):
         lines += [".TP", f"\\fB{roff(', '.join(option.names))}\\fR{value}", roff(option.text)]
     if command.rest:
         lines += [".SH DESCRIPTION", ".nf", roff("\n\n".join(command.rest)), ".fi"]
-    if others:
-        lines += [".SH SEE ALSO", ", ".join(f"\\fB{roff(other)}\\fR(1)" for other in others)]
-    return "\n".join(lines) + "\n"
+    return lines
 
 
-def pages(commands):
-    titles = [f"{NAME}-{command.name}" if command.name else NAME for command in commands]
-    for title, command in zip(titles, commands):
-        yield f"share/man/man1/{title}.1", page(command, [other for other in titles if other != title])
+def related(page, documents, known):
+    """The pages that a page names at its end: those that its document refers to, and those whose documents refer to it; the program's names all."""
+    near = {(NAME, 1)} | {to for it in documents for to in it.references if it.page == page} | {it.page for it in documents if page in it.references}
+    return sorted((known if page == (NAME, 1) else near & known) - {page}, key=lambda it: (it[1], it[0]))
+
+
+def pages(commands, documents):
+    """Each man page, by its file: one for each command, with the document about it, and one for each other document."""
+    texts = {}
+    for command in commands:
+        page = (f"{NAME}-{command.name}" if command.name else NAME, 1)
+        texts[page] = head(page, roff(command.about)) + of_command(command)
+    for document in documents:
+        if document.page[1] != 1:
+            texts[document.page] = head(document.page, document.plain(document.title)) + [".SH DESCRIPTION", *document.lines]
+        elif document.page in texts:
+            texts[document.page] += [f".SH {document.heading_text(document.title, '.SH')}", *document.lines]
+        else:
+            sys.exit(f"docs/{document.name}.md is about {document.page[0]}, and there is no such command")
+    for page, lines in texts.items():
+        lines += [".SH SEE ALSO", ", ".join(map(reference, related(page, documents, set(texts))))]
+        # The first line has `man` call `tbl`.
+        yield f"share/man/man{page[1]}/{page[0]}.{page[1]}", "\n".join((["'\\\" t"] if ".TS" in lines else []) + lines) + "\n"
 
 
 # ---- completions
@@ -169,7 +187,7 @@ def main(words):
         sys.exit(__doc__)
     program, *commands = commands_of(words[0])
     files = {
-        **dict(pages([program, *commands])),
+        **dict(pages([program, *commands], documents())),
         "share/bash-completion/completions/ncroute": bash(program, commands),
         "share/zsh/site-functions/_ncroute": zsh(program, commands),
         "share/fish/vendor_completions.d/ncroute.fish": fish(program, commands),
