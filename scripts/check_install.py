@@ -14,7 +14,9 @@ import subprocess
 import sys
 import tempfile
 
-import program
+sys.dont_write_bytecode = True
+import manual_checks  # noqa: E402
+import program  # noqa: E402
 
 INSTALL = os.path.join(program.TOP, "scripts", "install.sh")
 FILTERS = sorted(glob.glob(os.path.join(program.TOP, "examples", "*.filter")))
@@ -117,19 +119,7 @@ def vim_differs(prefix):
     return None
 
 
-# ---- man pages and completions
-
-
-def pages_differ(prefix):
-    pages = sorted(os.listdir(os.path.join(prefix, "share/man/man1")))
-    if "ncroute.1" not in pages or "ncroute-check.1" not in pages:
-        return f"the pages are {pages}"
-    for page in pages:
-        path = os.path.join(prefix, "share/man/man1", page)
-        ran = subprocess.run(["groff", "-man", "-Tutf8", "-ww", path], capture_output=True, text=True)
-        if ran.stderr or "Print help" not in re.sub(r".\x08|\x1b\[\d*m", "", ran.stdout):
-            return f"{page}: {ran.stderr or 'no options'}"
-    return None
+# ---- completions
 
 
 def completed(prefix, words):
@@ -173,7 +163,10 @@ def fish_differs(prefix):
 CHECKS = (
     ("the TextMate grammar", None, textmate_differs),
     ("the syntax file of vim", "vim", vim_differs),
-    ("the man pages", "groff", pages_differ),
+    ("the files of the man pages", None, manual_checks.pages_missing),
+    ("the forms of the documents", None, manual_checks.forms_taken),
+    ("the signs of the man pages", "groff", manual_checks.signs_lost),
+    ("the man pages", "groff", manual_checks.pages_differ),
     ("the completions of bash", "bash", bash_differs),
     ("the completions of zsh", "zsh", zsh_differs),
     ("the completions of fish", "fish", fish_differs),
