@@ -2,7 +2,7 @@
 ghost use Rattle.std.specs.Prelude.{◌≡◌, Some};
 ghost use Rattle.line_protocol.specs.Words.{words, without_front_blanks};
 ghost use Rattle.prefix_patterns.specs.Reading.{number_in};
-ghost use Rattle.operator_cmds.specs.Limits.{number_limit};
+ghost use Rattle.line_protocol.specs.Limits.{number_limit};
 ghost use Rattle.operator_cmds.specs.WordLists.{after_word, one_of, two_of, three_of};
 ghost use Rattle.operator_cmds.specs.Commands.{made};
 ghost use Rattle.domain_cmds.specs.CommandView.{view_of};

@@ -8,3 +8,7 @@ line_limit = 1048576
 -- all that is read
 abbrev pub input_limit : ℕ
 input_limit = 16777216
+
+-- a number of a line is at most this, where nothing else is said of it
+abbrev pub number_limit : ℕ
+number_limit = 65535

@@ -25,5 +25,8 @@ pub use words::{next_word, trim_blanks, trim_front_blanks};
 /// return before that not counted.
 pub const LINE_LIMIT: usize = 1_048_576;
 
+/// A number of a line is at most this, where nothing else is said of it.
+pub const NUMBER_LIMIT: u32 = 65_535;
+
 /// An input of more bytes than this ends with `StreamFault::TooLong`, unless the engine is given another limit.
 pub const INPUT_LIMIT: usize = 16_777_216;

@@ -36,7 +36,8 @@ use Rattle.operator_cmds.specs.Alike.{AreAlike, AreAlikeAnswers, AreAlikeJournal
 use Rattle.operator_cmds.specs.CommandView.{CommandView, Network, Prefix, Load, Code, Import, Export, Up, Down, Receive, Take, Show, Look, History}
 use Rattle.operator_cmds.specs.Commands.{Read, command_in}
 use Rattle.operator_cmds.specs.Faults.{fault_code}
-use Rattle.operator_cmds.specs.Limits.{history_count, number_limit}
+use Rattle.line_protocol.specs.Limits.{number_limit}
+use Rattle.operator_cmds.specs.Limits.{history_count}
 use Rattle.operator_cmds.specs.Looks.{entries_text, looked, told_entries}
 use Rattle.operator_cmds.specs.Replies.{answered, refused, reply_answer}
 use Rattle.operator_cmds.specs.Running.{IsCarriedOut}

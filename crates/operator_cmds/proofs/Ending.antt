@@ -17,7 +17,7 @@ use Rattle.netchange_core.specs.declared.event.Event.TheVariants as event
 use Rattle.route_history.specs.JournalView.{JournalView}
 use Rattle.operator_cmds.specs.CommandView.{CommandView, Network, Prefix, Load, Code, Import, Export, Up, Down, Receive, Take, Show, Look, History}
 use Rattle.operator_cmds.specs.Commands.{Read, command_in}
-use Rattle.operator_cmds.specs.Limits.{number_limit}
+use Rattle.line_protocol.specs.Limits.{number_limit}
 use Rattle.operator_cmds.specs.Looks.{can_look, look_text}
 use Rattle.operator_cmds.specs.Script
 use Rattle.operator_cmds.specs.Script.{AnswersLine, ScriptView, fresh}

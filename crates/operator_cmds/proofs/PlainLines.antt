@@ -5,7 +5,7 @@ use Rattle.std.proofs.lemmas.List.{nil_from_length}
 use Rattle.std.proofs.lemmas.List.Elements.{All-cons, All-nil, All-weaker}
 use Rattle.std.specs.Prelude.{codes}
 use Rattle.line_protocol.proofs.WordLemmas.{words-next, words-only}
-use Rattle.line_protocol.specs.Limits.{line_limit}
+use Rattle.line_protocol.specs.Limits.{line_limit, number_limit}
 use Rattle.line_protocol.specs.Words.{is_blank, words}
 use Rattle.prefix_patterns.proofs.LeadingTokens.{BeginsWithNumber as BeginsWithDigits}
 use Rattle.prefix_patterns.proofs.Numbers.{number_in-some}
@@ -15,7 +15,6 @@ use Rattle.prefix_patterns.specs.Number.{IsDigits}
 use Rattle.prefix_patterns.specs.Reading.{number_in}
 use Rattle.operator_cmds.specs.CommandView.{Show, Take}
 use Rattle.operator_cmds.specs.Commands.{command_in, command_of, command_of_words, made, node_in, receive_of, text_in}
-use Rattle.operator_cmds.specs.Limits.{number_limit}
 use Rattle.operator_cmds.specs.PlainLines.{AreThreeNumbers, BeginsWithNumber}
 use Rattle.operator_cmds.specs.Verbs.{verb_in}
 use Rattle.operator_cmds.specs.WordLists.{one_of, three_of}

@@ -2,11 +2,11 @@
 use Rattle.std.specs.Prelude.{ℕ, Bool, ◌&&◌, List, [], ◌∷◌, length, nat_lt, Option, Some, None, Result, Ok, Err, if◌then◌else◌}
 use Rattle.hex.specs.Hex.{decode_of}
 use Rattle.hex.specs.declared.error.FromHexError.{FromHexError}
-use Rattle.line_protocol.specs.Limits.{line_limit}
+use Rattle.line_protocol.specs.Limits.{line_limit, number_limit}
 use Rattle.line_protocol.specs.Words.{words, without_front_blanks}
 use Rattle.prefix_patterns.specs.Reading.{number_in, prefix_in}
 use Rattle.operator_cmds.specs.CommandView.{CommandView, Network, Prefix, Load, Code, Import, Export, Up, Down, Receive, Take, Show, Look, History}
-use Rattle.operator_cmds.specs.Limits.{number_limit, largest_limit}
+use Rattle.operator_cmds.specs.Limits.{largest_limit}
 use Rattle.operator_cmds.specs.Names.{is_name}
 use Rattle.operator_cmds.specs.Networks.{is_network}
 use Rattle.operator_cmds.specs.Verbs.{verb_in}

@@ -1,10 +1,6 @@
 -- The limits of the words of a command. (This project's own choice.)
 use Rattle.std.specs.Prelude.{ℕ}
 
--- a number is at most this, the limit of a history excepted
-abbrev pub number_limit : ℕ
-number_limit = 65535
-
 -- the most entries of a history, which is also its limit where none is given
 abbrev pub largest_limit : ℕ
 largest_limit = 1000000

@@ -4,7 +4,7 @@ use Rattle.line_protocol.specs.Words.{words}
 use Rattle.prefix_patterns.specs.Leading.{IsUsualNumber}
 use Rattle.prefix_patterns.specs.Reading.{number_in}
 use Rattle.operator_cmds.specs.CommandView.{CommandView, Receive, Take, Show}
-use Rattle.operator_cmds.specs.Limits.{number_limit}
+use Rattle.line_protocol.specs.Limits.{number_limit}
 use Rattle.operator_cmds.specs.declared.plain.PlainCommand.{PlainCommand}
 use Rattle.operator_cmds.specs.declared.plain.PlainCommand.TheVariants as plain
 

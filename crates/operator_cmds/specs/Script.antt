@@ -30,7 +30,7 @@ use Rattle.operator_cmds.specs.CommandView.{CommandView, Network, Prefix, Load, 
 use Rattle.operator_cmds.specs.Commands.{Read, command_in}
 use Rattle.operator_cmds.specs.Domain.{default_opening, limit_or}
 use Rattle.operator_cmds.specs.Faults.{fault_code}
-use Rattle.operator_cmds.specs.Limits.{number_limit}
+use Rattle.line_protocol.specs.Limits.{number_limit}
 use Rattle.operator_cmds.specs.Looks.{history_text, looked}
 use Rattle.operator_cmds.specs.Replies.{answered, refused, reply_answer}
 use Rattle.operator_cmds.specs.Stages.{StageView, Empty, Setting, Open, journal_in, new_journal, session_in, session_number}

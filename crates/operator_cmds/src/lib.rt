@@ -30,9 +30,6 @@ pub use reply::{answer_reply, confirm, push_via, refuse};
 pub use watch::{Nobody, RefusedLine, Watch};
 pub use words::{cut_word, one_word, text_in, three_words, two_words};
 
-/// A number of a command, the limit of a history excepted, is at most this.
-pub const NUMBER_LIMIT: u32 = 65_535;
-
 /// The most entries that are told at once.
 pub const HISTORY_COUNT: usize = 100;
 

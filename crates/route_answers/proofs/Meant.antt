@@ -11,7 +11,7 @@ use Rattle.filter_compiler.specs.Verdicts.{Verdict, meaning}
 use Rattle.filter_parser.specs.SyntaxText.{FilterView}
 use Rattle.filter_verifier.specs.Safe.{IsRouteOf, IsSafe}
 use Rattle.line_protocol.specs.Answers.{Answer}
-use Rattle.line_protocol.specs.Limits.{line_limit}
+use Rattle.line_protocol.specs.Limits.{line_limit, number_limit}
 use Rattle.line_protocol.specs.Words.{words}
 use Rattle.line_protocol.specs.declared.answers.LineReply.TheVariants as reply
 use Rattle.prefix_patterns.proofs.Tokens.{prefix_in-found}
@@ -19,7 +19,6 @@ use Rattle.prefix_patterns.specs.Reading.{number_in, prefix_in}
 use Rattle.route_answers.proofs.Evaluated.{short_prefix}
 use Rattle.filter_reports.proofs.Saying.{says_the_same}
 use Rattle.route_answers.specs.Eval.{Line, answer_of, verdict}
-use Rattle.route_answers.specs.Limits.{number_limit}
 use Rattle.route_answers.specs.RouteLine.{parts_in, route_in, route_of_parts, route_of_words}
 use Rattle.filter_reports.specs.Saying.{Says, SaysTheSame}
 use Rattle.route_answers.specs.declared.line_fault.LineFault.{LineFault}

@@ -5,7 +5,7 @@ use Rattle.std.proofs.lemmas.List.{nil_from_length}
 use Rattle.std.proofs.lemmas.List.Elements.{All-weaker}
 use Rattle.filter_code.specs.RouteView.{IsWithinLimits, RouteView}
 use Rattle.line_protocol.proofs.WordLemmas.{words-next, words-only}
-use Rattle.line_protocol.specs.Limits.{line_limit}
+use Rattle.line_protocol.specs.Limits.{line_limit, number_limit}
 use Rattle.line_protocol.specs.Words.{is_blank, words}
 use Rattle.prefix_patterns.proofs.LeadingTokens.{BeginsWithNumber}
 use Rattle.prefix_patterns.proofs.TokenBytes.{IsFromDot, digits_bytes, prefix_bytes, prefix_some}
@@ -15,7 +15,6 @@ use Rattle.prefix_patterns.proofs.Numbers.{number_in-some}
 use Rattle.prefix_patterns.proofs.Tokens.{prefix_in-only}
 use Rattle.prefix_patterns.specs.Number.{decimal_value}
 use Rattle.prefix_patterns.specs.Reading.{number_in}
-use Rattle.route_answers.specs.Limits.{number_limit}
 use Rattle.route_answers.specs.RouteLine.{BeginsWithSize, IsUsualEnd, IsUsualLine, parts_in, route_in, route_of_words}
 use Rattle.route_answers.proofs.RouteLines.{read_within, within_limits}
 

@@ -3,14 +3,13 @@ use Rattle.std.proofs.Common.{◌≡◌, ◌≢◌, ◌≤◌, ◌↔◌, ◌⊎
 use Rattle.std.proofs.lemmas.Bool.{cases_lt}
 use Rattle.std.proofs.lemmas.Bool.Decides.{nat_tests}
 use Rattle.filter_code.specs.RouteView.{IsWithinLimits, RouteView, is_within_limits}
-use Rattle.line_protocol.specs.Limits.{line_limit}
+use Rattle.line_protocol.specs.Limits.{line_limit, number_limit}
 use Rattle.line_protocol.specs.Words.{words}
 use Rattle.prefix_patterns.proofs.Numbers.{number_in-found, number_in-some}
 use Rattle.prefix_patterns.proofs.Tokens.{prefix_in-found, prefix_in-only}
 use Rattle.prefix_patterns.specs.Number.{IsNumber, decimal_value}
 use Rattle.prefix_patterns.specs.Reading.{number_in, prefix_in}
 use Rattle.prefix_patterns.specs.Token.{IsPrefix}
-use Rattle.route_answers.specs.Limits.{number_limit}
 use Rattle.route_answers.specs.RouteLine.{AreNumbers, HasThreeWords, IsLineFault, IsRouteLine, route_in, parts_in, route_of_parts, route_of_words}
 use Rattle.route_answers.specs.declared.line_fault.LineFault.{LineFault}
 use Rattle.route_answers.specs.declared.line_fault.LineFault.TheVariants.{Words, Numbers, TooLong, Prefix}

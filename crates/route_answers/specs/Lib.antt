@@ -1,5 +1,4 @@
 -- What callers cite.
-pub mod Limits
 pub mod RouteLine
 pub mod Eval
 pub mod Evaluation

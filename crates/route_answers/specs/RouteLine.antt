@@ -6,8 +6,7 @@ use Rattle.prefix_patterns.specs.Reading.{number_in, prefix_in}
 use Rattle.prefix_patterns.specs.Token.{IsPrefix}
 use Rattle.filter_code.specs.RouteView.{IsWithinLimits, RouteView, is_within_limits}
 use Rattle.line_protocol.specs.Words.{words}
-use Rattle.line_protocol.specs.Limits.{line_limit}
-use Rattle.route_answers.specs.Limits.{number_limit}
+use Rattle.line_protocol.specs.Limits.{line_limit, number_limit}
 use Rattle.route_answers.specs.declared.line_fault.LineFault.{LineFault}
 use Rattle.route_answers.specs.declared.line_fault.LineFault.TheVariants.{Words, Numbers, TooLong, Prefix}
 

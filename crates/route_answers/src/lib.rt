@@ -24,6 +24,3 @@ pub use line_fault::LineFault;
 pub use route_line::read_route;
 pub use told_routes::{Routes, eval_named, filter_named};
 pub use watch::{Nobody, RefusedRoute, WatchRoutes, WhyRefused};
-
-/// A number of a route line is at most this.
-pub const NUMBER_LIMIT: u32 = 65_535;

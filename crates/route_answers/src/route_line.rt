@@ -1,16 +1,14 @@
 //! A route line: `PREFIX METRIC SIZE`, or `PREFIX METRIC` where the size of the domain is given.
 ghost use Rattle.std.specs.Prelude.{◌≡◌, ◌≤◌, ℕ, [], length, IfSome, IsSome, IsSomeAnd, Ok};
 ghost use Rattle.std.specs.Option.{option_map};
-ghost use Rattle.line_protocol.specs.Limits.{line_limit};
+ghost use Rattle.line_protocol.specs.Limits.{line_limit, number_limit};
 ghost use Rattle.line_protocol.specs.Words.{words};
 ghost use Rattle.prefix_patterns.specs.Reading.{number_in, prefix_in};
-ghost use Rattle.route_answers.specs.Limits.{number_limit};
 ghost use Rattle.route_answers.specs.RouteLine.{BeginsWithSize, IsUsualEnd, IsUsualLine, parts_in, route_in, route_of_parts};
 
-use crate::NUMBER_LIMIT;
 use crate::line_fault::LineFault;
 use filter_code::Route;
-use line_protocol::{LINE_LIMIT, next_word};
+use line_protocol::{LINE_LIMIT, NUMBER_LIMIT, next_word};
 use prefix_patterns::{after_byte, leading_number, leading_prefix, read_number, read_prefix};
 
 /// The texts of the prefix and of the metric of a line, and its size: the given one, or the number of its third word.

@@ -3,7 +3,8 @@
 use crate::finding::{Finding, found_at};
 use crate::forms::ScriptKind;
 use crate::spelling::{byte_of_word, no_such_node, number_at, spelled, word_at};
-use operator_cmds::{NUMBER_LIMIT, read_small};
+use line_protocol::NUMBER_LIMIT;
+use operator_cmds::read_small;
 use prefix_patterns::read_number;
 use route_history::LARGEST_LIMIT;
 use std::alloc::{AllocError, Global};
