@@ -5,7 +5,7 @@ ghost use Rattle.filter_code.specs.CodeView.{HasMask};
 ghost use Rattle.expression_parser.specs.Syntax.{RangeView, view};
 ghost use Rattle.filter_parser.specs.SyntaxCommands.{case, commands_of, parts_of, view_command, view_decl, view_part, view_target};
 ghost use Rattle.filter_parser.specs.SyntaxText.{view_filter};
-ghost use Rattle.filter_types.specs.Kinds.{variable_limit};
+ghost use Rattle.filter_parser.specs.Surroundings.{variable_limit};
 ghost use Rattle.filter_compiler.specs.InstructionPlaces.{case_places, command_places, decl_places, expression_places, label_place, part_of, parts_places, target_places};
 ghost use Rattle.filter_compiler.specs.Translation.{commands_code, declarations_code, expression_code, first_value, metric_code, target_code};
 ghost use Rattle.filter_compiler.specs.SetOrder.{SetCounts};

@@ -3,7 +3,7 @@
 ghost use Rattle.std.specs.Prelude.{◌≡◌, ◌↔◌, ◌≤◌, true, IfOk, IsErrOf, length};
 ghost use Rattle.filter_parser.specs.Places.{end_place};
 ghost use Rattle.filter_parser.specs.SyntaxText.{view_filter};
-ghost use Rattle.filter_types.specs.Kinds.{variable_limit};
+ghost use Rattle.filter_parser.specs.Surroundings.{variable_limit};
 ghost use Rattle.filter_code.specs.CodeView.{IsAllowed, CodeView};
 ghost use Rattle.filter_compiler.specs.InstructionPlaces.{places_of};
 ghost use Rattle.filter_compiler.specs.Limits.{HasTooMany, IsTooLong};

@@ -15,9 +15,6 @@ use filter_code::Code;
 use prefix_patterns::{ADDRESS_LENGTH, Ip, Prefix};
 use std::alloc::{AllocError, Global};
 
-/// The limit of work where none is chosen: so many classes of routes are tried at most.
-pub const CLASS_LIMIT: u64 = 1_000_000;
-
 /// What a comparison of two codes found.
 #[derive(Drop)]
 pub struct Comparison {

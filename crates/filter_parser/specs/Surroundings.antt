@@ -14,9 +14,9 @@ use Rattle.filter_tokens.specs.declared.token.Token.{Token}
 use Rattle.filter_tokens.specs.declared.token_kind.TokenKind.{TokenKind}
 use Rattle.filter_tokens.specs.declared.token_kind.TokenKind.TheVariants as kind
 
--- how many names are kept: as many as a filter may declare
-abbrev pub name_limit : ℕ
-name_limit = 16
+-- how many variables a filter may declare; so many names are kept
+abbrev pub variable_limit : ℕ
+variable_limit = 16
 
 -- whether a token is the name of a kind, with which a declaration begins
 abbrev pub names_kind : Symbol → Bool
@@ -37,15 +37,15 @@ is_name other = false
 
 -- no names, and their places
 abbrev pub no_names : Names
-no_names = record { count = 0; places = replicate name_limit 0 }
+no_names = record { count = 0; places = replicate variable_limit 0 }
 
 abbrev pub places_of : Names → List ℕ
-places_of names = take (min names.count name_limit) names.places
+places_of names = take (min names.count variable_limit) names.places
 
 -- names with one more, while there is room
 abbrev pub with_name : Names → ℕ → Names
 with_name names place =
-    if nat_lt names.count name_limit then record { count = names.count + 1; places = slice_set names.places names.count place } else names
+    if nat_lt names.count variable_limit then record { count = names.count + 1; places = slice_set names.places names.count place } else names
 
 -- where the names begin that tokens declare, each behind the name of its kind, after those that were found before; `after` says
 -- whether the name of a kind stands before the first token

@@ -34,7 +34,7 @@ use Rattle.filter_parser.proofs.Placing.{kept_case}
 use Rattle.filter_types.specs.Codes.{fault_place}
 use Rattle.filter_types.specs.Faults.{CommandHasFault, CommandHasOwnFault, HasFault, HasOwnFault, IsFaultOf, IsOtherKind, IsOtherThanTarget}
 use Rattle.filter_types.specs.Faults.{IsRefusedOperator, IsTargetFault, KeepsPlace, SharesLabel, commands_in, expressions, operands}
-use Rattle.filter_types.specs.Kinds.{variable_limit}
+use Rattle.filter_parser.specs.Surroundings.{variable_limit}
 use Rattle.filter_types.specs.Labels.{AreAllApart, AreApart, label_ranges}
 use Rattle.filter_types.specs.Refusals.{first_place, label_place}
 use Rattle.filter_types.specs.Table.{argument_kind}

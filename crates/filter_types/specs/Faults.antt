@@ -24,7 +24,8 @@ use Rattle.filter_parser.specs.declared.tree.filter.Filter.{Filter}
 use Rattle.expression_parser.specs.declared.tree.op.Op.{Op}
 use Rattle.expression_parser.specs.declared.tree.op.Suffix.{Suffix}
 use Rattle.filter_types.specs.Codes.{expected_of}
-use Rattle.filter_types.specs.Kinds.{kind_in, kind_named, target_kind, variable_limit}
+use Rattle.filter_parser.specs.Surroundings.{variable_limit}
+use Rattle.filter_types.specs.Kinds.{kind_in, kind_named, target_kind}
 use Rattle.filter_types.specs.Labels.{AreAllApart, label_ranges}
 use Rattle.filter_types.specs.Refusals.{OperandView, label_place, member_refusal, operator_refusal, suffix_refusal, wrong_kind}
 use Rattle.filter_types.specs.Table.{argument_kind, condition_kind, in_set, negated, operator, suffixed_by}

@@ -8,6 +8,7 @@ use Rattle.std.specs.Option.{option_map}
 use Rattle.std.specs.Str.{bytes_eq}
 use Rattle.expression_parser.specs.Syntax.{ExprView, number, address, prefix, truth, name, attribute, defined}
 use Rattle.expression_parser.specs.Syntax.{group, negation, binary, member, suffixed}
+use Rattle.filter_parser.specs.Surroundings.{variable_limit}
 use Rattle.filter_parser.specs.SyntaxCommands.{CommandView, CommandsView, PartsView, TargetView, DeclView, to_name, to_metric, to_net}
 use Rattle.filter_parser.specs.SyntaxCommands.{empty, block, if_then, if_else, case, assign, accept, reject, no_commands, command_then}
 use Rattle.filter_parser.specs.SyntaxCommands.{no_parts, part_then}
@@ -17,10 +18,6 @@ use Rattle.filter_parser.specs.declared.tree.decl.Kind.TheVariants as kind
 use Rattle.expression_parser.specs.declared.tree.expr.Attribute.TheVariants as attributes
 use Rattle.filter_types.specs.Labels.{AreAllApart, labels_of}
 use Rattle.filter_types.specs.Table.{operator, negated, in_set, suffixed_by, attribute_kind, condition_kind, argument_kind}
-
--- the greatest number of variables in a filter
-abbrev pub variable_limit : ℕ
-variable_limit = 16
 
 -- the number of a variable: variables are numbered from 0 in the order of declaration, and a name that none has gets their count
 abbrev pub number_of : List DeclView → List ℕ → ℕ

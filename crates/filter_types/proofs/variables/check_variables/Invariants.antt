@@ -1,6 +1,7 @@
 use Rattle.std.proofs.Common.{◌≤◌, map, take}
 use Rattle.filter_parser.specs.SyntaxCommands.{view_decl}
-use Rattle.filter_types.specs.Kinds.{AreDeclaredOnce, variable_limit}
+use Rattle.filter_parser.specs.Surroundings.{variable_limit}
+use Rattle.filter_types.specs.Kinds.{AreDeclaredOnce}
 use Rattle.filter_types.proofs.variables.check_variables.Given as goal
 
 -- the variables before have names of their own, and there are not too many of them
