@@ -81,7 +81,7 @@ name_of : (bytes name : List ℕ) (kind : TokenKind) → lexeme_of bytes kind �
 name_of bytes name token.Name is = (refl, cc)
 name_of bytes name (token.Number n) is = cc
 name_of bytes name (token.Address a) is = cc
-name_of bytes name (token.Prefix bits) is = cc
+name_of bytes name (token.Prefix has_host_bits bits) is = cc
 name_of bytes name token.Text is = cc
 name_of bytes name (token.Symbol m) is = cc
 

@@ -15,7 +15,7 @@ abbrev pub kind_of : TokenKind → WordKind
 kind_of token.Name = kind.Name
 kind_of (token.Number n) = kind.Number
 kind_of (token.Address a) = kind.Address a.0
-kind_of (token.Prefix bits) = kind.Prefix
+kind_of (token.Prefix has_host_bits prefix) = kind.Prefix
 kind_of token.Text = kind.Text
 kind_of (token.Symbol symbol) = kind.Symbol symbol
 

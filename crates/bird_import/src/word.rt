@@ -42,7 +42,7 @@ impl WordKind {
             TokenKind::Name => WordKind::Name,
             TokenKind::Number(_) => WordKind::Number,
             TokenKind::Address(Ip(number)) => WordKind::Address(number),
-            TokenKind::Prefix(_) => WordKind::Prefix,
+            TokenKind::Prefix { .. } => WordKind::Prefix,
             TokenKind::Text => WordKind::Text,
             TokenKind::Symbol(symbol) => WordKind::Symbol(symbol),
         }

@@ -74,7 +74,7 @@ fn parse_single<'a>(alloc: Global, input: Input<'a>) -> Result<(Expr, Input<'a>)
     match &first.kind {
         TokenKind::Number(n) => Ok((Expr::Number(at, *n), rest)),
         TokenKind::Address(ip) => Ok((Expr::Address(at, *ip), rest)),
-        TokenKind::Prefix(prefix) => Ok((Expr::Prefix(at, *prefix), rest)),
+        TokenKind::Prefix { prefix, .. } => Ok((Expr::Prefix(at, *prefix), rest)),
         TokenKind::Name => Ok((Expr::Name(at, input.name(alloc, first)?), rest)),
         TokenKind::Symbol(symbol) => match keyword_expr(at, *symbol) {
             Some(found) => Ok((found, rest)),

@@ -203,7 +203,7 @@ impl<'a> Input<'a> {
             return Err(self.unexpected(Expected::Prefix));
         };
         match &first.kind {
-            TokenKind::Prefix(prefix) => Ok((*prefix, rest)),
+            TokenKind::Prefix { prefix, .. } => Ok((*prefix, rest)),
             _ => Err(self.unexpected(Expected::Prefix)),
         }
     }

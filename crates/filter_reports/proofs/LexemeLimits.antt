@@ -5,6 +5,7 @@ use Rattle.prefix_patterns.specs.BitLists.{length-prefix_bits}
 use Rattle.prefix_patterns.specs.Number.{decimal_value}
 use Rattle.prefix_patterns.specs.Token.{IsAddress}
 use Rattle.prefix_patterns.specs.declared.address.Ip.{Ip}
+use Rattle.prefix_patterns.specs.declared.written.WrittenPrefix.{WrittenPrefix}
 use Rattle.filter_tokens.specs.Lexemes.{Lexeme, covered, lexeme_of, lexemes}
 use Rattle.filter_tokens.specs.Meaning.{Means}
 use Rattle.filter_tokens.specs.Tokenization.{AreParts, tokens_among}
@@ -60,22 +61,22 @@ means_address shape.Prefix bytes a means = absurd means
 means_address shape.Text bytes a means = absurd means
 means_address (shape.Punctuator p) bytes a means = absurd means
 
-prefix_small : (shape : Shape) (bytes : List ℕ) (bits : List Bool) → Means shape bytes (kind.Prefix bits) → length bits ≤ 32
-prefix_small shape.Word bytes bits means = absurd means
-prefix_small shape.Decimal bytes bits means = absurd means
-prefix_small shape.Hexadecimal bytes bits means = absurd means
-prefix_small shape.Address bytes bits means = absurd means
-prefix_small shape.Prefix bytes bits means =
+prefix_small : (shape : Shape) (bytes : List ℕ) (flag : Bool) (bits : List Bool) → Means shape bytes (kind.Prefix flag bits) → length bits ≤ 32
+prefix_small shape.Word bytes flag bits means = absurd means
+prefix_small shape.Decimal bytes flag bits means = absurd means
+prefix_small shape.Hexadecimal bytes flag bits means = absurd means
+prefix_small shape.Address bytes flag bits means = absurd means
+prefix_small shape.Prefix bytes flag bits means =
     let limit : decimal_value means.length_text ≤ 32 = means.is_length.1 in
-    omega (arith, ap length means.cleared, length-prefix_bits means.address (decimal_value means.length_text) limit, limit)
-prefix_small shape.Text bytes bits means = absurd means
-prefix_small (shape.Punctuator p) bytes bits means = absurd means
+    omega (arith, ap (λ (w : WrittenPrefix). length w.prefix) means.value, length-prefix_bits means.address (decimal_value means.length_text) limit, limit)
+prefix_small shape.Text bytes flag bits means = absurd means
+prefix_small (shape.Punctuator p) bytes flag bits means = absurd means
 
 lexeme_small : (shape : Shape) (bytes name : List ℕ) (k : TokenKind) → Means shape bytes k → IsSmall (lexeme_of name k)
 lexeme_small s bytes name kind.Name means = tt
 lexeme_small s bytes name (kind.Number n) means = number_small s bytes n means
 lexeme_small s bytes name (kind.Address a) means = means_address s bytes a means
-lexeme_small s bytes name (kind.Prefix bits) means = prefix_small s bytes bits means
+lexeme_small s bytes name (kind.Prefix flag bits) means = prefix_small s bytes flag bits means
 lexeme_small s bytes name kind.Text means = tt
 lexeme_small s bytes name (kind.Symbol m) means = tt
 

@@ -114,7 +114,7 @@ fn in_place_of_member(kind: TokenKind) -> Option<&'static str> {
 /// What to write in place of a token where a number is missing.
 fn in_place_of_number(kind: TokenKind) -> Option<&'static str> {
     match kind {
-        TokenKind::Prefix(_) => Some(ONE_KIND),
+        TokenKind::Prefix { .. } => Some(ONE_KIND),
         _ => None,
     }
 }

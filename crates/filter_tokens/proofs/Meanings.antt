@@ -9,9 +9,9 @@ use Rattle.std.proofs.lemmas.Bool.{not_from_false, cond-true, or_cases, agree_be
 use Rattle.std.proofs.lemmas.List.Elements.{All-head, All-tail, All-same}
 use Rattle.std.proofs.lemmas.Option.{cond_some, same_Some}
 use Rattle.std.proofs.Math.Nat.{mul-le-mul_left, pow-succ'}
-use Rattle.prefix_patterns.specs.Reading.{◌>>=◌, number_in, address_in, prefix_in}
+use Rattle.prefix_patterns.specs.Reading.{◌>>=◌, number_in, address_in, written_in}
 use Rattle.prefix_patterns.proofs.Numbers.{number_in-some, number_in-found}
-use Rattle.prefix_patterns.proofs.Tokens.{address_in-found, address_in-only, prefix_in-found, prefix_in-only}
+use Rattle.prefix_patterns.proofs.Tokens.{address_in-found, address_in-only, written_in-found, written_in-only}
 use Rattle.filter_tokens.specs.declared.symbol.Symbol.{Symbol}
 use Rattle.filter_tokens.specs.declared.shape.Shape.{Shape}
 use Rattle.filter_tokens.specs.declared.shape.Shape.TheVariants as shape
@@ -19,7 +19,7 @@ use Rattle.filter_tokens.specs.declared.token_kind.TokenKind.{TokenKind}
 use Rattle.filter_tokens.specs.declared.token_kind.TokenKind.TheVariants as kind
 use Rattle.filter_tokens.specs.Symbols.{symbol_text}
 use Rattle.filter_tokens.specs.Meaning.{greatest_number, longest_name, hexadecimal_value, IsName, IsHexadecimal, Means}
-use Rattle.filter_tokens.specs.Reading.{keyword_in, is_left_out, name_in, keyword_or, word_in, with_digit, hexadecimal_from}
+use Rattle.filter_tokens.specs.Reading.{keyword_in, is_left_out, name_in, keyword_or, word_in, with_digit, hexadecimal_from, prefix_kind}
 use Rattle.filter_tokens.specs.Reading.{hexadecimal_in, meaning_in}
 use Rattle.filter_tokens.specs.Shapes.{zero_digit, small_x, IsWord, AreHexadecimal, HasShape}
 use Rattle.filter_tokens.proofs.Fronts.{bind_some, map_some}
@@ -186,8 +186,8 @@ meaning-found shape.Address bytes made is e =
     let some = map_some (λ (address : ℕ). kind.Address (record { 0 = address })) (address_in bytes) made e in
     subst (Means shape.Address bytes) some.2 (address_in-found bytes some.0 some.1)
 meaning-found shape.Prefix bytes made is e =
-    let some = map_some kind.Prefix (prefix_in bytes) made e in
-    subst (Means shape.Prefix bytes) some.2 (prefix_in-found bytes some.0 some.1)
+    let some = map_some prefix_kind (written_in bytes) made e in
+    subst (Means shape.Prefix bytes) some.2 (written_in-found bytes some.0 some.1)
 meaning-found shape.Text bytes made is e = subst (Means shape.Text bytes) (same_Some _ _ e) tt
 meaning-found (shape.Punctuator punctuator) bytes made is e = subst (Means (shape.Punctuator punctuator) bytes) (same_Some _ _ e) refl
 
@@ -197,7 +197,7 @@ pub meaning-there : (kind : Shape) (bytes : List ℕ) (made : TokenKind) → Has
 meaning-there shape.Word bytes kind.Name is means = name_there bytes means
 meaning-there shape.Word bytes (kind.Number n) is means = absurd means
 meaning-there shape.Word bytes (kind.Address a) is means = absurd means
-meaning-there shape.Word bytes (kind.Prefix bits) is means = absurd means
+meaning-there shape.Word bytes (kind.Prefix has_host_bits prefix) is means = absurd means
 meaning-there shape.Word bytes kind.Text is means = absurd means
 meaning-there shape.Word bytes (kind.Symbol symbol) is means = keyword_there bytes symbol is means
 meaning-there shape.Decimal bytes kind.Name is means = absurd means
@@ -205,37 +205,37 @@ meaning-there shape.Decimal bytes (kind.Number n) is means =
     ap (option_map kind.Number) (number_in-some greatest_number bytes (is, omega (arith, means.0, means.1)))
     ∙ ap (λ n. Some (kind.Number n)) (sym means.0)
 meaning-there shape.Decimal bytes (kind.Address a) is means = absurd means
-meaning-there shape.Decimal bytes (kind.Prefix bits) is means = absurd means
+meaning-there shape.Decimal bytes (kind.Prefix has_host_bits prefix) is means = absurd means
 meaning-there shape.Decimal bytes kind.Text is means = absurd means
 meaning-there shape.Decimal bytes (kind.Symbol symbol) is means = absurd means
 meaning-there shape.Hexadecimal bytes kind.Name is means = absurd means
 meaning-there shape.Hexadecimal bytes (kind.Number n) is means = ap (option_map kind.Number) (hexadecimal_there bytes n is means)
 meaning-there shape.Hexadecimal bytes (kind.Address a) is means = absurd means
-meaning-there shape.Hexadecimal bytes (kind.Prefix bits) is means = absurd means
+meaning-there shape.Hexadecimal bytes (kind.Prefix has_host_bits prefix) is means = absurd means
 meaning-there shape.Hexadecimal bytes kind.Text is means = absurd means
 meaning-there shape.Hexadecimal bytes (kind.Symbol symbol) is means = absurd means
 meaning-there shape.Address bytes kind.Name is means = absurd means
 meaning-there shape.Address bytes (kind.Number n) is means = absurd means
 meaning-there shape.Address bytes (kind.Address a) is means =
     ap (option_map (λ (address : ℕ). kind.Address (record { 0 = address }))) (address_in-only bytes a.0 means)
-meaning-there shape.Address bytes (kind.Prefix bits) is means = absurd means
+meaning-there shape.Address bytes (kind.Prefix has_host_bits prefix) is means = absurd means
 meaning-there shape.Address bytes kind.Text is means = absurd means
 meaning-there shape.Address bytes (kind.Symbol symbol) is means = absurd means
 meaning-there shape.Prefix bytes kind.Name is means = absurd means
 meaning-there shape.Prefix bytes (kind.Number n) is means = absurd means
 meaning-there shape.Prefix bytes (kind.Address a) is means = absurd means
-meaning-there shape.Prefix bytes (kind.Prefix bits) is means = ap (option_map kind.Prefix) (prefix_in-only bytes bits means)
+meaning-there shape.Prefix bytes (kind.Prefix has_host_bits prefix) is means = ap (option_map prefix_kind) (written_in-only bytes _ means)
 meaning-there shape.Prefix bytes kind.Text is means = absurd means
 meaning-there shape.Prefix bytes (kind.Symbol symbol) is means = absurd means
 meaning-there shape.Text bytes kind.Name is means = absurd means
 meaning-there shape.Text bytes (kind.Number n) is means = absurd means
 meaning-there shape.Text bytes (kind.Address a) is means = absurd means
-meaning-there shape.Text bytes (kind.Prefix bits) is means = absurd means
+meaning-there shape.Text bytes (kind.Prefix has_host_bits prefix) is means = absurd means
 meaning-there shape.Text bytes kind.Text is means = refl
 meaning-there shape.Text bytes (kind.Symbol symbol) is means = absurd means
 meaning-there (shape.Punctuator punctuator) bytes kind.Name is means = absurd means
 meaning-there (shape.Punctuator punctuator) bytes (kind.Number n) is means = absurd means
 meaning-there (shape.Punctuator punctuator) bytes (kind.Address a) is means = absurd means
-meaning-there (shape.Punctuator punctuator) bytes (kind.Prefix bits) is means = absurd means
+meaning-there (shape.Punctuator punctuator) bytes (kind.Prefix has_host_bits prefix) is means = absurd means
 meaning-there (shape.Punctuator punctuator) bytes kind.Text is means = absurd means
 meaning-there (shape.Punctuator punctuator) bytes (kind.Symbol symbol) is means = ap (λ symbol. Some (kind.Symbol symbol)) means

@@ -1,9 +1,9 @@
 -- Worked rows: texts with the tokens that cut them, and texts that none cut.
-use Rattle.std.proofs.Common.{◌≡◌, ℕ, ◌<◌, true, false, List, [], ◌∷◌, length, drop, Some, None, refl, lit<}
+use Rattle.std.proofs.Common.{◌≡◌, ℕ, ◌<◌, Bool, true, false, List, [], ◌∷◌, length, drop, Some, None, refl, lit<}
 use Rattle.std.specs.Prelude.{codes}
-use Rattle.prefix_patterns.specs.Bits.{bits}
+use Rattle.prefix_patterns.specs.Bits.{bits, number}
 use Rattle.prefix_patterns.specs.Number.{decimal_value}
-use Rattle.prefix_patterns.specs.Reading.{number_in, parts_at, groups_in, address_in, prefix_in}
+use Rattle.prefix_patterns.specs.Reading.{number_in, parts_at, groups_in, address_in, written_in}
 use Rattle.filter_tokens.specs.declared.symbol.Symbol.TheVariants as symbol
 use Rattle.filter_tokens.specs.declared.part.Part.{Part}
 use Rattle.filter_tokens.specs.declared.part.Part.TheVariants as part
@@ -59,13 +59,17 @@ range_label =
     ∷ part.Token (kind.Number 3) 1 ∷ part.Token (kind.Symbol symbol.Colon) 1 ∷ [] in
     record { parts = parts; cut = are_parts parts (codes "case 1..3:") (refl, (refl, (refl, (refl, (refl, (refl, refl)))))); among = refl }
 
+-- the prefix 10.0.0.0/8
+abbrev ten : List Bool
+ten = false ∷ false ∷ false ∷ false ∷ true ∷ false ∷ true ∷ false ∷ []
+
 -- an address with a length is one token
-ten_net : IsTokenization (record { kind = kind.Prefix (false ∷ false ∷ false ∷ false ∷ true ∷ false ∷ true ∷ false ∷ []); from = 0; to = 10 } ∷ []) 0
+ten_net : IsTokenization (record { kind = kind.Prefix false ten; from = 0; to = 10 } ∷ []) 0
     (codes "10.0.0.0/8")
-unfolding part_in gap_len token_in longest_shape digits_shape after_prefix after_address after_digits prefix_in address_in
-    groups_in parts_at number_in decimal_value bits
+unfolding part_in gap_len token_in longest_shape digits_shape after_prefix after_address after_digits written_in address_in
+    groups_in parts_at number_in decimal_value bits number
 ten_net =
-    let parts = part.Token (kind.Prefix (false ∷ false ∷ false ∷ false ∷ true ∷ false ∷ true ∷ false ∷ [])) 10 ∷ [] in
+    let parts = part.Token (kind.Prefix false ten) 10 ∷ [] in
     record { parts = parts; cut = are_parts parts (codes "10.0.0.0/8") (refl, refl); among = refl }
 
 -- a comment does not nest

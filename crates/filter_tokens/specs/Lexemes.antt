@@ -23,7 +23,7 @@ abbrev pub lexeme_of : List ℕ → TokenKind → Lexeme
 lexeme_of bytes kind.Name = name bytes
 lexeme_of bytes (kind.Number n) = number n
 lexeme_of bytes (kind.Address a) = address a.0
-lexeme_of bytes (kind.Prefix bits) = prefix bits
+lexeme_of bytes (kind.Prefix has_host_bits bits) = prefix bits
 lexeme_of bytes kind.Text = quote
 lexeme_of bytes (kind.Symbol m) = symbol m
 

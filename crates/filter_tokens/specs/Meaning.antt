@@ -2,7 +2,8 @@
 use Rattle.std.specs.Prelude.{◌≡◌, ◌≢◌, ℕ, ◌+◌, ◌*◌, ◌^◌, ◌≤◌, List, [], ◌∷◌, length, All}
 use Rattle.std.specs.Char.{digit_value}
 use Rattle.prefix_patterns.specs.Number.{decimal_value}
-use Rattle.prefix_patterns.specs.Token.{IsAddress, IsPrefix}
+use Rattle.prefix_patterns.specs.Token.{IsAddress}
+use Rattle.prefix_patterns.specs.Written.{IsWrittenPrefix}
 use Rattle.filter_tokens.specs.declared.symbol.Symbol.{Symbol}
 use Rattle.filter_tokens.specs.declared.shape.Shape.{Shape}
 use Rattle.filter_tokens.specs.declared.shape.Shape.TheVariants as shape
@@ -45,7 +46,7 @@ Means shape.Word bytes (kind.Symbol keyword) = bytes ≡ symbol_text keyword
 Means shape.Decimal bytes (kind.Number n) = (n ≡ decimal_value bytes) × (n ≤ greatest_number)
 Means shape.Hexadecimal bytes (kind.Number n) = IsHexadecimal bytes n
 Means shape.Address bytes (kind.Address a) = IsAddress bytes a.0
-Means shape.Prefix bytes (kind.Prefix bits) = IsPrefix bytes bits
+Means shape.Prefix bytes (kind.Prefix has_host_bits prefix) = IsWrittenPrefix bytes (record { prefix = prefix; has_host_bits = has_host_bits })
 Means shape.Text bytes kind.Text = Unit {0}
 Means (shape.Punctuator punctuator) bytes (kind.Symbol symbol) = punctuator ≡ symbol
 Means other bytes kind = ⊥

@@ -6,8 +6,9 @@ use Rattle.std.specs.Char.{digit_value, is_ascii_digit, is_ascii_hexdigit}
 use Rattle.std.specs.List.{prefix_len, list_any}
 use Rattle.std.specs.Option.{option_map}
 use Rattle.std.specs.Str.{bytes_eq}
-use Rattle.prefix_patterns.specs.Reading.{◌>>=◌, number_in, address_in, prefix_in}
+use Rattle.prefix_patterns.specs.Reading.{◌>>=◌, number_in, address_in, written_in}
 use Rattle.prefix_patterns.specs.Token.{dot, slash}
+use Rattle.prefix_patterns.specs.declared.written.WrittenPrefix.{WrittenPrefix}
 use Rattle.filter_tokens.specs.declared.symbol.Symbol.{Symbol}
 use Rattle.filter_tokens.specs.declared.symbol.Symbol.TheVariants as symbol
 use Rattle.filter_tokens.specs.declared.part.Part.{Part}
@@ -246,13 +247,17 @@ hexadecimal_from value (byte ∷ bytes) = with_digit value byte >>= λ longer. h
 unfoldable pub hexadecimal_in : List ℕ → Option ℕ
 hexadecimal_in bytes = if nat_lt (length bytes) 3 then None else hexadecimal_from 0 (drop 2 bytes)
 
+-- the word of a prefix
+abbrev pub prefix_kind : WrittenPrefix → TokenKind
+prefix_kind written = kind.Prefix written.has_host_bits written.prefix
+
 -- the word that bytes of a shape mean
 abbrev pub meaning_in : Shape → List ℕ → Option TokenKind
 meaning_in shape.Word bytes = word_in bytes
 meaning_in shape.Decimal bytes = option_map kind.Number (number_in greatest_number bytes)
 meaning_in shape.Hexadecimal bytes = option_map kind.Number (hexadecimal_in bytes)
 meaning_in shape.Address bytes = option_map (λ address. kind.Address (record { 0 = address })) (address_in bytes)
-meaning_in shape.Prefix bytes = option_map kind.Prefix (prefix_in bytes)
+meaning_in shape.Prefix bytes = option_map prefix_kind (written_in bytes)
 meaning_in shape.Text bytes = Some kind.Text
 meaning_in (shape.Punctuator punctuator) bytes = Some (kind.Symbol punctuator)
 

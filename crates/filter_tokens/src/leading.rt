@@ -7,7 +7,7 @@ ghost use Rattle.filter_tokens.specs.Reading.{begins_digit, goes_on, number_ahea
 
 use crate::part::Part;
 use crate::token_kind::TokenKind;
-use prefix_patterns::{leading_number, leading_prefix};
+use prefix_patterns::{leading_number, leading_written};
 
 /// In a text of so many bytes, no byte that is looked at while a prefix in the usual spelling is read can lie behind the end: not in its groups of
 /// up to three digits, not in its length, and not after it.
@@ -71,14 +71,18 @@ pub fn prefix_token(text: &[u8]) -> Option<Part>
     // A prefix in the usual spelling is read in one pass.
     ensures usual { (rest : List ℕ) → BeginsWith IsUsualPrefix text.now rest → ¬ BeginsWithDigit rest → IsSome result }
 {
-    let Some((prefix, rest)) = leading_prefix(text) else {
+    let Some((written, rest)) = leading_written(text) else {
         return None;
     };
     // A length of more digits is another one, or none.
     if begins_digit(rest) {
         return None;
     }
-    Some(Part::Token(TokenKind::Prefix(prefix), text.len() - rest.len()))
+    let kind = TokenKind::Prefix {
+        has_host_bits: written.has_host_bits,
+        prefix: written.prefix,
+    };
+    Some(Part::Token(kind, text.len() - rest.len()))
 }
 
 /// The token at the front of a text, where it is a decimal number, and what follows its digits makes no longer token of them.

@@ -6,13 +6,13 @@ ghost use Rattle.std.specs.Prelude.{◌≡◌, ◌∷◌, [], IfErr, find};
 ghost use Rattle.std.specs.Str.{bytes_eq};
 ghost use Rattle.filter_tokens.specs.Codes.{fault_place};
 ghost use Rattle.filter_tokens.specs.Reading as spec;
-ghost use Rattle.prefix_patterns.specs.Reading.{address_in, prefix_in};
+ghost use Rattle.prefix_patterns.specs.Reading.{address_in, written_in};
 
 use crate::fault::TokenFault;
 use crate::shape::Shape;
 use crate::symbol::Symbol;
 use crate::token_kind::TokenKind;
-use prefix_patterns::{read_ip, read_number, read_prefix};
+use prefix_patterns::{read_ip, read_number, read_written};
 
 /// The most bytes of a name.
 const NAME_LIMIT: usize = 64;
@@ -235,11 +235,14 @@ fn address(bytes: &[u8], at: usize) -> Result<TokenKind, TokenFault>
 
 /// A prefix, unless a group of its address is over 255 or its length over 32.
 fn prefix(bytes: &[u8], at: usize) -> Result<TokenKind, TokenFault>
-    ensures is { spec.OkWhereSome result (option_map TokenKind.Prefix (prefix_in bytes.now)) }
+    ensures is { spec.OkWhereSome result (option_map spec.prefix_kind (written_in bytes.now)) }
     ensures placed { IfErr result (λ fault. fault_place fault ≡ at) }
 {
-    match read_prefix(bytes) {
-        Some(prefix) => Ok(TokenKind::Prefix(prefix)),
+    match read_written(bytes) {
+        Some(written) => Ok(TokenKind::Prefix {
+            has_host_bits: written.has_host_bits,
+            prefix: written.prefix,
+        }),
         None => Err(TokenFault::OutOfRange(at)),
     }
 }

@@ -10,8 +10,13 @@ pub enum TokenKind {
     Number(u32),
     /// An address.
     Address(Ip),
-    /// A prefix, the bits past its length cleared.
-    Prefix(Prefix),
+    /// A prefix.
+    Prefix {
+        /// Whether it is written with host bits: bits of the address past the length.
+        has_host_bits: bool,
+        /// The prefix, the bits past its length cleared.
+        prefix: Prefix,
+    },
     /// A text in double quotes.
     Text,
     /// A keyword or a punctuator.

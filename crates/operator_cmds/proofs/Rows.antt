@@ -12,7 +12,7 @@ use Rattle.netchange_core.specs.declared.message.Message.{Message}
 use Rattle.netchange_core.specs.declared.reply.Reply.TheVariants as reply
 use Rattle.netchange_core.specs.declared.reply.Via.TheVariants as via
 use Rattle.prefix_patterns.specs.Number.{decimal_value}
-use Rattle.prefix_patterns.specs.Reading.{address_in, groups_in, number_in, parts_at, prefix_in}
+use Rattle.prefix_patterns.specs.Reading.{address_in, groups_in, number_in, parts_at, prefix_in, written_in}
 use Rattle.route_history.specs.Calls.{entry}
 use Rattle.route_history.specs.JournalView.{JournalView}
 use Rattle.route_history.specs.declared.entry.Entry.{Entry}
@@ -44,7 +44,7 @@ unfolding verb_in number_in
 bad_number_first = refl
 
 bad_prefix : command_in (codes "prefix 0 1.0.0/8") ≡ Err fault.Prefix
-unfolding verb_in number_in decimal_value prefix_in parts_at address_in groups_in
+unfolding verb_in number_in decimal_value prefix_in written_in parts_at address_in groups_in
 bad_prefix = refl
 
 bad_digits : command_in (codes "code A zz") ≡ Err fault.Hexadecimal

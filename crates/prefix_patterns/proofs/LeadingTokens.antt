@@ -6,10 +6,12 @@ use Rattle.std.specs.Int.{w32, from_be_bytes}
 use Rattle.std.specs.List.{join_with_byte}
 use Rattle.std.proofs.lemmas.List.{take-append-drop, take_all}
 use Rattle.std.proofs.lemmas.List.Elements.{All-more, All-nil}
-use Rattle.prefix_patterns.specs.Bits.{prefix_bits}
 use Rattle.prefix_patterns.specs.Leading.{BeginsWith}
 use Rattle.prefix_patterns.specs.Number.{IsDigits, IsNumber, decimal_value}
 use Rattle.prefix_patterns.specs.Token.{dot, slash, IsPrefix}
+use Rattle.prefix_patterns.specs.Written.{IsWrittenPrefix, written_as}
+use Rattle.prefix_patterns.specs.declared.written.WrittenPrefix.{WrittenPrefix}
+use Rattle.prefix_patterns.proofs.Tokens.{written-prefix}
 use Rattle.prefix_patterns.proofs.DecimalValues.{decimal_value-more}
 
 -- the byte at a place is a digit of this value
@@ -81,13 +83,13 @@ joined : (a b c d l rest : List ℕ) →
     (join_with_byte dot (a ∷ b ∷ c ∷ d ∷ []) ++ slash ∷ l) ++ rest
 joined a b c d l rest = simp append_assoc refl
 
--- four groups and a length, with the signs between them, are a prefix
-pub prefix_pieces : (text b c d l rest : List ℕ) (first second third fourth len : ℕ) (bits : List Bool)
+-- four groups and a length, with the signs between them, are a prefix that is written so
+pub prefix_pieces : (text b c d l rest : List ℕ) (first second third fourth len : ℕ) (written : WrittenPrefix)
     → BeginsWithGroup text first (dot ∷ b) → BeginsWithGroup b second (dot ∷ c) → BeginsWithGroup c third (dot ∷ d)
     → BeginsWithGroup d fourth (slash ∷ l) → BeginsWithNumber l len rest → len ≤ 32
-    → bits ≡ prefix_bits (from_be_bytes w32 (first ∷ second ∷ third ∷ fourth ∷ [])) len
-    → BeginsWith (λ token. IsPrefix token bits) text rest
-prefix_pieces text b c d l rest first second third fourth len bits A B C D L limit cleared =
+    → written ≡ written_as (from_be_bytes w32 (first ∷ second ∷ third ∷ fourth ∷ [])) len
+    → BeginsWith (λ token. IsWrittenPrefix token written) text rest
+prefix_pieces text b c d l rest first second third fourth len written A B C D L limit value =
     let address_text = join_with_byte dot (A.token ∷ B.token ∷ C.token ∷ D.token ∷ []) in
     let address = from_be_bytes w32 (first ∷ second ∷ third ∷ fourth ∷ []) in
     record {
@@ -107,10 +109,19 @@ prefix_pieces text b c d l rest first second third fourth len bits A B C D L lim
         };
         is_length = (L.wanted.0, omega (arith, L.wanted.1, limit));
         spelled = refl;
-        cleared = cleared ∙ ap (prefix_bits address) L.wanted.1;
+        value = value ∙ ap (written_as address) L.wanted.1;
       };
       spelled =
           A.spelled ∙ ap (λ t. A.token ++ dot ∷ t) (B.spelled ∙ ap (λ t. B.token ++ dot ∷ t) (C.spelled
           ∙ ap (λ t. C.token ++ dot ∷ t) (D.spelled ∙ ap (λ t. D.token ++ slash ∷ t) L.spelled)))
           ∙ joined A.token B.token C.token D.token L.token rest;
     }
+
+-- a prefix that is written at the front of a text is a prefix there
+pub leads_prefix : (text : List ℕ) (written : WrittenPrefix) (rest : List ℕ) → BeginsWith (λ token. IsWrittenPrefix token written) text rest
+    → BeginsWith (λ token. IsPrefix token written.prefix) text rest
+leads_prefix text written rest begins = record {
+  token = begins.token;
+  wanted = written-prefix begins.token written begins.wanted;
+  spelled = begins.spelled;
+}

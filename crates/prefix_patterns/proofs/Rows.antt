@@ -4,7 +4,7 @@ use Rattle.std.specs.Prelude.{codes}
 use Rattle.prefix_patterns.specs.Bits.{bits, number, address_of, prefix_bits}
 use Rattle.prefix_patterns.specs.Matching.{PrefixPattern, MatchesAny, matches_any}
 use Rattle.prefix_patterns.specs.Number.{decimal_value}
-use Rattle.prefix_patterns.specs.Reading.{◌>>=◌, number_in, parts_at, groups_in, address_in, prefix_in}
+use Rattle.prefix_patterns.specs.Reading.{◌>>=◌, number_in, parts_at, groups_in, address_in, prefix_in, written_in}
 use Rattle.prefix_patterns.specs.Token.{IsPrefix}
 use Rattle.prefix_patterns.proofs.Matches.{matches_any-Decides}
 use Rattle.prefix_patterns.proofs.Tokens.{prefix_in-only}
@@ -19,7 +19,7 @@ ten_again = refl
 
 -- 10.0.0.0/8
 ten_net : prefix_in (codes "10.0.0.0/8") ≡ Some (false ∷ false ∷ false ∷ false ∷ true ∷ false ∷ true ∷ false ∷ [])
-unfolding prefix_in address_in groups_in parts_at number_in decimal_value bits
+unfolding prefix_in written_in address_in groups_in parts_at number_in decimal_value bits
 ten_net = refl
 
 -- its first address is 10.0.0.0
@@ -29,7 +29,7 @@ ten_net_address = refl
 
 -- the bits past the length are left out
 cleared : prefix_in (codes "1.2.3.4/8") ≡ prefix_in (codes "1.0.0.0/8")
-unfolding prefix_in address_in groups_in parts_at number_in decimal_value bits
+unfolding prefix_in written_in address_in groups_in parts_at number_in decimal_value bits
 cleared = refl
 
 -- zeros in front of a number count for nothing
@@ -39,27 +39,27 @@ zeros = refl
 
 -- the prefix of no bits
 everything : prefix_in (codes "255.255.255.255/00") ≡ Some []
-unfolding prefix_in address_in groups_in parts_at number_in decimal_value bits
+unfolding prefix_in written_in address_in groups_in parts_at number_in decimal_value bits
 everything = refl
 
 -- a length of 33 writes no prefix
 too_long : (bits : List Bool) → IsPrefix (codes "10.0.0.0/33") bits → ⊥
-unfolding prefix_in address_in groups_in parts_at number_in decimal_value bits
+unfolding prefix_in written_in address_in groups_in parts_at number_in decimal_value bits
 too_long bits is = let none : prefix_in (codes "10.0.0.0/33") ≡ None = refl in let some = prefix_in-only (codes "10.0.0.0/33") bits is in cc
 
 -- nor does a group of 256
 too_large : (bits : List Bool) → IsPrefix (codes "10.256.0.0/8") bits → ⊥
-unfolding prefix_in address_in groups_in parts_at number_in decimal_value bits
+unfolding prefix_in written_in address_in groups_in parts_at number_in decimal_value bits
 too_large bits is = let none : prefix_in (codes "10.256.0.0/8") ≡ None = refl in let some =
     prefix_in-only (codes "10.256.0.0/8") bits is in cc
 
 -- nor do three groups, or five
 three_groups : prefix_in (codes "1.2.3/8") ≡ None
-unfolding prefix_in address_in groups_in parts_at number_in decimal_value bits
+unfolding prefix_in written_in address_in groups_in parts_at number_in decimal_value bits
 three_groups = refl
 
 five_groups : prefix_in (codes "1.2.3.4.5/8") ≡ None
-unfolding prefix_in address_in groups_in parts_at number_in decimal_value bits
+unfolding prefix_in written_in address_in groups_in parts_at number_in decimal_value bits
 five_groups = refl
 
 -- whether the prefix that a text writes matches the set of one pattern, of another text's bits and of lengths
@@ -71,22 +71,22 @@ matches_one text pattern low high = do
 
 -- 1.0.0.0/16 is longer than 1.0.0.0/8- takes
 longer : matches_one (codes "1.0.0.0/16") (codes "1.0.0.0/8") 0 8 ≡ Some false
-unfolding matches_one prefix_in address_in groups_in parts_at number_in decimal_value bits
+unfolding matches_one prefix_in written_in address_in groups_in parts_at number_in decimal_value bits
 longer = refl
 
 -- 1.2.0.0/15 has the first fifteen bits of 1.2.3.4/32-
 shorter : matches_one (codes "1.2.0.0/15") (codes "1.2.3.4/32") 0 32 ≡ Some true
-unfolding matches_one prefix_in address_in groups_in parts_at number_in decimal_value bits
+unfolding matches_one prefix_in written_in address_in groups_in parts_at number_in decimal_value bits
 shorter = refl
 
 -- 0.0.0.0/0 is shorter than 0.0.0.0/0{20,24} takes
 too_short : matches_one (codes "0.0.0.0/0") (codes "0.0.0.0/0") 20 24 ≡ Some false
-unfolding matches_one prefix_in address_in groups_in parts_at number_in decimal_value bits
+unfolding matches_one prefix_in written_in address_in groups_in parts_at number_in decimal_value bits
 too_short = refl
 
 -- 9.0.0.0/22 is not
 between : matches_one (codes "9.0.0.0/22") (codes "0.0.0.0/0") 20 24 ≡ Some true
-unfolding matches_one prefix_in address_in groups_in parts_at number_in decimal_value bits
+unfolding matches_one prefix_in written_in address_in groups_in parts_at number_in decimal_value bits
 between = refl
 
 -- the first and the second of these as facts: the prefix 1.0.0.0/16, and the prefix 1.2.0.0/15

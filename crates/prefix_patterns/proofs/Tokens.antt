@@ -1,6 +1,6 @@
 -- What reading finds is written in the text, and what is written there is found.
 use Rattle.std.proofs.Common.{◌≡◌, ◌≢◌, ℕ, ◌+◌, ◌*◌, ◌^◌, ◌<◌, ◌==◌, Bool, true, List, [], ◌∷◌, ◌++◌, length, take, drop, get_or}
-use Rattle.std.proofs.Common.{position, nat_lt, Option, Some, None, All, refl, sym, ◌∙◌, ap, arith, lit<, length-append}
+use Rattle.std.proofs.Common.{position, nat_lt, Option, Some, None, All, refl, sym, ◌∙◌, ap, subst, arith, lit<, length-append}
 use Rattle.std.specs.Char.{IsAsciiDigit}
 use Rattle.std.specs.Int.{w32, from_be_bytes}
 use Rattle.std.specs.List.{position_or_len, join_with_byte}
@@ -10,10 +10,11 @@ use Rattle.std.proofs.lemmas.List.{take_at, drop_at, append_assoc, take-append-d
 use Rattle.std.proofs.lemmas.List.Elements.{All-head, All-tail, All-append, All-cons, All-weaker, All-same}
 use Rattle.std.proofs.lemmas.List.Quantifiers.{position-Some}
 use Rattle.prefix_patterns.proofs.Numbers.{number_in-some, number_in-found}
-use Rattle.prefix_patterns.specs.Bits.{prefix_bits}
-use Rattle.prefix_patterns.specs.Number.{IsDigits, IsNumber}
-use Rattle.prefix_patterns.specs.Reading.{◌>>=◌, parts_at, groups_in, address_in, prefix_in}
+use Rattle.prefix_patterns.specs.Number.{IsDigits, IsNumber, decimal_value}
+use Rattle.prefix_patterns.specs.Reading.{◌>>=◌, parts_at, groups_in, address_in, prefix_in, written_in}
 use Rattle.prefix_patterns.specs.Token.{dot, slash, IsAddress, IsPrefix}
+use Rattle.prefix_patterns.specs.Written.{IsWrittenPrefix, written_as}
+use Rattle.prefix_patterns.specs.declared.written.WrittenPrefix.{WrittenPrefix}
 
 -- a reading that goes on found a value, and went on with it
 bind_some : {A B P : Type 0} (r : Option A) (next : A → Option B) (y : B) → (r >>= next) ≡ Some y →
@@ -127,14 +128,14 @@ address_apart text address is =
     (All-append P is.second _ (group is.second is.groups.1) (after_dot _
     (All-append P is.third _ (group is.third is.groups.2) (after_dot _ (group is.fourth is.groups.3)))))))
 
-pub prefix_in-found : (text : List ℕ) (bits : List Bool) → prefix_in text ≡ Some bits → IsPrefix text bits
-unfolding prefix_in
-prefix_in-found text bits e =
+pub written_in-found : (text : List ℕ) (written : WrittenPrefix) → written_in text ≡ Some written → IsWrittenPrefix text written
+unfolding written_in
+written_in-found text written e =
     bind_some _ _ _ e (λ parts at_parts e.
     bind_some _ _ _ e (λ address is_address e.
     bind_some _ _ _ e (λ len is_len e.
     let number = number_in-found 32 parts.1 len is_len in
-    let last : prefix_bits address len ≡ bits = cc in
+    let last : written_as address len ≡ written = cc in
     record {
       address = address;
       address_text = parts.0;
@@ -142,16 +143,49 @@ prefix_in-found text bits e =
       is_address = address_in-found parts.0 address is_address;
       is_length = number.0;
       spelled = parts_at-found slash text parts.0 parts.1 at_parts;
-      cleared = sym last ∙ ap (prefix_bits address) (sym number.1);
+      value = sym last ∙ ap (written_as address) (sym number.1);
     })))
 
-pub prefix_in-only : (text : List ℕ) (bits : List Bool) → IsPrefix text bits → prefix_in text ≡ Some bits
-unfolding prefix_in
-prefix_in-only text bits is =
+pub written_in-only : (text : List ℕ) (written : WrittenPrefix) → IsWrittenPrefix text written → written_in text ≡ Some written
+unfolding written_in
+written_in-only text written is =
     rw (
       is.spelled,
       parts_at-joined slash is.address_text is.length_text (address_apart is.address_text is.address is.is_address),
       address_in-only is.address_text is.address is.is_address,
       number_in-some 32 is.length_text is.is_length,
     )
-    (ap Some (sym is.cleared))
+    (ap Some (sym is.value))
+
+-- what is written is the text of a prefix
+pub written-prefix : (text : List ℕ) (written : WrittenPrefix) → IsWrittenPrefix text written → IsPrefix text written.prefix
+written-prefix text written is = record {
+  address = is.address;
+  address_text = is.address_text;
+  length_text = is.length_text;
+  is_address = is.is_address;
+  is_length = is.is_length;
+  spelled = is.spelled;
+  cleared = ap (λ (w : WrittenPrefix). w.prefix) is.value;
+}
+
+pub prefix_in-found : (text : List ℕ) (bits : List Bool) → prefix_in text ≡ Some bits → IsPrefix text bits
+unfolding prefix_in
+prefix_in-found text bits e =
+    let some = map_some (λ (written : WrittenPrefix). written.prefix) (written_in text) bits e in
+    subst (IsPrefix text) some.2 (written-prefix text some.0 (written_in-found text some.0 some.1))
+
+pub prefix_in-only : (text : List ℕ) (bits : List Bool) → IsPrefix text bits → prefix_in text ≡ Some bits
+unfolding prefix_in
+prefix_in-only text bits is =
+    let written = written_as is.address (decimal_value is.length_text) in
+    let there : IsWrittenPrefix text written = record {
+      address = is.address;
+      address_text = is.address_text;
+      length_text = is.length_text;
+      is_address = is.is_address;
+      is_length = is.is_length;
+      spelled = is.spelled;
+      value = refl;
+    } in
+    ap (option_map (λ (written : WrittenPrefix). written.prefix)) (written_in-only text written there) ∙ ap Some (sym is.cleared)

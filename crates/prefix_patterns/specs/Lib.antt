@@ -8,6 +8,7 @@ pub mod Number
 pub mod Reading
 pub mod Spelling
 pub mod Token
+pub mod Written
 -- What only bodies are proved against: lemmas on bits, the trees of a set and their index.
 pub mod BitLists
 pub mod Index

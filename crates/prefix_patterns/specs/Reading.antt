@@ -4,9 +4,11 @@ use Rattle.std.specs.Prelude.{Some, None}
 use Rattle.std.specs.Int.{w32, from_be_bytes}
 use Rattle.std.specs.Option.{option_map}
 use Rattle.std.specs.Str.{all_ascii_digits}
-use Rattle.prefix_patterns.specs.Bits.{address_length, prefix_bits}
+use Rattle.prefix_patterns.specs.Bits.{address_length}
 use Rattle.prefix_patterns.specs.Number.{decimal_value}
 use Rattle.prefix_patterns.specs.Token.{dot, slash}
+use Rattle.prefix_patterns.specs.Written.{written_as}
+use Rattle.prefix_patterns.specs.declared.written.WrittenPrefix.{WrittenPrefix}
 
 -- a reading, and another that goes on with its value
 infixl 10 ◌>>=◌
@@ -45,10 +47,14 @@ address_in text = do
   groups ← groups_in text
   Some (from_be_bytes w32 groups)
 
--- the prefix that the text writes, as its bits
-unfoldable pub prefix_in : List ℕ → Option (List Bool)
-prefix_in text = do
+-- the prefix that the text writes, and whether its address has host bits
+unfoldable pub written_in : List ℕ → Option WrittenPrefix
+written_in text = do
   parts ← parts_at slash text
   address ← address_in parts.0
   len ← number_in address_length parts.1
-  Some (prefix_bits address len)
+  Some (written_as address len)
+
+-- the same, as its bits alone
+unfoldable pub prefix_in : List ℕ → Option (List Bool)
+prefix_in text = option_map (λ written. written.prefix) (written_in text)

@@ -5,9 +5,11 @@ ghost use Rattle.std.specs.Prelude.{◌≡◌, ◌-◌, ◌<◌, ◌≤◌, ◌�
 ghost use Rattle.prefix_patterns.specs.Leading.{BeginsWith, BeginsWithDigit, IsUsualNumber, IsUsualPrefix, IsUsualWithin};
 ghost use Rattle.prefix_patterns.specs.Number.{IsDigits, IsNumber, decimal_value};
 ghost use Rattle.prefix_patterns.specs.Token.{IsPrefix};
+ghost use Rattle.prefix_patterns.specs.Written.{IsWrittenPrefix};
 
 use crate::address::{ADDRESS_LENGTH, Ip};
 use crate::prefix::Prefix;
+use crate::written::WrittenPrefix;
 
 /// The value of the digit at a place.
 #[inline(always)]
@@ -81,6 +83,19 @@ pub fn leading_prefix(text: &[u8]) -> Option<(Prefix, &[u8])>
     ensures usual { (rest : List ℕ) → BeginsWith IsUsualPrefix text.now rest → ¬ BeginsWithDigit rest
         → IsSomeAnd result (λ cut. cut.1.now ≡ rest) }
 {
+    let Some((written, rest)) = leading_written(text) else {
+        return None;
+    };
+    Some((written.prefix, rest))
+}
+
+/// The same, and whether the address is written with bits past the length.
+#[inline(always)]
+pub fn leading_written(text: &[u8]) -> Option<(WrittenPrefix, &[u8])>
+    ensures found { IfSome result (λ cut. BeginsWith (λ token. IsWrittenPrefix token cut.0) text.now cut.1.now) }
+    ensures usual { (rest : List ℕ) → BeginsWith IsUsualPrefix text.now rest → ¬ BeginsWithDigit rest
+        → IsSomeAnd result (λ cut. cut.1.now ≡ rest) }
+{
     let (first, rest) = group_before(text, b'.')?;
     let (second, rest) = group_before(rest, b'.')?;
     let (third, rest) = group_before(rest, b'.')?;
@@ -89,6 +104,6 @@ pub fn leading_prefix(text: &[u8]) -> Option<(Prefix, &[u8])>
     if len > u32::from(ADDRESS_LENGTH) {
         return None;
     }
-    let address = u32::from_be_bytes([first, second, third, fourth]);
-    Some((Prefix::masked(Ip(address), len as u8), rest))
+    let address = Ip(u32::from_be_bytes([first, second, third, fourth]));
+    Some((WrittenPrefix::new(address, len as u8), rest))
 }

@@ -13,12 +13,14 @@ mod prefix;
 mod set;
 mod token;
 mod tree;
+mod written;
 
 pub use address::{ADDRESS_LENGTH, Ip};
 pub use display::displayed_text_is_read;
-pub use leading::{after_byte, leading_number, leading_prefix};
+pub use leading::{after_byte, leading_number, leading_prefix, leading_written};
 pub use number::read_number;
 pub use pattern::Pattern;
 pub use prefix::Prefix;
 pub use set::{PATTERN_LIMIT, PatternSet, SetFault};
-pub use token::{read_ip, read_prefix};
+pub use token::{read_ip, read_prefix, read_written};
+pub use written::WrittenPrefix;

@@ -1,11 +1,14 @@
 ghost use Rattle.std.specs.Prelude.{◌≡◌, ◌==◌, ◌<◌, ℕ, Bool, List, IfSome, length, position};
 ghost use Rattle.std.specs.Option.{IsSomeAnd, option_map};
-ghost use Rattle.prefix_patterns.specs.Reading.{number_in, parts_at, groups_in, address_in, prefix_in};
+ghost use Rattle.prefix_patterns.specs.Reading.{number_in, parts_at, groups_in, address_in, prefix_in, written_in};
 ghost use Rattle.prefix_patterns.specs.Token.{IsAddress, IsPrefix};
+ghost use Rattle.prefix_patterns.specs.Written.{IsWrittenPrefix};
+ghost use Rattle.prefix_patterns.specs.declared.written.WrittenPrefix.{WrittenPrefix as TheWritten};
 
 use crate::address::{ADDRESS_LENGTH, Ip};
 use crate::number::read_number;
 use crate::prefix::Prefix;
+use crate::written::WrittenPrefix;
 
 /// Reads a text that is exactly one prefix, such as `10.0.0.0/8`. Bits past the length are cleared.
 #[tactic(auto, unfolding(crate::specs::Reading::prefix_in))]
@@ -16,10 +19,23 @@ pub fn read_prefix(text: &[u8]) -> Option<Prefix>
     ensures only { (bits : List Bool) → IsPrefix text.now bits → result ≡ Some bits }
     ensures exact { result ≡ prefix_in text.now }
 {
+    match read_written(text) {
+        Some(written) => Some(written.prefix),
+        None => None,
+    }
+}
+
+/// The same, and whether the address is written with bits past the length.
+#[tactic(auto, unfolding(crate::specs::Reading::written_in))]
+pub fn read_written(text: &[u8]) -> Option<WrittenPrefix>
+    ensures found { IfSome result (IsWrittenPrefix text.now) }
+    ensures only { (written : TheWritten) → IsWrittenPrefix text.now written → result ≡ Some written }
+    ensures exact { result ≡ written_in text.now }
+{
     let (address, len) = cut(text, b'/')?;
-    let ip = read_ip(address)?;
+    let address = read_ip(address)?;
     let len = read_number(len, u32::from(ADDRESS_LENGTH))?;
-    Some(Prefix::masked(ip, len as u8))
+    Some(WrittenPrefix::new(address, len as u8))
 }
 
 /// Reads a text that is exactly one address, such as `10.0.0.1`.

@@ -1,7 +1,7 @@
 use Rattle.std.proofs.Common.{rules, ◌≡◌, ◌-◌, ◌≤◌, true, Some, length, ap, sym, ◌∙◌}
 use Rattle.filter_tokens.specs.declared.part.Part.TheVariants as part
 use Rattle.filter_tokens.specs.declared.token_kind.TokenKind.TheVariants as kind
-use Rattle.filter_tokens.specs.Reading.{begins_digit, token_in}
+use Rattle.filter_tokens.specs.Reading.{begins_digit, prefix_kind, token_in}
 use Rattle.filter_tokens.proofs.OnePass.{leads-token, leads-within}
 use Rattle.filter_tokens.proofs.FrontNumbers.{begins_with_digit, no_first_digit}
 use Rattle.filter_tokens.proofs.leading.prefix_token.Goals as goal
@@ -9,7 +9,7 @@ use Rattle.filter_tokens.proofs.leading.prefix_token.Goals as goal
 pub overflow_sub-result : goal.overflow_sub-result
 overflow_sub-result c =
     let within : length c.in-Some.rest.now ≤ length c.args.text.now =
-    leads-within c.args.text.now c.in-Some.prefix c.in-Some.rest.now c.in-Some.ensures.found in
+    leads-within c.args.text.now c.in-Some.written c.in-Some.rest.now c.in-Some.ensures.found in
     search rules
 
 pub returns-clause-token : goal.returns-clause-token
@@ -17,8 +17,8 @@ returns-clause-token c =
     let text = c.args.text.now in
     let rest = c.in-Some.rest.now in
     let told : c.begins_digit.result ≡ begins_digit rest = search rules in
-    let token : token_in text ≡ Some (part.Token (kind.Prefix c.in-Some.prefix) (length text - length rest)) =
-    leads-token text c.in-Some.prefix rest c.in-Some.ensures.found (no_first_digit rest (sym told ∙ c.if-begins_digit.false)) in
+    let token : token_in text ≡ Some (part.Token (prefix_kind c.in-Some.written) (length text - length rest)) =
+    leads-token text c.in-Some.written rest c.in-Some.ensures.found (no_first_digit rest (sym told ∙ c.if-begins_digit.false)) in
     search rules
 
 pub returns-then-begins_digit-clause-usual : goal.returns-then-begins_digit-clause-usual
