@@ -2,8 +2,6 @@ pub mod Covered
 pub mod Endings
 pub mod Found
 pub mod Hinted
-pub mod Groups
-pub mod Harmless
 pub mod True
 pub mod Tried
 pub mod Watched

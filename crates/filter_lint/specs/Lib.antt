@@ -15,7 +15,6 @@ pub mod Metrics
 pub mod Rules
 pub mod Sets
 pub mod Sites
-pub mod Slashes
 pub mod Truths
 pub mod Variables
 pub mod Watching

@@ -14,7 +14,6 @@ mod metrics;
 mod rules;
 mod sets;
 mod site;
-mod slashes;
 mod surveyed_filter;
 mod variables;
 mod warning;

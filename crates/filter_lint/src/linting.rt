@@ -3,17 +3,19 @@ ghost use Rattle.std.specs.Prelude.{◌≡◌, ◌+◌, ◌≤◌, All, IfErr, I
 ghost use Rattle.std.specs.Io.KnownBytes.{Appends};
 ghost use Rattle.filter_reports.specs.Faults.{stream_fault};
 ghost use Rattle.filter_reports.specs.Naming.{named};
+ghost use Rattle.filter_tokens.specs.Tokenization.{IsTokenization};
 ghost use Rattle.line_protocol.specs.Runs.{AppendsFront};
 ghost use Rattle.filter_lint.specs.Linting as spec;
 ghost use Rattle.filter_lint.specs.Rules.{AreFound};
 ghost use Rattle.filter_lint.specs.Truths.{IsTrueOf};
 ghost use Rattle.filter_lint.specs.WarningLines.{warnings_text as warnings_text_of};
 
-use crate::host_bits::{HostBits, find_host_bits};
+use crate::host_bits::{HostBits, host_bits_among};
 use crate::rules::{Warnings, find_warnings};
 use crate::warning_lines::{host_bits_text, warnings_text};
 use filter_reports::{NamedText, PlacedCode, ProgramFault, placed_code, tell_refusal};
 use filter_source::Failure;
+use filter_tokens::Token;
 use filter_verifier::Verified;
 use line_protocol::{StreamFault, write_text};
 use std::alloc::{AllocError, Global};
@@ -77,13 +79,14 @@ fn report_on(
     })
 }
 
-/// The warnings of a filter's verified code, in lines.
+/// The warnings of a filter's verified code and of its text, in lines.
 fn report_of(
     alloc: Global,
     placed: &PlacedCode,
     source: &NamedText<'_>,
     limit: u64,
 ) -> Result<Report, AllocError>
+    requires { IsTokenization placed.now.tokens.items 0 source.now.text.now }
     ensures { IfOk result (λ report. spec.IsReport placed.now.verified.program placed.now.verified.size placed.now.places.items
         (named source.now) report.lines.items report.count) }
 {
@@ -94,7 +97,7 @@ fn report_of(
         placed.places.as_slice(),
         limit,
     )?;
-    let host_bits = find_host_bits(alloc, source.text)?;
+    let host_bits = host_bits_among(alloc, placed.tokens.as_slice())?;
     report_on(alloc, &placed.verified, source, &all, host_bits.as_slice())
 }
 
@@ -116,6 +119,7 @@ fn write_warnings<W: Write>(
     limit: u64,
     writer: &mut W,
 ) -> Result<usize, ProgramFault>
+    requires { IsTokenization placed.now.tokens.items 0 source.now.text.now }
     ensures finished { IfOk result (spec.WritesWarnings placed.now.verified.program placed.now.verified.size placed.now.places.items
         (named source.now) (W.contents writer.old) (W.contents writer.new)) }
     ensures broken_off { IfErr result (λ fault. spec.CutsWarnings (stream_fault fault) placed.now.verified.program placed.now.verified.size
@@ -186,25 +190,33 @@ pub fn warn_named<E: Write>(
 }
 
 /// The lines of the prefixes of a text that have host bits.
-fn host_bits_lines(alloc: Global, source: &NamedText<'_>) -> Result<Vec<u8>, AllocError>
+fn host_bits_lines(
+    alloc: Global,
+    source: &NamedText<'_>,
+    tokens: &[Token],
+) -> Result<Vec<u8>, AllocError>
+    requires { IsTokenization tokens.now 0 source.now.text.now }
     ensures { IfOk result (λ lines. spec.AreHostBitsLines (named source.now) lines.items) }
 {
-    let host_bits = find_host_bits(alloc, source.text)?;
+    let host_bits = host_bits_among(alloc, tokens)?;
     let lines = host_bits_text(alloc, source.name, source.text, host_bits.as_slice())?;
     Ok(lines)
 }
 
-/// Tells of the prefixes of a text that are written with host bits, in the lines that `warn_named` has of them. No route is tried.
+/// Tells of the prefixes of a text that are written with host bits, in the lines that `warn_named` has of them, by the tokens that cut the text.
+/// No route is tried.
 pub fn tell_host_bits<E: Write>(
     alloc: Global,
     source: &NamedText<'_>,
+    tokens: &[Token],
     errors: &mut E,
 ) -> Result<(), ProgramFault>
+    requires { IsTokenization tokens.now 0 source.now.text.now }
     ensures told { OnOk result (spec.TellsHostBits (named source.now) (E.contents errors.old) (E.contents errors.new)) }
     ensures cut { IfErr result (λ fault. spec.CutsHostBits (stream_fault fault) (named source.now)
         (E.contents errors.old) (E.contents errors.new)) }
 {
-    let lines = host_bits_lines(alloc, source)?;
+    let lines = host_bits_lines(alloc, source, tokens)?;
     write_text(errors, lines.as_slice())?;
     Ok(())
 }

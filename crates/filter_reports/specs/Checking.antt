@@ -11,6 +11,8 @@ use Rattle.filter_source.specs.Refusals.{place_in_line, refusal_code}
 use Rattle.filter_source.specs.Sources.{IsUnsafe}
 use Rattle.filter_source.specs.TextPlaces.{ArePlacesOf}
 use Rattle.filter_source.specs.declared.diagnosis.Diagnosis.{Diagnosis}
+use Rattle.filter_tokens.specs.Tokenization.{IsTokenization}
+use Rattle.filter_tokens.specs.declared.token.Token.{Token}
 use Rattle.line_protocol.specs.Answers.{refusal}
 use Rattle.filter_reports.specs.Check.{GivesCode, IsRefused, IsReport, ReportView}
 
@@ -29,6 +31,16 @@ EndsWith (Some told) text =
 abbrev pub ArePlaces : Bool → List ℕ → List ℕ → Type 0
 ArePlaces true source places = places ≡ []
 ArePlaces false source places = ArePlacesOf source places
+
+-- The tokens that cut a filter's text: a code file has none.
+abbrev pub AreTokens : Bool → List ℕ → List Token → Type 0
+AreTokens true source tokens = tokens ≡ []
+AreTokens false source tokens = IsTokenization tokens 0 source
+
+-- The same, where the source is not refused.
+abbrev pub AreTokensUnlessRefused : Option Diagnosis → Bool → List ℕ → List Token → Type 0
+AreTokensUnlessRefused None is_code source tokens = AreTokens is_code source tokens
+AreTokensUnlessRefused (Some told) is_code source tokens = ⊤
 
 -- This is told of a source that is refused: what follows from the refusal where there is no code, and what stands round its place; otherwise the part of the text that
 -- gave the instruction which is refused, and the range that the verifier knows there.

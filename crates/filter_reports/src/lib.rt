@@ -22,7 +22,7 @@ mod spelling;
 mod told_words;
 mod words;
 
-pub use check::{check_text, code_of, write_report};
+pub use check::{Checked, check_text, code_of, write_report};
 pub use explanation::{explain, explain_line, push_position, refusal_words, tell_at};
 pub use fault::ProgramFault;
 pub use laws::{

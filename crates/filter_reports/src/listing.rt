@@ -17,8 +17,7 @@ use crate::fault::ProgramFault;
 use crate::position::Positions;
 use crate::refusal::refusal_line;
 use filter_code::{Code, Instr};
-use filter_compiler::MappedCode;
-use filter_source::{Diagnosis, Failure, Refusal, place_at, push_bounds};
+use filter_source::{CompiledSource, Diagnosis, Failure, Refusal, place_at, push_bounds};
 use filter_verifier::{AbstractFrame, Fact, InState, Range, RunBounds, Unverified, survey_code};
 use line_protocol::{push_decimal, push_refusal, write_text};
 use std::alloc::{AllocError, Global};
@@ -256,7 +255,7 @@ fn list_source(
     ensures told { IfOk result (λ listing. IfSome listing.told (IsToldOfListing size is_code source.now)) }
 {
     match code_of(alloc, source, is_code) {
-        Ok(MappedCode { code, places }) => {
+        Ok(CompiledSource { code, places, .. }) => {
             let origins = Origins {
                 source: Positions::new(alloc, source)?,
                 places: places.as_slice(),

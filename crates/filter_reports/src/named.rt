@@ -1,13 +1,14 @@
 //! `ncroute check` and `ncroute list` of sources that have names: a refusal is told with the name.
 ghost use Rattle.std.specs.Prelude.{◌≡◌, Some, IfErr, IfOk, OnOk};
 ghost use Rattle.std.specs.Io.KnownBytes.{Appends};
+ghost use Rattle.filter_reports.specs.Checking.{AreTokensUnlessRefused};
 ghost use Rattle.filter_reports.specs.Cuts.{IsCut};
 ghost use Rattle.filter_reports.specs.Faults.{stream_fault};
 ghost use Rattle.filter_source.specs.declared.diagnosis.Diagnosis.{Diagnosis as TheDiagnosis};
 ghost use Rattle.filter_reports.specs.Naming.{ChecksNamed, ChecksNamedOff, IsCutTelling, ListsNamed, ListsNamedOff, TellsInWords, TellsOf, named_refusal};
 ghost use Rattle.filter_reports.specs.Telling.{Explains, IsCutExplanation};
 
-use crate::check::write_report;
+use crate::check::{Checked, write_report};
 use crate::explanation::explain;
 use crate::fault::ProgramFault;
 use crate::listing::write_told_listing;
@@ -97,7 +98,7 @@ pub fn tell_refusal<E: Write>(
 }
 
 /// Writes the report on a source, and tells on `errors` why it is refused, if it is: in words where `is_explained` says so, and
-/// otherwise by its name and its refusal. Returns what is told of the refusal.
+/// otherwise by its name and its refusal. Returns what is told of the refusal, and the tokens of the text.
 pub fn check_named<W: Write, E: Write>(
     alloc: Global,
     text: &[u8],
@@ -107,15 +108,17 @@ pub fn check_named<W: Write, E: Write>(
     size: u32,
     is_code: bool,
     is_explained: bool,
-) -> Result<Option<Diagnosis>, ProgramFault>
-    ensures finished { IfOk result (ChecksNamed size is_code is_explained name.now text.now
-        (W.contents writer.old) (W.contents writer.new) (E.contents errors.old) (E.contents errors.new)) }
+) -> Result<Checked, ProgramFault>
+    ensures finished { IfOk result (λ checked. ChecksNamed size is_code is_explained name.now text.now
+        (W.contents writer.old) (W.contents writer.new) (E.contents errors.old) (E.contents errors.new) checked.diagnosis) }
+    ensures tokens { IfOk result (λ checked. AreTokensUnlessRefused checked.diagnosis is_code text.now checked.tokens.items) }
     ensures broken_off { IfErr result (λ fault. ChecksNamedOff (stream_fault fault) size is_code is_explained name.now text.now
         (W.contents writer.old) (W.contents writer.new) (E.contents errors.old) (E.contents errors.new)) }
 {
-    let told = write_report(alloc, text, writer, size, is_code)?;
-    tell_refusal(alloc, errors, name, text, &told, is_explained)?;
-    Ok(told)
+    let checked = write_report(alloc, text, writer, size, is_code)?;
+    let told = &checked.diagnosis;
+    tell_refusal(alloc, errors, name, text, told, is_explained)?;
+    Ok(checked)
 }
 
 /// Tells in words why a source of this name is refused, if it is and `is_explained` says so.

@@ -13,7 +13,6 @@ ghost use Rattle.filter_reports.specs.Steps.{report_of};
 use crate::refusal::FIRST_LINE;
 use code_file::write_code;
 use filter_code::Code;
-use filter_compiler::MappedCode;
 use filter_source::{Diagnosis, Failure, push_verified, verify_mapped};
 use line_protocol::push_refusal;
 use std::alloc::{AllocError, Global};
@@ -76,16 +75,21 @@ fn line_of_code(alloc: Global, code: &Code) -> Result<Vec<u8>, AllocError>
     }
 }
 
-/// The report on code, for domains of a size: the code's line, and then its bounds or why it is refused.
-pub fn report_code(alloc: Global, mapped: MappedCode, size: u32) -> Result<Report, AllocError>
-    ensures lines { IfOk result (λ report. IsCodeReport size mapped.code (report_of report)) }
+/// The report on code whose instructions come from these places, for domains of a size: the code's line, and then its bounds or why it is
+/// refused.
+pub fn report_code(
+    alloc: Global,
+    code: Code,
+    places: &[usize],
+    size: u32,
+) -> Result<Report, AllocError>
+    ensures lines { IfOk result (λ report. IsCodeReport size code (report_of report)) }
     ensures ends { IfOk result (λ report. EndsWith report.diagnosis report.text.items) }
     ensures told { IfOk result (λ report. IfSome report.diagnosis (λ told.
-        TellsOfCode mapped.code mapped.places.items size told × IsUnsafe mapped.code size told.refusal)) }
+        TellsOfCode code places.now size told × IsUnsafe code size told.refusal)) }
 {
-    let MappedCode { code, places } = mapped;
     let mut text = line_of_code(alloc, &code)?;
-    match verify_mapped(alloc, code, places.as_slice(), size) {
+    match verify_mapped(alloc, code, places, size) {
         Ok(verified) => {
             push_verified(&mut text, &verified)?;
             Ok(Report {

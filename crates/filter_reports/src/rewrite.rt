@@ -18,8 +18,8 @@ fn file_of(alloc: Global, input: &[u8], is_old: bool) -> Result<Vec<u8>, Failure
     ensures written { IfOk result (λ bytes. SpellsAs is_old input.now bytes.items) }
     ensures refused { IfErr result (OnRefusal (IsUnspelled is_old input.now)) }
 {
-    let mapped = code_of(alloc, input, true)?;
-    write_file(alloc, &mapped.code, is_old)
+    let compiled = code_of(alloc, input, true)?;
+    write_file(alloc, &compiled.code, is_old)
 }
 
 /// The line of a file: its hexadecimal.

@@ -14,7 +14,7 @@ pub use failure::Failure;
 pub use laws::one_translation;
 pub use refusal::Refusal;
 pub use source::{
-    SOURCE_LIMIT, check_length, compile_text, compile_text_mapped, read_file, read_hexadecimal,
-    verify_code, verify_mapped, write_file,
+    CompiledSource, SOURCE_LIMIT, check_length, compile_text, compile_text_mapped, read_file,
+    read_hexadecimal, verify_code, verify_mapped, write_file,
 };
 pub use verified_line::{push_bounds, push_verified};

@@ -3,6 +3,7 @@ ghost use Rattle.std.specs.Prelude.{◌≡◌, ◌<◌, ◌≤◌, ◌↔◌, []
 ghost use Rattle.code_file.specs.Spelling.{IsCodeIn, spelling_in};
 ghost use Rattle.filter_parser.specs.Surroundings.{nothing};
 ghost use Rattle.filter_parser.specs.SyntaxText.{FilterView};
+ghost use Rattle.filter_tokens.specs.Tokenization.{IsTokenization};
 ghost use Rattle.filter_verifier.specs.FirstFault.{is_size, the_fault};
 ghost use Rattle.filter_verifier.specs.Safe.{IsSafe};
 ghost use Rattle.filter_verifier.specs.declared.fault.VerifyFault.TheVariants as fault;
@@ -21,12 +22,24 @@ use code_file::{read_code, write_code, write_old};
 use filter_code::Code;
 use filter_compiler::{MappedCode, compile_mapped};
 use filter_parser::parse;
+use filter_tokens::Token;
 use filter_types::check;
 use filter_verifier::{Range, Unverified, Verified, VerifyFault, verify_or_tell};
 use std::alloc::Global;
 
 /// A source of more bytes than this is refused.
 pub const SOURCE_LIMIT: usize = 1_048_576;
+
+/// The code of a source, and what is known of its text.
+#[derive(Drop)]
+pub struct CompiledSource {
+    /// The code.
+    pub code: Code,
+    /// For each instruction of the code, in order, the place in the text of the part that it translates. A code file has none.
+    pub places: Vec<usize>,
+    /// The tokens that cut the text. A code file has none.
+    pub tokens: Vec<Token>,
+}
 
 /// Refuses a source that is longer than its limit.
 pub fn check_length(source: &[u8]) -> Result<(), Failure>
@@ -39,17 +52,24 @@ pub fn check_length(source: &[u8]) -> Result<(), Failure>
     Ok(())
 }
 
-/// The code of the filter that a text spells, and for each instruction the place in the text of the part that it translates: the
+/// The code of the filter that a text spells, for each instruction the place in the text of the part that it translates, and the tokens: the
 /// text is parsed, its names and kinds are checked, and the filter is compiled.
-pub fn compile_text_mapped(alloc: Global, text: &[u8]) -> Result<MappedCode, Failure>
-    ensures code { IfOk result (λ mapped. (filter : FilterView) × spec.Translates text.now filter mapped.code) }
-    ensures places { IfOk result (λ mapped. ArePlacesOf text.now mapped.places.items) }
+pub fn compile_text_mapped(alloc: Global, text: &[u8]) -> Result<CompiledSource, Failure>
+    ensures code { IfOk result (λ compiled. (filter : FilterView) × spec.Translates text.now filter compiled.code) }
+    ensures places { IfOk result (λ compiled. ArePlacesOf text.now compiled.places.items) }
+    ensures tokens { IfOk result (λ compiled. IsTokenization compiled.tokens.items 0 text.now) }
     ensures refused { IfErr result (OnRefusal (spec.IsRefusedText text.now)) }
     ensures told { IfErr result (OnDiagnosis (TellsOfText text.now)) }
 {
     let filter = parse(alloc, text)?;
     let typed = check(alloc, filter)?;
-    Ok(compile_mapped(alloc, &typed)?)
+    let MappedCode { code, places } = compile_mapped(alloc, &typed)?;
+    let filter = typed.into_filter();
+    Ok(CompiledSource {
+        code,
+        places,
+        tokens: filter.into_tokens(),
+    })
 }
 
 /// The code of the filter that a text spells.
@@ -58,8 +78,8 @@ pub fn compile_text(alloc: Global, text: &[u8]) -> Result<Code, Failure>
     ensures refused { IfErr result (OnRefusal (spec.IsRefusedText text.now)) }
     ensures told { IfErr result (OnDiagnosis (TellsOfText text.now)) }
 {
-    let mapped = compile_text_mapped(alloc, text)?;
-    Ok(mapped.code)
+    let compiled = compile_text_mapped(alloc, text)?;
+    Ok(compiled.code)
 }
 
 /// The code of a code file.

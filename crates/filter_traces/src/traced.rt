@@ -115,7 +115,11 @@ pub(crate) fn trace_filter(alloc: Global, text: &[u8], size: u32) -> Result<Trac
     ensures traced { IfOk result (λ traced. (filter : FilterView) × IsTraceOf text.now size filter traced) }
     ensures refused { IfErr result (OnDiagnosis (IsDiagnosis size false text.now)) }
 {
-    let PlacedCode { verified, places } = placed_code(alloc, text, size)?;
+    let PlacedCode {
+        verified,
+        places,
+        ..
+    } = placed_code(alloc, text, size)?;
     let sites = sites_in(alloc, text, places.as_slice())?;
     Ok(Traced::new(verified, text, sites))
 }

@@ -64,6 +64,13 @@ impl Typed {
         &self.filter
     }
 
+    /// The same, where nothing asks any more whether its names and kinds fit.
+    pub fn into_filter(self) -> Filter
+        ensures { result ≡ self }
+    {
+        self.filter
+    }
+
     /// The number of the variable of a name. Variables are numbered from 0 in the order of their declarations; a name that
     /// none has gets their count.
     pub fn number_of(&self, name: &[u8]) -> u8

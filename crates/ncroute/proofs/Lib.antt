@@ -5,6 +5,7 @@ mod Beside
 mod FileNames
 mod FiltersRead
 mod Gathered
+mod HostBits
 mod Imported
 mod JoinedRead
 mod Loaded

@@ -1,5 +1,6 @@
 //! How filters and code files are checked.
-ghost use Rattle.std.specs.Prelude.{◌≡◌, ◌||◌, IfErr, IfOk};
+ghost use Rattle.std.specs.Prelude.{◌≡◌, ◌||◌, IfErr, IfOk, is_some};
+ghost use Rattle.filter_reports.specs.Checking.{AreTokensUnlessRefused};
 ghost use Rattle.filter_reports.specs.Faults.{stream_fault};
 ghost use Rattle.ncroute.specs.Checking.{ChecksAll, ChecksBy, ChecksOne, ChecksSome, ChecksText, ChecksWhole, CutsBy, CutsText, CutsWhole, IsCutOne};
 
@@ -9,20 +10,21 @@ use crate::lines::{check_lines, report_on};
 use crate::linting::warn;
 use crate::texts::{Folder, name_of};
 use command_line::{Checking, Source};
-use filter_reports::ProgramFault;
+use filter_reports::{Checked, ProgramFault};
 use filter_source::SOURCE_LIMIT;
 use std::alloc::Global;
 use std::io::{Read, Write};
 
-/// Writes the whole report on the text of a source. Returns whether it is refused.
+/// Writes the whole report on the text of a source. Returns what came of it.
 fn check_whole<R: Read, W: Write, E: Write>(
     alloc: Global,
     how: Checking,
     name: &[u8],
     text: &[u8],
     console: &mut Console<R, W, E>,
-) -> Result<bool, ProgramFault>
-    ensures finished { IfOk result (ChecksWhole how name.now text.now console.old console.new) }
+) -> Result<Checked, ProgramFault>
+    ensures finished { IfOk result (λ checked. ChecksWhole how name.now text.now console.old console.new (is_some checked.diagnosis)) }
+    ensures tokens { IfOk result (λ checked. AreTokensUnlessRefused checked.diagnosis how.is_code text.now checked.tokens.items) }
     ensures cut { IfErr result (λ fault. CutsWhole (stream_fault fault) how name.now text.now console.old console.new) }
 {
     match report_on(
@@ -33,7 +35,7 @@ fn check_whole<R: Read, W: Write, E: Write>(
         &mut console.writer,
         &mut console.errors,
     ) {
-        Ok(why) => Ok(why.is_some()),
+        Ok(checked) => Ok(checked),
         Err(fault) => Err(fault),
     }
 }
@@ -45,7 +47,7 @@ fn is_by_lines(how: Checking) -> bool
     how.has_names || how.is_quiet
 }
 
-/// Checks the text of a source, and writes the report on it by its lines or whole. Returns whether it is refused.
+/// Checks the text of a source, and writes the report on it by its lines or whole. Returns what came of it.
 fn check_by<R: Read, W: Write, E: Write>(
     alloc: Global,
     is_by_lines: bool,
@@ -53,8 +55,9 @@ fn check_by<R: Read, W: Write, E: Write>(
     name: &[u8],
     text: &[u8],
     console: &mut Console<R, W, E>,
-) -> Result<bool, ProgramFault>
-    ensures finished { IfOk result (ChecksBy is_by_lines how name.now text.now console.old console.new) }
+) -> Result<Checked, ProgramFault>
+    ensures finished { IfOk result (λ checked. ChecksBy is_by_lines how name.now text.now console.old console.new (is_some checked.diagnosis)) }
+    ensures tokens { IfOk result (λ checked. AreTokensUnlessRefused checked.diagnosis how.is_code text.now checked.tokens.items) }
     ensures cut { IfErr result (λ fault. CutsBy is_by_lines (stream_fault fault) how name.now text.now console.old console.new) }
 {
     if is_by_lines {
@@ -77,8 +80,8 @@ fn check_read<R: Read, W: Write, E: Write>(
     ensures cut { IfErr result (λ fault. CutsText (stream_fault fault) how name.now text.now console.old console.new) }
 {
     match check_by(alloc, is_by_lines(how), how, name, text, console) {
-        Ok(is_refused) => match warn(alloc, how, name, text, is_refused, console) {
-            Ok(()) => Ok(is_refused),
+        Ok(checked) => match warn(alloc, how, name, text, &checked, console) {
+            Ok(()) => Ok(checked.diagnosis.is_some()),
             Err(fault) => Err(fault),
         },
         Err(fault) => Err(fault),

@@ -1,13 +1,14 @@
 //! The report on a source where each line begins with the source's name, or where only refusals are written.
-ghost use Rattle.std.specs.Prelude.{◌≡◌, ◌++◌, IfErr, IfOk, OnOk};
+ghost use Rattle.std.specs.Prelude.{◌≡◌, ◌++◌, IfErr, IfOk, OnOk, is_some};
 ghost use Rattle.std.specs.Io.KnownBytes.{Appends};
+ghost use Rattle.filter_reports.specs.Checking.{AreTokensUnlessRefused};
 ghost use Rattle.filter_reports.specs.Cuts.{IsCut};
 ghost use Rattle.filter_reports.specs.Faults.{stream_fault};
 ghost use Rattle.ncroute.specs.Marking.{ChecksLines, CutsLines, CutsReport, ReportsOn, kept_lines, mark_behind, marked, name_mark, refusals_in, written_of};
 
 use crate::console::Console;
 use command_line::Checking;
-use filter_reports::{ProgramFault, check_named, push_shown, write_report};
+use filter_reports::{Checked, ProgramFault, check_named, push_shown, write_report};
 use filter_source::Diagnosis;
 use line_protocol::{push_refusal, write_text};
 use std::alloc::{AllocError, Global};
@@ -112,7 +113,8 @@ fn write_lines<W: Write>(
     Ok(())
 }
 
-/// Writes the report on the text of a source, and tells why it is refused where `how` says so. Returns what is told of the refusal.
+/// Writes the report on the text of a source, and tells why it is refused where `how` says so. Returns what is told of the refusal, and
+/// the tokens of the text.
 pub fn report_on<W: Write, E: Write>(
     alloc: Global,
     how: Checking,
@@ -120,9 +122,10 @@ pub fn report_on<W: Write, E: Write>(
     text: &[u8],
     writer: &mut W,
     errors: &mut E,
-) -> Result<Option<Diagnosis>, ProgramFault>
-    ensures finished { IfOk result (ReportsOn how.is_told how name.now text.now
-        (W.contents writer.old) (W.contents writer.new) (E.contents errors.old) (E.contents errors.new)) }
+) -> Result<Checked, ProgramFault>
+    ensures finished { IfOk result (λ checked. ReportsOn how.is_told how name.now text.now
+        (W.contents writer.old) (W.contents writer.new) (E.contents errors.old) (E.contents errors.new) checked.diagnosis) }
+    ensures tokens { IfOk result (λ checked. AreTokensUnlessRefused checked.diagnosis how.is_code text.now checked.tokens.items) }
     ensures cut { IfErr result (λ fault. CutsReport how.is_told (stream_fault fault) how name.now text.now
         (W.contents writer.old) (W.contents writer.new) (E.contents errors.old) (E.contents errors.new)) }
 {
@@ -139,28 +142,32 @@ pub fn report_on<W: Write, E: Write>(
         );
     }
     match write_report(alloc, text, writer, how.size, how.is_code) {
-        Ok(why) => Ok(why),
+        Ok(checked) => Ok(checked),
         Err(fault) => Err(fault),
     }
 }
 
-/// Makes the report on the text of a source, and writes the lines of it that are asked for. Returns whether the source is refused.
+/// Makes the report on the text of a source, and writes the lines of it that are asked for. Returns what came of it, as `report_on`.
 pub fn check_lines<R: Read, W: Write, E: Write>(
     alloc: Global,
     how: Checking,
     name: &[u8],
     text: &[u8],
     console: &mut Console<R, W, E>,
-) -> Result<bool, ProgramFault>
-    ensures finished { IfOk result (ChecksLines how name.now text.now console.old console.new) }
+) -> Result<Checked, ProgramFault>
+    ensures finished { IfOk result (λ checked. ChecksLines how name.now text.now console.old console.new (is_some checked.diagnosis)) }
+    ensures tokens { IfOk result (λ checked. AreTokensUnlessRefused checked.diagnosis how.is_code text.now checked.tokens.items) }
     ensures cut { IfErr result (λ fault. CutsLines (stream_fault fault) how name.now text.now console.old console.new) }
 {
     let mut report = Vec::new(alloc);
     match report_on(alloc, how, name, text, &mut report, &mut console.errors) {
-        Ok(why) => match write_lines(alloc, how, name, report, &why, &mut console.writer) {
-            Ok(()) => Ok(why.is_some()),
-            Err(fault) => Err(fault),
-        },
+        Ok(checked) => {
+            let why = &checked.diagnosis;
+            match write_lines(alloc, how, name, report, why, &mut console.writer) {
+                Ok(()) => Ok(checked),
+                Err(fault) => Err(fault),
+            }
+        }
         Err(fault) => Err(fault),
     }
 }

@@ -1,7 +1,9 @@
 //! How filters are looked through for what is plainly wrong.
-ghost use Rattle.std.specs.Prelude.{◌≡◌, IfErr, IfOk, OnOk};
+ghost use Rattle.std.specs.Prelude.{◌≡◌, IfErr, IfOk, OnOk, is_some};
+ghost use Rattle.filter_reports.specs.Checking.{AreTokensUnlessRefused};
 ghost use Rattle.filter_reports.specs.Faults.{stream_fault};
 ghost use Rattle.filter_reports.specs.Naming.{named};
+ghost use Rattle.filter_tokens.specs.Tokenization.{IsTokenization};
 ghost use Rattle.ncroute.specs.Linting.{CutsHostBitsText, CutsLint, CutsLintText, CutsWarning, CutsWarningText, LintsAll, LintsOne, LintsText};
 ghost use Rattle.ncroute.specs.Linting.{StopsLinting, Warns, WarnsOfHostBits, WarnsText, is_said, wanted_of};
 
@@ -11,8 +13,9 @@ use crate::ending::status_of_found;
 use crate::texts::{Folder, name_of};
 use command_line::{Checking, Linting, Source};
 use filter_lint::{Linted, lint_named, tell_host_bits, warn_named};
-use filter_reports::{NamedText, ProgramFault};
+use filter_reports::{Checked, NamedText, ProgramFault};
 use filter_source::SOURCE_LIMIT;
+use filter_tokens::Token;
 use std::alloc::Global;
 use std::io::{Read, Write};
 
@@ -91,16 +94,18 @@ fn warn_of_all<R: Read, W: Write, E: Write>(
     }
 }
 
-/// Tells those of its prefixes that are written with host bits.
+/// Tells those of its prefixes that are written with host bits, by its tokens.
 fn warn_of_host_bits<R: Read, W: Write, E: Write>(
     alloc: Global,
     source: &NamedText<'_>,
+    tokens: &[Token],
     console: &mut Console<R, W, E>,
 ) -> Result<(), ProgramFault>
+    requires { IsTokenization tokens.now 0 source.now.text.now }
     ensures told { OnOk result (WarnsOfHostBits (named source.now) console.old console.new) }
     ensures cut { IfErr result (λ fault. CutsHostBitsText (stream_fault fault) (named source.now) console.old console.new) }
 {
-    match tell_host_bits(alloc, source, &mut console.errors) {
+    match tell_host_bits(alloc, source, tokens, &mut console.errors) {
         Ok(()) => Ok(()),
         Err(fault) => Err(fault),
     }
@@ -112,18 +117,19 @@ pub fn warn<R: Read, W: Write, E: Write>(
     how: Checking,
     name: &[u8],
     text: &[u8],
-    is_refused: bool,
+    checked: &Checked,
     console: &mut Console<R, W, E>,
 ) -> Result<(), ProgramFault>
-    ensures told { OnOk result (Warns (wanted_of how is_refused) how.size (record { name = name.now; text = text.now })
+    requires { AreTokensUnlessRefused checked.now.diagnosis how.is_code text.now checked.now.tokens.items }
+    ensures told { OnOk result (Warns (wanted_of how (is_some checked.now.diagnosis)) how.size (record { name = name.now; text = text.now })
         console.old console.new) }
-    ensures cut { IfErr result (λ fault. CutsWarning (wanted_of how is_refused) (stream_fault fault) how.size
+    ensures cut { IfErr result (λ fault. CutsWarning (wanted_of how (is_some checked.now.diagnosis)) (stream_fault fault) how.size
         (record { name = name.now; text = text.now }) console.old console.new) }
 {
     let source = NamedText { name, text };
-    match wanted_of(how, is_refused) {
+    match wanted_of(how, checked.diagnosis.is_some()) {
         Wanted::Nothing => Ok(()),
-        Wanted::HostBits => warn_of_host_bits(alloc, &source, console),
+        Wanted::HostBits => warn_of_host_bits(alloc, &source, checked.tokens.as_slice(), console),
         Wanted::All(limit) => warn_of_all(alloc, how.size, limit, &source, console),
     }
 }

@@ -7,9 +7,9 @@ ghost use Rattle.operator_cmds.specs.Script as spec;
 ghost use Rattle.operator_cmds.specs.State.{filter_at};
 
 use crate::reply::refuse;
-use filter_compiler::MappedCode;
 use filter_source::{
-    Diagnosis, Failure, compile_text_mapped, push_verified, read_file, verify_code, verify_mapped,
+    CompiledSource, Diagnosis, Failure, compile_text_mapped, push_verified, read_file, verify_code,
+    verify_mapped,
 };
 use filter_verifier::Verified;
 use line_protocol::LineReply;
@@ -34,7 +34,7 @@ pub fn verify_text(alloc: Global, text: &[u8], size: u16) -> Result<Verified, Fa
     ensures verified { IfOk result (λ v. spec.IsVerified (spec.GivesText text.now) size v) }
     ensures refused { IfErr result (OnDiagnosis (spec.IsTextDiagnosis text.now size)) }
 {
-    let MappedCode { code, places } = compile_text_mapped(alloc, text)?;
+    let CompiledSource { code, places, .. } = compile_text_mapped(alloc, text)?;
     verify_mapped(alloc, code, places.as_slice(), u32::from(size))
 }
 

@@ -46,4 +46,11 @@ impl Filter {
     {
         self.tokens.as_slice()
     }
+
+    /// The same, where nothing else of the filter is wanted any more.
+    pub fn into_tokens(self) -> Vec<Token>
+        ensures { result.items ≡ (view_filter self).tokens }
+    {
+        self.tokens
+    }
 }
