@@ -1,5 +1,7 @@
 -- The filters and functions of a configuration: what stands where each begins, and that they follow one another.
-use Rattle.std.proofs.Common.{◌≡◌, ◌⊎◌, ℕ, zero, suc, ◌+◌, ◌-◌, ◌<◌, ◌≤◌, ◌&&◌, ◌==◌, not, Bool, true, false, if◌then◌else◌, nat_lt, List, length, drop, get_or, All, AllPairs, Option, Some, None, codes, unwrap_or, inl, inr, refl, sym, ◌∙◌, ap, subst, arith}
+use Rattle.std.proofs.Common.{◌≡◌, ◌⊎◌, ℕ, zero, suc, ◌+◌, ◌-◌, ◌<◌, ◌≤◌, ◌&&◌, ◌==◌, not, Bool, true, false}
+use Rattle.std.proofs.Common.{if◌then◌else◌, nat_lt, List, length, drop, get_or, All, AllPairs, Option, Some}
+use Rattle.std.proofs.Common.{None, codes, unwrap_or, inl, inr, refl, sym, ◌∙◌, ap, subst, arith}
 use Rattle.std.specs.Option.{option_and_then}
 use Rattle.std.specs.Str.{bytes_eq}
 use Rattle.std.proofs.lemmas.Bool.{and_parts, and_right, cond-false, ltb-false, not-true, or_cases}
@@ -10,8 +12,10 @@ use Rattle.std.proofs.lemmas.Slice.Eq.{bytes_eq-Decides}
 use Rattle.filter_tokens.specs.declared.symbol.Symbol.TheVariants as symbol
 use Rattle.bird_import.specs.Including.{is_foreign}
 use Rattle.bird_import.specs.Indices.{IsAt, IsForeignAt, IsNameAt, bytes_at, kind_at}
-use Rattle.bird_import.specs.Items.{AreItemsIn, BeginsItem, BlocksView, IsDirectionAt, IsItemIn, IsPlainAt, ItemView, WalkView, block_end, block_from, depth_past, direction_kind, first_opening, first_outside}
-use Rattle.bird_import.specs.Items.{is_anonymous, is_any_name, is_direction, is_foreign_at, is_name, is_plain_word, is_symbol, is_word_at, item_at, item_end, item_kind, item_name, item_of, items_in, named_kind}
+use Rattle.bird_import.specs.Items.{AreItemsIn, BeginsItem, BlocksView, IsDirectionAt, IsItemIn, IsPlainAt, ItemView, WalkView}
+use Rattle.bird_import.specs.Items.{block_end, block_from, depth_past, direction_kind, first_opening, first_outside}
+use Rattle.bird_import.specs.Items.{is_anonymous, is_any_name, is_direction, is_foreign_at, is_name, is_plain_word, is_symbol}
+use Rattle.bird_import.specs.Items.{is_word_at, item_at, item_end, item_kind, item_name, item_of, items_in, named_kind}
 use Rattle.bird_import.specs.Items.{opens_block, outside_from, walk_before, walk_behind, walk_on, walk_past}
 use Rattle.bird_import.specs.Rules.{closes}
 use Rattle.bird_import.specs.declared.items.ItemKind.{ItemKind}

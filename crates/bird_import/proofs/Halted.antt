@@ -5,7 +5,8 @@ use Rattle.bird_import.specs.Drafts.{words_of}
 use Rattle.bird_import.specs.Indices.{kind_of_word}
 use Rattle.bird_import.specs.Reasons.{why_of, why_of_next}
 use Rattle.bird_import.specs.Steps.{BecomesWithin, Reaches}
-use Rattle.bird_import.specs.Stuck.{Calls, Halts, Hinder, Hinders, IsCallBy, IsCalled, IsFunctionNamed, IsFunctionOf, IsOutside, IsStuck, IsTooDeep, IsUsed}
+use Rattle.bird_import.specs.Stuck.{Calls, Halts, Hinder, Hinders, IsCallBy, IsCalled, IsFunctionNamed}
+use Rattle.bird_import.specs.Stuck.{IsFunctionOf, IsOutside, IsStuck, IsTooDeep, IsUsed}
 use Rattle.bird_import.proofs.Below.{same_some}
 use Rattle.bird_import.specs.declared.config.Config.{Config}
 use Rattle.bird_import.specs.declared.drafts.Next.{Next}

@@ -3,9 +3,14 @@ use Rattle.std.proofs.Common.{◌≡◌, ℕ, Bool, true, false, List, [], ◌�
 use Rattle.std.specs.Fmt.{digits}
 use Rattle.filter_tokens.specs.declared.symbol.Symbol.{Symbol}
 use Rattle.filter_tokens.specs.declared.symbol.Symbol.TheVariants as symbol
-use Rattle.bird_import.specs.Items.{ItemView, block_end, block_from, blocks_before, blocks_behind, blocks_past, count_of_kind, definition_at, definition_behind, definitions_before, definitions_in}
-use Rattle.bird_import.specs.Items.{depth_past, directed_name, direction_kind, first_opening, first_outside, have_ipv6, is_anonymous, is_any_name, is_direction, is_foreign_at, is_name, is_nameless, is_plain_word, is_prefix}
-use Rattle.bird_import.specs.Items.{is_protocol, is_symbol, is_variant, is_word_at, item_at, item_end, item_kind, item_name, item_of, items_in, name_of_owner, name_of_protocol, named_kind, opens_block, outside_from}
+use Rattle.bird_import.specs.Items.{ItemView, block_end, block_from, blocks_before, blocks_behind, blocks_past, count_of_kind}
+use Rattle.bird_import.specs.Items.{definition_at, definition_behind, definitions_before, definitions_in}
+use Rattle.bird_import.specs.Items.{depth_past, directed_name, direction_kind, first_opening, first_outside}
+use Rattle.bird_import.specs.Items.{have_ipv6, is_anonymous, is_any_name, is_direction, is_foreign_at}
+use Rattle.bird_import.specs.Items.{is_name, is_nameless, is_plain_word, is_prefix}
+use Rattle.bird_import.specs.Items.{is_protocol, is_symbol, is_variant, is_word_at, item_at, item_end}
+use Rattle.bird_import.specs.Items.{item_kind, item_name, item_of, items_in, name_of_owner, name_of_protocol}
+use Rattle.bird_import.specs.Items.{named_kind, opens_block, outside_from}
 use Rattle.bird_import.specs.Items.{owner_among, walk_before, walk_behind, walk_past, with_nameless, words_before_name}
 use Rattle.bird_import.specs.declared.items.Definition.{Definition}
 use Rattle.bird_import.specs.declared.items.ItemKind.{ItemKind}

@@ -1,5 +1,6 @@
 -- The text that is written for words, and where they stand, one word further.
-use Rattle.std.proofs.Common.{◌≡◌, ℕ, ◌+◌, ◌<◌, List, [], ◌∷◌, ◌++◌, length, drop, get_or, Option, Some, append_assoc, length-append, refl, sym, ◌∙◌, ap, arith}
+use Rattle.std.proofs.Common.{◌≡◌, ℕ, ◌+◌, ◌<◌, List, [], ◌∷◌, ◌++◌, length, drop, get_or, Option}
+use Rattle.std.proofs.Common.{Some, append_assoc, length-append, refl, sym, ◌∙◌, ap, arith}
 use Rattle.std.specs.Char.{is_ascii_whitespace}
 use Rattle.std.specs.Str.{IsTrimAsciiStart}
 use Rattle.std.proofs.lemmas.List.{drop_more}

@@ -1,15 +1,20 @@
 -- The definitions of a configuration are what `define` begins outside of each block, each once and in order.
-use Rattle.std.proofs.Common.{◌≡◌, ◌↔◌, ℕ, zero, suc, ◌+◌, ◌<◌, ◌≤◌, ◌&&◌, ◌==◌, Bool, true, false, if◌then◌else◌, List, [], ◌∷◌, ◌++◌, length, get_or, All, AllPairs, Contains, Decides, Option, Some, None, codes, inl, inr, refl, sym, ◌∙◌, ap, subst, append-nil, arith}
+use Rattle.std.proofs.Common.{◌≡◌, ◌↔◌, ℕ, zero, suc, ◌+◌, ◌<◌, ◌≤◌, ◌&&◌, ◌==◌, Bool, true, false, if◌then◌else◌}
+use Rattle.std.proofs.Common.{List, [], ◌∷◌, ◌++◌, length, get_or, All, AllPairs, Contains, Decides, Option, Some}
+use Rattle.std.proofs.Common.{None, codes, inl, inr, refl, sym, ◌∙◌, ap, subst, append-nil, arith}
 use Rattle.std.specs.Option.{option_map, option_to_list}
 use Rattle.std.specs.Str.{bytes_eq}
 use Rattle.std.proofs.lemmas.Bool.{and_from, and_parts, cases_lt, cond-true, eq-eqb, eqb-true}
-use Rattle.std.proofs.lemmas.List.Elements.{All-get_or, All-nil, All-push, All-weaker, Contains-append_cases, Contains-append_left, Contains-append_right}
+use Rattle.std.proofs.lemmas.List.Elements.{All-get_or, All-nil, All-push, All-weaker, Contains-append_cases}
+use Rattle.std.proofs.lemmas.List.Elements.{Contains-append_left, Contains-append_right}
 use Rattle.std.proofs.lemmas.List.Quantifiers.{all_pairs_push}
 use Rattle.std.proofs.lemmas.Slice.Eq.{bytes_eq-Decides}
 use Rattle.filter_tokens.specs.declared.symbol.Symbol.TheVariants as symbol
 use Rattle.bird_import.specs.Including.{is_foreign}
 use Rattle.bird_import.specs.Indices.{bytes_at, kind_at}
-use Rattle.bird_import.specs.Items.{IsDefinitionAt, IsDefinitionIn, blocks_before, definition_at, definition_behind, definition_to, definitions_before, definitions_in, is_foreign_at, is_name, is_symbol, outside_from}
+use Rattle.bird_import.specs.Items.{IsDefinitionAt, IsDefinitionIn, blocks_before, definition_at}
+use Rattle.bird_import.specs.Items.{definition_behind, definition_to, definitions_before, definitions_in}
+use Rattle.bird_import.specs.Items.{is_foreign_at, is_name, is_symbol, outside_from}
 use Rattle.bird_import.specs.declared.items.Definition.{Definition}
 use Rattle.bird_import.specs.declared.word.Word.{Word}
 use Rattle.bird_import.specs.declared.word.WordKind.{WordKind}

@@ -1,5 +1,6 @@
 -- Tokens that are words, one by one.
-use Rattle.std.proofs.Common.{◌≡◌, ◌≢◌, IfOk, Result, Ok, Err, false, true, ℕ, zero, suc, ◌+◌, ◌<◌, ◌≤◌, ◌⊎◌, List, [], ◌∷◌, Some, length, get_or, slice_get, ap, ◌∙◌, refl, subst, sym, inl, inr, arith}
+use Rattle.std.proofs.Common.{◌≡◌, ◌≢◌, IfOk, Result, Ok, Err, false, true, ℕ, zero, suc, ◌+◌, ◌<◌, ◌≤◌, ◌⊎◌, List}
+use Rattle.std.proofs.Common.{[], ◌∷◌, Some, length, get_or, slice_get, ap, ◌∙◌, refl, subst, sym, inl, inr, arith}
 use Rattle.std.proofs.lemmas.Option.{slice_get-get_or, slice_get_read, slice_get_within}
 use Rattle.filter_parser.specs.SyntaxText.{FilterView, IsText}
 use Rattle.filter_parser.specs.Unspelled.{IsUnspelled}

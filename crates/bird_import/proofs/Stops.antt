@@ -1,5 +1,6 @@
 -- What the lexer says of the text behind a place: where its tokens end, and what is added where it stops.
-use Rattle.std.proofs.Common.{◌≡◌, ℕ, ◌+◌, ◌-◌, ◌<◌, ◌≤◌, List, [], ◌∷◌, ◌++◌, length, take, drop, sym, ap, ◌∙◌, subst, arith, inr, length-drop, false, Some}
+use Rattle.std.proofs.Common.{◌≡◌, ℕ, ◌+◌, ◌-◌, ◌<◌, ◌≤◌, List, [], ◌∷◌, ◌++◌, length, take, drop}
+use Rattle.std.proofs.Common.{sym, ap, ◌∙◌, subst, arith, inr, length-drop, false, Some}
 use Rattle.std.proofs.lemmas.List.{drop-drop, drop_all, take_rest}
 use Rattle.filter_tokens.specs.declared.part.Part.{Part}
 use Rattle.filter_tokens.specs.declared.token.Token.{Token}

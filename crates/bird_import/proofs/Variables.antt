@@ -1,5 +1,6 @@
 -- The variables that a filter declares are names among the words that it was written for.
-use Rattle.std.proofs.Common.{◌≡◌, ◌∙◌, ◌<◌, ◌⊎◌, ◌++◌, ℕ, zero, suc, List, [], ◌∷◌, Some, length, map, get_or, option_map, slice_get, ap, refl, subst, sym, inl, inr, arith}
+use Rattle.std.proofs.Common.{◌≡◌, ◌∙◌, ◌<◌, ◌⊎◌, ◌++◌, ℕ, zero, suc, List, [], ◌∷◌, Some, length, map}
+use Rattle.std.proofs.Common.{get_or, option_map, slice_get, ap, refl, subst, sym, inl, inr, arith}
 use Rattle.std.proofs.lemmas.Option.{slice_get-map, slice_get_read, slice_get_within}
 use Rattle.filter_parser.specs.SyntaxCommands.{CommandsView, DeclView, spelling_decls, view_decl}
 use Rattle.filter_parser.specs.SyntaxText.{FilterView, IsText, spelling_filter}

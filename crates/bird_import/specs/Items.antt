@@ -1,7 +1,8 @@
 -- What a configuration consists of: its definitions, its filters and its functions. (Definitions, filters, functions and protocols are those
 -- of the BIRD 2.0 User's Guide. That a filter without a name gets its protocol's, with the direction, is this project's own choice.)
 use Rattle.std.specs.Prelude.{◌≡◌, ◌⊎◌, ℕ, zero, suc, ◌+◌, ◌-◌, ◌<◌, ◌≤◌, ◌&&◌, ◌||◌, ◌==◌, not, if◌then◌else◌, nat_eq, nat_lt, Bool, true, false}
-use Rattle.std.specs.Prelude.{List, [], ◌∷◌, ◌++◌, All, AllPairs, codes, count_by, decimal, drop, fold, length, map, take, Option, Some, None, is_some, unwrap_or}
+use Rattle.std.specs.Prelude.{List, [], ◌∷◌, ◌++◌, All, AllPairs, codes, count_by, decimal, drop}
+use Rattle.std.specs.Prelude.{fold, length, map, take, Option, Some, None, is_some, unwrap_or}
 use Rattle.std.specs.Option.{option_and_then, option_map, option_to_list}
 use Rattle.std.specs.List.{list_any, starts_with}
 use Rattle.std.specs.Str.{bytes_eq}

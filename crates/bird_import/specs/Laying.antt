@@ -1,5 +1,6 @@
 -- The text that is written for the words of a filter, and where in the configuration its words stand. (This project's own choice.)
-use Rattle.std.specs.Prelude.{ℕ, ◌+◌, ◌&&◌, ◌||◌, ◌==◌, not, if◌then◌else◌, nat_le, Bool, List, [], ◌∷◌, ◌++◌, codes, drop, filter, length, map, Option, Some, None}
+use Rattle.std.specs.Prelude.{ℕ, ◌+◌, ◌&&◌, ◌||◌, ◌==◌, not, if◌then◌else◌, nat_le, Bool, List, []}
+use Rattle.std.specs.Prelude.{◌∷◌, ◌++◌, codes, drop, filter, length, map, Option, Some, None}
 use Rattle.std.specs.Char.{is_ascii_whitespace}
 use Rattle.std.specs.List.{last_or, prefix_len}
 use Rattle.std.specs.Str.{bytes_eq}

@@ -1,5 +1,6 @@
 -- Why a filter is left out.
-use Rattle.std.specs.Prelude.{◌≡◌, ◌≢◌, ◌⊎◌, ℕ, ◌+◌, ◌-◌, ◌<◌, ◌≤◌, ◌++◌, true, List, Option, Some, None, Result, Ok, Err, codes, length, slice_get, ⊤}
+use Rattle.std.specs.Prelude.{◌≡◌, ◌≢◌, ◌⊎◌, ℕ, ◌+◌, ◌-◌, ◌<◌, ◌≤◌, ◌++◌, true, List, Option}
+use Rattle.std.specs.Prelude.{Some, None, Result, Ok, Err, codes, length, slice_get, ⊤}
 use Rattle.filter_tokens.specs.declared.symbol.Symbol.TheVariants as symbol
 use Rattle.bird_import.specs.Indices.{IsAt, IsBehind, IsForeignAt, IsNameAt, IsNamedAt, kind_at, bytes_at}
 use Rattle.bird_import.specs.Items.{opens_block}

@@ -1,6 +1,7 @@
 -- The rules by which words of a filter of BIRD's are written as others: each keeps what the filter does. As in the BIRD 2.0 User's Guide;
 -- that printing is left out, and where a `;` may be missing, is this project's own choice.
-use Rattle.std.specs.Prelude.{◌≡◌, ◌≢◌, ◌⊎◌, ℕ, ◌+◌, ◌-◌, ◌<◌, ◌==◌, Bool, true, false, if◌then◌else◌, List, [], ◌∷◌, ◌++◌, Option, Some, None, All, codes, drop, ⊤}
+use Rattle.std.specs.Prelude.{◌≡◌, ◌≢◌, ◌⊎◌, ℕ, ◌+◌, ◌-◌, ◌<◌, ◌==◌, Bool, true, false, if◌then◌else◌}
+use Rattle.std.specs.Prelude.{List, [], ◌∷◌, ◌++◌, Option, Some, None, All, codes, drop, ⊤}
 use Rattle.bird_import.specs.Alike.{AreAlike}
 use Rattle.filter_tokens.specs.declared.symbol.Symbol.{Symbol}
 use Rattle.filter_tokens.specs.declared.symbol.Symbol.TheVariants as symbol

@@ -1,6 +1,7 @@
 //! What a configuration consists of: its filters, functions and definitions.
 ghost use Rattle.std.specs.Option.{option_copied, option_map};
-ghost use Rattle.std.specs.Prelude.{◌≡◌, ◌↔◌, ◌+◌, ◌-◌, ◌^◌, ◌<◌, ◌≤◌, ◌++◌, [], ◌∷◌, ℕ, AllPairs, Contains, IfOk, IfSome, None, OnOk, length, map, take, true};
+ghost use Rattle.std.specs.Prelude.{◌≡◌, ◌↔◌, ◌+◌, ◌-◌, ◌^◌, ◌<◌, ◌≤◌, ◌++◌, [], ◌∷◌, ℕ, AllPairs};
+ghost use Rattle.std.specs.Prelude.{Contains, IfOk, IfSome, None, OnOk, length, map, take, true};
 ghost use Rattle.bird_import.specs.Indices as indices;
 ghost use Rattle.bird_import.specs.Items as spec;
 ghost use Rattle.bird_import.specs.Items.{AreItemsIn, IsDefinitionIn};

@@ -20,7 +20,8 @@ use Rattle.code_file.specs.Fields.{FieldKind, width, number, mark_bytes, version
 use Rattle.code_file.specs.Fields.{is_good, is_prefix, is_in_set, is_in, form_of, forms}
 use Rattle.code_file.specs.Fields.FieldKind.{Mark, VersionMark, Locals, Sets, Patterns, Pattern, IntSets, Ranges, Instructions, Opcode}
 use Rattle.code_file.specs.Fields.FieldKind.{WordOperand, TruthOperand, PrefixOperand, NameOperand, BitsOperand, SkipOperand}
-use Rattle.code_file.specs.Spelling.{Field, field, mark_byte, version_mark, prefix_bytes, pattern, counted, set, range, int_set, int_sets, operand, instruction, fields}
+use Rattle.code_file.specs.Spelling.{Field, field, mark_byte, version_mark, prefix_bytes, pattern, counted}
+use Rattle.code_file.specs.Spelling.{set, range, int_set, int_sets, operand, instruction, fields}
 use Rattle.code_file.specs.Spelling.{IsRange, IsIntSet, AreIntSets, IsPattern, IsSet, FitsField, IsInstruction, IsCodeIn}
 use Rattle.code_file.specs.Reading.{Format, ◌>>=◌, a_number, prefix_of, a_pattern, a_count_of, a_set, a_range, an_int_set, the_int_sets, an_operand}
 use Rattle.code_file.specs.Reading.{an_instruction, a_version, a_code, a_file}

@@ -8,7 +8,8 @@ use Rattle.code_file.specs.declared.fault.FileFault.{FileFault}
 use Rattle.code_file.specs.declared.fault.FileFault.TheVariants as fault
 use Rattle.code_file.specs.declared.version.Version.{Version}
 use Rattle.code_file.specs.Fields.FieldKind.{Locals, Sets, Instructions}
-use Rattle.code_file.specs.Reading.{Format, ◌>>=◌, Rest, read, whole, a_number, a_set, the_int_sets, an_instruction, a_count_of, a_mark, a_code, a_file}
+use Rattle.code_file.specs.Reading.{Format, ◌>>=◌, Rest, read, whole, a_number, a_set, the_int_sets}
+use Rattle.code_file.specs.Reading.{an_instruction, a_count_of, a_mark, a_code, a_file}
 use Rattle.code_file.specs.Reading.{file_of}
 use Rattle.code_file.specs.Reading.Format.{Done}
 use Rattle.code_file.proofs.Formats.{from_start}

@@ -14,7 +14,8 @@ use Rattle.filter_code.specs.Limits.{local_limit, set_limit, int_set_limit, inst
 use Rattle.filter_code.specs.CodeView.{CodeView}
 use Rattle.filter_code.specs.declared.instruction.Instr.{Instr}
 use Rattle.int_sets.specs.Holding.{NumberRange, range_limit}
-use Rattle.code_file.specs.Spelling.{Field, bytes_of, pattern, set, counted, range, int_set, int_sets, instruction, spelling_in, IsPattern, IsSet, IsInstruction, IsCodeIn}
+use Rattle.code_file.specs.Spelling.{Field, bytes_of, pattern, set, counted, range, int_set, int_sets, instruction}
+use Rattle.code_file.specs.Spelling.{spelling_in, IsPattern, IsSet, IsInstruction, IsCodeIn}
 use Rattle.code_file.specs.Spelling.{IsRange, IsIntSet, AreIntSets, needs_int_sets}
 use Rattle.code_file.specs.declared.version.Version.{Version}
 use Rattle.code_file.specs.declared.version.Version.TheVariants as version

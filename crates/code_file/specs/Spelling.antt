@@ -13,7 +13,8 @@ use Rattle.int_sets.specs.Holding.{NumberRange, range_limit}
 use Rattle.code_file.specs.declared.version.Version.{Version}
 use Rattle.code_file.specs.declared.version.Version.TheVariants as version
 use Rattle.code_file.specs.Fields.{FieldKind, width, mark_bytes, version_byte, is_in_set, is_in}
-use Rattle.code_file.specs.Fields.FieldKind.{Mark, VersionMark, Locals, Sets, Patterns, Pattern, IntSets, Ranges, Range, Instructions, Opcode, WordOperand}
+use Rattle.code_file.specs.Fields.FieldKind.{Mark, VersionMark, Locals, Sets, Patterns, Pattern, IntSets}
+use Rattle.code_file.specs.Fields.FieldKind.{Ranges, Range, Instructions, Opcode, WordOperand}
 use Rattle.code_file.specs.Fields.FieldKind.{TruthOperand, PrefixOperand, NameOperand, BitsOperand, SkipOperand}
 
 -- a field with its bytes

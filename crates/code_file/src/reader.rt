@@ -3,7 +3,8 @@
 ghost use Rattle.std.specs.Prelude.{◌≡◌, ◌+◌, ◌<◌, ◌≤◌, true, false, length, take, MatchOption, MatchResult, IfOk};
 ghost use Rattle.filter_code.specs.CodeView.{HasMask};
 ghost use Rattle.code_file.specs.Fields.{is_prefix, is_pattern, is_range, form_of};
-ghost use Rattle.code_file.specs.Fields.FieldKind.{Mark, Locals, Sets, Patterns, IntSets, Ranges, Instructions, WordOperand, NameOperand, BitsOperand, SkipOperand};
+ghost use Rattle.code_file.specs.Fields.FieldKind.{Mark, Locals, Sets, Patterns, IntSets, Ranges, Instructions};
+ghost use Rattle.code_file.specs.Fields.FieldKind.{WordOperand, NameOperand, BitsOperand, SkipOperand};
 ghost use Rattle.code_file.specs.Reading.{past, Reads, a_number, prefix_of, pattern_of, range_of, a_pattern, a_range, a_prefix, a_truth};
 ghost use Rattle.code_file.specs.Reading.{a_form, an_operand, an_instruction, a_version, a_mark};
 

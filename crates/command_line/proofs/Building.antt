@@ -1,5 +1,6 @@
 -- What a command has after arguments and subcommands were added to it.
-use Rattle.std.proofs.Common.{◌≡◌, ◌∙◌, ◌<◌, ◌+◌, ◌++◌, ◌||◌, ℕ, Bool, true, false, List, [], ◌∷◌, Bor, Result, ap, ap₂, append-nil, arith, get_or, length, map, refl, subst, sym, take}
+use Rattle.std.proofs.Common.{◌≡◌, ◌∙◌, ◌<◌, ◌+◌, ◌++◌, ◌||◌, ℕ, Bool, true, false, List, [], ◌∷◌, Bor, Result}
+use Rattle.std.proofs.Common.{ap, ap₂, append-nil, arith, get_or, length, map, refl, subst, sym, take}
 use Rattle.std.specs.Prelude.{IfOk, fold}
 use Rattle.std.proofs.lemmas.Result.{IfOk-weaker}
 use Rattle.std.specs.List.{All}

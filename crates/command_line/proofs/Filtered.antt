@@ -1,5 +1,6 @@
 -- How the filters of words follow one another.
-use Rattle.std.proofs.Common.{◌≡◌, ◌<◌, ℕ, zero, suc, ◌+◌, ◌++◌, Bool, true, false, List, [], ◌∷◌, length, get_or, map, Option, Some, None, Bor, refl, sym, ap, subst, add-one, ◌∙◌}
+use Rattle.std.proofs.Common.{◌≡◌, ◌<◌, ℕ, zero, suc, ◌+◌, ◌++◌, Bool, true, false, List, [], ◌∷◌, length}
+use Rattle.std.proofs.Common.{get_or, map, Option, Some, None, Bor, refl, sym, ap, subst, add-one, ◌∙◌}
 use Rattle.std.specs.Prelude.{MatchOption, slice_get, string_bytes}
 use Rattle.std.proofs.lemmas.Option.{slice_get-get_or}
 use Rattle.command_line.specs.Filters.{HasWrong, IsFilterWord, NameFirst, has_name, name_in, names_filter}

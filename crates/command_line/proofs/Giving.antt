@@ -1,5 +1,6 @@
 -- What the getters of the parser of words answer, in the words of `specs/Given.antt`.
-use Rattle.std.proofs.Common.{◌≡◌, ◌∙◌, ◌<◌, ◌^◌, ◌&&◌, ℕ, Bool, true, false, refl, sym, ap, List, [], ◌∷◌, map, length, Option, Some, None, Result, Ok, Err, Bor, nat_lt, option_map, codes, lt-ltb, ltb-true}
+use Rattle.std.proofs.Common.{◌≡◌, ◌∙◌, ◌<◌, ◌^◌, ◌&&◌, ℕ, Bool, true, false, refl, sym, ap, List, [], ◌∷◌, map, length}
+use Rattle.std.proofs.Common.{Option, Some, None, Result, Ok, Err, Bor, nat_lt, option_map, codes, lt-ltb, ltb-true}
 use Rattle.std.specs.Prelude.{option_and_then, slice_get, unwrap_or}
 use Rattle.std.specs.Char.{digit_value, is_digit}
 use Rattle.std.specs.List.{list_all}

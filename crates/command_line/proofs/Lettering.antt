@@ -1,5 +1,6 @@
 -- How the pages of letters begin.
-use Rattle.std.proofs.Common.{◌≡◌, ◌∙◌, ◌<◌, ◌++◌, Bool, true, false, List, [], ◌∷◌, ℕ, Option, Some, None, Result, ap, cond, drop, drop-cons, get_or, length, map, refl, subst, sym}
+use Rattle.std.proofs.Common.{◌≡◌, ◌∙◌, ◌<◌, ◌++◌, Bool, true, false, List, [], ◌∷◌, ℕ, Option, Some, None}
+use Rattle.std.proofs.Common.{Result, ap, cond, drop, drop-cons, get_or, length, map, refl, subst, sym}
 use Rattle.std.specs.Prelude.{◌==◌, IfOk, IsSomeAnd, MatchOption}
 use Rattle.std.specs.Cmp.Lexicographic.{pointwise}
 use Rattle.std.proofs.Math.Seq.{take-append_seam}

@@ -1,5 +1,6 @@
 -- How the sources of names follow one another.
-use Rattle.std.proofs.Common.{◌≡◌, ◌∙◌, ◌<◌, ◌≤◌, ◌+◌, ℕ, zero, suc, false, refl, ap, subst, arith, length, List, [], ◌∷◌, ◌++◌, map, take, get_or, nat_lt, add-one, lt-ltb}
+use Rattle.std.proofs.Common.{◌≡◌, ◌∙◌, ◌<◌, ◌≤◌, ◌+◌, ℕ, zero, suc, false, refl, ap, subst, arith, length}
+use Rattle.std.proofs.Common.{List, [], ◌∷◌, ◌++◌, map, take, get_or, nat_lt, add-one, lt-ltb}
 use Rattle.std.specs.Prelude.{not, slice_get, unwrap_or}
 use Rattle.std.proofs.Math.Seq.{take-length}
 use Rattle.std.proofs.lemmas.List.{map-append, map_more}

@@ -1,6 +1,7 @@
 -- What the words behind a command gave, as the parser of words answers it: each option and argument by its name, with its values in order.
 -- (`ArgMatches` of the crate clap; which word of the command line becomes which value, its contract says for the commands of `Parameters`.)
-use Rattle.std.specs.Prelude.{◌&&◌, ◌^◌, ℕ, Bool, false, List, [], Option, Some, None, codes, if◌then◌else◌, length, nat_lt, option_and_then, slice_get, unwrap_or}
+use Rattle.std.specs.Prelude.{◌&&◌, ◌^◌, ℕ, Bool, false, List, [], Option, Some, None, codes, if◌then◌else◌}
+use Rattle.std.specs.Prelude.{length, nat_lt, option_and_then, slice_get, unwrap_or}
 use Rattle.std.specs.Char.{is_digit}
 use Rattle.std.specs.List.{list_all}
 use Rattle.std.specs.Option.{option_map_or}

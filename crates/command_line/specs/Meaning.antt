@@ -1,5 +1,6 @@
 -- What the words behind each command ask for: which of them sets what. (This project's own choice.)
-use Rattle.std.specs.Prelude.{◌≡◌, ◌⊎◌, ◌&&◌, ◌||◌, ℕ, Bool, true, false, List, [], MatchOption, Option, Some, None, codes, if◌then◌else◌, is_some, length, map, nat_lt, not, option_map, string_bytes, unwrap_or, ⊤}
+use Rattle.std.specs.Prelude.{◌≡◌, ◌⊎◌, ◌&&◌, ◌||◌, ℕ, Bool, true, false, List, [], MatchOption, Option, Some, None, codes}
+use Rattle.std.specs.Prelude.{if◌then◌else◌, is_some, length, map, nat_lt, not, option_map, string_bytes, unwrap_or, ⊤}
 use Rattle.std.specs.List.{list_any}
 use Rattle.std.specs.Option.{option_map_or}
 use Rattle.std.specs.Str.{bytes_eq}

@@ -1,5 +1,6 @@
 -- The lines that tell of routes at rest. (This project's own choice.) `size` is the number of nodes.
-use Rattle.std.specs.Prelude.{◌≡◌, MatchBool, ℕ, ◌==◌, nat_lt, Bool, true, false, not, ◌&&◌, if◌then◌else◌, List, [], ◌∷◌, ◌++◌, flat_map, slice_index_or, codes, decimal}
+use Rattle.std.specs.Prelude.{◌≡◌, MatchBool, ℕ, ◌==◌, nat_lt, Bool, true, false, not, ◌&&◌, if◌then◌else◌}
+use Rattle.std.specs.Prelude.{List, [], ◌∷◌, ◌++◌, flat_map, slice_index_or, codes, decimal}
 use Rattle.netchange_core.specs.declared.reply.Via.{Via}
 use Rattle.netchange_core.specs.declared.reply.Via.TheVariants.{Local, Node, Nowhere}
 use Rattle.operator_cmds.specs.Looks.{texts_below}

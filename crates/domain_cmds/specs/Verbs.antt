@@ -2,7 +2,8 @@
 use Rattle.std.specs.Prelude.{ℕ, Bool, List, [], ◌∷◌, Option, find, codes}
 use Rattle.std.specs.Str.{bytes_eq}
 use Rattle.domain_cmds.specs.declared.verb.Verb.{Verb}
-use Rattle.domain_cmds.specs.declared.verb.Verb.TheVariants.{Domain, Prefix, Load, Code, Link, Cut, Import, Export, Route, Path, Table, Draw, Mark, Changes, Settle}
+use Rattle.domain_cmds.specs.declared.verb.Verb.TheVariants.{Domain, Prefix, Load, Code, Link, Cut, Import, Export}
+use Rattle.domain_cmds.specs.declared.verb.Verb.TheVariants.{Route, Path, Table, Draw, Mark, Changes, Settle}
 
 -- how each is written
 abbrev pub verb_text : Verb → List ℕ

@@ -126,6 +126,7 @@ fn marks(
     match marked {
         Some(marked) => Ok(Arc::try_clone(marked)?),
         None => {
+            // For the proof alone, which needs what its contract says.
             let _nodes = plan.size();
             let prefixes = Vec::from_slice(alloc, plan.prefixes())?;
             let unlinked = Plan::new(alloc, prefixes)?.unwrap();

@@ -113,6 +113,7 @@ fn enter(routers: &mut Routers, change: Change) -> Result<(), PlayFault> {
 
 /// The routers of a plan's nodes, without links.
 fn open_routers(alloc: Global, plan: &Plan) -> Result<Routers, AllocError> {
+    // For the proof alone, which needs what its contract says.
     let _nodes = plan.size();
     Routers::open(alloc, plan.prefixes())
 }

@@ -1,5 +1,7 @@
 -- The domain of a list of routers, after one of them entered an event.
-use Rattle.std.proofs.Common.{◌≡◌, ⊎_elim, ℕ, ◌<◌, Bool, true, false, cond, nat_eq, List, [], ◌∷◌, ◌++◌, length, drop, get_or, map, slice_set, take, refl, sym, ap, subst, ◌∙◌, arith, eq-eqb, ne_eqb, get_or-set_same, get_or-set_other, length-drop, length-set}
+use Rattle.std.proofs.Common.{◌≡◌, ⊎_elim, ℕ, ◌<◌, Bool, true, false, cond, nat_eq, List, [], ◌∷◌, ◌++◌, length}
+use Rattle.std.proofs.Common.{drop, get_or, map, slice_set, take, refl, sym, ap, subst, ◌∙◌, arith, eq-eqb}
+use Rattle.std.proofs.Common.{ne_eqb, get_or-set_same, get_or-set_other, length-drop, length-set}
 use Rattle.std.specs.Prelude.{Err, Ok, OnErr, OnOk, Option, Result, Some}
 use Rattle.std.proofs.lemmas.Bool.{cases_eq}
 use Rattle.std.proofs.lemmas.List.{append-nil, get_or_default, get_or_read, nil_from_length}

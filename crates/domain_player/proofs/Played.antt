@@ -1,5 +1,6 @@
 -- What sending and receiving leave, one after another.
-use Rattle.std.proofs.Common.{◌≡◌, ⊎_elim, ℕ, ◌+◌, ◌<◌, zero, suc, nat_eq, Option, Some, All, List, [], ◌∷◌, length, drop, get_or, slice_set, take, refl, sym, ap, subst, ◌∙◌, arith}
+use Rattle.std.proofs.Common.{◌≡◌, ⊎_elim, ℕ, ◌+◌, ◌<◌, zero, suc, nat_eq, Option, Some, All, List, [], ◌∷◌}
+use Rattle.std.proofs.Common.{length, drop, get_or, slice_set, take, refl, sym, ap, subst, ◌∙◌, arith}
 use Rattle.std.proofs.lemmas.Bool.{cases_eq, cond_both, eqb-true}
 use Rattle.std.proofs.lemmas.List.{drop_more}
 use Rattle.netchange_core.specs.declared.message.Message.{Message}

@@ -1,5 +1,6 @@
 -- One node after another sends what waits for its neighbours.
-use Rattle.std.proofs.Common.{◌≡◌, ⊎_elim, ℕ, ◌+◌, ◌<◌, ◌≤◌, zero, suc, true, cond, Some, All, List, [], ◌∷◌, ◌++◌, length, drop, get_or, map, slice_set, take, refl, sym, ap, subst, ◌∙◌, arith, inl, inr, eq-eqb, length-drop}
+use Rattle.std.proofs.Common.{◌≡◌, ⊎_elim, ℕ, ◌+◌, ◌<◌, ◌≤◌, zero, suc, true, cond, Some, All, List, [], ◌∷◌, ◌++◌, length, drop}
+use Rattle.std.proofs.Common.{get_or, map, slice_set, take, refl, sym, ap, subst, ◌∙◌, arith, inl, inr, eq-eqb, length-drop}
 use Rattle.std.proofs.lemmas.Bool.{cases_Bool, cases_lt}
 use Rattle.std.proofs.lemmas.List.{nil_from_length}
 use Rattle.std.proofs.lemmas.List.Elements.{All-append, All-cons, All-nil}

@@ -1,5 +1,6 @@
 -- A plan in which the first node has something else for the second.
-use Rattle.std.proofs.Common.{◌≡◌, ◌≢◌, ◌⊎◌, ⊎_elim, inl, inr, ℕ, ◌<◌, List, [], length, slice_index_or, slice_set, get_or-set_same, get_or-set_other, length-set, sym, ap, subst, ◌∙◌, arith}
+use Rattle.std.proofs.Common.{◌≡◌, ◌≢◌, ◌⊎◌, ⊎_elim, inl, inr, ℕ, ◌<◌, List, [], length, slice_index_or, slice_set}
+use Rattle.std.proofs.Common.{get_or-set_same, get_or-set_other, length-set, sym, ap, subst, ◌∙◌, arith}
 use Rattle.std.proofs.lemmas.Bool.{cases_eq}
 use Rattle.domain_routes.specs.Edits.{put}
 use Rattle.domain_routes.specs.PlanView.{HasPlaces, PeerView, PlanView, peer, stranger}

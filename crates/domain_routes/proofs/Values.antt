@@ -1,5 +1,6 @@
 -- What one node has for another after a change, as a value.
-use Rattle.std.proofs.Common.{◌≡◌, ◌≢◌, ⊎_elim, inl, inr, ℕ, ◌<◌, ◌==◌, ◌&&◌, ◌||◌, if◌then◌else◌, Bool, true, false, eq-eqb, ne_eqb, sym, ap, refl, ◌∙◌}
+use Rattle.std.proofs.Common.{◌≡◌, ◌≢◌, ⊎_elim, inl, inr, ℕ, ◌<◌, ◌==◌, ◌&&◌, ◌||◌, if◌then◌else◌}
+use Rattle.std.proofs.Common.{Bool, true, false, eq-eqb, ne_eqb, sym, ap, refl, ◌∙◌}
 use Rattle.domain_routes.specs.Edits.{linking, put}
 use Rattle.domain_routes.specs.PlanView.{IsPlan, PeerView, PlanView, is_linked, peer}
 use Rattle.domain_routes.proofs.Linking.{AreEnds, IsLink, cases_ends, linked_here, linked_there}

@@ -12,7 +12,8 @@ use Rattle.expression_parser.specs.declared.fault.ParseFault.{ParseFault}
 use Rattle.expression_parser.specs.declared.input.Input.{Input}
 use Rattle.expression_parser.specs.Levels.{join_with}
 use Rattle.expression_parser.specs.Readers.{Reader, Turn, turns, with_some, symbol}
-use Rattle.expression_parser.specs.Reading.{a_set_pattern, adds_set_pattern, set_after_first, set_patterns_from, joins, an_operator, suffix_of, suffixes}
+use Rattle.expression_parser.specs.Reading.{a_set_pattern, adds_set_pattern, set_after_first, set_patterns_from}
+use Rattle.expression_parser.specs.Reading.{joins, an_operator, suffix_of, suffixes}
 use Rattle.prefix_patterns.specs.Reading.{◌>>=◌}
 use Rattle.expression_parser.specs.Steps.{ReadsAs}
 use Rattle.expression_parser.specs.Syntax.{SetPatternView, ExprView, view, view_more}

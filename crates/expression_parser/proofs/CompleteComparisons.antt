@@ -14,7 +14,8 @@ use Rattle.expression_parser.specs.Readers.{given, Reader, with_some, symbol}
 use Rattle.expression_parser.specs.Reading.{an_operator, set_of, sum_with, membership_of, set_opening, member_of, right_operand_with}
 use Rattle.expression_parser.specs.Reading.{comparison_with}
 use Rattle.prefix_patterns.specs.Reading.{◌>>=◌}
-use Rattle.expression_parser.specs.Syntax.{SetView, ExprView, Fits, FitsSet, membership_symbol, rank, rank_of, op_symbol, spelling, spelling_set_pattern}
+use Rattle.expression_parser.specs.Syntax.{SetView, ExprView, Fits, FitsSet, membership_symbol, rank}
+use Rattle.expression_parser.specs.Syntax.{rank_of, op_symbol, spelling, spelling_set_pattern}
 use Rattle.expression_parser.specs.Syntax.{spelling_ranges, spelling_set_patterns, spelling_set, spelling_suffix}
 use Rattle.expression_parser.proofs.CompleteWords.{range_set_back, set_back}
 use Rattle.expression_parser.proofs.Operators.{op_read}

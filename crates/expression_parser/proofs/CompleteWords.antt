@@ -5,7 +5,8 @@ use Rattle.filter_tokens.specs.Lexemes.{Lexeme}
 use Rattle.filter_tokens.specs.declared.symbol.Symbol.TheVariants as symbols
 use Rattle.expression_parser.specs.declared.tree.op.Suffix.{Suffix}
 use Rattle.expression_parser.specs.declared.tree.op.Suffix.TheVariants as suffix
-use Rattle.expression_parser.specs.Reading.{suffix_of, a_set_pattern, adds_set_pattern, set_patterns_from, set_after_first, pattern_set_of, range_set_from, set_of}
+use Rattle.expression_parser.specs.Reading.{suffix_of, a_set_pattern, adds_set_pattern, set_patterns_from}
+use Rattle.expression_parser.specs.Reading.{set_after_first, pattern_set_of, range_set_from, set_of}
 use Rattle.prefix_patterns.specs.Reading.{◌>>=◌}
 use Rattle.expression_parser.specs.Readers.{a_number, symbol, with_some}
 use Rattle.expression_parser.specs.Syntax.{SetPatternView, RangeView, SetView, FitsMoreRanges, FitsRange, spelling_more_ranges, spelling_ranges}

@@ -1,12 +1,14 @@
 -- What follows the first part of an operand, read level by level.
-use Rattle.std.proofs.Common.{◌≡◌, ◌≢◌, refl, sym, ap, ◌∙◌, ℕ, zero, suc, ◌+◌, ◌-◌, ◌<◌, ◌≤◌, List, [], ◌∷◌, ◌++◌, map, append_assoc, Option, Some, None, inl, inr, arith}
+use Rattle.std.proofs.Common.{◌≡◌, ◌≢◌, refl, sym, ap, ◌∙◌, ℕ, zero, suc, ◌+◌, ◌-◌, ◌<◌, ◌≤◌, List, []}
+use Rattle.std.proofs.Common.{◌∷◌, ◌++◌, map, append_assoc, Option, Some, None, inl, inr, arith}
 use Rattle.std.proofs.Math.Nat.{eq-or-lt_of_le}
 use Rattle.filter_tokens.specs.Lexemes.{Lexeme}
 use Rattle.filter_tokens.specs.declared.symbol.Symbol.TheVariants as symbols
 use Rattle.prefix_patterns.specs.Reading.{◌>>=◌}
 use Rattle.expression_parser.specs.declared.expr_level.Level.{Level}
 use Rattle.expression_parser.specs.declared.expr_level.Level.TheVariants as l
-use Rattle.expression_parser.specs.Levels.{strength, level_at, least, most, IsBetween, operand_with, join_with, compared_with, level_with, rest_down, rest_with}
+use Rattle.expression_parser.specs.Levels.{strength, level_at, least, most, IsBetween, operand_with, join_with}
+use Rattle.expression_parser.specs.Levels.{compared_with, level_with, rest_down, rest_with}
 use Rattle.expression_parser.specs.Readers.{Reader, symbol}
 use Rattle.expression_parser.specs.Reading.{an_operator, chain_from, comparison_with, joins, level_by, level_of, product_with}
 use Rattle.expression_parser.specs.Placed.{Kept, expr_kept, expr_kept_step, joined, kept_more, operand_kept}

@@ -12,7 +12,9 @@ use Rattle.expression_parser.specs.declared.tree.expr.Expr.{Expr}
 use Rattle.expression_parser.specs.declared.tree.expr.Expr.TheFolds.{fold-roll-Expr}
 use Rattle.expression_parser.specs.declared.tree.expr.Expr.TheOpen.{Expr-F}
 use Rattle.expression_parser.specs.declared.tree.expr.Expr.TheVariants as e
-use Rattle.expression_parser.specs.Placed.{Kept, AreAt, joined, operand_kept, kept_more, next_pattern_kept, set_pattern_kept, set_patterns_kept, next_range_kept, range_kept, ranges_kept, expr_kept, expr_kept_step}
+use Rattle.expression_parser.specs.Placed.{Kept, AreAt, joined, operand_kept, kept_more, next_pattern_kept}
+use Rattle.expression_parser.specs.Placed.{set_pattern_kept, set_patterns_kept, next_range_kept, range_kept}
+use Rattle.expression_parser.specs.Placed.{ranges_kept, expr_kept, expr_kept_step}
 use Rattle.expression_parser.specs.Steps.{Spans, Grown}
 
 at_both : (a b : Kept) (s t : List Token) → AreAt a s → AreAt b t → AreAt (a ++ b) (s ++ t)

@@ -8,7 +8,8 @@ use Rattle.expression_parser.specs.declared.expr_level.Level.TheVariants as l
 use Rattle.expression_parser.specs.declared.tree.op.Op.{Op}
 use Rattle.expression_parser.specs.declared.tree.op.Op.TheVariants as o
 use Rattle.expression_parser.specs.Readers.{Reader, ◌>>=◌, with◌then◌else◌, done}
-use Rattle.expression_parser.specs.Reading.{an_operator, chain_with, comparison_with, expr_with, join_from, next_with, right_operand_with, sum_with, unmixed}
+use Rattle.expression_parser.specs.Reading.{an_operator, chain_with, comparison_with, expr_with, join_from}
+use Rattle.expression_parser.specs.Reading.{next_with, right_operand_with, sum_with, unmixed}
 use Rattle.expression_parser.specs.Syntax.{ExprView}
 
 -- the operator that a symbol stands for

@@ -14,7 +14,8 @@ use Rattle.filter_verifier.specs.VerifiedView.{VerifiedView}
 use Rattle.line_protocol.specs.Runs.{AppendsFront}
 use Rattle.line_protocol.specs.declared.faults.StreamFault.{StreamFault}
 use Rattle.line_protocol.specs.declared.faults.StreamFault.TheVariants.{Write}
-use Rattle.filter_checks.specs.Comparing.{AreParts, AreRefused, ComparesNamed, ComparesNamedOff, IsCutParts, IsCutTellingBoth, IsJudged, TellsBoth, WritesParts}
+use Rattle.filter_checks.specs.Comparing.{AreParts, AreRefused, ComparesNamed, ComparesNamedOff, IsCutParts}
+use Rattle.filter_checks.specs.Comparing.{IsCutTellingBoth, IsJudged, TellsBoth, WritesParts}
 use Rattle.filter_checks.specs.PartLines.{parts_text}
 use Rattle.filter_checks.specs.declared.comparing.Compared.{Compared}
 use Rattle.filter_checks.specs.declared.comparing.Compared.TheVariants as compared

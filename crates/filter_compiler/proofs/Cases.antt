@@ -13,7 +13,8 @@ use Rattle.filter_compiler.specs.Translation.{commands_code, commands_sets, expr
 use Rattle.filter_compiler.specs.Translation.{opening_sets, parts_code, parts_sets, ranges_set, sets_of}
 use Rattle.filter_compiler.specs.declared.numbers.SetNumbers.{SetNumbers}
 use Rattle.filter_compiler.specs.declared.output.Output.{Output}
-use Rattle.filter_compiler.specs.Written.{Emits, Holds, IsCounted, TranslatedPart, Puts, command_part, commands_part, labelled_part, member_part, parts_part, Notes}
+use Rattle.filter_compiler.specs.Written.{Emits, Holds, IsCounted, TranslatedPart, Puts, command_part, commands_part}
+use Rattle.filter_compiler.specs.Written.{labelled_part, member_part, parts_part, Notes}
 use Rattle.filter_compiler.proofs.Jumps.{jump_over}
 use Rattle.filter_compiler.proofs.Puts.{as_part, joined, past_both, past_none, puts_then, then}
 use Rattle.filter_compiler.proofs.Trees.{numbered, sets_assoc}

@@ -13,7 +13,8 @@ use Rattle.expression_parser.specs.declared.tree.set.SetRange.{SetRange}
 use Rattle.filter_parser.specs.SyntaxCommands.{parts_of, view_part}
 use Rattle.filter_parser.specs.declared.tree.command.Target.{Target}
 use Rattle.expression_parser.specs.declared.tree.expr.Expr.{Expr}
-use Rattle.filter_compiler.specs.InstructionPlaces.{case_places, command_places, command_places_step, expression_places, label_place, part_of, part_places}
+use Rattle.filter_compiler.specs.InstructionPlaces.{case_places, command_places, command_places_step, expression_places}
+use Rattle.filter_compiler.specs.InstructionPlaces.{label_place, part_of, part_places}
 use Rattle.filter_compiler.specs.InstructionPlaces.{part_step, parts_places, some_labelled, target_places}
 use Rattle.filter_compiler.specs.Translation.{has_labelled}
 

@@ -18,13 +18,16 @@ use Rattle.filter_compiler.proofs.Reaching.{carried_over}
 use Rattle.filter_parser.specs.declared.tree.decl.Kind.{Kind}
 use Rattle.filter_parser.specs.declared.tree.decl.Kind.TheVariants as kind
 use Rattle.expression_parser.specs.Syntax.{ExprView, range_of}
-use Rattle.filter_parser.specs.SyntaxCommands.{CommandView, empty, block, if_then, if_else, case, assign, accept, reject, CommandsView, no_commands, command_then}
-use Rattle.filter_parser.specs.SyntaxCommands.{TargetView, to_name, to_metric, to_net, DeclView, PartsView, no_parts, part_then, ranges_label, else_label}
+use Rattle.filter_parser.specs.SyntaxCommands.{CommandView, empty, block, if_then, if_else, case, assign}
+use Rattle.filter_parser.specs.SyntaxCommands.{accept, reject, CommandsView, no_commands, command_then}
+use Rattle.filter_parser.specs.SyntaxCommands.{TargetView, to_name, to_metric, to_net, DeclView, PartsView}
+use Rattle.filter_parser.specs.SyntaxCommands.{no_parts, part_then, ranges_label, else_label}
 use Rattle.filter_types.specs.Kinds.{kind_in, kind_named, number_of, target_kind, HasSameKind, KindsFit, KindsFitAll, KindsFitParts}
 use Rattle.filter_compiler.specs.Meaning.{Scene, value_of}
 use Rattle.filter_compiler.specs.Need.{expression_need, target_need, command_need, commands_need, parts_need}
 use Rattle.filter_compiler.specs.Translation.{expression_code, sets_of, command_sets, commands_sets, if_code, if_else_code, target_code}
-use Rattle.filter_compiler.specs.Translation.{command_code, commands_code, has_labelled, opening_code, opening_sets, parts_code, parts_sets, ranges_set}
+use Rattle.filter_compiler.specs.Translation.{command_code, commands_code, has_labelled, opening_code}
+use Rattle.filter_compiler.specs.Translation.{opening_sets, parts_code, parts_sets, ranges_set}
 use Rattle.filter_compiler.specs.Verdicts.{accepted, rejected, divided, Course, goes_on, ends, assigned, kept_in_range, set_to, chosen_by}
 use Rattle.filter_compiler.specs.Verdicts.{then_do, course_of, course_of_all, course_of_parts, for_int}
 use Rattle.filter_compiler.proofs.ExpressionRuns.{Comes, expression_runs, question_comes}

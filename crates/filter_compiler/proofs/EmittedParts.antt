@@ -1,7 +1,8 @@
 -- The parts of a `case`, as a walk over them has put them into an output.
 use Rattle.std.proofs.Common.{◌≡◌, Vec, Global, List, [], ◌∷◌, map, sym, ap, subst, ◌∙◌}
 use Rattle.filter_code.specs.declared.instruction.Instr.{Instr}
-use Rattle.filter_parser.specs.SyntaxCommands.{CommandsView, DeclView, commands_of, else_label, no_parts, part_then, parts_of, view_command, view_label, view_part}
+use Rattle.filter_parser.specs.SyntaxCommands.{CommandsView, DeclView, commands_of, else_label, no_parts}
+use Rattle.filter_parser.specs.SyntaxCommands.{part_then, parts_of, view_command, view_label, view_part}
 use Rattle.filter_parser.specs.declared.tree.command.Command.{Command}
 use Rattle.filter_parser.specs.declared.tree.command.Label.{Label}
 use Rattle.filter_compiler.specs.SetOrder.{SetCounts}

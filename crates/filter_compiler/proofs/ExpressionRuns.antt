@@ -27,7 +27,8 @@ use Rattle.filter_types.specs.Table.{operator, logic, attribute_kind, in_set, su
 use Rattle.filter_types.specs.Table as table
 use Rattle.filter_compiler.specs.Meaning.{Scene, value_of, both, result_of, if_true, if_false, negated, member_of, suffix_of, value_named}
 use Rattle.filter_compiler.specs.Need.{expression_need}
-use Rattle.filter_compiler.specs.Translation.{expression_code, sets_of, operator_code, and_code, or_code, member_code, one_set, question, ranges_set, suffix_code}
+use Rattle.filter_compiler.specs.Translation.{expression_code, sets_of, operator_code, and_code, or_code}
+use Rattle.filter_compiler.specs.Translation.{member_code, one_set, question, ranges_set, suffix_code}
 use Rattle.filter_compiler.specs.Translation.{attribute_code}
 use Rattle.filter_compiler.proofs.Operators.{TakesBoth, Gives, operator_runs, negation_runs, suffix_runs, member_runs}
 use Rattle.filter_compiler.proofs.Parts.{HasAt, HasSets, has_front, has_back, sets_front, sets_back}

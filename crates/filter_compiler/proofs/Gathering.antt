@@ -8,7 +8,8 @@ use Rattle.filter_parser.specs.declared.tree.command.Command.{Command}
 use Rattle.expression_parser.specs.declared.tree.expr.Expr.{Expr}
 use Rattle.expression_parser.specs.declared.tree.op.Op.{Op}
 use Rattle.expression_parser.specs.declared.tree.op.Suffix.{Suffix}
-use Rattle.expression_parser.specs.Syntax.{ExprView, RangeView, SetPatternView, chain_of, of_patterns, pattern_of, range_of, suffixed, suffixes_of, view, view_more}
+use Rattle.expression_parser.specs.Syntax.{ExprView, RangeView, SetPatternView, chain_of, of_patterns, pattern_of}
+use Rattle.expression_parser.specs.Syntax.{range_of, suffixed, suffixes_of, view, view_more}
 use Rattle.filter_parser.specs.SyntaxCommands.{commands_of, parts_of, view_command, view_label, view_part}
 use Rattle.filter_parser.specs.declared.tree.command.Label.{Label}
 use Rattle.filter_types.proofs.Lists.{map_next}

@@ -20,7 +20,8 @@ use Rattle.filter_parser.specs.SyntaxCommands.{CommandView, CommandsView, DeclVi
 use Rattle.filter_types.proofs.Lists.{map_next}
 use Rattle.filter_compiler.specs.declared.output.Output.{Output}
 use Rattle.filter_compiler.specs.Translation.{joined_code, operator_code, commands_code, command_code, commands_sets, command_sets}
-use Rattle.filter_compiler.specs.Translation.{declarations_code, first_value, suffix_code, expression_code, member_code, sets_of, label_sets, parts_sets}
+use Rattle.filter_compiler.specs.Translation.{declarations_code, first_value, suffix_code, expression_code}
+use Rattle.filter_compiler.specs.Translation.{member_code, sets_of, label_sets, parts_sets}
 use Rattle.filter_compiler.specs.SetOrder.{Sets, SetCounts, no_sets, past, with_sets}
 use Rattle.filter_compiler.specs.declared.numbers.SetNumbers.{SetNumbers}
 use Rattle.filter_compiler.specs.Written.{Emits, Holds, Puts, expression_part, right_part, command_part, commands_part}

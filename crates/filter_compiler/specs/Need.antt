@@ -4,7 +4,8 @@ use Rattle.expression_parser.specs.declared.tree.op.Op.{Op}
 use Rattle.expression_parser.specs.declared.tree.op.Op.TheVariants as o
 use Rattle.expression_parser.specs.Syntax.{ExprView, number, address, prefix, truth, name, attribute, defined, group, negation, binary, member}
 use Rattle.expression_parser.specs.Syntax.{suffixed}
-use Rattle.filter_parser.specs.SyntaxCommands.{CommandView, empty, block, if_then, if_else, case, assign, accept, reject, CommandsView, no_commands, command_then}
+use Rattle.filter_parser.specs.SyntaxCommands.{CommandView, empty, block, if_then, if_else, case, assign}
+use Rattle.filter_parser.specs.SyntaxCommands.{accept, reject, CommandsView, no_commands, command_then}
 use Rattle.filter_parser.specs.SyntaxCommands.{TargetView, to_metric, DeclView, PartsView, no_parts, part_then}
 use Rattle.filter_parser.specs.SyntaxText as syntax
 

@@ -14,7 +14,8 @@ use Rattle.expression_parser.specs.declared.tree.op.Suffix.{Suffix}
 use Rattle.expression_parser.specs.declared.tree.op.Suffix.TheVariants as suffix
 use Rattle.expression_parser.specs.Syntax.{ExprView, number, address, prefix, truth, name, attribute, defined, group, negation, binary, member}
 use Rattle.expression_parser.specs.Syntax.{suffixed, SetView, of_patterns, of_ranges, RangeView, pattern_of, range_of}
-use Rattle.filter_parser.specs.SyntaxCommands.{CommandView, empty, block, if_then, if_else, case, assign, accept, reject, CommandsView, no_commands, command_then}
+use Rattle.filter_parser.specs.SyntaxCommands.{CommandView, empty, block, if_then, if_else, case, assign}
+use Rattle.filter_parser.specs.SyntaxCommands.{accept, reject, CommandsView, no_commands, command_then}
 use Rattle.filter_parser.specs.SyntaxCommands.{LabelView, ranges_label, else_label, PartsView, no_parts, part_then}
 use Rattle.filter_parser.specs.SyntaxCommands.{TargetView, to_name, to_metric, to_net, DeclView}
 use Rattle.filter_parser.specs.SyntaxText as syntax

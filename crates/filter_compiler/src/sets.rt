@@ -1,11 +1,13 @@
 //! The sets of a filter, in the order of the text.
 
 ghost use Rattle.std.specs.Prelude.{◌≡◌, ◌≤◌, [], ◌∷◌, ◌++◌, All, IfOk, OnOk, length, map};
-ghost use Rattle.expression_parser.specs.Syntax.{ExprView, chain_of, of_patterns, pattern_of, range_of, view, view_members, view_more, view_range, view_set_pattern};
+ghost use Rattle.expression_parser.specs.Syntax.{ExprView, chain_of, of_patterns, pattern_of, range_of, view};
+ghost use Rattle.expression_parser.specs.Syntax.{view_members, view_more, view_range, view_set_pattern};
 ghost use Rattle.filter_parser.specs.SyntaxCommands.{commands_of, parts_of, view_command, view_label, view_part};
 ghost use Rattle.filter_parser.specs.SyntaxText.{view_filter};
 ghost use Rattle.filter_compiler.specs.SetOrder.{SetCounts, no_sets, past};
-ghost use Rattle.filter_compiler.specs.Translation.{command_sets, commands_sets, has_labelled, label_sets, one_set, opening_sets, parts_sets, ranges_set, sets_of};
+ghost use Rattle.filter_compiler.specs.Translation.{command_sets, commands_sets, has_labelled, label_sets, one_set};
+ghost use Rattle.filter_compiler.specs.Translation.{opening_sets, parts_sets, ranges_set, sets_of};
 ghost use Rattle.filter_compiler.specs.Written.{Gathers, HoldsSets, IsCounted};
 ghost use Rattle.filter_compiler.specs.declared.sets.SetLists.{SetLists as TheLists};
 ghost use Rattle.int_sets.specs.Holding.{range_limit};

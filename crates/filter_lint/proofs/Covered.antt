@@ -1,5 +1,6 @@
 -- Patterns that cover others.
-use Rattle.std.proofs.Common.{◌≡◌, ◌≢◌, ℕ, ◌<◌, ◌≤◌, min, nat_le, Bool, true, false, not, ◌&&◌, List, length, take, get_or, Option, Some, None, refl, sym, ap, subst, ◌∙◌, arith}
+use Rattle.std.proofs.Common.{◌≡◌, ◌≢◌, ℕ, ◌<◌, ◌≤◌, min, nat_le, Bool, true, false, not, ◌&&◌, List, length}
+use Rattle.std.proofs.Common.{take, get_or, Option, Some, None, refl, sym, ap, subst, ◌∙◌, arith}
 use Rattle.std.specs.Prelude.{position, slice_get}
 use Rattle.std.proofs.lemmas.List.{get_or-take, length-take, take-take}
 use Rattle.std.proofs.lemmas.List.Quantifiers.{position-Some}

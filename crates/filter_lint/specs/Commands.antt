@@ -1,5 +1,6 @@
 -- Commands that no route reaches. (This project's own choice.)
-use Rattle.std.specs.Prelude.{ℕ, zero, suc, ◌-◌, nat_le, Bool, true, false, not, ◌||◌, if◌then◌else◌, List, length, Option, Some, None, is_some, option_and_then, slice_get}
+use Rattle.std.specs.Prelude.{ℕ, zero, suc, ◌-◌, nat_le, Bool, true, false, not, ◌||◌, if◌then◌else◌}
+use Rattle.std.specs.Prelude.{List, length, Option, Some, None, is_some, option_and_then, slice_get}
 use Rattle.filter_code.specs.declared.instruction.Instr.{Instr}
 use Rattle.filter_code.specs.declared.instruction.Instr.TheVariants as instr
 use Rattle.filter_diff.specs.declared.mark.Mark.{Mark}

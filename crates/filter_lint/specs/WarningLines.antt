@@ -1,5 +1,6 @@
 -- The lines of warnings. (This project's own choice.)
-use Rattle.std.specs.Prelude.{ℕ, ◌==◌, Bool, true, false, ◌&&◌, if◌then◌else◌, List, [], ◌++◌, ◌∷◌, codes, decimal, flat_map, length, slice_get, unwrap_or, Option, Some, None}
+use Rattle.std.specs.Prelude.{ℕ, ◌==◌, Bool, true, false, ◌&&◌, if◌then◌else◌, List, [], ◌++◌, ◌∷◌, codes}
+use Rattle.std.specs.Prelude.{decimal, flat_map, length, slice_get, unwrap_or, Option, Some, None}
 use Rattle.prefix_patterns.specs.Bits.{address_length}
 use Rattle.prefix_patterns.specs.Matching.{PrefixPattern}
 use Rattle.prefix_patterns.specs.Spelling.{prefix_text}

@@ -2,7 +2,8 @@
 use Rattle.std.proofs.Common.{◌≡◌, ℕ, zero, suc, ◌-◌, ◌<◌, List, [], ◌∷◌, ◌++◌, length, map, Option, Some, None, true, false, refl}
 use Rattle.std.proofs.Common.{sym, ap, ◌∙◌, arith}
 use Rattle.filter_tokens.specs.Lexemes.{Lexeme}
-use Rattle.filter_parser.specs.ReadingCommands.{commands_from, commands_with, command_begins, command_with, command_at, block_at, case_at, case_with, if_at, if_with}
+use Rattle.filter_parser.specs.ReadingCommands.{commands_from, commands_with, command_begins, command_with}
+use Rattle.filter_parser.specs.ReadingCommands.{command_at, block_at, case_at, case_with, if_at, if_with}
 use Rattle.expression_parser.specs.Readers.{Reader}
 use Rattle.expression_parser.specs.Reading.{expr_at}
 use Rattle.prefix_patterns.specs.Reading.{◌>>=◌}

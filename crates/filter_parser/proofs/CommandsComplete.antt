@@ -4,12 +4,15 @@ use Rattle.std.proofs.Common.{length, Some, None, append_assoc, length-append, a
 use Rattle.filter_tokens.specs.Lexemes.{Lexeme}
 use Rattle.filter_tokens.specs.declared.symbol.Symbol.TheVariants as symbols
 use Rattle.filter_parser.specs.ReadingCommands.{command_at, commands_from, commands_with, assign_with, block_with}
-use Rattle.filter_parser.specs.ReadingCommands.{an_else, case_with, command_begins, if_with, end_of, label_of, part_begins, parts_from, parts_with, ranges_label_from}
+use Rattle.filter_parser.specs.ReadingCommands.{an_else, case_with, command_begins, if_with, end_of, label_of}
+use Rattle.filter_parser.specs.ReadingCommands.{part_begins, parts_from, parts_with, ranges_label_from}
 use Rattle.expression_parser.specs.Readers.{Reader, symbol}
 use Rattle.expression_parser.specs.Reading.{expr_at}
 use Rattle.expression_parser.specs.Syntax.{ExprView, RangeView, Fits, FitsMoreRanges, FitsRange, spelling, spelling_more_ranges}
-use Rattle.filter_parser.specs.SyntaxCommands.{TargetView, CommandView, CommandsView, FitsCommand, FitsCommands, is_open, spelling_command, spelling_commands}
-use Rattle.filter_parser.specs.SyntaxCommands.{FitsLabel, FitsParts, LabelView, PartsView, has_ranges, spelling_label, spelling_parts, spelling_target, spelling_end}
+use Rattle.filter_parser.specs.SyntaxCommands.{TargetView, CommandView, CommandsView, FitsCommand, FitsCommands}
+use Rattle.filter_parser.specs.SyntaxCommands.{is_open, spelling_command, spelling_commands}
+use Rattle.filter_parser.specs.SyntaxCommands.{FitsLabel, FitsParts, LabelView, PartsView, has_ranges, spelling_label}
+use Rattle.filter_parser.specs.SyntaxCommands.{spelling_parts, spelling_target, spelling_end}
 use Rattle.filter_parser.proofs.Bodies.{command_is}
 use Rattle.expression_parser.proofs.Ranges.{after_int, first_int, ranges_back}
 

@@ -7,12 +7,15 @@ use Rattle.filter_tokens.specs.declared.symbol.Symbol.{Symbol}
 use Rattle.filter_tokens.specs.declared.symbol.Symbol.TheVariants as symbols
 use Rattle.filter_parser.specs.ReadingCommands.{accepts, command_at, command_by, command_with, commands_from, commands_with, assign_with, block_with}
 use Rattle.expression_parser.specs.Readers.{refused, Reader, a_number, symbol, quote}
-use Rattle.filter_parser.specs.ReadingCommands.{an_else, case_with, command_begins, else_label_of, if_with, end_of, label_of, part_begins, part_of, parts_from, parts_with}
+use Rattle.filter_parser.specs.ReadingCommands.{an_else, case_with, command_begins, else_label_of, if_with, end_of}
+use Rattle.filter_parser.specs.ReadingCommands.{label_of, part_begins, part_of, parts_from, parts_with}
 use Rattle.filter_parser.specs.ReadingCommands.{ranges_label_from, rejects}
 use Rattle.expression_parser.specs.Reading.{expr_at, ranges_from}
 use Rattle.expression_parser.specs.Syntax.{ExprView, Fits, spelling, spelling_ranges}
-use Rattle.filter_parser.specs.SyntaxCommands.{TargetView, CommandView, CommandsView, FitsCommand, FitsCommands, is_open, spelling_command, spelling_commands}
-use Rattle.filter_parser.specs.SyntaxCommands.{FitsLabel, FitsParts, LabelView, PartsView, has_ranges, spelling_label, spelling_parts, spelling_target, spelling_end}
+use Rattle.filter_parser.specs.SyntaxCommands.{TargetView, CommandView, CommandsView, FitsCommand, FitsCommands}
+use Rattle.filter_parser.specs.SyntaxCommands.{is_open, spelling_command, spelling_commands}
+use Rattle.filter_parser.specs.SyntaxCommands.{FitsLabel, FitsParts, LabelView, PartsView, has_ranges, spelling_label}
+use Rattle.filter_parser.specs.SyntaxCommands.{spelling_parts, spelling_target, spelling_end}
 use Rattle.filter_parser.proofs.Joined.{both_joined, case_joined, part_joined, assign_joined, block_joined, if_joined, else_joined, front_joined}
 use Rattle.expression_parser.proofs.Ranges.{ranges_sound}
 use Rattle.expression_parser.proofs.SoundWords.{number_found}

@@ -12,7 +12,8 @@ use Rattle.expression_parser.specs.Readers.{a_name, turns, symbol}
 use Rattle.filter_parser.specs.ReadingCommands.{kind_of, nothing_after}
 use Rattle.expression_parser.specs.Reading.{expr_at}
 use Rattle.expression_parser.specs.Syntax.{nesting_limit}
-use Rattle.filter_parser.specs.SyntaxCommands.{TargetView, CommandView, CommandsView, DeclView, FitsCommands, kind_symbol, spelling_command, spelling_commands}
+use Rattle.filter_parser.specs.SyntaxCommands.{TargetView, CommandView, CommandsView, DeclView, FitsCommands}
+use Rattle.filter_parser.specs.SyntaxCommands.{kind_symbol, spelling_command, spelling_commands}
 use Rattle.filter_parser.specs.SyntaxCommands.{spelling_decl, spelling_decls}
 use Rattle.filter_parser.specs.SyntaxText.{spelling_filter}
 use Rattle.filter_parser.proofs.CommandsComplete.{AreComplete, brace_ends, command_complete, commands_with_complete}

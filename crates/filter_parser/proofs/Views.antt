@@ -10,7 +10,8 @@ use Rattle.filter_parser.specs.declared.tree.command.Label.{Label}
 use Rattle.filter_parser.specs.declared.tree.command.Target.{Target}
 use Rattle.expression_parser.specs.declared.tree.expr.Expr.{Expr}
 use Rattle.expression_parser.specs.Syntax.{view}
-use Rattle.filter_parser.specs.SyntaxCommands.{CommandView, CommandsView, LabelView, commands_of, parts_of, view_command, view_part, view_part_step, view_step, view_target}
+use Rattle.filter_parser.specs.SyntaxCommands.{CommandView, CommandsView, LabelView, commands_of, parts_of, view_command}
+use Rattle.filter_parser.specs.SyntaxCommands.{view_part, view_part_step, view_step, view_target}
 
 -- a block, and an `if` without and with `else`
 pub view_block : (at : ℕ) (body : Vec Command Global) → view_command (command.Block at body) ≡ CommandView.block

@@ -1,6 +1,7 @@
 -- What stands round a place of a text, and the names that the text declares: what is told of a refusal besides its fault. (This
 -- project's own choice.)
-use Rattle.std.specs.Prelude.{◌≡◌, ⊤, ℕ, ◌+◌, ◌-◌, ◌==◌, ◌&&◌, min, nat_le, nat_lt, if◌then◌else◌, Bool, true, false, List, [], ◌∷◌, Option, Some, None, replicate, slice_get, slice_set, take}
+use Rattle.std.specs.Prelude.{◌≡◌, ⊤, ℕ, ◌+◌, ◌-◌, ◌==◌, ◌&&◌, min, nat_le, nat_lt, if◌then◌else◌, Bool, true}
+use Rattle.std.specs.Prelude.{false, List, [], ◌∷◌, Option, Some, None, replicate, slice_get, slice_set, take}
 use Rattle.std.specs.List.{prefix_len}
 use Rattle.expression_parser.specs.Codes.{fault_place}
 use Rattle.expression_parser.specs.declared.fault.ParseFault.{ParseFault}

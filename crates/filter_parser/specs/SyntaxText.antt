@@ -8,7 +8,8 @@ use Rattle.filter_tokens.specs.declared.token.Token.{Token}
 use Rattle.filter_parser.specs.declared.tree.filter.Filter.{Filter}
 use Rattle.expression_parser.specs.Codes.{text_limit}
 use Rattle.expression_parser.specs.Syntax.{nesting_limit}
-use Rattle.filter_parser.specs.SyntaxCommands.{CommandsView, DeclView, FitsCommands, commands_of, spelling_commands, spelling_decls, view_command, view_decl}
+use Rattle.filter_parser.specs.SyntaxCommands.{CommandsView, DeclView, FitsCommands, commands_of, spelling_commands}
+use Rattle.filter_parser.specs.SyntaxCommands.{spelling_decls, view_command, view_decl}
 
 -- a filter without its places: name, declarations in their order, commands of the body, and the tokens of its text
 pub record FilterView : Type 0 where

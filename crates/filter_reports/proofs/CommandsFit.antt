@@ -1,9 +1,11 @@
 -- The instructions of commands and declarations fit their fields in a code file.
-use Rattle.std.proofs.Common.{◌≡◌, ℕ, zero, suc, ◌+◌, ◌^◌, ◌<◌, ◌≤◌, ◌&&◌, Bool, true, false, List, [], ◌∷◌, ◌++◌, length, refl, arith, lit≤, lit<, length-append}
+use Rattle.std.proofs.Common.{◌≡◌, ℕ, zero, suc, ◌+◌, ◌^◌, ◌<◌, ◌≤◌, ◌&&◌, Bool, true, false, List}
+use Rattle.std.proofs.Common.{[], ◌∷◌, ◌++◌, length, refl, arith, lit≤, lit<, length-append}
 use Rattle.expression_parser.specs.Syntax.{spelling}
 use Rattle.filter_tokens.specs.Lexemes.{Lexeme}
 use Rattle.filter_tokens.specs.declared.symbol.Symbol.TheVariants as symbols
-use Rattle.filter_parser.specs.SyntaxCommands.{CommandView, empty, block, if_then, if_else, case, assign, accept, reject, CommandsView, no_commands, command_then}
+use Rattle.filter_parser.specs.SyntaxCommands.{CommandView, empty, block, if_then, if_else, case, assign}
+use Rattle.filter_parser.specs.SyntaxCommands.{accept, reject, CommandsView, no_commands, command_then}
 use Rattle.filter_parser.specs.SyntaxCommands.{ranges_label, else_label, PartsView, no_parts, part_then}
 use Rattle.filter_parser.specs.SyntaxCommands.{TargetView, to_name, to_metric, to_net, DeclView}
 use Rattle.filter_parser.specs.SyntaxCommands.{spelling_command, spelling_commands, spelling_label, spelling_parts}
@@ -13,7 +15,8 @@ use Rattle.filter_parser.specs.declared.tree.decl.Kind.TheVariants as kind
 use Rattle.filter_code.specs.declared.instruction.Instr.{Instr}
 use Rattle.filter_code.specs.declared.instruction.Instr.TheVariants as instr
 use Rattle.filter_compiler.specs.SetOrder.{Sets, SetCounts, past, with_sets}
-use Rattle.filter_compiler.specs.Translation.{command_code, command_sets, commands_code, commands_sets, declarations_code, expression_code, first_value, has_labelled, if_code, if_else_code}
+use Rattle.filter_compiler.specs.Translation.{command_code, command_sets, commands_code, commands_sets, declarations_code}
+use Rattle.filter_compiler.specs.Translation.{expression_code, first_value, has_labelled, if_code, if_else_code}
 use Rattle.filter_compiler.specs.Translation.{opening_code, opening_sets, part_code, parts_code, parts_sets, ranges_set, sets_of, target_code}
 use Rattle.code_file.specs.Spelling.{IsInstruction}
 use Rattle.code_file.specs.declared.version.Version.TheVariants as version

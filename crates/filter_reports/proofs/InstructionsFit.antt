@@ -5,7 +5,8 @@ use Rattle.std.specs.List.{AllByRecursion, position_or_len}
 use Rattle.std.specs.Prelude.{not}
 use Rattle.std.specs.Str.{bytes_eq}
 use Rattle.expression_parser.specs.Syntax.{ExprView, number, address, prefix, truth, name, attribute, defined, group, negation, binary, member}
-use Rattle.expression_parser.specs.Syntax.{suffixed, SetView, of_patterns, of_ranges, spelling, spelling_set, op_symbol, membership_symbol, spelling_suffix}
+use Rattle.expression_parser.specs.Syntax.{suffixed, SetView, of_patterns, of_ranges, spelling, spelling_set}
+use Rattle.expression_parser.specs.Syntax.{op_symbol, membership_symbol, spelling_suffix}
 use Rattle.expression_parser.specs.Syntax.{Fits, FitsSuffix}
 use Rattle.expression_parser.specs.declared.tree.expr.Attribute.{Attribute}
 use Rattle.expression_parser.specs.declared.tree.expr.Attribute.TheVariants as attributes

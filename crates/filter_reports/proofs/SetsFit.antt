@@ -4,11 +4,13 @@ use Rattle.std.specs.List.{AllByRecursion}
 use Rattle.expression_parser.specs.Syntax.{ExprView, number, address, prefix, truth, name, attribute, defined, group, negation, binary, member}
 use Rattle.expression_parser.specs.Syntax.{suffixed, SetView, of_patterns, of_ranges, SetPatternView, exact, or_longer, or_shorter, between}
 use Rattle.expression_parser.specs.Syntax.{RangeView, one, from_to, pattern_of, range_of, spelling, spelling_set, spelling_set_pattern}
-use Rattle.expression_parser.specs.Syntax.{op_symbol, membership_symbol, spelling_suffix, spelling_set_patterns, spelling_range, spelling_ranges, spelling_more_ranges}
+use Rattle.expression_parser.specs.Syntax.{op_symbol, membership_symbol, spelling_suffix, spelling_set_patterns}
+use Rattle.expression_parser.specs.Syntax.{spelling_range, spelling_ranges, spelling_more_ranges}
 use Rattle.expression_parser.specs.Syntax.{Fits, FitsMoreRanges, FitsRange, FitsRanges, FitsSet, FitsSetPattern, FitsSetPatterns}
 use Rattle.filter_tokens.specs.Lexemes.{Lexeme}
 use Rattle.filter_tokens.specs.declared.symbol.Symbol.TheVariants as symbols
-use Rattle.filter_parser.specs.SyntaxCommands.{CommandView, empty, block, if_then, if_else, case, assign, accept, reject, CommandsView, no_commands, command_then}
+use Rattle.filter_parser.specs.SyntaxCommands.{CommandView, empty, block, if_then, if_else, case, assign}
+use Rattle.filter_parser.specs.SyntaxCommands.{accept, reject, CommandsView, no_commands, command_then}
 use Rattle.filter_parser.specs.SyntaxCommands.{LabelView, ranges_label, else_label, PartsView, no_parts, part_then}
 use Rattle.filter_parser.specs.SyntaxCommands.{spelling_command, spelling_commands, spelling_label, spelling_parts}
 use Rattle.filter_parser.specs.SyntaxCommands.{FitsCommand, FitsCommands, FitsLabel, FitsParts, has_ranges}

@@ -1,5 +1,6 @@
 -- A refusal for people: where it is, in words, and the line with a caret under the place. (This project's own choice.)
-use Rattle.std.specs.Prelude.{◌≡◌, ℕ, ◌+◌, ◌-◌, Bool, nat_lt, min, unwrap_or, if◌then◌else◌, List, [], ◌∷◌, ◌++◌, Option, Some, None, codes, decimal, drop, encode_utf8_all, flat_map, length, take}
+use Rattle.std.specs.Prelude.{◌≡◌, ℕ, ◌+◌, ◌-◌, Bool, nat_lt, min, unwrap_or, if◌then◌else◌, List, [], ◌∷◌, ◌++◌}
+use Rattle.std.specs.Prelude.{Option, Some, None, codes, decimal, drop, encode_utf8_all, flat_map, length, take}
 use Rattle.std.specs.Option.{option_map}
 use Rattle.filter_source.specs.Refusals.{refusal_code}
 use Rattle.filter_source.specs.declared.diagnosis.Diagnosis.{Diagnosis}

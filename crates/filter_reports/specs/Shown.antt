@@ -1,6 +1,7 @@
 -- Text as it is shown on a terminal: no character of it is a control character, or turns the direction of the text; and the line that a
 -- caret stands under. (This project's own choice; which characters turn a text is Unicode's, and how wide one is, East Asian Width.)
-use Rattle.std.specs.Prelude.{ℕ, ◌==◌, ◌&&◌, ◌||◌, Bool, false, not, nat_lt, nat_le, min, if◌then◌else◌, List, [], ◌∷◌, codes, encode_utf8_all, map, sum_by, take, unwrap_or}
+use Rattle.std.specs.Prelude.{ℕ, ◌==◌, ◌&&◌, ◌||◌, Bool, false, not, nat_lt, nat_le, min, if◌then◌else◌}
+use Rattle.std.specs.Prelude.{List, [], ◌∷◌, codes, encode_utf8_all, map, sum_by, take, unwrap_or}
 use Rattle.bstr.specs.Utf8.{lossy_chars}
 use Rattle.unicode_width.specs.Width.{char_width}
 

@@ -4,7 +4,8 @@ ghost use Rattle.filter_source.specs.Diagnoses.{TellsOfSource};
 ghost use Rattle.filter_source.specs.Failures.{OnDiagnosis, OnRefusal};
 ghost use Rattle.filter_tokens.specs.Tokenization.{is_space};
 ghost use Rattle.filter_reports.specs.Check.{GivesCode, IsRefused, IsReport, without_white_end};
-ghost use Rattle.filter_reports.specs.Checking.{ArePlaces, Checks, ChecksOff, AreTokens, AreTokensUnlessRefused, EndsWith, IsCutOff, IsDiagnosis, Reports};
+ghost use Rattle.filter_reports.specs.Checking.{ArePlaces, Checks, ChecksOff, AreTokens, AreTokensUnlessRefused};
+ghost use Rattle.filter_reports.specs.Checking.{EndsWith, IsCutOff, IsDiagnosis, Reports};
 ghost use Rattle.filter_reports.specs.Faults.{stream_fault};
 ghost use Rattle.filter_reports.specs.Steps.{report_of};
 

@@ -1,8 +1,10 @@
 //! A refusal in words for people, at its line and column where it has one.
 ghost use Rattle.std.specs.Prelude.{◌≡◌, ◌++◌, None, Some, IfOk, OnOk, unwrap_or};
 ghost use Rattle.std.specs.Option.{option_map};
-ghost use Rattle.filter_reports.specs.Explanations.{AreRefusalWords, IsExplanation, IsLineExplanation, blanks_for, byte_of_line, dots_for, excerpt, excerpt_of, told_at};
-ghost use Rattle.filter_reports.specs.Explanations.{coded, end_within, explanation, first_of, front_within, is_long, last_of, message, number_text, position};
+ghost use Rattle.filter_reports.specs.Explanations.{AreRefusalWords, IsExplanation, IsLineExplanation, blanks_for};
+ghost use Rattle.filter_reports.specs.Explanations.{byte_of_line, dots_for, excerpt, excerpt_of, told_at};
+ghost use Rattle.filter_reports.specs.Explanations.{coded, end_within, explanation, first_of, front_within};
+ghost use Rattle.filter_reports.specs.Explanations.{is_long, last_of, message, number_text, position};
 
 use crate::place::place_in;
 use crate::shown::{columns_of, push_characters, push_indent, push_shown, shown_characters};

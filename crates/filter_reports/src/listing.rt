@@ -8,7 +8,8 @@ ghost use Rattle.filter_source.specs.Sources.{IsUnsafe};
 ghost use Rattle.filter_verifier.specs.InStateView.{Known};
 ghost use Rattle.filter_verifier.specs.InStates.{in_state};
 ghost use Rattle.filter_verifier.specs.Sweep.{in_state_view, state_at};
-ghost use Rattle.filter_reports.specs.Listing.{EndsListing, IsCutListing, IsListed, IsListing, Lists, fact_text, instruction_line, known_before, mark};
+ghost use Rattle.filter_reports.specs.Listing.{EndsListing, IsCutListing, IsListed, IsListing, Lists};
+ghost use Rattle.filter_reports.specs.Listing.{fact_text, instruction_line, known_before, mark};
 ghost use Rattle.filter_reports.specs.Listing.{IsToldOfCode, IsToldOfListing, WritesListing, refusal_in};
 ghost use Rattle.filter_reports.specs.Listing.{nothing_known, origin_in, place_text, places_text, state_text, target_text};
 

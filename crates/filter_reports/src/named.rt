@@ -5,7 +5,8 @@ ghost use Rattle.filter_reports.specs.Checking.{AreTokensUnlessRefused};
 ghost use Rattle.filter_reports.specs.Cuts.{IsCut};
 ghost use Rattle.filter_reports.specs.Faults.{stream_fault};
 ghost use Rattle.filter_source.specs.declared.diagnosis.Diagnosis.{Diagnosis as TheDiagnosis};
-ghost use Rattle.filter_reports.specs.Naming.{ChecksNamed, ChecksNamedOff, IsCutTelling, ListsNamed, ListsNamedOff, TellsInWords, TellsOf, named_refusal};
+ghost use Rattle.filter_reports.specs.Naming.{ChecksNamed, ChecksNamedOff, IsCutTelling, ListsNamed};
+ghost use Rattle.filter_reports.specs.Naming.{ListsNamedOff, TellsInWords, TellsOf, named_refusal};
 ghost use Rattle.filter_reports.specs.Telling.{Explains, IsCutExplanation};
 
 use crate::check::{Checked, write_report};

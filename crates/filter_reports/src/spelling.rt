@@ -1,5 +1,6 @@
 //! The words of a line, as they are repeated to people.
-ghost use Rattle.std.specs.Prelude.{◌≡◌, ◌↔◌, ◌+◌, ◌≤◌, ◌++◌, ℕ, List, [], drop, length, min, slice_get, string_bytes, unwrap_or, IfOk, IfSome, IsSome};
+ghost use Rattle.std.specs.Prelude.{◌≡◌, ◌↔◌, ◌+◌, ◌≤◌, ◌++◌, ℕ, List, [], drop, length, min};
+ghost use Rattle.std.specs.Prelude.{slice_get, string_bytes, unwrap_or, IfOk, IfSome, IsSome};
 ghost use Rattle.line_protocol.specs.Words.{without_front_blanks, words};
 ghost use Rattle.filter_reports.specs.Spelled.{IsShortText, Spells};
 

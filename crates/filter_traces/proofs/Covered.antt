@@ -1,5 +1,6 @@
 -- How the service that counts answers the lines of a run.
-use Rattle.std.proofs.Common.{◌≡◌, ℕ, ◌-◌, ◌^◌, ◌<◌, ◌≤◌, List, [], ◌∷◌, ◌++◌, length, min, Option, Some, Result, Ok, Err, false, refl, sym, ap, subst, ◌∙◌}
+use Rattle.std.proofs.Common.{◌≡◌, ℕ, ◌-◌, ◌^◌, ◌<◌, ◌≤◌, List, [], ◌∷◌, ◌++◌, length, min, Option}
+use Rattle.std.proofs.Common.{Some, Result, Ok, Err, false, refl, sym, ap, subst, ◌∙◌}
 use Rattle.std.specs.Prelude.{⊤, slice_index}
 use Rattle.std.specs.Io.KnownBytes.{Consumes}
 use Rattle.std.proofs.lemmas.List.{append-nil}

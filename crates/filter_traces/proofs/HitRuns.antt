@@ -1,5 +1,6 @@
 -- A run comes to each place at most once, so that its steps are counted one by one.
-use Rattle.std.proofs.Common.{◌≡◌, ℕ, zero, suc, ◌+◌, ◌-◌, ◌<◌, ◌≤◌, ◌==◌, ◌||◌, Bool, true, false, length, refl, sym, ap, ◌∙◌, add-zero, add-one, arith}
+use Rattle.std.proofs.Common.{◌≡◌, ℕ, zero, suc, ◌+◌, ◌-◌, ◌<◌, ◌≤◌, ◌==◌, ◌||◌, Bool, true}
+use Rattle.std.proofs.Common.{false, length, refl, sym, ap, ◌∙◌, add-zero, add-one, arith}
 use Rattle.std.proofs.lemmas.Bool.Decides.{nat_tests}
 use Rattle.filter_code.specs.CodeView.{CodeView}
 use Rattle.filter_code.specs.Machine.{Config, State, Going, Ended, after, next, step}

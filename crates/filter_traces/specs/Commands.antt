@@ -1,6 +1,7 @@
 -- The commands of a filter, each with a count: a line for each place of the text at which one stands, in the order of the code. (This
 -- project's own choice.)
-use Rattle.std.specs.Prelude.{ℕ, zero, suc, ◌&&◌, Bool, true, false, not, nat_lt, if◌then◌else◌, List, [], ◌∷◌, ◌++◌, Option, Some, codes, decimal, length, slice_get}
+use Rattle.std.specs.Prelude.{ℕ, zero, suc, ◌&&◌, Bool, true, false, not, nat_lt, if◌then◌else◌, List}
+use Rattle.std.specs.Prelude.{[], ◌∷◌, ◌++◌, Option, Some, codes, decimal, length, slice_get}
 use Rattle.std.specs.Bool.{beq}
 use Rattle.std.specs.Str.{bytes_eq}
 use Rattle.filter_code.specs.declared.instruction.Instr.{Instr}

@@ -1,5 +1,6 @@
 -- How many of some routes come to each command of a filter. (This project's own choice.)
-use Rattle.std.specs.Prelude.{◌≡◌, ◌<◌, ◌⊎◌, ◌-◌, ◌^◌, ℕ, Bool, false, min, count_by, List, [], length, Option, Some, None, Result, Ok, Err, slice_index}
+use Rattle.std.specs.Prelude.{◌≡◌, ◌<◌, ◌⊎◌, ◌-◌, ◌^◌, ℕ, Bool, false, min, count_by, List}
+use Rattle.std.specs.Prelude.{[], length, Option, Some, None, Result, Ok, Err, slice_index}
 use Rattle.std.specs.Io.KnownBytes.{Appends}
 use Rattle.filter_code.specs.CodeView.{CodeView}
 use Rattle.filter_code.specs.RouteView.{RouteView}

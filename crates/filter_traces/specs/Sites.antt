@@ -1,5 +1,6 @@
 -- Where in a filter's text an instruction comes from, and the word that stands there. (This project's own choice.)
-use Rattle.std.specs.Prelude.{ℕ, ◌==◌, ◌&&◌, ◌||◌, Bool, nat_le, max, List, [], ◌∷◌, ◌++◌, Option, Some, None, decimal, drop, length, take, take_while}
+use Rattle.std.specs.Prelude.{ℕ, ◌==◌, ◌&&◌, ◌||◌, Bool, nat_le, max, List, [], ◌∷◌, ◌++◌}
+use Rattle.std.specs.Prelude.{Option, Some, None, decimal, drop, length, take, take_while}
 use Rattle.filter_traces.specs.declared.site.Site.{Site}
 
 -- a byte of a name, a keyword or a number

@@ -1,6 +1,7 @@
 -- What is told of one step of a run: an assignment with its value, a comparison with its operands and what it gave, and a condition
 -- with its truth. (This project's own choice.)
-use Rattle.std.specs.Prelude.{ℕ, ◌+◌, ◌*◌, ◌==◌, ◌&&◌, Bool, true, false, not, nat_le, if◌then◌else◌, List, [], ◌∷◌, ◌++◌, Option, Some, None, codes, decimal, slice_get}
+use Rattle.std.specs.Prelude.{ℕ, ◌+◌, ◌*◌, ◌==◌, ◌&&◌, Bool, true, false, not, nat_le, if◌then◌else◌}
+use Rattle.std.specs.Prelude.{List, [], ◌∷◌, ◌++◌, Option, Some, None, codes, decimal, slice_get}
 use Rattle.filter_code.specs.Machine.{Config}
 use Rattle.filter_code.specs.Names.{truth_text}
 use Rattle.filter_code.specs.declared.instruction.Instr.{Instr}

@@ -24,9 +24,12 @@ use Rattle.prefix_patterns.proofs.Displayed.{prefix_text-writes}
 use Rattle.prefix_patterns.proofs.Tokens.{parts_at-joined, prefix_in-only}
 use Rattle.prefix_patterns.specs.Spelling.{prefix_text}
 use Rattle.history_file.proofs.Numbers.{decimal_digits, number_in-decimal}
-use Rattle.history_file.specs.Fits.{FitsEntry, FitsEvent, FitsFilter, FitsMessage, FitsOpening, FitsReply, FitsVia, largest_limit, largest_number, largest_session}
+use Rattle.history_file.specs.Fits.{FitsEntry, FitsEvent, FitsFilter, FitsMessage, FitsOpening, FitsReply}
+use Rattle.history_file.specs.Fits.{FitsVia, largest_limit, largest_number, largest_session}
 use Rattle.history_file.specs.Keywords.{keyword_in, keyword_text, refusal_in}
-use Rattle.history_file.specs.Reading.{all_messages, all_prefixes, all_reply, all_via, entry_in, event_of, first_event, first_filter, first_keyword, first_number, message_in, opening_parts, reply_of, unless_fault, verified_code, via_of}
+use Rattle.history_file.specs.Reading.{all_messages, all_prefixes, all_reply, all_via, entry_in, event_of}
+use Rattle.history_file.specs.Reading.{first_event, first_filter, first_keyword, first_number, message_in}
+use Rattle.history_file.specs.Reading.{opening_parts, reply_of, unless_fault, verified_code, via_of}
 use Rattle.history_file.specs.Text.{event_words, filter_words, message_word, opening_words, reply_words, via_words}
 use Rattle.history_file.specs.Views.{EntryView, EventView, Up, Down, Receive, Take, SetImport, SetExport, Show}
 use Rattle.history_file.specs.declared.keyword.Keyword.{Keyword}

@@ -1,5 +1,6 @@
 -- What stands at the front of bytes stays there as more is added.
-use Rattle.std.proofs.Common.{◌≡◌, ℕ, ◌≤◌, List, ◌++◌, length, take, Result, Ok, Err, OnErr, refl, sym, ◌∙◌, ap, arith, length-append, take-take, take_at, subst}
+use Rattle.std.proofs.Common.{◌≡◌, ℕ, ◌≤◌, List, ◌++◌, length, take, Result, Ok, Err, OnErr, refl}
+use Rattle.std.proofs.Common.{sym, ◌∙◌, ap, arith, length-append, take-take, take_at, subst}
 use Rattle.std.specs.Io.{StartsWith}
 
 pub longer_front : (xs old more now : List ℕ) → now ≡ old ++ more → StartsWith xs now → StartsWith xs old

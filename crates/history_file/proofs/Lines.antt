@@ -1,5 +1,6 @@
 -- Lines are cut again as they were written, and what a line was written for is read from it.
-use Rattle.std.proofs.Common.{◌≡◌, ℕ, ◌^◌, ◌<◌, Bool, List, ◌∷◌, ◌++◌, Some, None, Err, not, true, true≢false, bytes_eq, sym, ◌∙◌, ap, decimal, codes, subst}
+use Rattle.std.proofs.Common.{◌≡◌, ℕ, ◌^◌, ◌<◌, Bool, List, ◌∷◌, ◌++◌, Some, None, Err, not, true}
+use Rattle.std.proofs.Common.{true≢false, bytes_eq, sym, ◌∙◌, ap, decimal, codes, subst}
 use Rattle.std.proofs.lemmas.Slice.Eq.{bytes_eq-Decides}
 use Rattle.line_protocol.specs.Words.{words}
 use Rattle.netchange_core.specs.OpeningView.{OpeningView}

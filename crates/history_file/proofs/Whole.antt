@@ -1,5 +1,6 @@
 -- Bytes tell at most one history, and where they tell one no line of them is wrong.
-use Rattle.std.proofs.Common.{◌≡◌, ◌⊎◌, ℕ, suc, ◌+◌, ◌^◌, ◌<◌, ◌≤◌, List, [], ◌∷◌, ◌++◌, length, Option, Some, refl, sym, ◌∙◌, ap, arith, inl, inr, append_assoc, length-append, map, Result, Ok, Err, IfOk, IfErr, MatchResult}
+use Rattle.std.proofs.Common.{◌≡◌, ◌⊎◌, ℕ, suc, ◌+◌, ◌^◌, ◌<◌, ◌≤◌, List, [], ◌∷◌, ◌++◌, length, Option, Some, refl, sym, ◌∙◌, ap}
+use Rattle.std.proofs.Common.{arith, inl, inr, append_assoc, length-append, map, Result, Ok, Err, IfOk, IfErr, MatchResult}
 use Rattle.std.specs.List.{AllByRecursion}
 use Rattle.std.proofs.lemmas.List.Elements.{All-append, All-cons, recursion_from_All}
 use Rattle.line_protocol.specs.Words.{words}
@@ -8,7 +9,8 @@ use Rattle.prefix_patterns.proofs.Tokens.{parts_at-found}
 use Rattle.prefix_patterns.specs.Reading.{parts_at}
 use Rattle.history_file.proofs.Lines.{entry_cut, entry_of_line, opening_cut, opening_from, opening_of_line, parts_of}
 use Rattle.std.proofs.lemmas.List.{length-map, map_push}
-use Rattle.history_file.specs.Files.{AreFront, AreRead, BeginsWithLine, IsEntriesFault, IsFaultOf, IsRead, IsRest, history_view, IsNoEntry, IsUnended, IsWrongAt, Tells}
+use Rattle.history_file.specs.Files.{AreFront, AreRead, BeginsWithLine, IsEntriesFault, IsFaultOf, IsRead}
+use Rattle.history_file.specs.Files.{IsRest, history_view, IsNoEntry, IsUnended, IsWrongAt, Tells}
 use Rattle.history_file.specs.Fits.{FitsEntry, FitsHistory, FitsOpening}
 use Rattle.history_file.specs.Reading.{OpeningParts, entry_in, opening_parts}
 use Rattle.history_file.specs.Text.{entries_text, entry_line, history_text, opening_line}

@@ -57,6 +57,7 @@ fn push_code(alloc: Global, out: &mut Vec<u8>, filter: &Verified) -> Result<(), 
     ensures fits { OnOk result (fits.FitsFilter filter.now) }
     ensures err { OnErr result (StartsWith out.new.items out.old.items) }
 {
+    // For the proof alone, which needs what its contract says.
     let _size = filter.size();
     let Ok(bytes) = write_code(alloc, filter.code()) else {
         return Err(AllocError);
@@ -222,6 +223,7 @@ fn push_prefix(alloc: Global, out: &mut Vec<u8>, prefix: Prefix) -> Result<(), A
     ensures fits { OnOk result (length prefix ≤ address_length) }
     ensures err { OnErr result (StartsWith out.new.items out.old.items) }
 {
+    // For the proof alone, which needs what its contract says.
     let _len = prefix.len();
     let text = format!(in alloc; "{prefix}")?;
     push_word(out, text.as_bytes())

@@ -1,10 +1,12 @@
 -- The text of a history, in parts.
-use Rattle.std.proofs.Common.{◌≡◌, ◌∙◌, sym, ap, subst, ℕ, zero, suc, ◌+◌, ◌≤◌, ◌<◌, List, [], ◌∷◌, ◌++◌, append_assoc, append-nil, add-one, length, map, take, drop, get_or, Some, arith}
+use Rattle.std.proofs.Common.{◌≡◌, ◌∙◌, sym, ap, subst, ℕ, zero, suc, ◌+◌, ◌≤◌, ◌<◌, List, [], ◌∷◌, ◌++◌, append_assoc}
+use Rattle.std.proofs.Common.{append-nil, add-one, length, map, take, drop, get_or, Some, arith}
 use Rattle.std.specs.Prelude.{All}
 use Rattle.std.proofs.Math.Seq.{take-suc}
 use Rattle.std.proofs.Math.ListN.{drop_of_length-le}
 use Rattle.std.proofs.lemmas.List.Elements.{All-nil, All-push}
-use Rattle.std.proofs.lemmas.List.{drop-append-le, length-drop, length-map, length-take, length-take-le, map-append, take-append-drop, take-append-le, take-take}
+use Rattle.std.proofs.lemmas.List.{drop-append-le, length-drop, length-map, length-take, length-take-le}
+use Rattle.std.proofs.lemmas.List.{map-append, take-append-drop, take-append-le, take-take}
 use Rattle.history_file.specs.Fits.{FitsEntry}
 use Rattle.history_file.specs.Text.{entries_text, entry_line, opening_line}
 use Rattle.history_file.specs.Views.{EntryView, HistoryView, entry_view}

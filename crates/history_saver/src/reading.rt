@@ -53,6 +53,7 @@ fn push_next(
 {
     match saved {
         Some(count) => {
+            // For the proof alone, which needs what its contract says.
             let _limit = journal.limit();
             push_entries(alloc, out, journal.entries(), count)
         }

@@ -1,5 +1,6 @@
 -- What is noted on a board. (This project's own choice.)
-use Rattle.std.specs.Prelude.{◌≡◌, ◌==◌, ℕ, ◌+◌, ◌&&◌, ◌||◌, max, nat_lt, nat_le, not, Bool, true, false, if◌then◌else◌, List, map, position, Option, Some, None, slice_get, slice_set}
+use Rattle.std.specs.Prelude.{◌≡◌, ◌==◌, ℕ, ◌+◌, ◌&&◌, ◌||◌, max, nat_lt, nat_le, not, Bool, true, false, if◌then◌else◌}
+use Rattle.std.specs.Prelude.{List, map, position, Option, Some, None, slice_get, slice_set}
 use Rattle.link_board.specs.Steps.{Begins, Ends, Wakes, link_to, queued_at, taken_at, waits}
 use Rattle.link_board.specs.declared.link.Link.{Link}
 

@@ -1,5 +1,6 @@
 //! What those who serve links know together.
-ghost use Rattle.std.specs.Prelude.{◌≡◌, ◌==◌, ◌<◌, ◌≤◌, ◌||◌, ◌&&◌, false, true, None, Some, [], IfOk, IfSome, IfNone, map, position, length, slice_get};
+ghost use Rattle.std.specs.Prelude.{◌≡◌, ◌==◌, ◌<◌, ◌≤◌, ◌||◌, ◌&&◌, false, true, None, Some, []};
+ghost use Rattle.std.specs.Prelude.{IfOk, IfSome, IfNone, map, position, length, slice_get};
 ghost use Rattle.link_board.specs.Boards as spec;
 ghost use Rattle.link_board.specs.Steps.{link_to};
 

@@ -1,6 +1,7 @@
 -- How a configuration is read, with the files that it includes in their places. (This project's own choice; includes are those of the BIRD
 -- 2.0 User's Guide.)
-use Rattle.std.specs.Prelude.{◌≡◌, ◌⊎◌, ◌<◌, ◌≤◌, ◌-◌, ◌&&◌, ◌++◌, ℕ, zero, suc, nat_le, true, false, if◌then◌else◌, List, [], ◌∷◌, Option, Some, None, Result}
+use Rattle.std.specs.Prelude.{◌≡◌, ◌⊎◌, ◌<◌, ◌≤◌, ◌-◌, ◌&&◌, ◌++◌, ℕ, zero, suc, nat_le, true}
+use Rattle.std.specs.Prelude.{false, if◌then◌else◌, List, [], ◌∷◌, Option, Some, None, Result}
 use Rattle.std.specs.Prelude.{codes, drop, length, map, slice_get, take}
 use Rattle.std.specs.declared.io.Error.{Error}
 use Rattle.filter_reports.specs.Shown.{shown}

@@ -3,7 +3,8 @@ ghost use Rattle.std.specs.Option.{option_map};
 ghost use Rattle.std.specs.Prelude.{◌≡◌, [], ◌∷◌, ◌++◌, IfErr, IfOk, OnOk, slice_get};
 ghost use Rattle.filter_reports.specs.Faults.{stream_fault};
 ghost use Rattle.script_runs.specs.declared.naming.NamedFilter.{NamedFilter as TheFilter};
-ghost use Rattle.ncroute.specs.Filters.{AreLoaded, IsCutFilter, IsCutUnfit, LeavesFilter, ReadsFilter, ReadsFilters, StopsAtFilter, TellsOfFilter, TellsUnfit};
+ghost use Rattle.ncroute.specs.Filters.{AreLoaded, IsCutFilter, IsCutUnfit, LeavesFilter, ReadsFilter};
+ghost use Rattle.ncroute.specs.Filters.{ReadsFilters, StopsAtFilter, TellsOfFilter, TellsUnfit};
 
 use crate::console::Console;
 use crate::texts::{Folder, Unread, name_of, read_source, tell_unread};

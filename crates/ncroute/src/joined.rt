@@ -2,7 +2,8 @@
 ghost use Rattle.std.specs.Option.{option_map};
 ghost use Rattle.std.specs.Prelude.{◌≡◌, ◌++◌, [], ◌∷◌, IfErr, IfOk, OnErr, OnOk};
 ghost use Rattle.filter_reports.specs.Faults.{stream_fault};
-ghost use Rattle.ncroute.specs.Joining.{AddsPart, JoinsAll, JoinsNext, LeavesNext, RunsJoined, RunsTexts, StopsAtSource, StopsJoined, StopsTexts, ended, ends_line, lines_of};
+ghost use Rattle.ncroute.specs.Joining.{AddsPart, JoinsAll, JoinsNext, LeavesNext, RunsJoined, RunsTexts, StopsAtSource};
+ghost use Rattle.ncroute.specs.Joining.{StopsJoined, StopsTexts, ended, ends_line, lines_of};
 
 use crate::console::Console;
 use crate::ending::FAILED;

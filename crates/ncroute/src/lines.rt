@@ -4,7 +4,8 @@ ghost use Rattle.std.specs.Io.KnownBytes.{Appends};
 ghost use Rattle.filter_reports.specs.Checking.{AreTokensUnlessRefused};
 ghost use Rattle.filter_reports.specs.Cuts.{IsCut};
 ghost use Rattle.filter_reports.specs.Faults.{stream_fault};
-ghost use Rattle.ncroute.specs.Marking.{ChecksLines, CutsLines, CutsReport, ReportsOn, kept_lines, mark_behind, marked, name_mark, refusals_in, written_of};
+ghost use Rattle.ncroute.specs.Marking.{ChecksLines, CutsLines, CutsReport, ReportsOn, kept_lines};
+ghost use Rattle.ncroute.specs.Marking.{mark_behind, marked, name_mark, refusals_in, written_of};
 
 use crate::console::Console;
 use command_line::Checking;

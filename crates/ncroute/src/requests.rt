@@ -1,7 +1,8 @@
 //! From what is asked for to an exit status.
 ghost use Rattle.std.specs.Prelude.{◌≡◌, IfErr, IfOk};
 ghost use Rattle.filter_reports.specs.Faults.{stream_fault};
-ghost use Rattle.ncroute.specs.Requests.{Answers, EvaluatesTold, FailsToReport, ListsSource, ListsText, RewritesInput, Serves, StopsAnswer, StopsEvaluating};
+ghost use Rattle.ncroute.specs.Requests.{Answers, EvaluatesTold, FailsToReport, ListsSource, ListsText};
+ghost use Rattle.ncroute.specs.Requests.{RewritesInput, Serves, StopsAnswer, StopsEvaluating};
 ghost use Rattle.ncroute.specs.Requests.{StopsList, StopsListing, StopsRewriting, fault_status};
 ghost use Rattle.ncroute.specs.Streaming.{CutsWriting, Writes};
 

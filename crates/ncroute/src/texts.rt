@@ -5,7 +5,8 @@ ghost use Rattle.std.specs.declared.io.Error.{Error as TheError};
 ghost use Rattle.filter_reports.specs.Cuts.{IsCut};
 ghost use Rattle.filter_reports.specs.Faults.{stream_fault};
 ghost use Rattle.ncroute.specs.Reading.{IsCause, IsOfFile, IsRead, IsUnread, LeavesFile, LeavesInput, ReadsFile, ReadsInput, ReadsWhole};
-ghost use Rattle.ncroute.specs.Reading.{StopsTelling, TellsUnread, long_line, long_words, name_of, told_line, unmade_line, unread_line, unwritten_line, unwritten_words};
+ghost use Rattle.ncroute.specs.Reading.{StopsTelling, TellsUnread, long_line, long_words, name_of, told_line};
+ghost use Rattle.ncroute.specs.Reading.{unmade_line, unread_line, unwritten_line, unwritten_words};
 
 use command_line::Source;
 use filter_reports::{ProgramFault, push_shown};

@@ -1,5 +1,6 @@
 -- The best route after one neighbour's distance changed.
-use Rattle.std.proofs.Common.{◌≡◌, ◌⊎◌, ⊎_elim, ℕ, ◌+◌, ◌<◌, ◌≤◌, List, length, slice_index, slice_set, length-set, subst, get_or-set_same, get_or-set_other, ap, sym, ◌∙◌, arith}
+use Rattle.std.proofs.Common.{◌≡◌, ◌⊎◌, ⊎_elim, ℕ, ◌+◌, ◌<◌, ◌≤◌, List, length, slice_index, slice_set, length-set}
+use Rattle.std.proofs.Common.{subst, get_or-set_same, get_or-set_other, ap, sym, ◌∙◌, arith}
 use Rattle.std.proofs.lemmas.Bool.{cases_eq}
 use Rattle.netchange_core.specs.declared.best_route.BestRoute.{BestRoute}
 use Rattle.netchange_core.specs.declared.reply.Via.TheVariants.{Node, Nowhere}

@@ -1,5 +1,6 @@
 -- One neighbour changed.
-use Rattle.std.proofs.Common.{◌≡◌, ⊎_elim, ℕ, ◌<◌, zero, suc, List, [], ◌∷◌, length, map, slice_index_or, slice_set, ap, sym, subst, refl, ◌∙◌, arith, get_or-set_same, get_or-set_other, length-set}
+use Rattle.std.proofs.Common.{◌≡◌, ⊎_elim, ℕ, ◌<◌, zero, suc, List, [], ◌∷◌, length, map, slice_index_or, slice_set}
+use Rattle.std.proofs.Common.{ap, sym, subst, refl, ◌∙◌, arith, get_or-set_same, get_or-set_other, length-set}
 use Rattle.std.proofs.lemmas.Bool.{cases_eq}
 use Rattle.std.proofs.lemmas.List.{length-map, map-set}
 use Rattle.netchange_core.specs.declared.destination.Destination.{Destination}

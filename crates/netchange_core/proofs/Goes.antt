@@ -1,5 +1,6 @@
 -- Events that are not refused.
-use Rattle.std.proofs.Common.{◌≡◌, ℕ, ◌+◌, ◌<◌, ◌≤◌, false, cond, nat_eq, nat_le, min, Some, None, is_some, List, length, ◌++◌, drop, ap, sym, ◌∙◌, ⊎_elim, arith, eq-eqb, ne_eqb, leb-false, drop_of_length-le}
+use Rattle.std.proofs.Common.{◌≡◌, ℕ, ◌+◌, ◌<◌, ◌≤◌, false, cond, nat_eq, nat_le, min, Some, None, is_some, List, length}
+use Rattle.std.proofs.Common.{◌++◌, drop, ap, sym, ◌∙◌, ⊎_elim, arith, eq-eqb, ne_eqb, leb-false, drop_of_length-le}
 use Rattle.std.proofs.lemmas.Bool.{cases_lt, or_parts}
 use Rattle.filter_verifier.specs.VerifiedView.{VerifiedView}
 use Rattle.netchange_core.specs.declared.destination.Destination.{Destination}
@@ -7,7 +8,8 @@ use Rattle.netchange_core.specs.declared.message.Message.{Message}
 use Rattle.netchange_core.specs.declared.reply.EventRefusal.TheVariants as refusal
 use Rattle.netchange_core.specs.declared.reply.Reply.TheVariants as reply
 use Rattle.netchange_core.specs.Kept.{AreKept, distance_by, kept_distance}
-use Rattle.netchange_core.specs.Next.{answered, dequeued, exporting, importing, is_no_neighbour, joined, last_session, recomputed, refused, set_export, set_import, up}
+use Rattle.netchange_core.specs.Next.{answered, dequeued, exporting, importing, is_no_neighbour, joined}
+use Rattle.netchange_core.specs.Next.{last_session, recomputed, refused, set_export, set_import, up}
 use Rattle.netchange_core.specs.OpeningView.{OpeningView}
 use Rattle.netchange_core.specs.World.{NeighbourView, change, changed, is_up, neighbour_at}
 use Rattle.netchange_core.proofs.Unchanged.{messages_kept}

@@ -1,5 +1,6 @@
 -- Each change leaves a neighbour of the domain, and each distance where it does not speak of it.
-use Rattle.std.proofs.Common.{◌≡◌, ℕ, ◌<◌, ◌≤◌, true, cond, Option, Some, None, is_some, length, slice_index, slice_set, ap, sym, subst, refl, ◌∙◌, ⊎_elim, arith, eq-eqb, length-set, get_or-set_same, get_or-set_other}
+use Rattle.std.proofs.Common.{◌≡◌, ℕ, ◌<◌, ◌≤◌, true, cond, Option, Some, None, is_some, length, slice_index, slice_set, ap}
+use Rattle.std.proofs.Common.{sym, subst, refl, ◌∙◌, ⊎_elim, arith, eq-eqb, length-set, get_or-set_same, get_or-set_other}
 use Rattle.std.proofs.lemmas.Bool.{cases_eq}
 use Rattle.std.proofs.lemmas.List.{get_or-replicate, length-replicate}
 use Rattle.filter_code.specs.Machine.{outcome_of}

@@ -1,5 +1,6 @@
 -- Who holds a session: one neighbour at most, and a search finds it.
-use Rattle.std.proofs.Common.{◌≡◌, ◌⊎◌, ap, refl, ℕ, ◌<◌, ◌≤◌, ◌∙◌, sym, true, false, inl, inr, IfSome, Option, Some, None, is_some, List, length, position, arith}
+use Rattle.std.proofs.Common.{◌≡◌, ◌⊎◌, ap, refl, ℕ, ◌<◌, ◌≤◌, ◌∙◌, sym, true, false, inl, inr, IfSome}
+use Rattle.std.proofs.Common.{Option, Some, None, is_some, List, length, position, arith}
 use Rattle.std.proofs.lemmas.Bool.{cases_Bool, cases_eq, both_ways, ltb-true, ltb-false, eqb-true, eq-eqb}
 use Rattle.std.proofs.lemmas.List.{get_or_past}
 use Rattle.std.proofs.lemmas.List.Quantifiers.{position-Some}

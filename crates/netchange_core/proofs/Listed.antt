@@ -1,5 +1,7 @@
 -- Loops over the up neighbours, by the list of the present sessions.
-use Rattle.std.proofs.Common.{◌≡◌, ◌≢◌, inl, inr, ℕ, zero, suc, ◌+◌, ◌<◌, ◌≤◌, true, false, cond, Option, None, is_some, List, [], ◌∷◌, length, map, get_or, set, ap, sym, subst, ◌∙◌, arith, get_or-set_same, get_or-set_other, deque_capacity, deque_len}
+use Rattle.std.proofs.Common.{◌≡◌, ◌≢◌, inl, inr, ℕ, zero, suc, ◌+◌, ◌<◌, ◌≤◌, true, false, cond, Option}
+use Rattle.std.proofs.Common.{None, is_some, List, [], ◌∷◌, length, map, get_or, set, ap, sym, subst, ◌∙◌}
+use Rattle.std.proofs.Common.{arith, get_or-set_same, get_or-set_other, deque_capacity, deque_len}
 use Rattle.std.proofs.lemmas.Bool.{cases_Bool, cases_eq, cases_lt}
 use Rattle.std.proofs.lemmas.List.{get_or-map, get_or_default, get_or_past, length-map, same_lists}
 use Rattle.std.proofs.lemmas.Option.{same_Some}

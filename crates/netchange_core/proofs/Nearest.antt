@@ -1,5 +1,6 @@
 -- The nearest neighbour: the definition has the properties of the relation, and whatever has them is what is defined.
-use Rattle.std.proofs.Common.{◌≡◌, ⊎_elim, ℕ, ◌+◌, ◌<◌, ◌≤◌, zero, suc, min, cond, nat_lt, List, [], ◌∷◌, length, slice_index, refl, ap, sym, subst, ◌∙◌, arith, le_refl, eq-eqb, ne_eqb, ltb-true, ltb-false}
+use Rattle.std.proofs.Common.{◌≡◌, ⊎_elim, ℕ, ◌+◌, ◌<◌, ◌≤◌, zero, suc, min, cond, nat_lt, List, [], ◌∷◌, length, slice_index}
+use Rattle.std.proofs.Common.{refl, ap, sym, subst, ◌∙◌, arith, le_refl, eq-eqb, ne_eqb, ltb-true, ltb-false}
 use Rattle.std.proofs.lemmas.Bool.{cases_eq, cases_order, cond_both}
 use Rattle.netchange_core.specs.declared.best_route.BestRoute.{BestRoute}
 use Rattle.netchange_core.specs.declared.reply.Via.{Via}

@@ -1,5 +1,7 @@
 -- The list of the present sessions.
-use Rattle.std.proofs.Common.{◌≡◌, ◌≢◌, ap, refl, ℕ, zero, suc, ◌+◌, ◌-◌, ◌<◌, ◌≤◌, ◌∙◌, sym, subst, inl, inr, Result, Ok, Err, IfNone, IfSome, Option, Some, None, List, [], ◌∷◌, ◌++◌, length, get_or, replicate, set, All, Contains, position, arith, get_or-set_same, get_or-set_other}
+use Rattle.std.proofs.Common.{◌≡◌, ◌≢◌, ap, refl, ℕ, zero, suc, ◌+◌, ◌-◌, ◌<◌, ◌≤◌, ◌∙◌, sym, subst, inl, inr, Result}
+use Rattle.std.proofs.Common.{Ok, Err, IfNone, IfSome, Option, Some, None, List, [], ◌∷◌, ◌++◌, length, get_or, replicate}
+use Rattle.std.proofs.Common.{set, All, Contains, position, arith, get_or-set_same, get_or-set_other}
 use Rattle.std.specs.List.{HoldsAt, remove}
 use Rattle.std.specs.Result.{result_ok}
 use Rattle.std.specs.List.Sorted.{IsBinarySearchResult, IsNonDecreasingBy, IsSearchInRange}

@@ -1,5 +1,6 @@
 -- Messages put into the queues change nothing else.
-use Rattle.std.proofs.Common.{◌≡◌, ℕ, ◌+◌, ◌<◌, zero, suc, cond, nat_eq, List, [], ◌∷◌, ◌++◌, length, map, slice_index_or, ap, sym, subst, refl, ◌∙◌, arith, add-one}
+use Rattle.std.proofs.Common.{◌≡◌, ℕ, ◌+◌, ◌<◌, zero, suc, cond, nat_eq, List, [], ◌∷◌, ◌++◌, length}
+use Rattle.std.proofs.Common.{map, slice_index_or, ap, sym, subst, refl, ◌∙◌, arith, add-one}
 use Rattle.std.proofs.lemmas.Bool.{cond_both}
 use Rattle.std.proofs.lemmas.List.{get_or-map, length-map}
 use Rattle.netchange_core.specs.declared.message.Message.{Message}

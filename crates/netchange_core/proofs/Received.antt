@@ -1,6 +1,8 @@
 -- One neighbour's distance from one node changed.
 use Rattle.std.specs.Int.{from_bool}
-use Rattle.std.proofs.Common.{◌≡◌, ℕ, ◌+◌, ◌<◌, ◌≤◌, zero, suc, Bool, true, false, cond, not, nat_eq, nat_lt, Some, List, length, map, slice_index_or, slice_set, ap, sym, subst, refl, ◌∙◌, ⊎_elim, arith, eq-eqb, length-set, le-ltb}
+use Rattle.std.proofs.Common.{◌≡◌, ℕ, ◌+◌, ◌<◌, ◌≤◌, zero, suc, Bool, true, false, cond, not, nat_eq}
+use Rattle.std.proofs.Common.{nat_lt, Some, List, length, map, slice_index_or, slice_set, ap, sym}
+use Rattle.std.proofs.Common.{subst, refl, ◌∙◌, ⊎_elim, arith, eq-eqb, length-set, le-ltb}
 use Rattle.std.proofs.lemmas.Bool.{cases_eq, cond_both, lt-leb}
 use Rattle.netchange_core.specs.declared.best_route.BestRoute.{BestRoute}
 use Rattle.netchange_core.specs.declared.destination.Destination.{Destination}

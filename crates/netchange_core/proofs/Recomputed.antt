@@ -1,6 +1,7 @@
 -- The loop that recomputes all routes, after one neighbour changed.
 use Rattle.std.specs.Int.{from_bool}
-use Rattle.std.proofs.Common.{◌≡◌, ℕ, ◌+◌, ◌-◌, ◌<◌, ◌≤◌, zero, suc, cond, nat_eq, not, Bool, true, false, List, length, map, slice_index_or, slice_set, ap, sym, subst, ◌∙◌, arith, le_refl}
+use Rattle.std.proofs.Common.{◌≡◌, ℕ, ◌+◌, ◌-◌, ◌<◌, ◌≤◌, zero, suc, cond, nat_eq, not, Bool, true, false, List}
+use Rattle.std.proofs.Common.{length, map, slice_index_or, slice_set, ap, sym, subst, ◌∙◌, arith, le_refl}
 use Rattle.std.proofs.lemmas.Bool.{cond_both}
 use Rattle.std.proofs.lemmas.List.{get_or-map, length-map}
 use Rattle.netchange_core.specs.declared.destination.Destination.{Destination}

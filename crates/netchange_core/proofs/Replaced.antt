@@ -1,5 +1,6 @@
 -- A list with one element replaced.
-use Rattle.std.proofs.Common.{◌≡◌, ⊎_elim, ℕ, ◌+◌, ◌<◌, ◌≤◌, List, length, slice_index_or, slice_set, get_or-set_same, get_or-set_other, subst, sym, arith}
+use Rattle.std.proofs.Common.{◌≡◌, ⊎_elim, ℕ, ◌+◌, ◌<◌, ◌≤◌, List, length, slice_index_or, slice_set}
+use Rattle.std.proofs.Common.{get_or-set_same, get_or-set_other, subst, sym, arith}
 use Rattle.std.proofs.lemmas.Bool.{cases_eq}
 
 -- what holds of the element, and of each one before it

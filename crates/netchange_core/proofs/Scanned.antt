@@ -1,5 +1,6 @@
 -- The nearest neighbour, found among those that are up, in the order of their sessions.
-use Rattle.std.proofs.Common.{◌≡◌, ⊎_elim, inl, inr, ℕ, ◌+◌, ◌<◌, ◌≤◌, List, length, map, slice_index, slice_index_or, slice_set, length-set, true, None, is_some, ap, sym, subst, ◌∙◌, arith, refl, get_or-set_other}
+use Rattle.std.proofs.Common.{◌≡◌, ⊎_elim, inl, inr, ℕ, ◌+◌, ◌<◌, ◌≤◌, List, length, map, slice_index, slice_index_or, slice_set}
+use Rattle.std.proofs.Common.{length-set, true, None, is_some, ap, sym, subst, ◌∙◌, arith, refl, get_or-set_other}
 use Rattle.std.specs.List.{HoldsAt}
 use Rattle.std.proofs.lemmas.Bool.{cases_Bool, cases_eq, cases_lt}
 use Rattle.std.proofs.lemmas.List.{get_or-map, get_or_past, length-map}

@@ -1,5 +1,6 @@
 -- States after an event: what holds where only one neighbour changed, and when an event is carried out.
-use Rattle.std.proofs.Common.{◌≡◌, ℕ, ◌<◌, Vec, Result, Ok, Err, List, ◌++◌, length, map, take, drop, slice_index_or, slice_set, ap, sym, subst, refl, ◌∙◌, arith}
+use Rattle.std.proofs.Common.{◌≡◌, ℕ, ◌<◌, Vec, Result, Ok, Err, List, ◌++◌, length, map, take, drop}
+use Rattle.std.proofs.Common.{slice_index_or, slice_set, ap, sym, subst, refl, ◌∙◌, arith}
 use Rattle.std.proofs.Math.Seq.{take-append_seam}
 use Rattle.std.proofs.lemmas.List.{length-map}
 use Rattle.std.specs.Result.{IsErr}

@@ -50,7 +50,8 @@ impl State {
         })
     }
 
-    /// A message came of an up neighbour, which is now so far from its node. Answers whether the distance to it changed.
+    /// A message came from an up neighbour, which is now at this distance from the node that it names. Answers whether the distance to that
+    /// node changed.
     #[inline(never)]
     fn reroute(&mut self, hop: usize, message: Message, near: u16) -> Result<bool, AllocError>
         requires right { AreTables self.old }

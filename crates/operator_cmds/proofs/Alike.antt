@@ -1,5 +1,6 @@
 -- Two runs of one script are answered alike.
-use Rattle.std.proofs.Common.{◌≡◌, ℕ, zero, suc, Bool, true, false, List, [], ◌∷◌, ◌++◌, ◌==◌, length, map, take, drop, nat_lt, Option, Some, None, Result, Ok, Err, inl, inr, refl, sym, ap, subst, ◌∙◌}
+use Rattle.std.proofs.Common.{◌≡◌, ℕ, zero, suc, Bool, true, false, List, [], ◌∷◌, ◌++◌, ◌==◌, length, map, take, drop}
+use Rattle.std.proofs.Common.{nat_lt, Option, Some, None, Result, Ok, Err, inl, inr, refl, sym, ap, subst, ◌∙◌}
 use Rattle.std.proofs.Common.{Global}
 use Rattle.std.proofs.lemmas.List.{length-map, map-append}
 use Rattle.std.specs.Prelude.{MatchBool, codes, if◌then◌else◌}
@@ -42,7 +43,8 @@ use Rattle.operator_cmds.specs.Looks.{entries_text, looked, told_entries}
 use Rattle.operator_cmds.specs.Replies.{answered, refused, reply_answer}
 use Rattle.operator_cmds.specs.Running.{IsCarriedOut}
 use Rattle.operator_cmds.specs.Script
-use Rattle.operator_cmds.specs.Script.{ScriptView, AnswersLine, fresh, Keeps, MovesTo, GivesFile, GivesText, IsRefusedFile, told_of, tables_of, with_prefix}
+use Rattle.operator_cmds.specs.Script.{ScriptView, AnswersLine, fresh, Keeps, MovesTo, GivesFile}
+use Rattle.operator_cmds.specs.Script.{GivesText, IsRefusedFile, told_of, tables_of, with_prefix}
 use Rattle.operator_cmds.specs.Stages.{StageView, Empty, Setting, Open, journal_in, new_journal, session_in, session_number}
 
 -- ---- what a world makes of an event is told by what a text shows of the event

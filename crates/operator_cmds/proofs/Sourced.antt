@@ -19,7 +19,9 @@ use Rattle.line_protocol.specs.Answers.{Answer}
 use Rattle.line_protocol.specs.declared.answers.LineReply.{LineReply}
 use Rattle.line_protocol.specs.declared.answers.LineReply.TheVariants.{Answered}
 use Rattle.operator_cmds.specs.Replies.{Adds, Answers, refused}
-use Rattle.operator_cmds.specs.Script.{AnswersFilter, AnswersSource, Filters, GetsName, GivesFile, GivesText, IsDiagnosedBy, IsRefusedBy, IsRefusedFile, IsVerified, NamesSource, ScriptView, TellsSource, diagnoses, gives, lacks}
+use Rattle.operator_cmds.specs.Script.{AnswersFilter, AnswersSource, Filters, GetsName, GivesFile, GivesText}
+use Rattle.operator_cmds.specs.Script.{IsDiagnosedBy, IsRefusedBy, IsRefusedFile, IsVerified, NamesSource}
+use Rattle.operator_cmds.specs.Script.{ScriptView, TellsSource, diagnoses, gives, lacks}
 use Rattle.operator_cmds.specs.Stages.{StageView, Empty, Setting, Open, size_in}
 use Rattle.operator_cmds.specs.declared.filter.FilterSource.{FilterSource}
 use Rattle.operator_cmds.specs.declared.filter.FilterSource.TheVariants as source

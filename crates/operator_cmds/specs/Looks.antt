@@ -1,5 +1,6 @@
 -- What is told of a router to who looks at it. (This project's own choice.)
-use Rattle.std.specs.Prelude.{ℕ, suc, zero, ◌+◌, ◌<◌, ◌==◌, Bool, true, if◌then◌else◌, List, [], ◌∷◌, ◌++◌, map, take, drop, slice_index, codes, decimal, Option, Some, None, is_some}
+use Rattle.std.specs.Prelude.{ℕ, suc, zero, ◌+◌, ◌<◌, ◌==◌, Bool, true, if◌then◌else◌, List, [], ◌∷◌, ◌++◌}
+use Rattle.std.specs.Prelude.{map, take, drop, slice_index, codes, decimal, Option, Some, None, is_some}
 use Rattle.history_file.specs.Text.{entry_line}
 use Rattle.history_file.specs.Views.{EntryView, entry_view}
 use Rattle.line_protocol.specs.Answers.{Answer}

@@ -2,7 +2,8 @@
 use Rattle.std.specs.Prelude.{ℕ, Bool, List, [], ◌∷◌, Option, find, codes}
 use Rattle.std.specs.Str.{bytes_eq}
 use Rattle.operator_cmds.specs.declared.verb.Verb.{Verb}
-use Rattle.operator_cmds.specs.declared.verb.Verb.TheVariants.{Network, Prefix, Load, Code, Import, Export, Up, Down, Receive, Take, Show, Routes, Neighbours, Told, History}
+use Rattle.operator_cmds.specs.declared.verb.Verb.TheVariants.{Network, Prefix, Load, Code, Import, Export, Up, Down, Receive}
+use Rattle.operator_cmds.specs.declared.verb.Verb.TheVariants.{Take, Show, Routes, Neighbours, Told, History}
 
 -- how each is written
 abbrev pub verb_text : Verb → List ℕ

@@ -179,6 +179,7 @@ pub fn answer_history(
     ensures ok { IfOk result (Adds (answered (spec.history_text journal.now.entries from)) out.old.items out.new.items) }
     ensures err { OnErr result (StartsWith out.new.items out.old.items) }
 {
+    // For the proof alone, which needs what its contract says.
     let _limit = journal.limit();
     let entries = journal.entries();
     let count = count_told(entries, from);

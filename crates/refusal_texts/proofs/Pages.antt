@@ -1,5 +1,6 @@
 -- What the pages of some codes say.
-use Rattle.std.proofs.Common.{◌≡◌, ◌∙◌, ◌&&◌, ◌||◌, ◌++◌, Bool, true, false, cond, List, [], ◌∷◌, ℕ, Option, Some, None, Bor, ◌<◌, ◌≤◌, ap, drop, drop-cons, drop_of_length-le, get_or, length, map, refl, subst, sym}
+use Rattle.std.proofs.Common.{◌≡◌, ◌∙◌, ◌&&◌, ◌||◌, ◌++◌, Bool, true, false, cond, List, [], ◌∷◌, ℕ, Option, Some, None, Bor}
+use Rattle.std.proofs.Common.{◌<◌, ◌≤◌, ap, drop, drop-cons, drop_of_length-le, get_or, length, map, refl, subst, sym}
 use Rattle.std.specs.Prelude.{find}
 use Rattle.std.specs.List.{list_all}
 use Rattle.std.specs.Str.{bytes_eq}

@@ -1,5 +1,6 @@
 -- What `check` prints of a code is evaluated by `eval` as that code.
-use Rattle.std.proofs.Common.{◌≡◌, ◌≤◌, ℕ, ◌-◌, ◌==◌, Bool, false, not, List, [], ◌∷◌, ◌++◌, Result, length, map, take, drop, filter, if◌then◌else◌, inr, refl, sym, subst, ap, ◌∙◌, arith}
+use Rattle.std.proofs.Common.{◌≡◌, ◌≤◌, ℕ, ◌-◌, ◌==◌, Bool, false, not, List, [], ◌∷◌, ◌++◌, Result, length}
+use Rattle.std.proofs.Common.{map, take, drop, filter, if◌then◌else◌, inr, refl, sym, subst, ap, ◌∙◌, arith}
 use Rattle.std.proofs.lemmas.List.{length-take}
 use Rattle.prefix_patterns.specs.Bits.{address_bits}
 use Rattle.prefix_patterns.specs.Number.{decimal_value}

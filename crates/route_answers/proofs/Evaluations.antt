@@ -1,5 +1,6 @@
 -- What the answers of the evaluator to all lines, or to the first of them, make.
-use Rattle.std.proofs.Common.{◌≡◌, ℕ, List, [], ◌∷◌, ◌++◌, map, Option, Some, None, Result, Ok, Err, Bool, true, false, refl, sym, ap, subst, ◌∙◌, arith, MatchBool}
+use Rattle.std.proofs.Common.{◌≡◌, ℕ, List, [], ◌∷◌, ◌++◌, map, Option, Some, None, Result, Ok, Err}
+use Rattle.std.proofs.Common.{Bool, true, false, refl, sym, ap, subst, ◌∙◌, arith, MatchBool}
 use Rattle.filter_code.specs.RouteView.{RouteView}
 use Rattle.filter_code.specs.CodeView.{CodeView}
 use Rattle.line_protocol.specs.Answers.{Answer, is_end, is_over, refusals, text_of}

@@ -1,5 +1,6 @@
 -- What a route line says (this project's own choice).
-use Rattle.std.specs.Prelude.{◌≡◌, ◌≢◌, ◌<◌, ◌≤◌, ℕ, Bool, List, [], ◌∷◌, ◌++◌, length, Option, Some, None, Result, Ok, Err, nat_lt, if◌then◌else◌, codes}
+use Rattle.std.specs.Prelude.{◌≡◌, ◌≢◌, ◌<◌, ◌≤◌, ℕ, Bool, List, [], ◌∷◌, ◌++◌, length, Option}
+use Rattle.std.specs.Prelude.{Some, None, Result, Ok, Err, nat_lt, if◌then◌else◌, codes}
 use Rattle.prefix_patterns.specs.Leading.{BeginsWith, IsUsualNumber, IsUsualPrefix}
 use Rattle.prefix_patterns.specs.Number.{IsDigits, IsNumber, decimal_value}
 use Rattle.prefix_patterns.specs.Reading.{number_in, prefix_in}

@@ -1,10 +1,10 @@
-//! What is wrong with a route line of `eval`.
+//! What is wrong with a route line.
 ghost use Rattle.std.specs.Prelude.{◌≡◌};
 
 /// Why a line gives no route.
 #[derive(Clone, Copy, PartialEq, Eq)]
 pub enum LineFault {
-    /// O1: the line does not have exactly three words.
+    /// O1: the line has not exactly the words of a route: three, or two where the size is given.
     Words,
     /// O2: a number is not in decimal digits, or is out of its range.
     Numbers,

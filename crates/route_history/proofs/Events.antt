@@ -8,7 +8,8 @@ use Rattle.filter_verifier.specs.VerifiedView.{VerifiedView}
 use Rattle.netchange_core.specs.declared.event.Event.{Event}
 use Rattle.netchange_core.specs.declared.event.Event.TheVariants as event
 use Rattle.netchange_core.specs.declared.reply.EventRefusal.TheVariants as refusal
-use Rattle.netchange_core.specs.Next.{advertising, down, gone, importing, is_no_neighbour, last_session, next, receive, set_export, set_import, show, take_from, up}
+use Rattle.netchange_core.specs.Next.{advertising, down, gone, importing, is_no_neighbour, last_session}
+use Rattle.netchange_core.specs.Next.{next, receive, set_export, set_import, show, take_from, up}
 use Rattle.netchange_core.specs.World.{World, holder, is_up, neighbour_at}
 use Rattle.netchange_core.proofs.Holders.{down_none, found_holds}
 use Rattle.route_history.proofs.Advances.{Advances, refused_advances, shown_advances}

@@ -1,5 +1,6 @@
 -- One neighbour in the lists that an event makes.
-use Rattle.std.proofs.Common.{◌≡◌, ◌∙◌, sym, ap, refl, ℕ, zero, suc, ◌==◌, true, false, inl, inr, if◌then◌else◌, Option, List, [], ◌∷◌, ◌++◌, map, length, append_assoc, append-nil}
+use Rattle.std.proofs.Common.{◌≡◌, ◌∙◌, sym, ap, refl, ℕ, zero, suc, ◌==◌, true, false, inl, inr, if◌then◌else◌}
+use Rattle.std.proofs.Common.{Option, List, [], ◌∷◌, ◌++◌, map, length, append_assoc, append-nil}
 use Rattle.std.proofs.lemmas.List.{length-map}
 use Rattle.std.proofs.lemmas.Bool.{cases_Bool}
 use Rattle.filter_verifier.specs.VerifiedView.{VerifiedView}

@@ -1,5 +1,6 @@
 -- Take and SetExport: one neighbour's queue changes, and no session.
-use Rattle.std.proofs.Common.{◌≡◌, ◌∙◌, sym, ap, refl, ℕ, ◌<◌, inl, inr, ◌++◌, if◌then◌else◌, Some, is_some, List, [], length, take, drop, append-nil, arith}
+use Rattle.std.proofs.Common.{◌≡◌, ◌∙◌, sym, ap, refl, ℕ, ◌<◌, inl, inr, ◌++◌, if◌then◌else◌}
+use Rattle.std.proofs.Common.{Some, is_some, List, [], length, take, drop, append-nil, arith}
 use Rattle.std.proofs.lemmas.List.{take-append-drop}
 use Rattle.std.proofs.lemmas.Bool.{cases_eq, eq-eqb, ne_eqb}
 use Rattle.std.proofs.lemmas.Option.{same_Some}

@@ -1,6 +1,7 @@
 //! The entries of a history, in little memory.
 
-ghost use Rattle.std.specs.Prelude.{◌≡◌, ◌==◌, ◌+◌, ◌<◌, ◌≤◌, ◌^◌, ◌++◌, ◌∷◌, [], IfOk, OnErr, OnOk, length, option_map, slice_get, slice_index_or, vec_capacity, vec_len};
+ghost use Rattle.std.specs.Prelude.{◌≡◌, ◌==◌, ◌+◌, ◌<◌, ◌≤◌, ◌^◌, ◌++◌, ◌∷◌, [], IfOk, OnErr, OnOk, length};
+ghost use Rattle.std.specs.Prelude.{option_map, slice_get, slice_index_or, vec_capacity, vec_len};
 ghost use Rattle.netchange_core.specs.Calls.{carried, room_of};
 ghost use Rattle.netchange_core.specs.Next.{answered, next};
 ghost use Rattle.netchange_core.specs.Whole.{whole_reply};

@@ -16,7 +16,8 @@ use Rattle.operator_cmds.specs.Looks.{can_look, look_text}
 use Rattle.operator_cmds.specs.Script as script
 use Rattle.operator_cmds.specs.Stages.{Open, session_in, session_number}
 use Rattle.router_operator.specs.OperatorView.{OperatorView, filter_of, journal_seen, journal_with, script_of}
-use Rattle.router_operator.specs.Operators.{AnswersCommand, AnswersEvent, AnswersLine, AnswersRead, AnswersUse, BreaksOff, Enters, IsFull, has_link, is_quit}
+use Rattle.router_operator.specs.Operators.{AnswersCommand, AnswersEvent, AnswersLine, AnswersRead, AnswersUse}
+use Rattle.router_operator.specs.Operators.{BreaksOff, Enters, IsFull, has_link, is_quit}
 use Rattle.router_operator.specs.Running.{IsBrokenOff, IsServed, input_limit}
 use Rattle.router_operator.proofs.Staying.{by_front, by_reach, by_run, stays_then}
 use Rattle.operator_cmds.proofs.Unended.{GoesOn, either, given, like, replied, source}

@@ -16,7 +16,8 @@ use Rattle.operator_cmds.specs.Stages.{Open, session_in, session_number}
 use Rattle.route_history.specs.Beginning.{Begins}
 use Rattle.route_history.specs.JournalView.{JournalView}
 use Rattle.router_operator.specs.OperatorView.{OperatorView, filter_of, journal_seen}
-use Rattle.router_operator.specs.Operators.{AnswersCommand, AnswersDown, AnswersEvent, AnswersLine, AnswersRead, AnswersUse, AsScript, BreaksOff, Enters, IsFull, Looks, OnlyPass, Quits, has_link, is_quit}
+use Rattle.router_operator.specs.Operators.{AnswersCommand, AnswersDown, AnswersEvent, AnswersLine, AnswersRead, AnswersUse}
+use Rattle.router_operator.specs.Operators.{AsScript, BreaksOff, Enters, IsFull, Looks, OnlyPass, Quits, has_link, is_quit}
 use Rattle.router_operator.specs.Running.{Stays}
 use Rattle.router_operator.proofs.Entering.{begins_more, begins_same, begins_then}
 use Rattle.operator_cmds.proofs.Unended.{either}

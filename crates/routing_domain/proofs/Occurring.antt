@@ -1,5 +1,6 @@
 -- What steps are as events, and events that are refused.
-use Rattle.std.proofs.Common.{◌≡◌, ⊎_elim, inl, inr, ℕ, ◌+◌, ◌<◌, true, false, cond, nat_eq, nat_le, Option, Some, None, List, [], ◌∷◌, length, take, refl, sym, ap, subst, ◌∙◌, arith}
+use Rattle.std.proofs.Common.{◌≡◌, ⊎_elim, inl, inr, ℕ, ◌+◌, ◌<◌, true, false, cond, nat_eq, nat_le, Option}
+use Rattle.std.proofs.Common.{Some, None, List, [], ◌∷◌, length, take, refl, sym, ap, subst, ◌∙◌, arith}
 use Rattle.std.specs.Prelude.{nat_lt}
 use Rattle.std.proofs.lemmas.Bool.{cases_Bool, cond_both}
 use Rattle.netchange_core.specs.declared.event.Event.{Event}
@@ -9,7 +10,9 @@ use Rattle.netchange_core.specs.declared.reply.EventRefusal.{EventRefusal}
 use Rattle.netchange_core.specs.declared.reply.EventRefusal.TheVariants as refusal
 use Rattle.netchange_core.specs.declared.reply.Reply.TheVariants as reply
 use Rattle.netchange_core.specs.Best.{best, distance}
-use Rattle.netchange_core.specs.Next.{Answered, advertising, answered, count_changes, down, exporting, gone, importing, is_no_neighbour, joined, last_session, next, receive, recomputed, refused, take_from}
+use Rattle.netchange_core.specs.Next.{Answered, advertising, answered, count_changes, down, exporting}
+use Rattle.netchange_core.specs.Next.{gone, importing, is_no_neighbour, joined, last_session}
+use Rattle.netchange_core.specs.Next.{next, receive, recomputed, refused, take_from}
 use Rattle.netchange_core.specs.World.{World, changed, holder, is_up, neighbour_at}
 use Rattle.netchange_core.proofs.Holders.{up_by}
 use Rattle.routing_domain.specs.Domain.{Domain, IsInOrder, IsQuiet, IsWithin, are_linked, neighbour}

@@ -1,5 +1,6 @@
 -- Receiving a message keeps a domain in order.
-use Rattle.std.proofs.Common.{◌≡◌, ⊎_elim, ℕ, ◌<◌, ◌≤◌, true, cond, nat_eq, Some, List, ◌∷◌, ◌++◌, length, slice_index, slice_set, refl, sym, ap, subst, ◌∙◌, eq-eqb, ne_eqb, get_or-set_same, get_or-set_other}
+use Rattle.std.proofs.Common.{◌≡◌, ⊎_elim, ℕ, ◌<◌, ◌≤◌, true, cond, nat_eq, Some, List, ◌∷◌, ◌++◌, length, slice_index}
+use Rattle.std.proofs.Common.{slice_set, refl, sym, ap, subst, ◌∙◌, eq-eqb, ne_eqb, get_or-set_same, get_or-set_other}
 use Rattle.std.specs.Prelude.{nat_lt}
 use Rattle.std.proofs.lemmas.Bool.{cases_eq, le-ltb, lt-leb}
 use Rattle.netchange_core.specs.declared.message.Message.{Message}

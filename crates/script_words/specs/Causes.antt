@@ -2,7 +2,10 @@
 use Rattle.std.specs.Prelude.{ℕ, Bool, List, [], ◌∷◌, Option, find, codes}
 use Rattle.std.specs.Str.{bytes_eq}
 use Rattle.script_words.specs.declared.cause.Cause.{Cause}
-use Rattle.script_words.specs.declared.cause.Cause.TheVariants.{Words, Number, Hexadecimal, Early, Late, UnknownFilter, Long, Prefix, NoNode, AlreadyUp, NotUp, NoDestination, FarDistance, OtherSize, NoSession, Full, BadNode, Linked, Apart, Unplayable}
+use Rattle.script_words.specs.declared.cause.Cause.TheVariants.{Words, Number, Hexadecimal, Early, Late, UnknownFilter}
+use Rattle.script_words.specs.declared.cause.Cause.TheVariants.{Long, Prefix, NoNode, AlreadyUp, NotUp, NoDestination}
+use Rattle.script_words.specs.declared.cause.Cause.TheVariants.{FarDistance, OtherSize, NoSession, Full, BadNode}
+use Rattle.script_words.specs.declared.cause.Cause.TheVariants.{Linked, Apart, Unplayable}
 
 -- the code that names each
 abbrev pub cause_code : Cause → List ℕ

@@ -1,5 +1,6 @@
 -- A pass stays sound through a call.
-use Rattle.std.proofs.Common.{◌≡◌, ◌∙◌, sym, ap, refl, subst, ℕ, ◌≤◌, ⊎_elim, Some, Ok, Err, Result, IfOk, IfErr, List, [], ◌∷◌, ◌++◌, length, length-append, arith}
+use Rattle.std.proofs.Common.{◌≡◌, ◌∙◌, sym, ap, refl, subst, ℕ, ◌≤◌, ⊎_elim, Some, Ok, Err, Result}
+use Rattle.std.proofs.Common.{IfOk, IfErr, List, [], ◌∷◌, ◌++◌, length, length-append, arith}
 use Rattle.std.proofs.lemmas.Bool.Decides.{nat_tests}
 use Rattle.netchange_core.specs.declared.event.Event.{Event}
 use Rattle.route_history.specs.declared.entry.Entry.{Entry}

@@ -89,7 +89,7 @@ impl Router {
         }
     }
 
-    /// Observes the journal to an observer, and adds no entry: tries until it has the lock. The pass has then seen all that the observer
+    /// Shows the journal to an observer, and adds no entry: tries until it has the lock. The pass has then seen all that the observer
     /// saw. Other callers wait until the observer is done.
     pub fn observe<R: Wait, O: Observer>(&self, rt: &R, pass: &mut Pass, observer: &mut O)
         requires { IsPassOf self.now pass.old }

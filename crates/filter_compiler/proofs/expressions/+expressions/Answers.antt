@@ -8,7 +8,8 @@ use Rattle.filter_types.proofs.Views.{view_binary, view_chain, view_grouped}
 use Rattle.filter_compiler.specs.InstructionPlaces.{expression_places}
 use Rattle.filter_compiler.specs.Translation.{expression_code, operator_code}
 use Rattle.filter_compiler.specs.Written.{Emits, Puts, code_alone, expression_part, right_part}
-use Rattle.filter_compiler.proofs.InstructionPlaces.{binary_at, chain_at, grouped_at, member_at, not_at, one_right, part_at, places_of_both, suffixed_at}
+use Rattle.filter_compiler.proofs.InstructionPlaces.{binary_at, chain_at, grouped_at, member_at, not_at}
+use Rattle.filter_compiler.proofs.InstructionPlaces.{one_right, part_at, places_of_both, suffixed_at}
 use Rattle.filter_compiler.proofs.Jumps.{over}
 use Rattle.filter_compiler.proofs.Notes.{as_noted, next_notes, patch_notes, then_notes, times_notes}
 use Rattle.filter_compiler.proofs.Puts.{as_part, code_then, puts_then, then, then_code, with_code}

@@ -3,7 +3,9 @@ use Rattle.std.proofs.lemmas.List.{take_all}
 use Rattle.filter_reports.specs.declared.nearest.Near.{Near}
 use Rattle.filter_reports.proofs.BestWord.{far_more, nearer_more, not_nearer_more, one_more}
 use Rattle.filter_reports.proofs.nearest.nearest_word.Goals as goal
-use Rattle.filter_reports.proofs.nearest.nearest_word.Goals.{then-near-word+then-is_nearer, else-near-word, else-near-word-via-then-near-word+else-is_nearer, else-near-word-via-else-near-word}
+use Rattle.filter_reports.proofs.nearest.nearest_word.Goals.{then-near-word+then-is_nearer, else-near-word}
+use Rattle.filter_reports.proofs.nearest.nearest_word.Goals.{else-near-word-via-then-near-word+else-is_nearer}
+use Rattle.filter_reports.proofs.nearest.nearest_word.Goals.{else-near-word-via-else-near-word}
 
 pub loop-candidate-preserved : goal.loop-candidate-preserved
 loop-candidate-preserved c =

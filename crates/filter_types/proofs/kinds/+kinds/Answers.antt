@@ -12,7 +12,8 @@ use Rattle.filter_types.specs.declared.fault.ExpectedKind.TheVariants as expecte
 use Rattle.filter_types.specs.Refusals.{view_operand}
 use Rattle.filter_types.proofs.Blaming.{contains_at, operator_blames, operator_left, operator_taken, refuses_here, suffix_blames}
 use Rattle.filter_types.proofs.Erring.{err_map, refused}
-use Rattle.filter_types.proofs.Faulting.{attribute_part_fault, binary_fault, chain_fault, chain_operand, group_operand, grouped_fault, member_fault, member_operand, name_fault, not_fault}
+use Rattle.filter_types.proofs.Faulting.{attribute_part_fault, binary_fault, chain_fault, chain_operand, group_operand}
+use Rattle.filter_types.proofs.Faulting.{grouped_fault, member_fault, member_operand, name_fault, not_fault}
 use Rattle.filter_types.proofs.Faulting.{not_operand, operator_fault, suffixed_fault, suffixed_operand, with_kind}
 use Rattle.filter_types.proofs.Turns.{chain_gives, chain_none, suffixes_give, suffixes_none}
 use Rattle.filter_types.proofs.Views.{view_chain, view_suffixed}

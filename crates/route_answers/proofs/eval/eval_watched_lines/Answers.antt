@@ -5,10 +5,12 @@ use Rattle.route_answers.specs.Evaluation.{Evaluates}
 use Rattle.filter_reports.specs.Faults.{stream_fault}
 use Rattle.route_answers.specs.Steps.{AnswersLine}
 use Rattle.filter_reports.specs.declared.fault.ProgramFault.TheVariants.{Stream}
-use Rattle.route_answers.proofs.EvalEndings.{breaks_at_refusal, breaks_off, ends_empty, ends_well, if_answered, if_known, if_refused, no_code_is_none, silent_run, some_code_is_some}
+use Rattle.route_answers.proofs.EvalEndings.{breaks_at_refusal, breaks_off, ends_empty, ends_well, if_answered, if_known}
+use Rattle.route_answers.proofs.EvalEndings.{if_refused, no_code_is_none, silent_run, some_code_is_some}
 use Rattle.line_protocol.proofs.Viewed.{finishes, stops}
 use Rattle.route_answers.proofs.eval.eval_watched_lines.Goals as goal
-use Rattle.route_answers.proofs.eval.eval_watched_lines.Goals.{else-refused-eq0-via-then-refused-eq0+else-is_awaiting, else-refused-eq0-via-else-refused-eq0}
+use Rattle.route_answers.proofs.eval.eval_watched_lines.Goals.{else-refused-eq0-via-then-refused-eq0+else-is_awaiting}
+use Rattle.route_answers.proofs.eval.eval_watched_lines.Goals.{else-refused-eq0-via-else-refused-eq0}
 
 pub returns-in_err-refused-clause-broken_off : goal.returns-in_err-refused-clause-broken_off
 returns-in_err-refused-clause-broken_off g c =

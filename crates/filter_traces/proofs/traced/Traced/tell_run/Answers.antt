@@ -2,7 +2,8 @@
 use Rattle.std.proofs.Common.{◌∙◌, ◌++◌, ℕ, List, ap, refl, sym}
 use Rattle.filter_code.specs.Machine.{Config, State, Going, step}
 use Rattle.filter_traces.specs.Steps.{line_between}
-use Rattle.filter_traces.proofs.Runs.{after_more, begun, ended_lines, ended_outcome, ended_place, few_steps, lines_more, no_place, none_told, place_more}
+use Rattle.filter_traces.proofs.Runs.{after_more, begun, ended_lines, ended_outcome, ended_place}
+use Rattle.filter_traces.proofs.Runs.{few_steps, lines_more, no_place, none_told, place_more}
 use Rattle.filter_traces.proofs.traced.Traced.tell_run.Goals as goal
 
 pub loop-taken-init : goal.loop-taken-init

@@ -10,7 +10,8 @@ use Rattle.netchange_core.proofs.Good.{gone_good}
 use Rattle.netchange_core.proofs.Holders.{some_none, up_by, up_within}
 use Rattle.netchange_core.proofs.Listed.{present_listed}
 use Rattle.netchange_core.proofs.Presence.{session_at, sessions_changed}
-use Rattle.netchange_core.proofs.States.{IsAtHand, changes_one, good_here, made_room, no_memory, recompute_handles, room_made, room_stays, stale_there}
+use Rattle.netchange_core.proofs.States.{IsAtHand, changes_one, good_here, made_room, no_memory}
+use Rattle.netchange_core.proofs.States.{recompute_handles, room_made, room_stays, stale_there}
 use Rattle.netchange_core.proofs.state.State.down.Goals as goal
 use Rattle.netchange_core.proofs.state.State.down.Goals.{After-index_mut-neighbour}
 

@@ -11,7 +11,8 @@ use Rattle.netchange_core.proofs.Holders.{none_by}
 use Rattle.netchange_core.proofs.Listed.{present_listed}
 use Rattle.netchange_core.proofs.Presence.{sessions_kept}
 use Rattle.netchange_core.proofs.Received.{recomputed_same}
-use Rattle.netchange_core.proofs.States.{IsAtHand, changes_one, done, looks, made_room, recompute_handles, room_made, room_stays, stale_there, still_right}
+use Rattle.netchange_core.proofs.States.{IsAtHand, changes_one, done, looks, made_room, recompute_handles}
+use Rattle.netchange_core.proofs.States.{room_made, room_stays, stale_there, still_right}
 use Rattle.netchange_core.proofs.Worlds.{world}
 use Rattle.netchange_core.proofs.state.State.import.Goals as goal
 use Rattle.netchange_core.proofs.state.State.import.Goals.{After-index_mut-2}
