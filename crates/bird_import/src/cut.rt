@@ -1,7 +1,6 @@
 //! How a configuration is cut into words.
 ghost use Rattle.std.specs.Prelude.{◌≡◌, ℕ, List, ◌≤◌, ◌<◌, ◌-◌, ◌+◌, ◌^◌, IfOk, IfSome, IfNone, false, length, take, drop};
 ghost use Rattle.std.specs.List.{prefix_len};
-ghost use Rattle.filter_tokens.specs.Shapes.{continues_word};
 ghost use Rattle.filter_tokens.specs.Codes.{fault_place};
 ghost use Rattle.filter_tokens.specs.Tokenization.{AreInOrder};
 ghost use Rattle.bird_import.specs.Cutting as spec;
@@ -10,7 +9,7 @@ ghost use Rattle.bird_import.specs.Cutting.{AreOneCut};
 ghost use Rattle.bird_import.specs.declared.cut.Cut.{Cut as TheCut};
 
 use crate::word::{Word, WordKind};
-use filter_tokens::{Token, TokenFault, lex};
+use filter_tokens::{Token, TokenFault, continues_word, lex};
 use std::alloc::{AllocError, Global};
 
 /// The words of a configuration from the left, and what ended them if that is not its end.
@@ -22,18 +21,11 @@ pub struct Cut<'a> {
     pub end: Option<TokenFault>,
 }
 
-/// Whether a byte may stand in a word.
-fn is_word_byte(byte: u8) -> bool
-    ensures { result ≡ continues_word byte }
-{
-    byte.is_ascii_alphabetic() || byte == b'_' || byte.is_ascii_digit()
-}
-
 /// Whether a word that is no token goes on with a byte, or a number or an address that is none.
 fn goes_on(is_number: bool, byte: u8) -> bool
     ensures { result ≡ spec.goes_on is_number byte }
 {
-    is_word_byte(byte) || (is_number && (byte == b'.' || byte == b'/'))
+    continues_word(byte) || (is_number && (byte == b'.' || byte == b'/'))
 }
 
 /// The number of bytes at the front with which such a word goes on.
@@ -91,7 +83,7 @@ fn other_len(rest: &[u8]) -> usize
 {
     match rest {
         [b'\'', others @ ..] => quoted_len(others),
-        [first, others @ ..] if is_word_byte(*first) => {
+        [first, others @ ..] if continues_word(*first) => {
             1 + front_len(others, first.is_ascii_digit())
         }
         _ => 1,
@@ -104,7 +96,7 @@ fn other_kind(rest: &[u8]) -> WordKind
 {
     match rest.first() {
         Some(b'\'' | b'%' | b'?' | b'|' | b'&') => WordKind::Foreign,
-        Some(byte) if is_word_byte(*byte) => WordKind::Foreign,
+        Some(byte) if continues_word(*byte) => WordKind::Foreign,
         _ => WordKind::Strange,
     }
 }

@@ -1,29 +1,9 @@
 //! The lines of a text that count: empty ones and comments are skipped.
 ghost use Rattle.std.specs.Prelude.{◌≡◌, ◌+◌, ◌<◌, ◌≤◌, ◌^◌, ◌∷◌, [], ◌==◌, IfNone, IfSome, length, position};
-ghost use Rattle.std.specs.Str.Lines.{lines, strip_carriage_return};
-ghost use Rattle.line_protocol.specs.Lines.{answerable_from, is_skipped};
+ghost use Rattle.std.specs.Str.Lines.{lines};
+ghost use Rattle.line_protocol.specs.Lines.{answerable_from};
 
-/// A line that is skipped: an empty one, or one that begins with `#`.
-fn is_skipped(line: &[u8]) -> bool
-    ensures { result ≡ is_skipped line.now }
-{
-    match line {
-        [] => true,
-        [first, ..] => *first == b'#',
-    }
-}
-
-/// A line without the one carriage return at its end.
-fn strip_carriage_return(line: &[u8]) -> &[u8]
-    ensures { result.now ≡ strip_carriage_return line.now }
-{
-    let len = line.len();
-    if len > 0 && line[len - 1] == b'\r' {
-        &line[..len - 1]
-    } else {
-        line
-    }
-}
+use line_protocol::{is_skipped, strip_carriage_return};
 
 /// The place of the first line feed.
 fn find_line_feed(text: &[u8]) -> Option<usize>

@@ -1,5 +1,5 @@
 //! A line of a test file is read as a test.
-ghost use Rattle.std.specs.Prelude.{◌≡◌, ◌==◌, ◌<◌, ◌≤◌, IfSome, length, position};
+ghost use Rattle.std.specs.Prelude.{◌≡◌, ◌<◌, ◌≤◌};
 ghost use Rattle.std.specs.Option.{option_map};
 ghost use Rattle.line_protocol.specs.Words.{words};
 ghost use Rattle.prefix_patterns.specs.Bits.{address_length};
@@ -10,7 +10,7 @@ use crate::keyword::{Keyword, find_keyword, is_every};
 use filter_code::Outcome;
 use filter_diff::{Ending, Expectation};
 use line_protocol::next_word;
-use prefix_patterns::{ADDRESS_LENGTH, Pattern, Prefix, read_number, read_prefix};
+use prefix_patterns::{ADDRESS_LENGTH, Pattern, Prefix, cut_at, read_number, read_prefix};
 
 /// There are no more words.
 pub(crate) fn no_more(line: &[u8]) -> Option<()>
@@ -98,23 +98,6 @@ fn verdict_in(line: &[u8], size: u32) -> Option<Ending>
 {
     let (keyword, rest) = first_keyword(line)?;
     verdict_of(keyword, rest, size)
-}
-
-/// The place of the first separator.
-fn find(text: &[u8], separator: u8) -> Option<usize>
-    ensures at { result ≡ position (λ byte. byte == separator) text.now }
-    ensures within { IfSome result (λ at. at < length text.now) }
-{
-    text.iter().position(|byte| *byte == separator)
-}
-
-/// The bytes before the first separator, and the bytes after it.
-#[tactic(auto, using(std::proofs::lemmas::List::take_rest), unfolding(prefix_patterns::specs::Reading::parts_at))]
-fn cut_at(text: &[u8], separator: u8) -> Option<(&[u8], &[u8])>
-    ensures { parts_at separator text.now ≡ option_map (λ parts. (parts.0.now, parts.1.now)) result }
-{
-    let at = find(text, separator)?;
-    Some((&text[..at], &text[at + 1..]))
 }
 
 /// Two numbers in order.

@@ -21,7 +21,7 @@ pub use limits::{
     INSTRUCTION_LIMIT, INT_SET_LIMIT, LARGEST_SIZE, LOCAL_LIMIT, SET_LIMIT, SMALLEST_SIZE,
     STACK_LIMIT,
 };
-pub use machine::{run_checked, run_counted};
+pub use machine::{one_outcome, run_checked, run_counted};
 pub use outcome::{Counted, FaultKind, Outcome};
 pub use route::Route;
 pub use running::Running;

@@ -1,11 +1,11 @@
-ghost use Rattle.std.specs.Prelude.{◌≡◌, ◌≤◌, IfSome};
-ghost use Rattle.prefix_patterns.specs.Matching.{has_same_bits, matches, matches_any};
+ghost use Rattle.std.specs.Prelude.{◌≡◌, IfSome};
+ghost use Rattle.prefix_patterns.specs.Matching.{matches, matches_any};
 ghost use Rattle.filter_diff.specs.Classes.{Always};
 ghost use Rattle.filter_code.specs.declared.value.Value.TheVariants as value;
 ghost use Rattle.filter_diff.specs.Symbols.{kept_address, value_at};
 
 use crate::symbol::Symbol;
-use prefix_patterns::{ADDRESS_LENGTH, Pattern, PatternSet, Prefix};
+use prefix_patterns::{Pattern, PatternSet, Prefix};
 
 /// A class of routes, and what is known of them: the first bits of the prefix, its length, the metric received or nothing of
 /// it, and the size.
@@ -17,16 +17,6 @@ pub(crate) struct Class {
     pub(crate) size: u32,
 }
 
-/// Whether two prefixes agree on the bits that both have.
-fn has_same_bits(prefix: &Prefix, other: Prefix) -> bool
-    ensures { result ≡ has_same_bits prefix.now other }
-{
-    prove!(prefix.len() <= ADDRESS_LENGTH);
-    Pattern::new(other, 0, ADDRESS_LENGTH)
-        .unwrap()
-        .matches(prefix)
-}
-
 impl Class {
     /// Whether the prefixes match a pattern, if they all do or none does.
     pub(crate) fn matches(&self, pattern: &Pattern) -> Option<bool>
@@ -36,7 +26,7 @@ impl Class {
             return Some(false);
         }
         let prefix = pattern.prefix();
-        if !has_same_bits(&self.known, prefix) {
+        if !self.known.has_same_bits(&prefix) {
             return Some(false);
         }
         if prefix.len() <= self.known.len() {

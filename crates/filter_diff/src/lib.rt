@@ -1,4 +1,5 @@
-//! On which routes do two codes differ, with a proof that they agree on all others.
+//! The search through all routes of a domain: on which of them two codes differ, or a code does not end as expected, and which instructions
+//! and conditions some route reaches. What is not found is proved not to be there.
 #![tactic(auto)]
 
 mod answer;

@@ -1,7 +1,7 @@
 //! What stands in a text at the place where it is refused.
 
 use crate::place::begins_character;
-use filter_tokens::{Symbol, Token, TokenKind};
+use filter_tokens::{Symbol, Token, TokenKind, continues_word};
 use std::alloc::{AllocError, Global};
 
 /// The most bytes of a token that is quoted.
@@ -79,15 +79,13 @@ pub(crate) fn declared<'a>(
     Ok(names)
 }
 
-/// Whether a byte may stand in a name.
-fn is_name_byte(byte: u8) -> bool {
-    byte.is_ascii_alphanumeric() || byte == b'_'
-}
-
 /// The word that begins at a byte of a text.
 pub(crate) fn word_at(text: &[u8], at: usize) -> Option<&str> {
     let rest = text.get(at..)?;
-    let len = rest.iter().take_while(|byte| is_name_byte(**byte)).count();
+    let len = rest
+        .iter()
+        .take_while(|byte| continues_word(**byte))
+        .count();
     quoted(rest, 0, len)
 }
 

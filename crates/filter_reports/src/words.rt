@@ -16,8 +16,8 @@ use prefix_patterns::read_ip;
 use std::alloc::{AllocError, Global};
 
 /// The words with which a command begins.
-const HEADS: [&str; 8] = [
-    "accept", "reject", "if", "else", "case", "int", "bool", "prefix",
+const HEADS: [&str; 9] = [
+    "accept", "reject", "if", "else", "case", "int", "bool", "ip", "prefix",
 ];
 
 /// What a name may mean that is no variable's.
@@ -73,14 +73,19 @@ fn plain_words(fault: ParseFault) -> &'static str {
     }
 }
 
-/// Whether numbers with dots and a `/` stand at a byte of a text.
-fn is_short_prefix(text: &[u8], at: usize) -> bool {
+/// The digits and dots that stand at a byte of a text, and what follows them.
+fn split_address(text: &[u8], at: usize) -> (&[u8], &[u8]) {
     let (_, rest) = text.split_at(at.min(text.len()));
     let len = rest
         .iter()
         .take_while(|byte| byte.is_ascii_digit() || **byte == b'.')
         .count();
-    matches!(rest.get(len), Some(b'/'))
+    rest.split_at(len.min(rest.len()))
+}
+
+/// Whether numbers with dots and a `/` stand at a byte of a text.
+fn is_short_prefix(text: &[u8], at: usize) -> bool {
+    split_address(text, at).1.starts_with(b"/")
 }
 
 /// What is wrong with a byte of which no token is made.
@@ -141,14 +146,10 @@ fn left_out_words(alloc: Global, word: Option<&str>) -> Result<String, AllocErro
 
 /// Which number of an address or of a prefix is too large.
 fn range_words(text: &[u8], at: usize) -> &'static str {
-    let (_, rest) = text.split_at(at.min(text.len()));
-    let len = rest
-        .iter()
-        .take_while(|byte| byte.is_ascii_digit() || **byte == b'.')
-        .count();
-    match rest.get(..len) {
-        Some(address) if read_ip(address).is_some() => "the length of the prefix exceeds 32",
-        _ => "a number of the address exceeds 255",
+    if read_ip(split_address(text, at).0).is_some() {
+        "the length of the prefix exceeds 32"
+    } else {
+        "a number of the address exceeds 255"
     }
 }
 

@@ -7,9 +7,10 @@ use Rattle.std.proofs.lemmas.Bool.{eqb-true, eq-eqb, ne_eqb, leb-true, le-leb, a
 use Rattle.std.proofs.lemmas.Bool.{not-true}
 use Rattle.std.proofs.lemmas.List.{append_assoc}
 use Rattle.std.proofs.lemmas.List.Elements.{All-head, All-weaker}
+use Rattle.prefix_patterns.specs.Leading.{after_byte}
 use Rattle.prefix_patterns.specs.Number.{IsDigits}
 use Rattle.prefix_patterns.specs.Token.{dot, slash}
-use Rattle.filter_tokens.specs.Reading.{drop_while, after_byte, after_digits, after_address, after_prefix, after_hexadecimal, after_quoted}
+use Rattle.filter_tokens.specs.Reading.{drop_while, after_digits, after_address, after_prefix, after_hexadecimal, after_quoted}
 use Rattle.filter_tokens.specs.ByteClasses.{is_quotable}
 use Rattle.filter_tokens.specs.Shapes.{line_feed, quote, zero_digit, small_x, HasFourGroups, HasLength, IsQuoted, AreHexadecimal}
 use Rattle.filter_tokens.proofs.Fronts.{bind_some, drop_while-append, front, split_length}

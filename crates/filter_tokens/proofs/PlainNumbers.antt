@@ -5,13 +5,14 @@ use Rattle.std.specs.Char.{is_ascii_digit}
 use Rattle.std.specs.List.{prefix_len}
 use Rattle.std.specs.Option.{option_map}
 use Rattle.std.proofs.lemmas.Bool.{ne_eqb}
+use Rattle.prefix_patterns.specs.Leading.{after_byte}
 use Rattle.prefix_patterns.specs.Reading.{◌>>=◌, number_in}
 use Rattle.prefix_patterns.specs.Token.{dot}
 use Rattle.filter_tokens.specs.declared.part.Part.TheVariants as part
 use Rattle.filter_tokens.specs.declared.shape.Shape.TheVariants as shape
 use Rattle.filter_tokens.specs.declared.token_kind.TokenKind.TheVariants as kind
 use Rattle.filter_tokens.specs.Meaning.{greatest_number}
-use Rattle.filter_tokens.specs.Reading.{after_address, after_byte, after_digits, after_hexadecimal, begins_digit, drop_while}
+use Rattle.filter_tokens.specs.Reading.{after_address, after_digits, after_hexadecimal, begins_digit, drop_while}
 use Rattle.filter_tokens.specs.Reading.{goes_on, longest_shape, token_in, token_of}
 use Rattle.filter_tokens.specs.Shapes.{small_x, zero_digit}
 use Rattle.filter_tokens.proofs.Forms.{after_hexadecimal-found}

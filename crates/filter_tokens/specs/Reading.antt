@@ -6,6 +6,7 @@ use Rattle.std.specs.Char.{digit_value, is_ascii_digit, is_ascii_hexdigit}
 use Rattle.std.specs.List.{prefix_len, list_any}
 use Rattle.std.specs.Option.{option_map}
 use Rattle.std.specs.Str.{bytes_eq}
+use Rattle.prefix_patterns.specs.Leading.{after_byte}
 use Rattle.prefix_patterns.specs.Reading.{◌>>=◌, number_in, address_in, written_in}
 use Rattle.prefix_patterns.specs.Token.{dot, slash}
 use Rattle.prefix_patterns.specs.declared.written.WrittenPrefix.{WrittenPrefix}
@@ -31,11 +32,6 @@ OkWhereSome (Err fault) reading = reading ≡ None
 -- what follows the bytes at the front that pass a test
 abbrev pub drop_while : (ℕ → Bool) → List ℕ → List ℕ
 drop_while passes text = drop (prefix_len passes text) text
-
--- what follows a byte that has to come first
-abbrev pub after_byte : ℕ → List ℕ → Option (List ℕ)
-after_byte wanted [] = None
-after_byte wanted (byte ∷ bytes) = if byte == wanted then Some bytes else None
 
 -- after one digit at least
 unfoldable pub after_digits : List ℕ → Option (List ℕ)

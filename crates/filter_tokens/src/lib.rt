@@ -16,6 +16,7 @@ mod text;
 mod token;
 mod token_kind;
 
+pub use byte_class::continues_word;
 pub use fault::TokenFault;
 pub use symbol::Symbol;
 pub use text::{Lexed, lex};

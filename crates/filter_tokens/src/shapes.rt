@@ -8,6 +8,7 @@ ghost use Rattle.filter_tokens.specs.Symbols.{symbol_text};
 use crate::byte_class::{ByteClass, begins_word, leading_len};
 use crate::shape::Shape;
 use crate::symbol::Symbol;
+use prefix_patterns::after_byte;
 
 /// The longest shape at the front of a text, and what follows it.
 #[tactic(auto, unfolding(crate::specs::Reading::longest_shape))]
@@ -89,17 +90,6 @@ fn after_digits(text: &[u8]) -> Option<&[u8]>
         return None;
     }
     Some(&text[len..])
-}
-
-/// What follows a byte that has to come first.
-pub fn after_byte(text: &[u8], wanted: u8) -> Option<&[u8]>
-    ensures { spec.after_byte wanted text.now ≡ option_map (λ rest. rest.now) result }
-{
-    let (first, rest) = text.split_first()?;
-    if *first != wanted {
-        return None;
-    }
-    Some(rest)
 }
 
 /// A text in double quotes.

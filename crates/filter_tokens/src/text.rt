@@ -22,6 +22,10 @@ pub struct Lexed {
 /// move them.
 const USUAL_BYTES: usize = 4;
 
+/// So many tokens have room at first, and no more: as many as the longest text of a filter has in most cases. A configuration is longer, and is
+/// cut from many places of it.
+const MOST_AT_FIRST: usize = 65_536 / USUAL_BYTES;
+
 /// Cuts a text into tokens, from the left up to the first byte that no token has.
 ///
 /// An error is refused memory: a text that no tokens cut is answered with its fault.
@@ -38,7 +42,7 @@ pub fn lex(alloc: Global, text: &[u8]) -> Result<Lexed, AllocError>
     // Where there is a fault, the tokens cut the text up to its place, and the text goes on with no space, comment or token there.
     ensures stopped { IfOk result (λ c. IfSome c.fault (λ fault. StopsAt c.tokens.items (fault_place fault) text.now)) }
 {
-    let mut tokens = Vec::with_capacity(alloc, text.len() / USUAL_BYTES)?;
+    let mut tokens = Vec::with_capacity(alloc, (text.len() / USUAL_BYTES).min(MOST_AT_FIRST))?;
     let mut at = 0;
     while at < text.len() {
         match next_part(&text[at..], at) {

@@ -6,9 +6,10 @@ ghost use Rattle.history_file.specs.Text.{entry_line, opening_line};
 ghost use Rattle.history_file.specs.Views.{entry_view};
 
 use crate::fault::{HistoryFault, LineFault};
-use crate::reading::{cut_at, entry_in, opening_parts};
+use crate::reading::{entry_in, opening_parts};
 use crate::writing::{push_entry, push_opening};
 use netchange_core::Opening;
+use prefix_patterns::cut_at;
 use route_history::Entry;
 use std::alloc::Global;
 

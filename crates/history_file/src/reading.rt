@@ -1,9 +1,8 @@
 //! The lines of a history are read.
-ghost use Rattle.std.specs.Prelude.{◌≡◌, ◌≤◌, MatchResult, ◌<◌, ◌==◌, IfSome, length, position, ⊤};
-ghost use Rattle.std.specs.Option.{option_map};
+ghost use Rattle.std.specs.Prelude.{◌≡◌, ◌≤◌, MatchResult, ⊤};
 ghost use Rattle.filter_source.specs.Sources.{code_in_hexadecimal};
 ghost use Rattle.line_protocol.specs.Words.{words};
-ghost use Rattle.prefix_patterns.specs.Reading.{number_in, parts_at};
+ghost use Rattle.prefix_patterns.specs.Reading.{number_in};
 ghost use Rattle.history_file.specs.Fits.{largest_limit, largest_number, largest_session};
 ghost use Rattle.history_file.specs.Reading as spec;
 ghost use Rattle.history_file.specs.Views.{entry_view, event_view};
@@ -14,7 +13,7 @@ use filter_source::{Failure, read_hexadecimal, verify_code};
 use filter_verifier::Verified;
 use line_protocol::next_word;
 use netchange_core::{Event, Message, Messages, Reply, Via};
-use prefix_patterns::{Prefix, read_number, read_prefix};
+use prefix_patterns::{Prefix, cut_at, read_number, read_prefix};
 use route_history::{Entry, LARGEST_LIMIT};
 use std::alloc::Global;
 use std::sync::Arc;
@@ -187,23 +186,6 @@ fn all_via(line: &[u8]) -> Result<Via, LineFault>
 {
     let (keyword, rest) = first_keyword(line)?;
     via_of(keyword, rest)
-}
-
-/// The index of the first separator.
-fn find(text: &[u8], separator: u8) -> Option<usize>
-    ensures at { result ≡ position (λ byte. byte == separator) text.now }
-    ensures within { IfSome result (λ at. at < length text.now) }
-{
-    text.iter().position(|byte| *byte == separator)
-}
-
-/// The bytes before the first separator, and the bytes after it.
-#[tactic(auto, using(std::proofs::lemmas::List::take_rest), unfolding(prefix_patterns::specs::Reading::parts_at))]
-pub(crate) fn cut_at(text: &[u8], separator: u8) -> Option<(&[u8], &[u8])>
-    ensures { parts_at separator text.now ≡ option_map (λ parts. (parts.0.now, parts.1.now)) result }
-{
-    let at = find(text, separator)?;
-    Some((&text[..at], &text[at + 1..]))
 }
 
 /// A number of at most 65,535.

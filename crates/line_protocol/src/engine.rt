@@ -53,7 +53,7 @@ impl Progress {
 }
 
 /// A line that gets no answer: an empty one, or one that begins with `#`.
-fn is_skipped(line: &[u8]) -> bool
+pub fn is_skipped(line: &[u8]) -> bool
     ensures { result ≡ is_skipped line.now }
 {
     match line {
@@ -119,7 +119,7 @@ fn find_line_feed(bytes: &[u8], from: usize) -> usize
 }
 
 /// A line without the one carriage return at its end.
-fn strip_carriage_return(line: &[u8]) -> &[u8]
+pub fn strip_carriage_return(line: &[u8]) -> &[u8]
     ensures { result.now ≡ strip_carriage_return line.now }
 {
     let len = line.len();

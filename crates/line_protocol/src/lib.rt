@@ -15,10 +15,10 @@ mod streams;
 mod words;
 
 pub use answers::{LineReply, Service, push_decimal, push_refusal};
-pub use engine::{answer_lines, answer_lines_within};
+pub use engine::{answer_lines, answer_lines_within, is_skipped, strip_carriage_return};
 pub use faults::StreamFault;
 pub use input::read_input;
-pub use streams::write_text;
+pub use streams::{read_some, write_text};
 pub use words::{next_word, trim_blanks, trim_front_blanks};
 
 /// A line of more bytes than this is refused by the services, its line feed and the carriage

@@ -15,8 +15,9 @@ fn is_interrupted(error: &Error) -> bool
 }
 
 /// One read, made again where a signal interrupts it.
-pub(crate) fn read_some<R: Read>(reader: &mut R, room: &mut [u8]) -> Result<usize, StreamFault>
+pub fn read_some<R: Read>(reader: &mut R, room: &mut [u8]) -> Result<usize, StreamFault>
     ensures within { IfOk result (λ n. n ≤ length room.new) }
+    ensures same_len { length room.new ≡ length room.old }
     ensures bytes { IfOk result (λ n.
         Consumes (R.remaining reader.old) (R.remaining reader.new) (take n room.new)) }
     ensures end { IfOk result (λ n. n ≡ 0 → 0 < length room.old → IsAtEnd (R.remaining reader.new)) }

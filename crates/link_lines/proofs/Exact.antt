@@ -1,5 +1,6 @@
 -- The laws of lines.
-use Rattle.std.proofs.Common.{◌≡◌, ◌≢◌, ℕ, ◌≤◌, Bool, true, false, List, [], ◌∷◌, ◌++◌, length, take, drop, Option, Some, None, All, refl, sym, ◌∙◌, ap, subst}
+use Rattle.std.proofs.Common.{◌≡◌, ◌≢◌, ℕ, ◌≤◌, Bool, true, false, List, [], ◌∷◌, ◌++◌, length}
+use Rattle.std.proofs.Common.{take, drop, Option, Some, None, All, refl, sym, ◌∙◌, ap, subst}
 use Rattle.std.proofs.Common.{◌&&◌, nat_le, arith, length-append, append_assoc, inr, ◌↔◌, filter_map, take-append-drop}
 use Rattle.std.proofs.lemmas.List.{take_at, drop_at}
 use Rattle.std.specs.List.{slice_split}
@@ -16,7 +17,8 @@ use Rattle.netchange_core.specs.declared.message.Message.{Message}
 use Rattle.prefix_patterns.proofs.Tokens.{parts_at-joined}
 use Rattle.prefix_patterns.specs.Reading.{◌>>=◌, parts_at}
 use Rattle.link_lines.proofs.Pairs.{bind_some, pair_in-found, pair_in-text, pair_text-open, pair_text-short, same_pair}
-use Rattle.link_lines.specs.Lines.{FitsGreeting, FitsMessage, greeting_line, greeting_text, mark, message_line, message_text, messages_text, pair_text}
+use Rattle.link_lines.specs.Lines.{FitsGreeting, FitsMessage, greeting_line, greeting_text, mark}
+use Rattle.link_lines.specs.Lines.{message_line, message_text, messages_text, pair_text}
 use Rattle.link_lines.specs.Reading.{after_mark, greeting_in, message_in, messages_in, pair_in}
 use Rattle.link_lines.specs.declared.greeting.Greeting.{Greeting}
 

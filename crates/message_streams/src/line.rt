@@ -1,44 +1,14 @@
 //! One line of a stream.
-ghost use Rattle.std.specs.IoError.{error_kind};
-ghost use Rattle.std.specs.Prelude.{◌≡◌, ◌<◌, ◌≤◌, ◌↔◌, [], ◌∷◌, IsTrue, length, take, IfOk, IfErr, IfSome, IfNone};
+ghost use Rattle.std.specs.Prelude.{◌≡◌, [], ◌∷◌, IfOk, IfErr, IfSome, IfNone};
 ghost use Rattle.std.specs.Io.KnownBytes.{Consumes, IsAtEnd, Keeps};
 ghost use Rattle.message_streams.specs.Ends.{ReadsLine, StopsAtLine};
 ghost use Rattle.message_streams.specs.Ends as spec;
 
 use crate::ends::StreamEnd;
 use arrayvec::ArrayVec;
+use line_protocol::read_some;
 use link_lines::LINE_LIMIT;
-use std::io::{Error, ErrorKind, Read};
-
-/// Whether a signal interrupted the call before it did anything, so that it is made again.
-fn is_interrupted(error: &Error) -> bool
-    ensures { IsTrue result ↔ (error_kind error.now ≡ ErrorKind.Interrupted) }
-{
-    matches!(error.kind(), ErrorKind::Interrupted)
-}
-
-/// One read, made again where a signal interrupts it.
-fn read_some<R: Read>(reader: &mut R, room: &mut [u8]) -> Result<usize, StreamEnd>
-    ensures within { IfOk result (λ n. n ≤ length room.new) }
-    ensures same_len { length room.new ≡ length room.old }
-    ensures bytes { IfOk result (λ n.
-        Consumes (R.remaining reader.old) (R.remaining reader.new) (take n room.new)) }
-    ensures end { IfOk result (λ n. n ≡ 0 → 0 < length room.old → IsAtEnd (R.remaining reader.new)) }
-    ensures err { IfErr result (λ why. (why ≡ StreamEnd.Read)
-        × Keeps (R.remaining reader.old) (R.remaining reader.new)) }
-{
-    for _ in 0..u64::MAX {
-        match reader.read(room) {
-            Ok(n) => return Ok(n),
-            Err(error) => {
-                if !is_interrupted(&error) {
-                    return Err(StreamEnd::Read);
-                }
-            }
-        }
-    }
-    Err(StreamEnd::Read)
-}
+use std::io::Read;
 
 /// The next byte, or None at the end of the stream.
 fn read_byte<R: Read>(reader: &mut R) -> Result<Option<u8>, StreamEnd>
@@ -53,7 +23,7 @@ fn read_byte<R: Read>(reader: &mut R) -> Result<Option<u8>, StreamEnd>
     match read_some(reader, &mut room) {
         Ok(0) => Ok(None),
         Ok(_) => Ok(Some(room[0])),
-        Err(why) => Err(why),
+        Err(_) => Err(StreamEnd::Read),
     }
 }
 

@@ -49,11 +49,7 @@ pub fn two_words(line: &[u8]) -> Option<(&[u8], &[u8])>
     ensures { spec.two_of (words line.now) ≡ option_map (λ all. (all.0.now, all.1.now)) result }
 {
     let (first, rest) = next_word(line)?;
-    let (second, rest) = next_word(rest)?;
-    match next_word(rest) {
-        None => Some((first, second)),
-        Some(_) => None,
-    }
+    Some((first, one_word(rest)?))
 }
 
 /// The words of a line of just three.
@@ -61,10 +57,6 @@ pub fn three_words(line: &[u8]) -> Option<(&[u8], &[u8], &[u8])>
     ensures { spec.three_of (words line.now) ≡ option_map (λ all. (all.0.now, all.1.now, all.2.now)) result }
 {
     let (first, rest) = next_word(line)?;
-    let (second, rest) = next_word(rest)?;
-    let (third, rest) = next_word(rest)?;
-    match next_word(rest) {
-        None => Some((first, second, third)),
-        Some(_) => None,
-    }
+    let (second, third) = two_words(rest)?;
+    Some((first, second, third))
 }

@@ -1,6 +1,6 @@
 -- What a text begins with, and the usual spelling of numbers and prefixes. (That more digits than these are unusual is this project's own
 -- choice.)
-use Rattle.std.specs.Prelude.{◌≡◌, ◌≤◌, List, [], ◌∷◌, ℕ, ◌++◌, length}
+use Rattle.std.specs.Prelude.{◌≡◌, ◌≤◌, ◌==◌, if◌then◌else◌, List, [], ◌∷◌, ℕ, ◌++◌, length, Option, Some, None}
 use Rattle.std.specs.Char.{IsAsciiDigit}
 use Rattle.std.specs.List.{join_with_byte}
 use Rattle.prefix_patterns.specs.Bits.{address_length}
@@ -31,6 +31,11 @@ pub record IsUsualPrefix (text : List ℕ) : Type 0 where
   pub groups : IsUsualWithin 255 first × IsUsualWithin 255 second × IsUsualWithin 255 third × IsUsualWithin 255 fourth
   pub is_length : IsUsualWithin address_length length_text
   pub spelled : text ≡ join_with_byte dot (first ∷ second ∷ third ∷ fourth ∷ []) ++ slash ∷ length_text
+
+-- what follows a byte that a text begins with
+abbrev pub after_byte : ℕ → List ℕ → Option (List ℕ)
+after_byte wanted [] = None
+after_byte wanted (byte ∷ rest) = if byte == wanted then Some rest else None
 
 -- the first byte of a text is a digit
 abbrev pub BeginsWithDigit : List ℕ → Type 0

@@ -1,7 +1,9 @@
 //! Readers of what a text begins with, for texts that are read in one pass. Each reads the usual spelling alone, and gives `None`
 //! for others, such as a number of more than three digits.
 ghost use Rattle.std.specs.Char.{IsAsciiDigit};
+ghost use Rattle.std.specs.Option.{option_map};
 ghost use Rattle.std.specs.Prelude.{◌≡◌, ◌-◌, ◌<◌, ◌≤◌, ◌∷◌, List, ℕ, IfSome, IsSome, IsSomeAnd, get_or, length};
+ghost use Rattle.prefix_patterns.specs.Leading as spec;
 ghost use Rattle.prefix_patterns.specs.Leading.{BeginsWith, BeginsWithDigit, IsUsualNumber, IsUsualPrefix, IsUsualWithin};
 ghost use Rattle.prefix_patterns.specs.Number.{IsDigits, IsNumber, decimal_value};
 ghost use Rattle.prefix_patterns.specs.Token.{IsPrefix};
@@ -53,6 +55,8 @@ pub fn leading_number(text: &[u8]) -> Option<(u32, &[u8])>
 pub fn after_byte(text: &[u8], byte: u8) -> Option<&[u8]>
     ensures found { IfSome result (λ rest. text.now ≡ byte ∷ rest.now) }
     ensures any { (rest : List ℕ) → text.now ≡ byte ∷ rest → IsSomeAnd result (λ cut. cut.now ≡ rest) }
+    // The same as a function, for readers of several bytes.
+    ensures after { spec.after_byte byte text.now ≡ option_map (λ rest. rest.now) result }
 {
     if text.is_empty() || text[0] != byte {
         return None;

@@ -22,5 +22,5 @@ pub use number::read_number;
 pub use pattern::Pattern;
 pub use prefix::Prefix;
 pub use set::{PATTERN_LIMIT, PatternSet, SetFault};
-pub use token::{read_ip, read_prefix, read_written};
+pub use token::{cut_at, read_ip, read_prefix, read_written};
 pub use written::WrittenPrefix;

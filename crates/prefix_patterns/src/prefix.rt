@@ -77,7 +77,7 @@ impl Prefix {
     }
 
     /// Whether two prefixes agree on the bits that both have.
-    pub(crate) fn has_same_bits(&self, other: &Prefix) -> bool
+    pub fn has_same_bits(&self, other: &Prefix) -> bool
         ensures { result ≡ has_same_bits self.now other.now }
     {
         let shared = self.len().min(other.len());

@@ -32,7 +32,7 @@ pub fn read_written(text: &[u8]) -> Option<WrittenPrefix>
     ensures only { (written : TheWritten) → IsWrittenPrefix text.now written → result ≡ Some written }
     ensures exact { result ≡ written_in text.now }
 {
-    let (address, len) = cut(text, b'/')?;
+    let (address, len) = cut_at(text, b'/')?;
     let address = read_ip(address)?;
     let len = read_number(len, u32::from(ADDRESS_LENGTH))?;
     Some(WrittenPrefix::new(address, len as u8))
@@ -56,9 +56,9 @@ pub fn read_ip(text: &[u8]) -> Option<Ip>
 fn read_groups(text: &[u8]) -> Option<[u8; 4]>
     ensures { groups_in text.now ≡ result }
 {
-    let (first, rest) = cut(text, b'.')?;
-    let (second, rest) = cut(rest, b'.')?;
-    let (third, fourth) = cut(rest, b'.')?;
+    let (first, rest) = cut_at(text, b'.')?;
+    let (second, rest) = cut_at(rest, b'.')?;
+    let (third, fourth) = cut_at(rest, b'.')?;
     let first = read_group(first)?;
     let second = read_group(second)?;
     let third = read_group(third)?;
@@ -74,9 +74,9 @@ fn read_group(text: &[u8]) -> Option<u8>
     Some(value as u8)
 }
 
-/// The bytes before the first separator and the bytes after it.
+/// The bytes before the first separator, and the bytes after it.
 #[tactic(auto, using(std::proofs::lemmas::List::take_rest), unfolding(crate::specs::Reading::parts_at))]
-fn cut(text: &[u8], separator: u8) -> Option<(&[u8], &[u8])>
+pub fn cut_at(text: &[u8], separator: u8) -> Option<(&[u8], &[u8])>
     ensures { parts_at separator text.now ≡ option_map (λ parts. (parts.0.now, parts.1.now)) result }
 {
     let at = find(text, separator)?;

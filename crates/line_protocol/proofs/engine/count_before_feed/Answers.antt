@@ -1,7 +1,8 @@
 use Rattle.std.proofs.Common.{eqb, eqb-true, sym, ap, ◌∙◌, arith, w8}
 use lib.Count.{count_trailing_zeros}
 use lib.Lanes.{chunk}
-use Rattle.std.proofs.lemmas.Simd.{length-chunk, bitmask_splat, leading_from_mask_l, trailing_mask_l, run_in_chunk_le, run_in_chunk_fails, run_in_chunk_stops}
+use Rattle.std.proofs.lemmas.Simd.{length-chunk, bitmask_splat, leading_from_mask_l, trailing_mask_l}
+use Rattle.std.proofs.lemmas.Simd.{run_in_chunk_le, run_in_chunk_fails, run_in_chunk_stops}
 use Rattle.line_protocol.specs.Lines.{is_line_feed}
 use Rattle.line_protocol.proofs.engine.count_before_feed.Goals as goal
 
