@@ -40,35 +40,35 @@ pub enum FileFault {
 impl FileFault {
     ghost use Rattle.code_file.specs.Codes.{fault_code, fault_place};
 
+    /// The code and the place, of which `code` and `at` are the halves.
+    fn code_and_place(self) -> (&'static str, usize)
+        ensures code { result.0.now ≡ fault_code self }
+        ensures place { result.1 ≡ fault_place self }
+    {
+        match self {
+            FileFault::OtherMark(at) => ("C1", at),
+            FileFault::EndsEarly(at) => ("C2", at),
+            FileFault::UnknownOpcode(at) => ("C3", at),
+            FileFault::BadOperand(at) => ("C4", at),
+            FileFault::OverLimit(at) => ("C5", at),
+            FileFault::BytesAfterEnd(at) => ("C6", at),
+            FileFault::Memory => ("C7", 0),
+            FileFault::OldForm => ("C8", 0),
+        }
+    }
+
     /// The fault's code, `C1` to `C8`.
     pub fn code(self) -> &'static str
         ensures { result.now ≡ fault_code self }
     {
-        match self {
-            FileFault::OtherMark(_) => "C1",
-            FileFault::EndsEarly(_) => "C2",
-            FileFault::UnknownOpcode(_) => "C3",
-            FileFault::BadOperand(_) => "C4",
-            FileFault::OverLimit(_) => "C5",
-            FileFault::BytesAfterEnd(_) => "C6",
-            FileFault::Memory => "C7",
-            FileFault::OldForm => "C8",
-        }
+        self.code_and_place().0
     }
 
     /// The fault's place; 0 if memory was refused or the code is not for an older file.
     pub fn at(self) -> usize
         ensures { result ≡ fault_place self }
     {
-        match self {
-            FileFault::OtherMark(at)
-            | FileFault::EndsEarly(at)
-            | FileFault::UnknownOpcode(at)
-            | FileFault::BadOperand(at)
-            | FileFault::OverLimit(at)
-            | FileFault::BytesAfterEnd(at) => at,
-            FileFault::Memory | FileFault::OldForm => 0,
-        }
+        self.code_and_place().1
     }
 }
 

@@ -8,35 +8,26 @@ use Rattle.expression_parser.specs.declared.fault.ParseFault.TheVariants as faul
 abbrev pub text_limit : ℕ
 text_limit = 65536
 
--- the code, as ASCII text
-abbrev pub fault_code : ParseFault → List ℕ
-fault_code (fault.Token found) = token_fault_code found
-fault_code (fault.Unexpected at wanted) = codes "P2"
-fault_code (fault.MissingAssign at name) = codes "P2"
-fault_code (fault.MaskOverLimit at) = codes "P4"
-fault_code (fault.PatternLengths at) = codes "P4"
-fault_code (fault.RangeOrder at) = codes "P4"
-fault_code (fault.TooDeep at) = codes "P5"
-fault_code (fault.MixedOperators at) = codes "P6"
-fault_code fault.TooLong = codes "P7"
-fault_code (fault.EndsEarly at) = codes "P9"
-fault_code (fault.TextElsewhere at) = codes "P10"
-fault_code fault.Memory = codes "P11"
+-- the code, as ASCII text, and the place; refused memory has none, which is 0
+abbrev pub code_and_place : ParseFault → List ℕ × ℕ
+code_and_place (fault.Token found) = (token_fault_code found, token_fault_place found)
+code_and_place (fault.Unexpected at wanted) = (codes "P2", at)
+code_and_place (fault.MissingAssign at name) = (codes "P2", at)
+code_and_place (fault.MaskOverLimit at) = (codes "P4", at)
+code_and_place (fault.PatternLengths at) = (codes "P4", at)
+code_and_place (fault.RangeOrder at) = (codes "P4", at)
+code_and_place (fault.TooDeep at) = (codes "P5", at)
+code_and_place (fault.MixedOperators at) = (codes "P6", at)
+code_and_place fault.TooLong = (codes "P7", text_limit)
+code_and_place (fault.EndsEarly at) = (codes "P9", at)
+code_and_place (fault.TextElsewhere at) = (codes "P10", at)
+code_and_place fault.Memory = (codes "P11", 0)
 
--- the place; refused memory has none, which is 0
+abbrev pub fault_code : ParseFault → List ℕ
+fault_code why = (code_and_place why).0
+
 abbrev pub fault_place : ParseFault → ℕ
-fault_place (fault.Token found) = token_fault_place found
-fault_place (fault.Unexpected at wanted) = at
-fault_place (fault.MissingAssign at name) = at
-fault_place (fault.MaskOverLimit at) = at
-fault_place (fault.PatternLengths at) = at
-fault_place (fault.RangeOrder at) = at
-fault_place (fault.TooDeep at) = at
-fault_place (fault.MixedOperators at) = at
-fault_place fault.TooLong = text_limit
-fault_place (fault.EndsEarly at) = at
-fault_place (fault.TextElsewhere at) = at
-fault_place fault.Memory = 0
+fault_place why = (code_and_place why).1
 
 -- the place at which people are shown the fault: a missing `=` at the name before it
 abbrev pub shown_place : ParseFault → ℕ

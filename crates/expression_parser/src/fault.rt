@@ -55,43 +55,38 @@ pub enum ParseFault {
 impl ParseFault {
     ghost use Rattle.expression_parser.specs.Codes.{fault_code, fault_place, shown_place};
 
+    /// The code and the place, of which `code` and `at` are the halves.
+    fn code_and_place(self) -> (&'static str, usize)
+        ensures code { result.0.now ≡ fault_code self }
+        ensures place { result.1 ≡ fault_place self }
+    {
+        match self {
+            ParseFault::Token(fault) => (fault.code(), fault.at()),
+            ParseFault::Unexpected(at, _) | ParseFault::MissingAssign(at, _) => ("P2", at),
+            ParseFault::MaskOverLimit(at)
+            | ParseFault::PatternLengths(at)
+            | ParseFault::RangeOrder(at) => ("P4", at),
+            ParseFault::TooDeep(at) => ("P5", at),
+            ParseFault::MixedOperators(at) => ("P6", at),
+            ParseFault::TooLong => ("P7", TEXT_LIMIT),
+            ParseFault::EndsEarly(at) => ("P9", at),
+            ParseFault::TextElsewhere(at) => ("P10", at),
+            ParseFault::Memory => ("P11", 0),
+        }
+    }
+
     /// The fault's code, `P1` to `P11`.
     pub fn code(self) -> &'static str
         ensures { result.now ≡ fault_code self }
     {
-        match self {
-            ParseFault::Token(fault) => fault.code(),
-            ParseFault::Unexpected(_, _) | ParseFault::MissingAssign(_, _) => "P2",
-            ParseFault::MaskOverLimit(_)
-            | ParseFault::PatternLengths(_)
-            | ParseFault::RangeOrder(_) => "P4",
-            ParseFault::TooDeep(_) => "P5",
-            ParseFault::MixedOperators(_) => "P6",
-            ParseFault::TooLong => "P7",
-            ParseFault::EndsEarly(_) => "P9",
-            ParseFault::TextElsewhere(_) => "P10",
-            ParseFault::Memory => "P11",
-        }
+        self.code_and_place().0
     }
 
     /// The fault's place, and 0 for refused memory, which has none.
     pub fn at(self) -> usize
         ensures { result ≡ fault_place self }
     {
-        match self {
-            ParseFault::Token(fault) => fault.at(),
-            ParseFault::Unexpected(at, _)
-            | ParseFault::MissingAssign(at, _)
-            | ParseFault::MaskOverLimit(at)
-            | ParseFault::PatternLengths(at)
-            | ParseFault::RangeOrder(at)
-            | ParseFault::TooDeep(at)
-            | ParseFault::MixedOperators(at)
-            | ParseFault::EndsEarly(at)
-            | ParseFault::TextElsewhere(at) => at,
-            ParseFault::TooLong => TEXT_LIMIT,
-            ParseFault::Memory => 0,
-        }
+        self.code_and_place().1
     }
 
     /// The place at which people are shown the fault: where the `=` of an assignment is missing, the name before it, which may be a

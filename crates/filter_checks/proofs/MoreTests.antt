@@ -4,12 +4,12 @@ use Rattle.std.proofs.lemmas.List.{map-append, take_more}
 use Rattle.filter_code.specs.CodeView.{CodeView}
 use Rattle.filter_checks.specs.Files.{TestView, test_view}
 use Rattle.filter_checks.specs.Testing.{AreRun, IsRun}
-use Rattle.filter_checks.specs.declared.test_file.FileFault.{FileFault}
+use Rattle.filter_checks.specs.declared.test_file.TestFileFault.{TestFileFault}
 use Rattle.filter_checks.specs.declared.test_file.Test.{Test}
 use Rattle.filter_checks.specs.declared.testing.Ran.{Ran}
 
 -- tests before what is read of the rest
-abbrev pub behind : List TestView → Result (List TestView) FileFault → Result (List TestView) FileFault
+abbrev pub behind : List TestView → Result (List TestView) TestFileFault → Result (List TestView) TestFileFault
 behind done (Ok more) = Ok (done ++ more)
 behind done (Err why) = Err why
 

@@ -9,8 +9,8 @@ use Rattle.prefix_patterns.specs.Reading.{◌>>=◌}
 use Rattle.filter_checks.specs.Reading.{first_keyword, first_number, first_word, no_more, test_in}
 use Rattle.filter_checks.specs.declared.keyword.Keyword.{Keyword}
 use Rattle.filter_checks.specs.declared.keyword.Keyword.TheVariants as word
-use Rattle.filter_checks.specs.declared.test_file.FileFault.{FileFault}
-use Rattle.filter_checks.specs.declared.test_file.FileFault.TheVariants as fault
+use Rattle.filter_checks.specs.declared.test_file.TestFileFault.{TestFileFault}
+use Rattle.filter_checks.specs.declared.test_file.TestFileFault.TheVariants as fault
 use Rattle.filter_checks.specs.declared.test_file.Test.{Test}
 use Rattle.filter_checks.specs.declared.test_file.TestFile.{TestFile}
 
@@ -67,41 +67,41 @@ size_in ws = do
   size_of k.0 k.1
 
 -- a test before others; the first line that is no test is named
-abbrev pub with_test : Option Expectation → Line → Result (List TestView) FileFault → Result (List TestView) FileFault
+abbrev pub with_test : Option Expectation → Line → Result (List TestView) TestFileFault → Result (List TestView) TestFileFault
 with_test None line more = Err (fault.Line line.0)
 with_test (Some expected) line (Ok more) = Ok (record { number = line.0; line = line.1; expected = expected } ∷ more)
 with_test (Some expected) line (Err why) = Err why
 
-abbrev pub tests_in : ℕ → List Line → Result (List TestView) FileFault
+abbrev pub tests_in : ℕ → List Line → Result (List TestView) TestFileFault
 tests_in size [] = Ok []
 tests_in size (line ∷ lines) = with_test (test_in size (words line.1)) line (tests_in size lines)
 
 -- all tests
-abbrev pub with_tests : List ℕ → ℕ → Result (List TestView) FileFault → Result FileView FileFault
+abbrev pub with_tests : List ℕ → ℕ → Result (List TestView) TestFileFault → Result FileView TestFileFault
 with_tests name size (Ok tests) = Ok (record { filter = name; size = size; tests = tests })
 with_tests name size (Err why) = Err why
 
 -- the size, and the tests behind it
-abbrev pub sized_file : List ℕ → Option ℕ → ℕ → List Line → Result FileView FileFault
+abbrev pub sized_file : List ℕ → Option ℕ → ℕ → List Line → Result FileView TestFileFault
 sized_file name None at lines = Err (fault.Line at)
 sized_file name (Some size) at lines = with_tests name size (tests_in size lines)
 
 -- what follows the name of the filter's file
-abbrev pub rest_of : List ℕ → List Line → Result FileView FileFault
+abbrev pub rest_of : List ℕ → List Line → Result FileView TestFileFault
 rest_of name [] = Err fault.Ended
 rest_of name (line ∷ lines) = sized_file name (size_in (words line.1)) line.0 lines
 
-abbrev pub named_file : Option (List ℕ) → ℕ → List Line → Result FileView FileFault
+abbrev pub named_file : Option (List ℕ) → ℕ → List Line → Result FileView TestFileFault
 named_file None at lines = Err (fault.Line at)
 named_file (Some name) at lines = rest_of name lines
 
 -- the filter, the size and the tests
-abbrev pub file_of : List Line → Result FileView FileFault
+abbrev pub file_of : List Line → Result FileView TestFileFault
 file_of [] = Err fault.Ended
 file_of (line ∷ lines) = named_file (filter_in (words line.1)) line.0 lines
 
 -- the test file that a text is, or the first thing that is wrong with it
-abbrev pub file_in : List ℕ → Result FileView FileFault
+abbrev pub file_in : List ℕ → Result FileView TestFileFault
 file_in text = if nat_lt source_limit (length text) then Err fault.TooLong else file_of (numbered text)
 
 -- what was read, as contracts see it
@@ -112,5 +112,5 @@ abbrev pub file_view : TestFile → FileView
 file_view file = record { filter = file.filter.items; size = file.size; tests = map test_view file.tests.items }
 
 -- a fault is the one that was found; refused memory says nothing of the text
-abbrev pub IsFault : {A : Type 0} → Result A FileFault → FileFault → Type 0
+abbrev pub IsFault : {A : Type 0} → Result A TestFileFault → TestFileFault → Type 0
 IsFault found why = why ≢ fault.Memory → found ≡ Err why

@@ -2,32 +2,37 @@
 ghost use Rattle.std.specs.Prelude.{◌≡◌, ◌++◌, IfOk, OnOk};
 ghost use Rattle.filter_checks.specs.Faults as spec;
 
-use crate::test_file::FileFault;
+use crate::test_file::TestFileFault;
 use filter_reports::push_shown;
 use line_protocol::push_decimal;
 use std::alloc::{AllocError, Global};
 
-impl FileFault {
+impl TestFileFault {
+    /// The code and the place, of which `code` and `at` are the halves.
+    fn code_and_place(self) -> (&'static str, usize)
+        ensures code { result.0.now ≡ spec.fault_code self }
+        ensures place { result.1 ≡ spec.fault_line self }
+    {
+        match self {
+            TestFileFault::Line(at) => ("O1", at),
+            TestFileFault::Ended | TestFileFault::Name => ("O1", 0),
+            TestFileFault::TooLong => ("O7", 1),
+            TestFileFault::Memory => ("E3", 0),
+        }
+    }
+
     /// The code that names the fault.
     pub fn code(self) -> &'static str
         ensures { result.now ≡ spec.fault_code self }
     {
-        match self {
-            FileFault::Line(_) | FileFault::Ended | FileFault::Name => "O1",
-            FileFault::TooLong => "O7",
-            FileFault::Memory => "E3",
-        }
+        self.code_and_place().0
     }
 
     /// The number of the line that it names: 0 for what is lacking at the end.
     pub fn at(self) -> usize
         ensures { result ≡ spec.fault_line self }
     {
-        match self {
-            FileFault::Line(at) => at,
-            FileFault::TooLong => 1,
-            FileFault::Ended | FileFault::Name | FileFault::Memory => 0,
-        }
+        self.code_and_place().1
     }
 }
 
@@ -40,26 +45,28 @@ fn line_words() -> &'static [u8]
 }
 
 /// Puts what is wrong at the end of `out`, in words.
-fn push_words(out: &mut Vec<u8>, why: FileFault) -> Result<(), AllocError>
+fn push_words(out: &mut Vec<u8>, why: TestFileFault) -> Result<(), AllocError>
     ensures { OnOk result (out.new.items ≡ out.old.items ++ spec.fault_words why) }
 {
     match why {
-        FileFault::Line(at) => {
+        TestFileFault::Line(at) => {
             out.extend_from_slice(b":")?;
             push_decimal(out, at as u64)?;
             out.extend_from_slice(line_words())
         }
-        FileFault::Ended => {
+        TestFileFault::Ended => {
             out.extend_from_slice(b": it ends before its `filter FILE` and `size N` (O1)")
         }
-        FileFault::Name => { out.extend_from_slice(b": the name of its filter is not UTF-8 (O1)") }
-        FileFault::TooLong => out.extend_from_slice(b": longer than 1048576 bytes (O7)"),
-        FileFault::Memory => out.extend_from_slice(b": memory was refused (E3)"),
+        TestFileFault::Name => {
+            out.extend_from_slice(b": the name of its filter is not UTF-8 (O1)")
+        }
+        TestFileFault::TooLong => out.extend_from_slice(b": longer than 1048576 bytes (O7)"),
+        TestFileFault::Memory => out.extend_from_slice(b": out of memory (E3)"),
     }
 }
 
 /// Puts the refusal of a test file at the end of `out`, or what is wrong in words.
-fn push_tail(out: &mut Vec<u8>, is_explained: bool, why: FileFault) -> Result<(), AllocError>
+fn push_tail(out: &mut Vec<u8>, is_explained: bool, why: TestFileFault) -> Result<(), AllocError>
     ensures { OnOk result (out.new.items ≡ out.old.items ++ spec.fault_tail is_explained why) }
 {
     if is_explained {
@@ -76,7 +83,7 @@ pub fn fault_text(
     alloc: Global,
     is_explained: bool,
     name: &[u8],
-    why: FileFault,
+    why: TestFileFault,
 ) -> Result<Vec<u8>, AllocError>
     ensures { IfOk result (λ out. out.items ≡ spec.fault_text is_explained name.now why) }
 {

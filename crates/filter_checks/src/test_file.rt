@@ -39,7 +39,7 @@ pub struct TestFile {
 
 /// Why a text is no test file.
 #[derive(Clone, Copy)]
-pub enum FileFault {
+pub enum TestFileFault {
     /// The line of this number is none that may stand there.
     Line(usize),
     /// The text ends before its filter and its size are said.
@@ -52,13 +52,13 @@ pub enum FileFault {
     Memory,
 }
 
-impl From<AllocError> for FileFault {
-    ghost use Rattle.filter_checks.specs.declared.test_file.FileFault.TheVariants.{Memory};
+impl From<AllocError> for TestFileFault {
+    ghost use Rattle.filter_checks.specs.declared.test_file.TestFileFault.TheVariants.{Memory};
 
     ghost from_gives = { λ _ e. e ≡ Memory };
 
-    fn from(_error: AllocError) -> FileFault {
-        FileFault::Memory
+    fn from(_error: AllocError) -> TestFileFault {
+        TestFileFault::Memory
     }
 }
 
@@ -131,7 +131,7 @@ fn add(
 }
 
 /// The tests of a text whose lines are numbered from `first`.
-fn read_all(alloc: Global, size: u32, text: &[u8], first: usize) -> Result<Vec<Test>, FileFault>
+fn read_all(alloc: Global, size: u32, text: &[u8], first: usize) -> Result<Vec<Test>, TestFileFault>
     requires { first + length text.now < 2 ^ 64 }
     ensures { MatchResult result
         (λ tests. spec.tests_in size (answerable_from first (lines text.now)) ≡ Ok (map spec.test_view tests.items))
@@ -142,7 +142,7 @@ fn read_all(alloc: Global, size: u32, text: &[u8], first: usize) -> Result<Vec<T
     let mut number = first;
     while let Some((at, line, later)) = next_line(rest, number) {
         let Some(expected) = test_in(line, size) else {
-            return Err(FileFault::Line(at));
+            return Err(TestFileFault::Line(at));
         };
         add(alloc, &mut tests, at, line, expected)?;
         rest = later;
@@ -157,17 +157,17 @@ fn read_named(
     filter: &[u8],
     text: &[u8],
     first: usize,
-) -> Result<TestFile, FileFault>
+) -> Result<TestFile, TestFileFault>
     requires { first + length text.now < 2 ^ 64 }
     ensures { MatchResult result
         (λ file. spec.rest_of filter.now (answerable_from first (lines text.now)) ≡ Ok (spec.file_view file))
         (spec.IsFault (spec.rest_of filter.now (answerable_from first (lines text.now)))) }
 {
     let Some((at, line, later)) = next_line(text, first) else {
-        return Err(FileFault::Ended);
+        return Err(TestFileFault::Ended);
     };
     let Some(size) = size_in(line) else {
-        return Err(FileFault::Line(at));
+        return Err(TestFileFault::Line(at));
     };
     let tests = read_all(alloc, size, later, at + 1)?;
     let filter = Vec::from_slice(alloc, filter)?;
@@ -179,17 +179,17 @@ fn read_named(
 }
 
 /// Reads a test file.
-pub fn read_tests(alloc: Global, text: &[u8]) -> Result<TestFile, FileFault>
+pub fn read_tests(alloc: Global, text: &[u8]) -> Result<TestFile, TestFileFault>
     ensures { MatchResult result (λ file. spec.file_in text.now ≡ Ok (spec.file_view file)) (spec.IsFault (spec.file_in text.now)) }
 {
     if text.len() > SOURCE_LIMIT {
-        return Err(FileFault::TooLong);
+        return Err(TestFileFault::TooLong);
     }
     let Some((at, line, later)) = next_line(text, 1) else {
-        return Err(FileFault::Ended);
+        return Err(TestFileFault::Ended);
     };
     let Some(filter) = filter_in(line) else {
-        return Err(FileFault::Line(at));
+        return Err(TestFileFault::Line(at));
     };
     read_named(alloc, filter, later, at + 1)
 }

@@ -39,33 +39,34 @@ pub enum Refusal {
 impl Refusal {
     ghost use Rattle.filter_source.specs.Refusals.{refusal_code, refusal_place, place_in_line};
 
+    /// The code and the place, of which `code` and `at` are the halves.
+    fn code_and_place(self) -> (&'static str, usize)
+        ensures code { result.0.now ≡ refusal_code self }
+        ensures place { result.1 ≡ refusal_place self }
+    {
+        match self {
+            Refusal::TooLong => ("O7", 0),
+            Refusal::Hexadecimal => ("O3", 0),
+            Refusal::File(fault) => (fault.code(), fault.at()),
+            Refusal::Parse(fault) => (fault.code(), fault.at()),
+            Refusal::Typing(fault) => (fault.code(), fault.at()),
+            Refusal::Compile(fault) => (fault.code(), fault.at()),
+            Refusal::Verify(fault) => (fault.code(), fault.at()),
+        }
+    }
+
     /// The code that names the refusal in an answer, as `P2`.
     pub fn code(self) -> &'static str
         ensures { result.now ≡ refusal_code self }
     {
-        match self {
-            Refusal::TooLong => "O7",
-            Refusal::Hexadecimal => "O3",
-            Refusal::File(fault) => fault.code(),
-            Refusal::Parse(fault) => fault.code(),
-            Refusal::Typing(fault) => fault.code(),
-            Refusal::Compile(fault) => fault.code(),
-            Refusal::Verify(fault) => fault.code(),
-        }
+        self.code_and_place().0
     }
 
     /// The place within the source: a byte of the text or of the code file, or an instruction; 0 where there is none.
     pub fn at(self) -> usize
         ensures { result ≡ refusal_place self }
     {
-        match self {
-            Refusal::TooLong | Refusal::Hexadecimal => 0,
-            Refusal::File(fault) => fault.at(),
-            Refusal::Parse(fault) => fault.at(),
-            Refusal::Typing(fault) => fault.at(),
-            Refusal::Compile(fault) => fault.at(),
-            Refusal::Verify(fault) => fault.at(),
-        }
+        self.code_and_place().1
     }
 
     /// The place that an answer to a line names: the line's number for an O code, and otherwise the place within the source.

@@ -36,34 +36,32 @@ pub enum TokenFault {
 }
 
 impl TokenFault {
+    /// The code and the place, of which `code` and `at` are the halves.
+    fn code_and_place(&self) -> (&'static str, usize)
+        ensures code { result.0.now ≡ fault_code self.now }
+        ensures place { result.1 ≡ fault_place self.now }
+    {
+        match *self {
+            TokenFault::BadCharacter(at) | TokenFault::NoDigit(at) => ("P1", at),
+            TokenFault::NumberTooLarge(at) => ("P3", at),
+            TokenFault::OutOfRange(at) => ("P4", at),
+            TokenFault::NameTooLong(at) => ("P8", at),
+            TokenFault::UnendedComment(at) | TokenFault::UnendedText(at) => ("P9", at),
+            TokenFault::WordLeftOut(at) | TokenFault::QuotedName(at) => ("P10", at),
+        }
+    }
+
     /// The code that a program answers for this fault, such as `P1`.
     pub fn code(&self) -> &'static str
         ensures { result.now ≡ fault_code self.now }
     {
-        match self {
-            TokenFault::BadCharacter(_) | TokenFault::NoDigit(_) => "P1",
-            TokenFault::NumberTooLarge(_) => "P3",
-            TokenFault::OutOfRange(_) => "P4",
-            TokenFault::NameTooLong(_) => "P8",
-            TokenFault::UnendedComment(_) | TokenFault::UnendedText(_) => "P9",
-            TokenFault::WordLeftOut(_) | TokenFault::QuotedName(_) => "P10",
-        }
+        self.code_and_place().0
     }
 
     /// The place of the first byte that no token has.
     pub fn at(&self) -> usize
         ensures { result ≡ fault_place self.now }
     {
-        match self {
-            TokenFault::BadCharacter(at) => *at,
-            TokenFault::NoDigit(at) => *at,
-            TokenFault::NumberTooLarge(at) => *at,
-            TokenFault::OutOfRange(at) => *at,
-            TokenFault::NameTooLong(at) => *at,
-            TokenFault::UnendedComment(at) => *at,
-            TokenFault::UnendedText(at) => *at,
-            TokenFault::WordLeftOut(at) => *at,
-            TokenFault::QuotedName(at) => *at,
-        }
+        self.code_and_place().1
     }
 }

@@ -7,25 +7,21 @@ use Rattle.filter_types.specs.declared.fault.TypeFault.TheVariants as fault
 use Rattle.filter_types.specs.declared.fault.ExpectedKind.{ExpectedKind}
 use Rattle.filter_types.specs.declared.fault.ExpectedKind.TheVariants as expected
 
--- the code that a program answers
-abbrev pub fault_code : TypeFault → List ℕ
-fault_code (fault.UnknownName at) = codes "Y1"
-fault_code (fault.DeclaredTwice at) = codes "Y2"
-fault_code (fault.WrongKind at expected found) = codes "Y3"
-fault_code (fault.NetAssigned at) = codes "Y4"
-fault_code (fault.TooManyVariables at) = codes "Y5"
-fault_code fault.Memory = codes "Y6"
-fault_code (fault.SharedLabel at) = codes "Y7"
+-- the code that a program answers, and the place; refused memory has none, which is 0
+abbrev pub code_and_place : TypeFault → List ℕ × ℕ
+code_and_place (fault.UnknownName at) = (codes "Y1", at)
+code_and_place (fault.DeclaredTwice at) = (codes "Y2", at)
+code_and_place (fault.WrongKind at expected found) = (codes "Y3", at)
+code_and_place (fault.NetAssigned at) = (codes "Y4", at)
+code_and_place (fault.TooManyVariables at) = (codes "Y5", at)
+code_and_place fault.Memory = (codes "Y6", 0)
+code_and_place (fault.SharedLabel at) = (codes "Y7", at)
 
--- the place; refused memory has none, which is 0
+abbrev pub fault_code : TypeFault → List ℕ
+fault_code why = (code_and_place why).0
+
 abbrev pub fault_place : TypeFault → ℕ
-fault_place (fault.UnknownName at) = at
-fault_place (fault.DeclaredTwice at) = at
-fault_place (fault.WrongKind at expected found) = at
-fault_place (fault.NetAssigned at) = at
-fault_place (fault.TooManyVariables at) = at
-fault_place fault.Memory = 0
-fault_place (fault.SharedLabel at) = at
+fault_place why = (code_and_place why).1
 
 -- what a place takes that takes operands of one kind
 abbrev pub expected_of : Kind → ExpectedKind

@@ -83,34 +83,34 @@ pub enum TypeFault {
 impl TypeFault {
     ghost use Rattle.filter_types.specs.Codes.{fault_code, fault_place};
 
+    /// The code and the place, of which `code` and `at` are the halves.
+    fn code_and_place(self) -> (&'static str, usize)
+        ensures code { result.0.now ≡ fault_code self }
+        ensures place { result.1 ≡ fault_place self }
+    {
+        match self {
+            TypeFault::UnknownName(at) => ("Y1", at),
+            TypeFault::DeclaredTwice(at) => ("Y2", at),
+            TypeFault::WrongKind(at, _, _) => ("Y3", at),
+            TypeFault::NetAssigned(at) => ("Y4", at),
+            TypeFault::TooManyVariables(at) => ("Y5", at),
+            TypeFault::Memory => ("Y6", 0),
+            TypeFault::SharedLabel(at) => ("Y7", at),
+        }
+    }
+
     /// The fault's code, `Y1` to `Y7`.
     pub fn code(self) -> &'static str
         ensures { result.now ≡ fault_code self }
     {
-        match self {
-            TypeFault::UnknownName(_) => "Y1",
-            TypeFault::DeclaredTwice(_) => "Y2",
-            TypeFault::WrongKind(_, _, _) => "Y3",
-            TypeFault::NetAssigned(_) => "Y4",
-            TypeFault::TooManyVariables(_) => "Y5",
-            TypeFault::Memory => "Y6",
-            TypeFault::SharedLabel(_) => "Y7",
-        }
+        self.code_and_place().0
     }
 
     /// The fault's place, and 0 for refused memory, which has none.
     pub fn at(self) -> usize
         ensures { result ≡ fault_place self }
     {
-        match self {
-            TypeFault::UnknownName(at)
-            | TypeFault::DeclaredTwice(at)
-            | TypeFault::WrongKind(at, _, _)
-            | TypeFault::NetAssigned(at)
-            | TypeFault::TooManyVariables(at)
-            | TypeFault::SharedLabel(at) => at,
-            TypeFault::Memory => 0,
-        }
+        self.code_and_place().1
     }
 }
 

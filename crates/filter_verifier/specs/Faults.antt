@@ -5,31 +5,24 @@ use Rattle.filter_code.specs.declared.outcome.FaultKind.TheVariants as fault
 use Rattle.filter_verifier.specs.declared.fault.VerifyFault.{VerifyFault}
 use Rattle.filter_verifier.specs.declared.fault.VerifyFault.TheVariants as refusal
 
--- the code of a refusal, as ASCII text
-abbrev pub fault_code : VerifyFault → List ℕ
-fault_code (refusal.MissingOperand at) = codes "V1"
-fault_code (refusal.WrongKind at) = codes "V2"
-fault_code (refusal.ZeroDivisor at) = codes "V3"
-fault_code (refusal.OutsideCode at) = codes "V4"
-fault_code (refusal.FullStack at) = codes "V5"
-fault_code (refusal.LowerMetric at) = codes "V6"
-fault_code (refusal.UnknownName at) = codes "V7"
-fault_code refusal.BadSize = codes "V8"
-fault_code (refusal.UnlikeDepths at) = codes "V9"
-fault_code refusal.Memory = codes "V10"
+-- the code of a refusal, as ASCII text, and its place, or 0
+abbrev pub code_and_place : VerifyFault → List ℕ × ℕ
+code_and_place (refusal.MissingOperand at) = (codes "V1", at)
+code_and_place (refusal.WrongKind at) = (codes "V2", at)
+code_and_place (refusal.ZeroDivisor at) = (codes "V3", at)
+code_and_place (refusal.OutsideCode at) = (codes "V4", at)
+code_and_place (refusal.FullStack at) = (codes "V5", at)
+code_and_place (refusal.LowerMetric at) = (codes "V6", at)
+code_and_place (refusal.UnknownName at) = (codes "V7", at)
+code_and_place refusal.BadSize = (codes "V8", 0)
+code_and_place (refusal.UnlikeDepths at) = (codes "V9", at)
+code_and_place refusal.Memory = (codes "V10", 0)
 
--- the place of a refusal, or 0
+abbrev pub fault_code : VerifyFault → List ℕ
+fault_code why = (code_and_place why).0
+
 abbrev pub fault_place : VerifyFault → ℕ
-fault_place (refusal.MissingOperand at) = at
-fault_place (refusal.WrongKind at) = at
-fault_place (refusal.ZeroDivisor at) = at
-fault_place (refusal.OutsideCode at) = at
-fault_place (refusal.FullStack at) = at
-fault_place (refusal.LowerMetric at) = at
-fault_place (refusal.UnknownName at) = at
-fault_place refusal.BadSize = 0
-fault_place (refusal.UnlikeDepths at) = at
-fault_place refusal.Memory = 0
+fault_place why = (code_and_place why).1
 
 -- the refusal of code that may meet a fault at a place
 abbrev pub refusal_of : FaultKind → ℕ → VerifyFault

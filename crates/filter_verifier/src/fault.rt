@@ -49,39 +49,37 @@ pub enum VerifyFault {
 impl VerifyFault {
     ghost use Rattle.filter_verifier.specs.Faults.{fault_code, fault_place};
 
+    /// The code and the place, of which `code` and `at` are the halves.
+    fn code_and_place(self) -> (&'static str, usize)
+        ensures code { result.0.now ≡ fault_code self }
+        ensures place { result.1 ≡ fault_place self }
+    {
+        match self {
+            VerifyFault::MissingOperand(at) => ("V1", at),
+            VerifyFault::WrongKind(at) => ("V2", at),
+            VerifyFault::ZeroDivisor(at) => ("V3", at),
+            VerifyFault::OutsideCode(at) => ("V4", at),
+            VerifyFault::FullStack(at) => ("V5", at),
+            VerifyFault::LowerMetric(at) => ("V6", at),
+            VerifyFault::UnknownName(at) => ("V7", at),
+            VerifyFault::BadSize => ("V8", 0),
+            VerifyFault::UnlikeDepths(at) => ("V9", at),
+            VerifyFault::Memory => ("V10", 0),
+        }
+    }
+
     /// The fault's code, `V1` to `V10`.
     pub fn code(self) -> &'static str
         ensures { result.now ≡ fault_code self }
     {
-        match self {
-            VerifyFault::MissingOperand(_) => "V1",
-            VerifyFault::WrongKind(_) => "V2",
-            VerifyFault::ZeroDivisor(_) => "V3",
-            VerifyFault::OutsideCode(_) => "V4",
-            VerifyFault::FullStack(_) => "V5",
-            VerifyFault::LowerMetric(_) => "V6",
-            VerifyFault::UnknownName(_) => "V7",
-            VerifyFault::BadSize => "V8",
-            VerifyFault::UnlikeDepths(_) => "V9",
-            VerifyFault::Memory => "V10",
-        }
+        self.code_and_place().0
     }
 
     /// The fault's place; 0 for a bad size and for a lack of memory, which have none.
     pub fn at(self) -> usize
         ensures { result ≡ fault_place self }
     {
-        match self {
-            VerifyFault::MissingOperand(at)
-            | VerifyFault::WrongKind(at)
-            | VerifyFault::ZeroDivisor(at)
-            | VerifyFault::OutsideCode(at)
-            | VerifyFault::FullStack(at)
-            | VerifyFault::LowerMetric(at)
-            | VerifyFault::UnknownName(at)
-            | VerifyFault::UnlikeDepths(at) => at,
-            VerifyFault::BadSize | VerifyFault::Memory => 0,
-        }
+        self.code_and_place().1
     }
 }
 

@@ -7,8 +7,8 @@ use Rattle.filter_checks.specs.Files.{FileView, file_in}
 use Rattle.filter_checks.specs.Places.{path_beside}
 use Rattle.filter_checks.specs.Tap.{plan}
 use Rattle.filter_checks.specs.Testing.{TestsNamed, TestsNamedOff}
-use Rattle.filter_checks.specs.declared.test_file.FileFault.{FileFault}
-use Rattle.filter_checks.specs.declared.test_file.FileFault.TheVariants.{Name}
+use Rattle.filter_checks.specs.declared.test_file.TestFileFault.{TestFileFault}
+use Rattle.filter_checks.specs.declared.test_file.TestFileFault.TheVariants.{Name}
 use Rattle.filter_checks.specs.declared.testing.Tested.{Tested}
 use Rattle.filter_checks.specs.declared.testing.Tested.TheVariants.{Ran, Refused}
 use Rattle.filter_source.specs.Limits.{source_limit}
@@ -68,12 +68,12 @@ StopsBy fault how name file filter tally before after =
     ((fault ≡ TooLong) × (after ≡ before)) ⊎ StopsCounted fault how name file filter tally before after
 
 -- Standard error was told why a text is no test file, and nothing more is run.
-pub record TellsFault (how : Testing) (name : List ℕ) (why : FileFault) (before after : Streams) (found : Option Tally) : Type 0 where
+pub record TellsFault (how : Testing) (name : List ℕ) (why : TestFileFault) (before after : Streams) (found : Option Tally) : Type 0 where
   pub told : Tells (fault_text how.is_explained name why) before after
   pub none : found ≡ None
 
 -- A fault cut that.
-abbrev pub CutsFault : StreamFault → Testing → List ℕ → FileFault → Streams → Streams → Type 0
+abbrev pub CutsFault : StreamFault → Testing → List ℕ → TestFileFault → Streams → Streams → Type 0
 CutsFault fault how name why before after = CutsTelling fault (fault_text how.is_explained name why) before after
 
 -- the source is the file of this name
@@ -104,7 +104,7 @@ module _ (opens : List ℕ → Result (Option (List ℕ)) Error → Type 0) wher
   unfoldable pub RunsText : Testing → List ℕ → List ℕ → Tally → Streams → Streams → Option Tally → Type 0
   RunsText how name text tally before after found =
       ((file : FileView) × (file_in text ≡ Ok file) × RunsFile how name file tally before after found)
-      ⊎ ((why : FileFault) × (file_in text ≡ Err why) × TellsFault how name why before after found)
+      ⊎ ((why : TestFileFault) × (file_in text ≡ Err why) × TellsFault how name why before after found)
 
   -- A source was read, and its tests were run; or it was not read.
   unfoldable pub RunsTests : Testing → Source → Tally → Streams → Streams → Option Tally → Type 0
@@ -162,7 +162,7 @@ module _ (opens : List ℕ → Result (Option (List ℕ)) Error → Type 0) wher
   unfoldable pub StopsText : StreamFault → Testing → List ℕ → List ℕ → Tally → Streams → Streams → Type 0
   StopsText fault how name text tally before after = ((fault ≡ Memory) × (after ≡ before))
       ⊎ (((file : FileView) × (file_in text ≡ Ok file) × StopsFile fault how name file tally before after)
-      ⊎ ((why : FileFault) × (file_in text ≡ Err why) × CutsFault fault how name why before after))
+      ⊎ ((why : TestFileFault) × (file_in text ≡ Err why) × CutsFault fault how name why before after))
 
   unfoldable pub StopsTests : StreamFault → Testing → Source → Tally → Streams → Streams → Type 0
   StopsTests fault how source tally before after = StopsReading opens fault source_limit source before after

@@ -11,7 +11,7 @@ use crate::ending::{FAILED, FAULT};
 use crate::texts::{Folder, name_of};
 use command_line::{Source, Testing};
 use filter_checks::{
-    FileFault, TestFile, Tested, fault_text, path_beside, plan_line, read_tests, test_named,
+    TestFile, TestFileFault, Tested, fault_text, path_beside, plan_line, read_tests, test_named,
 };
 use filter_reports::{NamedText, ProgramFault};
 use filter_source::SOURCE_LIMIT;
@@ -47,7 +47,7 @@ fn tell_fault<R: Read, W: Write, E: Write>(
     alloc: Global,
     how: Testing,
     name: &[u8],
-    why: FileFault,
+    why: TestFileFault,
     console: &mut Console<R, W, E>,
 ) -> Result<Option<Tally>, ProgramFault>
     ensures finished { IfOk result (spec.TellsFault how name.now why console.old console.new) }
@@ -152,7 +152,7 @@ fn run_at<F: Folder, R: Read, W: Write, E: Write>(
             }
             Err(_) => Err(ProgramFault::MEMORY),
         },
-        Err(_) => tell_fault(alloc, how, name, FileFault::Name, console),
+        Err(_) => tell_fault(alloc, how, name, TestFileFault::Name, console),
     }
 }
 
@@ -203,7 +203,7 @@ fn run_text<F: Folder, R: Read, W: Write, E: Write>(
 {
     match read_tests(alloc, text) {
         Ok(file) => run_file(files, alloc, how, name, &file, tally, console),
-        Err(FileFault::Memory) => Err(ProgramFault::MEMORY),
+        Err(TestFileFault::Memory) => Err(ProgramFault::MEMORY),
         Err(why) => tell_fault(alloc, how, name, why, console),
     }
 }
