@@ -1,6 +1,6 @@
 -- A writer that has turns again and again.
-use Rattle.std.proofs.Common.{◌≡◌, ◌∙◌, sym, ap, subst, refl, ℕ, List, [], ◌++◌, append_assoc, append-nil, length}
-use Rattle.std.specs.Prelude.{All, Bool, false, flat_map}
+use Rattle.std.proofs.Common.{◌≡◌, ◌∙◌, sym, ap, subst, refl, ℕ, List, [], ◌∷◌, ◌++◌, append_assoc, append-nil, length}
+use Rattle.std.specs.Prelude.{All, Bool, None, Some, false, flat_map, slice_get}
 use Rattle.std.proofs.lemmas.Grind.{flat_map-append}
 use Rattle.std.proofs.lemmas.List.Elements.{All-append, All-nil}
 use Rattle.netchange_core.specs.declared.message.Message.{Message}
@@ -10,11 +10,11 @@ use Rattle.route_session.specs.declared.ends.Cause.TheVariants as cause
 use Rattle.route_session.specs.declared.ends.WriteEnd.{WriteEnd}
 use Rattle.route_session.specs.Calls.{Gained, IsCauseAt, IsCauseIn, IsFresh}
 use Rattle.route_session.specs.Writes.{IsWrittenBy, LeavesBy, Takes, carried_by}
-use Rattle.route_session.specs.Told.{Told, grown}
+use Rattle.route_session.specs.Told.{Told, grown, refuse_first}
 use Rattle.message_streams.specs.Views.{WriterView}
 use Rattle.slot_lock.specs.Passes.{Fragment, PassView, RouterView}
-use Rattle.neighbour_session.specs.Writing.{GotAfter, IsWriterOver, IsWriterStopped, WritesOut, told_to}
-use Rattle.neighbour_session.specs.Links.{GotLinesOf}
+use Rattle.neighbour_session.specs.Writing.{IsWriterOver, IsWriterStopped, WritesOut, told_to}
+use Rattle.neighbour_session.specs.Links.{GotLinesOf, TearsLine}
 use Rattle.neighbour_session.specs.declared.ends.SessionEnd.{SessionEnd}
 use Rattle.neighbour_session.specs.declared.ends.SessionEnd.TheVariants as end
 use Rattle.neighbour_session.proofs.Gaining.{cause_after, gained_both, gained_none, grown_both, grown_none, told_after}
@@ -27,6 +27,7 @@ pub record HasWritten (session : ℕ) (old : Fragment) (t : Told) (new : Fragmen
   pub takes : All (Takes session) calls
   pub taken : flat_map carried_by calls ≡ accepted
   pub given : u.given ≡ grown t.given accepted
+  pub refused : u.first_refused ≡ t.first_refused
   pub handed : u.handed ≡ t.handed
   pub is_closed : u.closed ≡ t.closed
   pub fresh : All IsFresh calls
@@ -41,6 +42,7 @@ written_none session p t = record {
   takes = All-nil (Takes session);
   taken = refl;
   given = grown_none t.given;
+  refused = refl;
   handed = refl;
   is_closed = refl;
   fresh = All-nil IsFresh;
@@ -61,6 +63,7 @@ written_last r session old t mid m last new u h k = record {
     taken = flat_map-append carried_by h.calls k.calls ∙ ap (λ (l : List Message). l ++ flat_map carried_by k.calls) h.taken
         ∙ ap (λ (l : List Message). h.accepted ++ l) k.writes.taken ∙ sym (append_assoc h.accepted k.accepted last.unsent);
     given = k.writes.given ∙ ap (λ o. grown o k.accepted) h.given ∙ grown_both t.given h.accepted k.accepted;
+    refused = k.writes.refused ∙ ap (λ o. refuse_first o last.unsent) h.refused;
     handed = k.writes.handed ∙ h.handed;
     is_closed = k.writes.is_closed ∙ h.is_closed;
   };
@@ -83,6 +86,7 @@ written_on r session old t last new u turns k =
       takes = k.writes.takes;
       taken = k.writes.taken ∙ ap (λ (l : List Message). k.accepted ++ l) none ∙ append-nil k.accepted;
       given = k.writes.given;
+      refused = k.writes.refused ∙ ap (λ (l : List Message). refuse_first t.first_refused l) none;
       handed = k.writes.handed;
       is_closed = k.writes.is_closed;
       fresh = subst (λ c. IsCauseIn c r k.calls new) turns k.in_history;
@@ -106,14 +110,13 @@ stopped_over may cause.Full why h = h
 stopped_over may cause.Memory why h = h
 
 -- what the stream got behind the last whole line
-got_after : (c : Cause) (output : WriterView) (u : Told) (later : WriterView) (g : GotLinesOf output u later) → IsCauseAt c (told_to output) u →
-    GotAfter c g.held later.held
-got_after cause.Turns output u later g h = g.whole h.1
-got_after cause.LinkEnded output u later g h = g.whole h.1
-got_after cause.LinkFault output u later g h = g.torn
-got_after cause.Stale output u later g h = g.whole h.1
-got_after cause.Full output u later g h = g.whole h.1
-got_after cause.Memory output u later g h = g.whole h.1
+first_unsent : (unsent : List Message) → refuse_first (Some None) unsent ≡ Some (slice_get unsent 0)
+first_unsent [] = refl
+first_unsent (m ∷ more) = refl
+
+got_after : (output : WriterView) (u : Told) (unsent : List Message) (later : WriterView) (g : GotLinesOf output u later) →
+    u.first_refused ≡ refuse_first (told_to output).first_refused unsent → TearsLine (slice_get unsent 0) g.held later.held
+got_after output u unsent later g h = g.torn (slice_get unsent 0) (h ∙ first_unsent unsent)
 
 pub writes_stopped : (may : Bool → Type 0) (r : RouterView) (session : ℕ) (old : PassView) (output : WriterView) (mid : PassView) (m : Told)
     (last : WriteEnd) (why : SessionEnd) (new : PassView) (u : Told) (later : WriterView) →
@@ -127,7 +130,7 @@ writes_stopped may r session old output mid m last why new u later h k got over 
       written = written;
       held = got.held;
       lines = got.lines;
-      after = got_after last.cause output u later got written.at_link;
+      after = got_after output u last.unsent later got written.writes.refused;
       because = stopped_over may last.cause why over;
     }
 
@@ -143,6 +146,6 @@ writes_absent may r session old output mid m last new u later h k got turns abse
       written = written;
       held = got.held;
       lines = got.lines;
-      after = got_after last.cause output u later got written.at_link;
+      after = got_after output u last.unsent later got written.writes.refused;
       because = subst (λ c. IsWriterOver may c end.Closed) (sym turns) (refl, absent);
     }

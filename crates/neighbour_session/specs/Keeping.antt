@@ -1,5 +1,5 @@
 -- A session with a neighbour, from the greeting to the Down. (This project's own choice.)
-use Rattle.std.specs.Prelude.{◌≡◌, ◌⊎◌, ℕ, ◌-◌, ◌≤◌, Bool}
+use Rattle.std.specs.Prelude.{◌≡◌, ◌⊎◌, ℕ, ◌-◌, ◌<◌, ◌≤◌, Bool}
 use Rattle.message_streams.specs.Views.{ReaderView, WriterView}
 use Rattle.slot_lock.specs.Passes.{PassView, RouterView}
 use Rattle.slot_lock.specs.declared.answer.Answer.{Answer}
@@ -70,5 +70,5 @@ pub record IsMet {Crew : Type 0} (may_be_present may_be_first : Crew → Bool �
 abbrev pub Keeps : {Crew : Type 0} → (Crew → Bool → Type 0) → (Crew → Bool → Type 0) → RouterView → Domain → ℕ → ReaderView → WriterView →
     PassView → SessionEnd → PassView → Type 0
 Keeps may_be_present may_be_first r d neighbour input output old result new =
-    LacksShares old result new ⊎ (IsTurnedAway d neighbour input output old result new
-    ⊎ IsMet may_be_present may_be_first r d neighbour input output old result new)
+    LacksShares old result new ⊎ ((1 < old.fragment.shares) × (IsTurnedAway d neighbour input output old result new
+    ⊎ IsMet may_be_present may_be_first r d neighbour input output old result new))

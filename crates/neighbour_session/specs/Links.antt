@@ -31,7 +31,7 @@ pub record InputView : Type 0 where
 -- of the reader as it was given, as it was after the message that was handed out last, and as it is now
 abbrev pub input_view : ReaderView → ReaderView → ReaderView → Bool → ℕ → Bool → InputView
 input_view first last now has_ended failures is_closed = record {
-  told = (link_view (Some first) (Some last) None None None 0 has_ended failures is_closed).told;
+  told = (link_view (Some first) (Some last) None None None None 0 has_ended failures is_closed).told;
   reader = now;
 }
 
@@ -47,37 +47,37 @@ nobodys_reader = record { left = None; line = 0; end = None }
 
 -- ---- writing
 
--- a front of the line of a message, which may be nothing of it
-pub record TearsLine (held holds : Option (List ℕ)) : Type 0 where
-  pub message : Message
-  pub fits : FitsMessage message
-  pub front : AppendsFront held holds (message_line message)
+-- what a stream got behind whole lines: a front of the line of the message that was not taken, which may be nothing of it; and nothing
+-- where each was taken
+abbrev pub TearsLine : Option Message → Option (List ℕ) → Option (List ℕ) → Type 0
+TearsLine None held holds = holds ≡ held
+TearsLine (Some message) held holds = FitsMessage message × AppendsFront held holds (message_line message)
 
--- A stream got the lines of what its link was given, each in its turn; and then nothing while the link had not failed, and a front of one
--- line more if it has.
+-- A stream got the lines of what its link was given, each in its turn; and then a front of the line of the first message that the link did
+-- not take, if there is one.
 pub record GotLinesOf (first : WriterView) (told : Told) (now : WriterView) : Type 0 where
   pub held : Option (List ℕ)
   pub lines : AreLines (Appends first.held held) told.given
-  pub whole : told.failures ≡ Some 0 → now.held ≡ held
-  pub torn : TearsLine held now.held
+  pub torn : (refused : Option Message) → told.first_refused ≡ Some refused → TearsLine refused held now.held
 
 -- a link over one stream that is written: what it tells, and its writer
 pub record OutputView : Type 0 where
   pub told : Told
   pub writer : WriterView
 
--- of the writer as it was given, as it was after the message that was written last, and as it is now
-abbrev pub output_view : WriterView → WriterView → WriterView → Bool → ℕ → Bool → OutputView
-output_view first last now has_ended failures is_closed = record {
-  told = (link_view None None (Some first) (Some last) None 0 has_ended failures is_closed).told;
+-- of the writer as it was given, as it was after the message that was written last, and as it is now, and of the first message that was
+-- not taken
+abbrev pub output_view : WriterView → WriterView → WriterView → Option Message → Bool → ℕ → Bool → OutputView
+output_view first last now first_refused has_ended failures is_closed = record {
+  told = (link_view None None (Some first) (Some last) (Some first_refused) None 0 has_ended failures is_closed).told;
   writer = now;
 }
 
--- it grew by whole lines of messages, and by nothing else but a front of one where it failed
-pub record IsOutput (first last now : WriterView) (failures : ℕ) : Type 0 where
+-- it grew by whole lines of messages, and by nothing else but a front of the one at which it failed
+pub record IsOutput (first last now : WriterView) (first_refused : Option Message) (failures : ℕ) : Type 0 where
   pub got : GotLines first.held last.held
-  pub whole : failures ≡ 0 → now ≡ last
-  pub torn : TearsLine last.held now.held
+  pub whole : failures ≡ 0 → (now ≡ last) × (first_refused ≡ None)
+  pub torn : TearsLine first_refused last.held now.held
 
 -- a writer that nobody has
 abbrev pub nobodys_writer : WriterView

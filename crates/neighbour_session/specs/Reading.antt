@@ -8,15 +8,14 @@ use Rattle.route_session.specs.declared.ends.ReadEnd.{ReadEnd}
 use Rattle.route_session.specs.Reads.{IsReadBy}
 use Rattle.route_session.specs.Told.{Told}
 use Rattle.slot_lock.specs.Passes.{PassView, RouterView}
-use Rattle.stream_link.specs.Views.{new_view}
 use Rattle.neighbour_session.specs.Ending.{Ends}
-use Rattle.neighbour_session.specs.Links.{ReadsLines}
+use Rattle.neighbour_session.specs.Links.{ReadsLines, input_view}
 use Rattle.neighbour_session.specs.declared.ends.SessionEnd.{SessionEnd}
 use Rattle.neighbour_session.specs.declared.ends.SessionEnd.TheVariants as end
 
 -- what a link over one stream that is read tells at first
 abbrev pub told_by : ReaderView → Told
-told_by input = (new_view (Some input) None).told
+told_by input = (input_view input input input false 0 false).told
 
 -- why a link hands out no more: its reader's reason, at a line
 abbrev pub link_end : Option StreamEnd → ℕ → SessionEnd

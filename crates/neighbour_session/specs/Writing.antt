@@ -1,5 +1,5 @@
 -- What who writes to a neighbour does. (This project's own choice.)
-use Rattle.std.specs.Prelude.{◌≡◌, ℕ, Bool, false, List, Option, None, Some}
+use Rattle.std.specs.Prelude.{◌≡◌, ℕ, Bool, false, List, Option, None, slice_get}
 use Rattle.std.specs.Io.KnownBytes.{Appends}
 use Rattle.message_streams.specs.Views.{WriterView}
 use Rattle.route_session.specs.declared.ends.Cause.{Cause}
@@ -8,15 +8,15 @@ use Rattle.route_session.specs.declared.ends.WriteEnd.{WriteEnd}
 use Rattle.route_session.specs.Told.{Told}
 use Rattle.route_session.specs.Writes.{IsWrittenBy}
 use Rattle.slot_lock.specs.Passes.{PassView, RouterView}
-use Rattle.stream_link.specs.Views.{AreLines, new_view}
+use Rattle.stream_link.specs.Views.{AreLines}
 use Rattle.neighbour_session.specs.Ending.{Ends}
-use Rattle.neighbour_session.specs.Links.{TearsLine}
+use Rattle.neighbour_session.specs.Links.{TearsLine, output_view}
 use Rattle.neighbour_session.specs.declared.ends.SessionEnd.{SessionEnd}
 use Rattle.neighbour_session.specs.declared.ends.SessionEnd.TheVariants as end
 
 -- what a link over one stream that is written tells at first
 abbrev pub told_to : WriterView → Told
-told_to output = (new_view None (Some output)).told
+told_to output = (output_view output output output None false 0 false).told
 
 -- why a writer's session is over, where it did not use up its turns: a line was not written, or a call was refused
 abbrev pub IsWriterStopped : Cause → SessionEnd → Type 0
@@ -32,13 +32,9 @@ abbrev pub IsWriterOver : (Bool → Type 0) → Cause → SessionEnd → Type 0
 IsWriterOver may_be_present cause.Turns why = (why ≡ end.Closed) × may_be_present false
 IsWriterOver may_be_present c why = IsWriterStopped c why
 
--- what the neighbour's stream got behind the last whole line: nothing; but where a line was not written, a front of one at most
-abbrev pub GotAfter : Cause → Option (List ℕ) → Option (List ℕ) → Type 0
-GotAfter cause.LinkFault held holds = TearsLine held holds
-GotAfter _ held holds = holds ≡ held
-
 -- What the router queued was taken, and the neighbour's stream got the lines of it, each in its turn; then, for a reason, the writer ended.
--- What was taken and not written is none, but where a line was not written.
+-- What was taken and not written is none, but where a line was not written: then the stream got a front of the line of the first of it,
+-- or nothing of that.
 pub record WritesOut (may_be_present : Bool → Type 0) (r : RouterView) (session : ℕ) (old : PassView) (output : WriterView) (why : SessionEnd)
     (new : PassView) (later : WriterView) : Type 0 where
   pub end : WriteEnd
@@ -46,7 +42,7 @@ pub record WritesOut (may_be_present : Bool → Type 0) (r : RouterView) (sessio
   pub written : IsWrittenBy r session old.fragment (told_to output) end new.fragment last
   pub held : Option (List ℕ)
   pub lines : AreLines (Appends output.held held) last.given
-  pub after : GotAfter end.cause held later.held
+  pub after : TearsLine (slice_get end.unsent 0) held later.held
   pub because : IsWriterOver may_be_present end.cause why
 
 -- and the session with it

@@ -1,7 +1,8 @@
 //! Links over the streams of one session: one that is read, and one that is written.
 //!
 //! Each says in its type which stream it was given. So whoever it is lent to hands back a link over this stream, and over no other.
-ghost use Rattle.std.specs.Prelude.{◌≡◌, ◌<◌, false};
+ghost use Rattle.std.specs.Option.{option_or};
+ghost use Rattle.std.specs.Prelude.{◌≡◌, ◌<◌, None, Some, false};
 ghost use Rattle.route_session.specs.Telling.{known};
 ghost use Rattle.route_session.specs.Told.{Rose};
 
@@ -20,6 +21,16 @@ fn fail(failures: &mut u64) -> LinkFault
 {
     *failures = failures.saturating_add(1);
     LinkFault
+}
+
+/// Counts a failure at a message.
+fn refuse(message: Message, first_refused: &mut Option<Message>, failures: &mut u64) -> LinkFault
+    ensures refused { first_refused.new ≡ option_or first_refused.old (Some message) }
+    ensures rose { Rose (known failures.old) (known failures.new) }
+    ensures counted { 0 < failures.new }
+{
+    *first_refused = first_refused.or(Some(message));
+    fail(failures)
 }
 
 /// The reader that a link was given.
@@ -151,6 +162,7 @@ pub(crate) struct OutputLink<O: Write, T: Target> {
     output: MessageWriter<O>,
     // The writer as it was after the message that was written last.
     last: Snapshot<MessageWriter<O>>,
+    first_refused: Option<Message>,
     has_ended: bool,
     failures: u64,
     is_closed: bool,
@@ -162,9 +174,9 @@ impl<O: Write, T: Target> Model for OutputLink<O, T> {
 
     ghost Value = { OutputView };
 
-    ghost view = { λ l. output_view T.writer l.last.value l.output l.has_ended l.failures l.is_closed };
+    ghost view = { λ l. output_view T.writer l.last.value l.output l.first_refused l.has_ended l.failures l.is_closed };
 
-    ghost invariant = { λ l. IsOutput T.writer l.last.value l.output l.failures };
+    ghost invariant = { λ l. IsOutput T.writer l.last.value l.output l.first_refused l.failures };
 }
 
 impl<O: Write + Drop, T: Target> OutputLink<O, T> {
@@ -173,11 +185,12 @@ impl<O: Write + Drop, T: Target> OutputLink<O, T> {
     /// A link over this writer.
     pub(crate) fn new(output: MessageWriter<O>) -> OutputLink<O, T>
         requires { output ≡ T.writer }
-        ensures { result ≡ output_view output output output false 0 false }
+        ensures { result ≡ output_view output output output None false 0 false }
     {
         OutputLink {
             last: Snapshot::of(&output),
             output,
+            first_refused: None,
             has_ended: false,
             failures: 0,
             is_closed: false,
@@ -207,14 +220,14 @@ impl<O: Write + Drop, T: Target> Link for OutputLink<O, T> {
 
     fn send<R: Wait>(&mut self, _rt: &R, message: Message) -> Result<(), LinkFault> {
         if self.is_closed || self.failures > 0 {
-            return Err(fail(&mut self.failures));
+            return Err(refuse(message, &mut self.first_refused, &mut self.failures));
         }
         match self.output.write_message(message) {
             Ok(()) => {
                 self.last = Snapshot::of(&self.output);
                 Ok(())
             }
-            Err(_) => Err(fail(&mut self.failures)),
+            Err(_) => Err(refuse(message, &mut self.first_refused, &mut self.failures)),
         }
     }
 

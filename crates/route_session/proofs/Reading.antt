@@ -1,5 +1,6 @@
 -- A reader on its way, and where it ends.
-use Rattle.std.proofs.Common.{◌≡◌, ◌∙◌, sym, ap, subst, refl, ℕ, ◌+◌, Option, Some, None, List, [], ◌∷◌, ◌++◌, append-nil, length, length-append, Ok, Err, arith}
+use Rattle.std.proofs.Common.{◌≡◌, ◌∙◌, sym, ap, subst, refl, ℕ, ◌+◌, Option, Some, None, List}
+use Rattle.std.proofs.Common.{[], ◌∷◌, ◌++◌, append-nil, length, length-append, Ok, Err, arith}
 use Rattle.std.specs.Prelude.{All}
 use Rattle.std.proofs.lemmas.List.Elements.{All-nil}
 use Rattle.netchange_core.specs.declared.message.Message.{Message}

@@ -1,5 +1,6 @@
 -- Turns, one after another.
-use Rattle.std.proofs.Common.{◌≡◌, ◌∙◌, sym, ap, subst, refl, ℕ, ◌+◌, Bool, true, false, Option, Some, None, [], ◌∷◌, length, length-append, Ok, arith}
+use Rattle.std.proofs.Common.{◌≡◌, ◌∙◌, sym, ap, subst, refl, ℕ, ◌+◌, Bool, true, false, Option}
+use Rattle.std.proofs.Common.{Some, None, [], ◌∷◌, length, length-append, Ok, arith}
 use Rattle.netchange_core.specs.declared.event.Event.{Event}
 use Rattle.netchange_core.specs.declared.message.Message.{Message}
 use Rattle.route_session.specs.declared.link.Got.TheVariants as got

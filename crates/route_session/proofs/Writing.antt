@@ -1,5 +1,6 @@
 -- A writer on its way, and where it ends.
-use Rattle.std.proofs.Common.{◌≡◌, ◌∙◌, sym, ap, subst, refl, ℕ, ◌+◌, ◌-◌, ◌≤◌, Option, List, [], ◌∷◌, ◌++◌, append_assoc, append-nil, length, length-append, Ok, Err, ◌<◌, arith}
+use Rattle.std.proofs.Common.{◌≡◌, ◌∙◌, sym, ap, subst, refl, ℕ, ◌+◌, ◌-◌, ◌≤◌, Option, List, [], ◌∷◌, ◌++◌}
+use Rattle.std.proofs.Common.{append_assoc, append-nil, length, length-append, Ok, Err, ◌<◌, arith}
 use Rattle.std.specs.Prelude.{All, Some, drop, flat_map, slice_get, slice_index_or}
 use Rattle.std.proofs.lemmas.Grind.{flat_map-append}
 use Rattle.std.proofs.lemmas.List.{get_or_push}
@@ -19,7 +20,7 @@ use Rattle.route_session.specs.declared.ends.WriteEnd.{WriteEnd}
 use Rattle.route_session.specs.Calls.{IsFresh, StaysSound, stale, take}
 use Rattle.route_session.specs.declared.link.LinkFault.{LinkFault}
 use Rattle.route_session.specs.Links.{Sent}
-use Rattle.route_session.specs.Told.{Rose, Told, grown}
+use Rattle.route_session.specs.Told.{Rose, Told, grown, refuse, refuse_first}
 use Rattle.route_session.specs.Writes.{Hands, IsWrittenBy, Takes, Writes, carried_by}
 use Rattle.route_session.proofs.Gaining.{IsCalled, fresh_more, gained_none, gained_one, gained_refused, sound_one}
 use Rattle.route_session.proofs.Told.{grown_none, grown_more}
@@ -47,6 +48,7 @@ begins_writing r session p t of = record {
     takes = All-nil (Takes session);
     taken = refl;
     given = grown_none t.given;
+    refused = refl;
     handed = refl;
     is_closed = refl;
   };
@@ -77,6 +79,7 @@ taken_one r session old t n p q u v a unsent i answered k h = record {
   taken = taken_more i.calls (entry (take session) a.reply) i.accepted i.writes.taken
       ∙ ap (λ (l : List Message). i.accepted ++ l) h.in_order ∙ sym (append_assoc i.accepted h.accepted unsent);
   given = h.given ∙ ap (λ (o : Option (List Message)). grown o h.accepted) i.writes.given ∙ grown_more t.given i.accepted h.accepted;
+  refused = h.refused ∙ ap (λ (o : Option (Option Message)). refuse_first o unsent) i.writes.refused;
   handed = h.handed ∙ i.writes.handed;
   is_closed = h.is_closed ∙ i.writes.is_closed;
 }
@@ -144,6 +147,7 @@ hands_none u messages none = record {
   accepted = [];
   in_order = none;
   given = grown_none u.given;
+  refused = refl;
   handed = refl;
   is_closed = refl;
   ended = refl;
@@ -179,6 +183,7 @@ refused_one r session old t n p q u f i h k = record {
   takes = i.writes.takes;
   taken = i.writes.taken;
   given = i.writes.given;
+  refused = i.writes.refused;
   handed = i.writes.handed;
   is_closed = i.writes.is_closed;
 }
@@ -228,6 +233,7 @@ pub record IsSending (t : Told) (messages unsent : List Message) (u : Told) : Ty
   pub accepted : List Message
   pub in_order : messages ≡ accepted ++ unsent
   pub given : u.given ≡ grown t.given accepted
+  pub refused : u.first_refused ≡ t.first_refused
   pub handed : u.handed ≡ t.handed
   pub is_closed : u.closed ≡ t.closed
   pub ended : u.ended ≡ t.ended
@@ -238,6 +244,7 @@ begins_sending t messages = record {
   accepted = [];
   in_order = refl;
   given = grown_none t.given;
+  refused = refl;
   handed = refl;
   is_closed = refl;
   ended = refl;
@@ -251,6 +258,7 @@ sends_on t messages m rest u v i s = record {
   in_order = i.in_order ∙ sym (append_assoc i.accepted (m ∷ []) rest);
   given = ap (λ (w : Told). w.given) s.1 ∙ ap (λ (o : Option (List Message)). grown o (m ∷ [])) i.given
       ∙ grown_more t.given i.accepted (m ∷ []);
+  refused = ap (λ (w : Told). w.first_refused) s.1 ∙ i.refused;
   handed = ap (λ (w : Told). w.handed) s.1 ∙ i.handed;
   is_closed = ap (λ (w : Told). w.closed) s.1 ∙ i.is_closed;
   ended = ap (λ (w : Told). w.ended) s.1 ∙ i.ended;
@@ -263,6 +271,7 @@ sent_all t messages unsent u none i = record {
   accepted = i.accepted;
   in_order = i.in_order;
   given = i.given;
+  refused = i.refused ∙ ap (λ (l : List Message). refuse_first t.first_refused l) (sym none);
   handed = i.handed;
   is_closed = i.is_closed;
   ended = i.ended;
@@ -270,16 +279,17 @@ sent_all t messages unsent u none i = record {
   failed = λ some. absurd (some none);
 }
 
-pub sent_some : (t : Told) (messages unsent : List Message) (m : Message) (u v : Told) (f : LinkFault) → (unsent ≡ [] → ⊥) →
-    IsSending t messages unsent u → Sent u m (Err f) v → Hands t messages unsent v
-sent_some t messages unsent m u v f some i s = record {
+pub sent_some : (t : Told) (messages : List Message) (m : Message) (rest : List Message) (u v : Told) (f : LinkFault) →
+    IsSending t messages (m ∷ rest) u → Sent u m (Err f) v → Hands t messages (m ∷ rest) v
+sent_some t messages m rest u v f i s = record {
   accepted = i.accepted;
   in_order = i.in_order;
   given = ap (λ (w : Told). w.given) s.only ∙ i.given;
+  refused = ap (λ (w : Told). w.first_refused) s.only ∙ ap (λ (o : Option (Option Message)). refuse o m) i.refused;
   handed = ap (λ (w : Told). w.handed) s.only ∙ i.handed;
   is_closed = ap (λ (w : Told). w.closed) s.only ∙ i.is_closed;
   ended = ap (λ (w : Told). w.ended) s.only ∙ i.ended;
-  sent_all = λ none. absurd (some none);
+  sent_all = λ none. absurd cc;
   failed = λ e. subst (λ (before : Option ℕ). Rose before v.failures) i.failures s.rose;
 }
 

@@ -4,7 +4,7 @@ use Rattle.netchange_core.specs.declared.message.Message.{Message}
 use Rattle.route_session.specs.declared.link.Got.{Got}
 use Rattle.route_session.specs.declared.link.Got.TheVariants as got
 use Rattle.route_session.specs.declared.link.LinkFault.{LinkFault}
-use Rattle.route_session.specs.Told.{Rose, Told, counted, ended_now, grown}
+use Rattle.route_session.specs.Told.{Rose, Told, counted, ended_now, grown, refuse}
 
 -- only the count of failures changed, and it rose
 pub record Failed (t u : Told) : Type 0 where
@@ -21,4 +21,4 @@ Received t (Err fault) u = (t.closed ≡ false) × Failed t u
 -- a link with t was given a message, and tells u afterwards; one that is closed fails
 abbrev pub Sent : Told → Message → Result (Unit {0}) LinkFault → Told → Type 0
 Sent t m (Ok done) u = (t.closed ≡ false) × (u ≡ record t { given = grown t.given (m ∷ []) })
-Sent t m (Err fault) u = Failed t u
+Sent t m (Err fault) u = Failed (record t { first_refused = refuse t.first_refused m }) u

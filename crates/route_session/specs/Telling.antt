@@ -15,6 +15,7 @@ abbrev pub memory_told : MemoryLink → Told
 memory_told l = record {
   handed = Some (take l.next l.waiting.items);
   given = Some l.given.items;
+  first_refused = Some l.first_refused;
   nothings = Some 0;
   ended = Some l.has_ended;
   failures = known l.failures;
@@ -23,7 +24,7 @@ memory_told l = record {
 
 -- a link over a channel tells only whether it is closed
 abbrev pub untold : Bool → Told
-untold is_closed = record { handed = None; given = None; nothings = None; ended = None; failures = None; closed = is_closed }
+untold is_closed = record { handed = None; given = None; first_refused = None; nothings = None; ended = None; failures = None; closed = is_closed }
 
 abbrev pub is_closed : End → Bool
 is_closed end.Closed = true

@@ -7,7 +7,7 @@ use Rattle.route_session.specs.declared.ends.Cause.{Cause}
 use Rattle.route_session.specs.declared.ends.Cause.TheVariants as cause
 use Rattle.route_session.specs.declared.ends.WriteEnd.{WriteEnd}
 use Rattle.route_session.specs.Calls.{Gained, IsCauseAt, IsCauseIn, take}
-use Rattle.route_session.specs.Told.{Rose, Told, grown}
+use Rattle.route_session.specs.Told.{Rose, Told, grown, refuse_first}
 use Rattle.slot_lock.specs.Passes.{Fragment}
 use Rattle.slot_lock.specs.Passes.{RouterView}
 
@@ -18,13 +18,15 @@ Takes session e = e.event ≡ take session
 abbrev pub carried_by : Entry → List Message
 carried_by e = carried e.reply
 
--- Each call takes messages of the session. What the replies carried is what the link accepted, and then what is left unsent.
+-- Each call takes messages of the session. What the replies carried is what the link accepted, and then what is left unsent, of which
+-- it did not take the first.
 pub record Writes (session : ℕ) (old : Fragment) (t : Told) (calls : List Entry) (accepted unsent : List Message) (new : Fragment)
     (u : Told) : Type 0 where
   pub gained : Gained old calls new
   pub takes : All (Takes session) calls
   pub taken : flat_map carried_by calls ≡ accepted ++ unsent
   pub given : u.given ≡ grown t.given accepted
+  pub refused : u.first_refused ≡ refuse_first t.first_refused unsent
   pub handed : u.handed ≡ t.handed
   pub is_closed : u.closed ≡ t.closed
 
@@ -44,11 +46,12 @@ pub record IsWrittenBy (r : RouterView) (session : ℕ) (old : Fragment) (t : To
   pub in_history : IsCauseIn end.cause r calls new
   pub at_link : IsCauseAt end.cause t u
 
--- messages are given to a link in order: what it accepted, and then what is left, which is none unless it failed
+-- messages are given to a link in order: what it accepted, and then what is left, which is none unless it failed at the first of it
 pub record Hands (t : Told) (messages unsent : List Message) (u : Told) : Type 0 where
   pub accepted : List Message
   pub in_order : messages ≡ accepted ++ unsent
   pub given : u.given ≡ grown t.given accepted
+  pub refused : u.first_refused ≡ refuse_first t.first_refused unsent
   pub handed : u.handed ≡ t.handed
   pub is_closed : u.closed ≡ t.closed
   pub ended : u.ended ≡ t.ended

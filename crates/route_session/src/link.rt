@@ -24,9 +24,9 @@ pub struct LinkFault;
 
 /// A link to a neighbour, which brings messages and takes messages.
 ///
-/// A contract sees what a link tells of itself, as a `Told`: the messages that it handed out, those that it was given, how often it
-/// answered that no message was there, whether it answered that it has ended, how often it failed, and whether it is closed. A link
-/// keeps count of what it tells, and no clause speaks of what it does not tell.
+/// A contract sees what a link tells of itself, as a `Told`: the messages that it handed out, those that it was given, the first that
+/// it did not take, how often it answered that no message was there, whether it answered that it has ended, how often it failed, and
+/// whether it is closed. A link keeps count of what it tells, and no clause speaks of what it does not tell.
 pub trait Link {
     ghost use Rattle.route_session.specs.Told.{Told, closed};
 
@@ -38,7 +38,7 @@ pub trait Link {
     fn recv<R: Wait>(&mut self, rt: &R) -> Result<Got, LinkFault>
         ensures { Received (told self.old) result (told self.new) };
 
-    /// Gives the link a message to send. May wait for room. A closed link fails.
+    /// Gives the link a message to send. May wait for room. A closed link fails. A link that fails did not take the message.
     fn send<R: Wait>(&mut self, rt: &R, message: Message) -> Result<(), LinkFault>
         ensures { Sent (told self.old) message result (told self.new) };
 

@@ -1,6 +1,7 @@
 //! A link in memory.
 
 ghost use Rattle.std.specs.Prelude.{◌≡◌, ◌+◌, ◌≤◌, false, None, Some, [], vec_len};
+ghost use Rattle.std.specs.Option.{option_or};
 ghost use Rattle.route_session.specs.Told.{Rose};
 
 use crate::link::{Got, Link, LinkFault};
@@ -15,6 +16,7 @@ pub struct MemoryLink {
     waiting: Vec<Message>,
     next: usize,
     given: Vec<Message>,
+    first_refused: Option<Message>,
     calls: u64,
     fails_at: Option<u64>,
     has_ended: bool,
@@ -28,12 +30,13 @@ impl MemoryLink {
 
     /// A link that hands out these messages, and fails at the call of this number, counted from 1 over both directions.
     pub fn new(alloc: Global, waiting: Vec<Message>, fails_at: Option<u64>) -> MemoryLink
-        ensures { memory_told result ≡ record { handed = Some []; given = Some []; nothings = Some 0; ended = Some false; failures = Some 0; closed = false } }
+        ensures { memory_told result ≡ record { handed = Some []; given = Some []; first_refused = Some None; nothings = Some 0; ended = Some false; failures = Some 0; closed = false } }
     {
         MemoryLink {
             waiting,
             next: 0,
             given: Vec::new(alloc),
+            first_refused: None,
             calls: 0,
             fails_at,
             has_ended: false,
@@ -72,6 +75,15 @@ impl MemoryLink {
         self.failures = self.failures.saturating_add(1);
         LinkFault
     }
+
+    /// Counts a failure at a message.
+    fn refuse(&mut self, message: Message) -> LinkFault
+        ensures only { self.new ≡ record self.old { failures = self.new.failures; first_refused = option_or self.old.first_refused (Some message) } }
+        ensures rose { Rose (known self.old.failures) (known self.new.failures) }
+    {
+        self.first_refused = self.first_refused.or(Some(message));
+        self.fault()
+    }
 }
 
 impl Link for MemoryLink {
@@ -102,11 +114,11 @@ impl Link for MemoryLink {
 
     fn send<R: Wait>(&mut self, _rt: &R, message: Message) -> Result<(), LinkFault> {
         if self.is_closed || self.is_to_fail() {
-            return Err(self.fault());
+            return Err(self.refuse(message));
         }
         // A link that finds no memory for a message fails.
         let Ok(()) = self.given.push(message) else {
-            return Err(self.fault());
+            return Err(self.refuse(message));
         };
         Ok(())
     }

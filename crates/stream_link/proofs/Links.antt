@@ -47,8 +47,8 @@ sound_new input output = record {
 module _ (input : Option ReaderView) (output : Option WriterView) (fr lr : Option ReaderView) (fw lw : Option WriterView) (closed : Bool)
     (sound : IsSound input output fr lr fw lw closed) where
   -- what it tells is what the lines say
-  pub told_lines : (end : Option StreamEnd) (line : ℕ) (ended : Bool) (failures : ℕ) → HandsOutLines (link_view fr lr fw lw end line ended failures closed)
-  told_lines end line ended failures = (read_lines fr lr sound.gave, written_lines fw lw sound.got)
+  pub told_lines : (refused : Option (Option Message)) (end : Option StreamEnd) (line : ℕ) (ended : Bool) (failures : ℕ) → HandsOutLines (link_view fr lr fw lw refused end line ended failures closed)
+  told_lines refused end line ended failures = (read_lines fr lr sound.gave, written_lines fw lw sound.got)
 
   -- a reader or a writer that was dropped
   pub without_reader : IsSound None output fr lr fw lw closed
@@ -91,15 +91,15 @@ module _ (input : Option ReaderView) (output : Option WriterView) (fr lr : Optio
     shut = λ e. let bad : None ≡ Some r = sym (sound.shut e).0 ∙ is in absurd cc;
   }
 
-  pub told_read : (end : Option StreamEnd) (line : ℕ) (ended : Bool) (failures : ℕ) (r s : ReaderView) (m : Message) → input ≡ Some r →
-      FitsMessage m → Consumes r.left s.left (message_line m) → Received (link_view fr lr fw lw end line ended failures closed).told
-      (Ok (got.Message m)) (link_view fr (Some s) fw lw end line ended failures closed).told
-  told_read end line ended failures r s m is fits moved =
+  pub told_read : (refused : Option (Option Message)) (end : Option StreamEnd) (line : ℕ) (ended : Bool) (failures : ℕ) (r s : ReaderView) (m : Message) → input ≡ Some r →
+      FitsMessage m → Consumes r.left s.left (message_line m) → Received (link_view fr lr fw lw refused end line ended failures closed).told
+      (Ok (got.Message m)) (link_view fr (Some s) fw lw refused end line ended failures closed).told
+  told_read refused end line ended failures r s m is fits moved =
       let grew : handed_out fr (Some s) ≡ grown (handed_out fr lr) (m ∷ []) =
       said_more (left_of fr) r.left s.left m (gave_so_far r is) fits moved
       ∙ ap (λ l. grown (handed_out fr l) (m ∷ [])) (sym (reads_last r is)) in (
         reads_open r is,
-        ap (λ h. record { handed = h; given = given_to fw lw; nothings = Some 0; ended = Some ended; failures = known failures; closed = closed }) grew,
+        ap (λ h. record { handed = h; given = given_to fw lw; first_refused = refused; nothings = Some 0; ended = Some ended; failures = known failures; closed = closed }) grew,
       )
 
   -- a message was written
@@ -113,13 +113,13 @@ module _ (input : Option ReaderView) (output : Option WriterView) (fr lr : Optio
     shut = λ e. let bad : None ≡ Some w = sym (sound.shut e).1 ∙ is in absurd cc;
   }
 
-  pub told_written : (end : Option StreamEnd) (line : ℕ) (ended : Bool) (failures : ℕ) (w v : WriterView) (m : Message) → output ≡ Some w →
-      FitsMessage m → Appends w.held v.held (message_line m) → Sent (link_view fr lr fw lw end line ended failures closed).told m (Ok tt)
-      (link_view fr lr fw (Some v) end line ended failures closed).told
-  told_written end line ended failures w v m is fits moved =
+  pub told_written : (refused : Option (Option Message)) (end : Option StreamEnd) (line : ℕ) (ended : Bool) (failures : ℕ) (w v : WriterView) (m : Message) → output ≡ Some w →
+      FitsMessage m → Appends w.held v.held (message_line m) → Sent (link_view fr lr fw lw refused end line ended failures closed).told m (Ok tt)
+      (link_view fr lr fw (Some v) refused end line ended failures closed).told
+  told_written refused end line ended failures w v m is fits moved =
       let grew : given_to fw (Some v) ≡ grown (given_to fw lw) (m ∷ []) =
       written_more (held_of fw) w.held v.held m (got_so_far w is) fits moved
       ∙ ap (λ l. grown (given_to fw l) (m ∷ [])) (sym (writes_last w is)) in (
         writes_open w is,
-        ap (λ g. record { handed = handed_out fr lr; given = g; nothings = Some 0; ended = Some ended; failures = known failures; closed = closed }) grew,
+        ap (λ g. record { handed = handed_out fr lr; given = g; first_refused = refused; nothings = Some 0; ended = Some ended; failures = known failures; closed = closed }) grew,
       )

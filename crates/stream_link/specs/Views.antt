@@ -8,7 +8,7 @@ use Rattle.message_streams.specs.declared.ends.StreamEnd.{StreamEnd}
 use Rattle.netchange_core.specs.declared.message.Message.{Message}
 use Rattle.route_session.specs.Links.{Failed}
 use Rattle.route_session.specs.Telling.{known}
-use Rattle.route_session.specs.Told.{Told, ended_now}
+use Rattle.route_session.specs.Told.{Told, ended_now, refuse}
 use Rattle.route_session.specs.declared.link.Got.{Got}
 use Rattle.route_session.specs.declared.link.Got.TheVariants as got
 use Rattle.route_session.specs.declared.link.LinkFault.{LinkFault}
@@ -53,11 +53,13 @@ pub record LinkView : Type 0 where
   pub end : Option StreamEnd
   pub line : ℕ
 
-abbrev pub link_view : Option ReaderView → Option ReaderView → Option WriterView → Option WriterView → Option StreamEnd → ℕ → Bool → ℕ → Bool → LinkView
-link_view first_read last_read first_written last_written end line has_ended failures is_closed = record {
+abbrev pub link_view : Option ReaderView → Option ReaderView → Option WriterView → Option WriterView → Option (Option Message) → Option StreamEnd → ℕ
+    → Bool → ℕ → Bool → LinkView
+link_view first_read last_read first_written last_written first_refused end line has_ended failures is_closed = record {
   told = record {
     handed = handed_out first_read last_read;
     given = given_to first_written last_written;
+    first_refused = first_refused;
     nothings = Some 0;
     ended = Some has_ended;
     failures = known failures;
@@ -73,7 +75,7 @@ link_view first_read last_read first_written last_written end line has_ended fai
 
 -- a link that nothing was asked of
 abbrev pub new_view : Option ReaderView → Option WriterView → LinkView
-new_view input output = link_view input input output output None 0 false 0 false
+new_view input output = link_view input input output output (Some None) None 0 false 0 false
 
 -- the stream gave the lines of these messages, or got them
 pub record GaveLines (first last : Option (List ℕ)) : Type 0 where
@@ -109,6 +111,10 @@ HandsOutLines l = AreLines (Consumes l.first_left l.last_left) l.told.handed × 
 pub record IsOnlyFault (old new : LinkView) : Type 0 where
   pub failed : Failed old.told new.told
   pub others : new ≡ record old { told = new.told }
+
+-- and so after a message that was not taken
+abbrev pub RefusesMessage : LinkView → Message → LinkView → Type 0
+RefusesMessage old m new = IsOnlyFault (record old { told = record old.told { first_refused = refuse old.told.first_refused m } }) new
 
 -- the answer of a link without a reader: that it has ended, or a failure
 abbrev pub AnswersWithout : LinkView → Result Got LinkFault → LinkView → Type 0

@@ -24,6 +24,7 @@ pub struct StreamLink<I: Read, O: Write> {
     // The writer as it was given, and after the message that it wrote last.
     first_written: Snapshot<Option<MessageWriter<O>>>,
     last_written: Snapshot<Option<MessageWriter<O>>>,
+    first_refused: Option<Message>,
     end: Option<StreamEnd>,
     line: u64,
     has_ended: bool,
@@ -32,18 +33,19 @@ pub struct StreamLink<I: Read, O: Write> {
 }
 
 impl<I: Read, O: Write> Model for StreamLink<I, O> {
+    ghost use Rattle.std.specs.Prelude.{Some};
     ghost use Rattle.stream_link.specs.Views.{LinkView, IsSound, link_view};
 
     ghost Value = { LinkView };
 
-    ghost view = { λ l. link_view l.first_read.value l.last_read.value l.first_written.value l.last_written.value l.end l.line l.has_ended l.failures
-        l.is_closed };
+    ghost view = { λ l. link_view l.first_read.value l.last_read.value l.first_written.value l.last_written.value (Some l.first_refused) l.end l.line
+        l.has_ended l.failures l.is_closed };
 
     ghost invariant = { λ l. IsSound l.input l.output l.first_read.value l.last_read.value l.first_written.value l.last_written.value l.is_closed };
 }
 
 impl<I: Read + Drop, O: Write + Drop> StreamLink<I, O> {
-    ghost use Rattle.stream_link.specs.Views.{AnswersWithout, HandsOutLines, IsOnlyFault, new_view};
+    ghost use Rattle.stream_link.specs.Views.{AnswersWithout, HandsOutLines, IsOnlyFault, RefusesMessage, new_view};
 
     /// A link over a reader and a writer, each of which may be left out.
     pub fn new(
@@ -59,6 +61,7 @@ impl<I: Read + Drop, O: Write + Drop> StreamLink<I, O> {
             last_written: Snapshot::of(&output),
             input,
             output,
+            first_refused: None,
             end: None,
             line: 0,
             has_ended: false,
@@ -96,6 +99,14 @@ impl<I: Read + Drop, O: Write + Drop> StreamLink<I, O> {
         LinkFault
     }
 
+    /// Counts a failure at a message.
+    fn refuse(&mut self, message: Message) -> LinkFault
+        ensures { RefusesMessage self.old message self.new }
+    {
+        self.first_refused = self.first_refused.or(Some(message));
+        self.fault()
+    }
+
     /// The answer of a link that has no reader, or none any more.
     fn answer_without_input(&mut self) -> Result<Got, LinkFault>
         ensures { AnswersWithout self.old result self.new }
@@ -131,7 +142,7 @@ impl<I: Read + Drop, O: Write + Drop> Link for StreamLink<I, O> {
 
     fn send<R: Wait>(&mut self, _rt: &R, message: Message) -> Result<(), LinkFault> {
         let Some(writer) = &mut self.output else {
-            return Err(self.fault());
+            return Err(self.refuse(message));
         };
         match writer.write_message(message) {
             Ok(()) => {
@@ -140,7 +151,7 @@ impl<I: Read + Drop, O: Write + Drop> Link for StreamLink<I, O> {
             }
             Err(_) => {
                 self.output = None;
-                Err(self.fault())
+                Err(self.refuse(message))
             }
         }
     }

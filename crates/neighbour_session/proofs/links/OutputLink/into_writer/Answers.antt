@@ -7,4 +7,4 @@ pub returns : goal.returns
 returns g c =
     let i = c.self.inside in
     subst (λ (v : OutputView). GotLinesOf g.T.Target.writer v.told i.output) c.self.view_is
-    (output_lines g.T.Target.writer i.last.value i.output i.failures i.has_ended i.is_closed c.self.invariant)
+    (output_lines g.T.Target.writer i.last.value i.output i.first_refused i.failures i.has_ended i.is_closed c.self.invariant)

@@ -24,11 +24,11 @@ returns-in-Ok g c =
     let is : i.input ≡ Some c.in-Some.reader = search rules in
     let last : c.of.result.value ≡ Some s = search rules in
     let told = told_read i.input i.output i.first_read.value i.last_read.value i.first_written.value i.last_written.value i.is_closed c.self.invariant
-    i.end i.line i.has_ended i.failures c.in-Some.reader s c.in-Ok.message is given.0 given.3 in
+    (Some i.first_refused) i.end i.line i.has_ended i.failures c.in-Some.reader s c.in-Ok.message is given.0 given.3 in
     subst (λ v. Received v.told (Ok (got.Message c.in-Ok.message))
-    (link_view i.first_read.value c.of.result.value i.first_written.value i.last_written.value i.end i.line i.has_ended i.failures i.is_closed).told)
+    (link_view i.first_read.value c.of.result.value i.first_written.value i.last_written.value (Some i.first_refused) i.end i.line i.has_ended i.failures i.is_closed).told)
     c.self.view_is
     (subst (λ l. Received
-    (link_view i.first_read.value i.last_read.value i.first_written.value i.last_written.value i.end i.line i.has_ended i.failures i.is_closed).told
+    (link_view i.first_read.value i.last_read.value i.first_written.value i.last_written.value (Some i.first_refused) i.end i.line i.has_ended i.failures i.is_closed).told
     (Ok (got.Message c.in-Ok.message))
-    (link_view i.first_read.value l i.first_written.value i.last_written.value i.end i.line i.has_ended i.failures i.is_closed).told) (sym last) told)
+    (link_view i.first_read.value l i.first_written.value i.last_written.value (Some i.first_refused) i.end i.line i.has_ended i.failures i.is_closed).told) (sym last) told)

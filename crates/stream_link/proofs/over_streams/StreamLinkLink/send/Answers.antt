@@ -28,11 +28,11 @@ returns-in-Ok g c =
     let is : i.output ≡ Some c.in-Some.writer = search rules in
     let last : c.of.result.value ≡ Some v = search rules in
     let told = told_written i.input i.output i.first_read.value i.last_read.value i.first_written.value i.last_written.value i.is_closed
-    c.self.invariant i.end i.line i.has_ended i.failures c.in-Some.writer v c.args.message is fits written.2 in
+    c.self.invariant (Some i.first_refused) i.end i.line i.has_ended i.failures c.in-Some.writer v c.args.message is fits written.2 in
     subst (λ u. Sent u.told c.args.message (Ok tt)
-    (link_view i.first_read.value i.last_read.value i.first_written.value c.of.result.value i.end i.line i.has_ended i.failures i.is_closed).told)
+    (link_view i.first_read.value i.last_read.value i.first_written.value c.of.result.value (Some i.first_refused) i.end i.line i.has_ended i.failures i.is_closed).told)
     c.self.view_is
     (subst (λ l. Sent
-    (link_view i.first_read.value i.last_read.value i.first_written.value i.last_written.value i.end i.line i.has_ended i.failures i.is_closed).told
+    (link_view i.first_read.value i.last_read.value i.first_written.value i.last_written.value (Some i.first_refused) i.end i.line i.has_ended i.failures i.is_closed).told
     c.args.message (Ok tt)
-    (link_view i.first_read.value i.last_read.value i.first_written.value l i.end i.line i.has_ended i.failures i.is_closed).told) (sym last) told)
+    (link_view i.first_read.value i.last_read.value i.first_written.value l (Some i.first_refused) i.end i.line i.has_ended i.failures i.is_closed).told) (sym last) told)
