@@ -1,5 +1,6 @@
 -- How a configuration is gathered from files, one include after another.
-use Rattle.std.proofs.Common.{◌≡◌, ℕ, ◌+◌, ◌<◌, ◌++◌, suc, Bool, List, [], ◌∷◌, length, map, get_or, Option, Some, if◌then◌else◌, Result, Ok, Err, IfOk}
+use Rattle.std.proofs.Common.{◌≡◌, ℕ, ◌+◌, ◌<◌, ◌++◌, suc, Bool, List, [], ◌∷◌, length, map}
+use Rattle.std.proofs.Common.{get_or, Option, Some, if◌then◌else◌, Result, Ok, Err, IfOk}
 use Rattle.std.proofs.Common.{inl, inr, refl, subst, sym, add-one}
 use Rattle.std.proofs.lemmas.List.{reverse-append}
 use Rattle.std.proofs.lemmas.Option.{slice_get-get_or}

@@ -1,5 +1,6 @@
 -- What comes of the words of a draft, where that of the text which was written for them is known.
-use Rattle.std.proofs.Common.{◌≡◌, ◌<◌, ℕ, zero, suc, false, List, [], ◌∷◌, Option, Some, None, IfErr, IfOk, Result, Ok, Err, arith, get_or, length, slice_get, subst, sym}
+use Rattle.std.proofs.Common.{◌≡◌, ◌<◌, ℕ, zero, suc, false, List, [], ◌∷◌, Option, Some, None, IfErr}
+use Rattle.std.proofs.Common.{IfOk, Result, Ok, Err, arith, get_or, length, slice_get, subst, sym}
 use Rattle.std.proofs.lemmas.Option.{slice_get-get_or}
 use Rattle.bird_import.specs.Indices.{IsNameAt}
 use Rattle.bird_import.specs.Spelling.{IsWritten}
@@ -15,7 +16,8 @@ use Rattle.filter_source.specs.declared.diagnosis.Diagnosis.{Diagnosis}
 use Rattle.filter_source.specs.declared.failure.Failure.{Failure}
 use Rattle.filter_source.specs.declared.failure.Failure.TheVariants as failure
 use Rattle.filter_reports.specs.Explanations.{AreRefusalWords}
-use Rattle.ncroute.specs.Importing.{IsLeftFor, IsMadeOfText, IsMadeOfWords, IsRefusedText, IsToldFor, IsToldUnset, KeepsText, KeepsWords, place_from, text_in}
+use Rattle.ncroute.specs.Importing.{IsLeftFor, IsMadeOfText, IsMadeOfWords, IsRefusedText, IsToldFor}
+use Rattle.ncroute.specs.Importing.{IsToldUnset, KeepsText, KeepsWords, place_from, text_in}
 use Rattle.ncroute.specs.declared.importing.Made.{Made}
 
 -- the text is taken

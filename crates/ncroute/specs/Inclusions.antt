@@ -1,6 +1,7 @@
 -- What becomes of a file that another one includes: the path of it, and why it is left out before it is opened. (Includes are those of the
 -- BIRD 2.0 User's Guide; that each file is included by its own name, and none by itself, is this project's own choice.)
-use Rattle.std.specs.Prelude.{◌≡◌, ◌⊎◌, ◌-◌, ◌++◌, ◌==◌, ◌||◌, ℕ, Bool, true, false, List, [], ◌∷◌, Option, Some, None, IsUtf8, bytes_eq, codes, length, slice_get}
+use Rattle.std.specs.Prelude.{◌≡◌, ◌⊎◌, ◌-◌, ◌++◌, ◌==◌, ◌||◌, ℕ, Bool, true, false, List, [], ◌∷◌}
+use Rattle.std.specs.Prelude.{Option, Some, None, IsUtf8, bytes_eq, codes, length, slice_get}
 use Rattle.std.specs.List.{list_any}
 use Rattle.std.specs.Str.{NoCharPasses}
 use Rattle.command_line.specs.declared.requests.Source.{Source}
@@ -75,7 +76,7 @@ pub record IsLookedFor (config : ConfigView) (name : List ℕ) (source : Source)
 -- why the file of a name is left out before it is looked for
 abbrev pub IsLeft : ConfigView → List ℕ → List ℕ → Type 0
 IsLeft config name why =
-    (¬ (IsUtf8 name) × (why ≡ codes "its name is no text"))
+    (¬ (IsUtf8 name) × (why ≡ codes "its name is not UTF-8"))
     ⊎ (((list_any is_pattern_sign name ≡ true) × (why ≡ codes "include each file by its own name"))
     ⊎ (((last_file config ≡ None) × (why ≡ codes "it was not read"))
     ⊎ ((path : List ℕ) × Names config name path × (is_open config path ≡ true) × (why ≡ codes "the file includes itself"))))

@@ -1,5 +1,6 @@
 -- Where the bytes of a configuration come from: its files, and the stretches of it that are theirs. (This project's own choice.)
-use Rattle.std.specs.Prelude.{◌≡◌, ℕ, ◌+◌, ◌-◌, nat_le, List, [], ◌∷◌, ◌++◌, Bool, Option, Some, None, decimal, map, min, reverse, slice_get, string_bytes}
+use Rattle.std.specs.Prelude.{◌≡◌, ℕ, ◌+◌, ◌-◌, nat_le, List, [], ◌∷◌, ◌++◌, Bool, Option, Some}
+use Rattle.std.specs.Prelude.{None, decimal, map, min, reverse, slice_get, string_bytes}
 use Rattle.std.specs.List.{find}
 use Rattle.filter_reports.specs.Places.{column_at, line_at}
 use Rattle.filter_reports.specs.Shown.{shown}
@@ -48,6 +49,10 @@ config_of whole = record {
   reading = whole.open.items;
   is_partial = whole.is_partial;
 }
+
+-- the texts of files
+abbrev pub texts_of : List FileView → List (List ℕ)
+texts_of = map (λ (file : FileView). file.text)
 
 -- the last element of a list at which a test gives true
 abbrev pub last_such : {A : Type 0} → (A → Bool) → List A → Option A

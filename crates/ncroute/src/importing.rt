@@ -2,8 +2,13 @@
 ghost use Rattle.std.specs.Option.{option_map};
 ghost use Rattle.std.specs.Prelude.{◌≡◌, ◌≤◌, ℕ, false, [], ◌∷◌, ◌++◌, IfOk, IfSome, Ok, OnOk, is_some, length, string_bytes};
 ghost use Rattle.ncroute.specs.Following.{DoesFirst};
-ghost use Rattle.ncroute.specs.Importing.{AreWordsFor, ImportsConfig, ImportsCut, ImportsDraft, ImportsMade, ImportsParts, ImportsRead, ImportsSource, ImportsWords, IsMade, IsMadeOfText, IsMadeOfWords, IsRefusedText, IsToldFor};
-ghost use Rattle.ncroute.specs.Importing.{SavesFilter, SavesText, TellsEnd, TellsStrange, TellsWord, byte_line, end_words, ends_in_slash, fate_words, file_name, file_path, head_of, is_outside, made_line, origin_line, origins_for, outside_line, path_words, place_from, slash_behind, strange_words, text_for, text_in};
+ghost use Rattle.ncroute.specs.Importing.{AreWordsFor, ImportsConfig, ImportsCut, ImportsDraft, ImportsMade};
+ghost use Rattle.ncroute.specs.Importing.{ImportsParts, ImportsRead, ImportsSource, ImportsWords, IsMade};
+ghost use Rattle.ncroute.specs.Importing.{IsMadeOfText, IsMadeOfWords, IsRefusedText, IsToldFor};
+ghost use Rattle.ncroute.specs.Importing.{SavesFilter, SavesText, TellsEnd, TellsStrange, TellsWord, byte_line};
+ghost use Rattle.ncroute.specs.Importing.{end_words, ends_in_slash, fate_words, file_name, file_path, head_of};
+ghost use Rattle.ncroute.specs.Importing.{is_outside, made_line, origin_line, origins_for, outside_line, path_words};
+ghost use Rattle.ncroute.specs.Importing.{place_from, slash_behind, strange_words, text_for, text_in};
 ghost use Rattle.ncroute.specs.Places.{config_of, place_of};
 ghost use Rattle.ncroute.specs.Streaming.{Tells, Writes};
 ghost use Rattle.filter_reports.specs.Check.{IsRefused};
@@ -16,7 +21,8 @@ ghost use Rattle.filter_reports.specs.Explanations.{AreRefusalWords};
 use crate::checking::is_any;
 use crate::console::Console;
 use crate::ending::{FAILED, status_of_found};
-use crate::including::{Whole, push_place, push_texts, read_whole};
+use crate::including::{Whole, push_texts, read_whole};
+use crate::placed::PlacedConfig;
 use crate::texts::{Folder, tell_unmade, tell_unwritten};
 use bird_import::{
     Config, Cut, Draft, Fate, FilterText, Outcome, Why, Word, WordKind, cut_words,
@@ -85,16 +91,16 @@ fn is_outside(from: usize, to: usize, at: usize) -> bool
 fn push_outside(
     alloc: Global,
     head: &mut Vec<u8>,
-    whole: &Whole,
+    placed: &PlacedConfig<'_>,
     draft: &Draft<'_>,
     last: usize,
     at: usize,
 ) -> Result<(), AllocError>
     ensures { OnOk result (head.new.items
-        ≡ head.old.items ++ outside_line (config_of whole.now) draft.now.at draft.now.end last at) }
+        ≡ head.old.items ++ outside_line placed.now draft.now.at draft.now.end last at) }
 {
     if is_outside(draft.at, draft.end, at) && !is_outside(draft.at, draft.end, last) {
-        push_origin(alloc, head, whole, b"# and ", at)
+        push_origin(alloc, head, placed, b"# and ", at)
     } else {
         Ok(())
     }
@@ -103,17 +109,17 @@ fn push_outside(
 /// Where the words of a filter come from, as comments at the head of its text.
 fn head_of(
     alloc: Global,
-    whole: &Whole,
+    placed: &PlacedConfig<'_>,
     draft: &Draft<'_>,
     words: &[Word<'_>],
 ) -> Result<Vec<u8>, AllocError>
-    ensures { IfOk result (λ head. head.items ≡ head_of (config_of whole.now) draft.now.at draft.now.end words.now) }
+    ensures { IfOk result (λ head. head.items ≡ head_of placed.now draft.now.at draft.now.end words.now) }
 {
     let mut head = Vec::new(alloc);
-    push_origin(alloc, &mut head, whole, b"# From ", draft.at)?;
+    push_origin(alloc, &mut head, placed, b"# From ", draft.at)?;
     let mut last = draft.at;
     for word in words {
-        push_outside(alloc, &mut head, whole, draft, last, word.at)?;
+        push_outside(alloc, &mut head, placed, draft, last, word.at)?;
         last = word.at;
     }
     Ok(head)
@@ -123,14 +129,14 @@ fn head_of(
 fn push_origin(
     alloc: Global,
     head: &mut Vec<u8>,
-    whole: &Whole,
+    placed: &PlacedConfig<'_>,
     words: &[u8],
     at: usize,
 ) -> Result<(), AllocError>
-    ensures { OnOk result (head.new.items ≡ head.old.items ++ origin_line words.now (config_of whole.now) at) }
+    ensures { OnOk result (head.new.items ≡ head.old.items ++ origin_line words.now placed.now at) }
 {
     head.extend_from_slice(words)?;
-    push_place(alloc, head, whole, at)?;
+    placed.push_place(alloc, head, at)?;
     head.push(b'\n')?;
     Ok(())
 }
@@ -138,15 +144,15 @@ fn push_origin(
 /// Writes the text of a filter, and verifies it.
 fn make_filter(
     alloc: Global,
-    whole: &Whole,
+    placed: &PlacedConfig<'_>,
     size: u32,
     draft: &Draft<'_>,
     words: &[Word<'_>],
 ) -> Result<Made, AllocError>
-    ensures { IfOk result (IsMadeOfWords size draft.now.at words.now (text_for (config_of whole.now) draft.now.at draft.now.end words.now)
-        (origins_for (config_of whole.now) draft.now.at draft.now.end words.now)) }
+    ensures { IfOk result (IsMadeOfWords size draft.now.at words.now (text_for placed.now draft.now.at draft.now.end words.now)
+        (origins_for placed.now draft.now.at draft.now.end words.now)) }
 {
-    let head = head_of(alloc, whole, draft, words)?;
+    let head = head_of(alloc, placed, draft, words)?;
     let written = write_filter(alloc, head.as_slice(), words)?;
     let fate = written.fate;
     match fate {
@@ -240,12 +246,17 @@ fn verify_filter(
 }
 
 /// What comes of a filter.
-fn make(alloc: Global, whole: &Whole, size: u32, draft: &Draft<'_>) -> Result<Made, AllocError>
-    ensures { IfOk result (IsMade (config_of whole.now) size draft.now) }
+fn make(
+    alloc: Global,
+    placed: &PlacedConfig<'_>,
+    size: u32,
+    draft: &Draft<'_>,
+) -> Result<Made, AllocError>
+    ensures { IfOk result (IsMade placed.now size draft.now) }
 {
     match &draft.outcome {
         Outcome::LeftOut(reason) => left_out(alloc, reason.at, reason.why),
-        Outcome::Drafted(words) => make_filter(alloc, whole, size, draft, words.as_slice()),
+        Outcome::Drafted(words) => make_filter(alloc, placed, size, draft, words.as_slice()),
     }
 }
 
@@ -335,15 +346,15 @@ fn save<F: Folder, R: Read, W: Write, E: Write>(
 /// The line that tells what comes of a filter. `path` is the name of its file, where it has one.
 fn made_line(
     alloc: Global,
-    whole: &Whole,
+    placed: &PlacedConfig<'_>,
     name: &[u8],
     made: &Made,
     path: Option<&str>,
 ) -> Result<Vec<u8>, AllocError>
-    ensures { IfOk result (λ line. line.items ≡ made_line (config_of whole.now) name.now made.now (option_map (λ path. path.now) path.entry)) }
+    ensures { IfOk result (λ line. line.items ≡ made_line placed.now name.now made.now (option_map (λ path. path.now) path.entry)) }
 {
     let mut line = Vec::new(alloc);
-    push_place(alloc, &mut line, whole, made.at)?;
+    placed.push_place(alloc, &mut line, made.at)?;
     line.extend_from_slice(b" filter ")?;
     push_shown(alloc, &mut line, name)?;
     push_path(alloc, &mut line, path)?;
@@ -378,16 +389,16 @@ fn push_fate(line: &mut Vec<u8>, made: &Made) -> Result<(), AllocError>
 /// Tells what comes of a filter. `path` is the name of its file, where it has one.
 fn tell_made<R: Read, W: Write, E: Write>(
     alloc: Global,
-    whole: &Whole,
+    placed: &PlacedConfig<'_>,
     name: &[u8],
     made: &Made,
     path: Option<&str>,
     console: &mut Console<R, W, E>,
 ) -> Result<(), ProgramFault>
-    ensures { OnOk result (Writes (made_line (config_of whole.now) name.now made.now (option_map (λ path. path.now) path.entry))
+    ensures { OnOk result (Writes (made_line placed.now name.now made.now (option_map (λ path. path.now) path.entry))
         console.old console.new) }
 {
-    let line = made_line(alloc, whole, name, made, path)?;
+    let line = made_line(alloc, placed, name, made, path)?;
     console.write(line.as_slice())
 }
 
@@ -395,19 +406,19 @@ fn tell_made<R: Read, W: Write, E: Write>(
 fn save_made<F: Folder, R: Read, W: Write, E: Write>(
     files: &F,
     alloc: Global,
-    whole: &Whole,
+    placed: &PlacedConfig<'_>,
     name: &[u8],
     made: &Made,
     text: &[u8],
     path: &str,
     console: &mut Console<R, W, E>,
 ) -> Result<bool, ProgramFault>
-    ensures { IfOk result (SavesFilter (F.creates files.now) (F.leaves files.now) (config_of whole.now) name.now made.now text.now path.now console.old console.new) }
+    ensures { IfOk result (SavesFilter (F.creates files.now) (F.leaves files.now) placed.now name.now made.now text.now path.now console.old console.new) }
 {
     if !save(files, alloc, path, text, console)? {
         return Ok(true);
     }
-    tell_made(alloc, whole, name, made, Some(path), console)?;
+    tell_made(alloc, placed, name, made, Some(path), console)?;
     Ok(false)
 }
 
@@ -416,22 +427,22 @@ fn import_made<F: Folder, R: Read, W: Write, E: Write>(
     files: &F,
     alloc: Global,
     how: &Importing,
-    whole: &Whole,
+    placed: &PlacedConfig<'_>,
     name: &[u8],
     made: &Made,
     console: &mut Console<R, W, E>,
 ) -> Result<bool, ProgramFault>
-    ensures { IfOk result (ImportsMade (F.creates files.now) (F.leaves files.now) how.now.folder (text_in made.now) (config_of whole.now) name.now made.now
+    ensures { IfOk result (ImportsMade (F.creates files.now) (F.leaves files.now) how.now.folder (text_in made.now) placed.now name.now made.now
         console.old console.new) }
 {
     match (&how.folder, &made.text) {
         (Some(folder), Some(text)) => {
             let path = file_path(alloc, folder.as_str(), name)?;
             let (text, path) = (text.as_slice(), path.as_str());
-            save_made(files, alloc, whole, name, made, text, path, console)
+            save_made(files, alloc, placed, name, made, text, path, console)
         }
         (_, text) => {
-            tell_made(alloc, whole, name, made, None, console)?;
+            tell_made(alloc, placed, name, made, None, console)?;
             Ok(text.is_none())
         }
     }
@@ -442,22 +453,27 @@ fn import_one<F: Folder, R: Read, W: Write, E: Write>(
     files: &F,
     alloc: Global,
     how: &Importing,
-    whole: &Whole,
+    placed: &PlacedConfig<'_>,
     draft: &Draft<'_>,
     console: &mut Console<R, W, E>,
 ) -> Result<bool, ProgramFault>
-    ensures { IfOk result (ImportsDraft (F.creates files.now) (F.leaves files.now) how.now (config_of whole.now) draft.now console.old console.new) }
+    ensures { IfOk result (ImportsDraft (F.creates files.now) (F.leaves files.now) how.now placed.now draft.now console.old console.new) }
 {
-    let made = make(alloc, whole, how.size, draft)?;
-    import_made(files, alloc, how, whole, draft.name, &made, console)
+    let made = make(alloc, placed, how.size, draft)?;
+    import_made(files, alloc, how, placed, draft.name, &made, console)
 }
 
 /// The line that tells of a byte of a configuration.
-fn byte_line(alloc: Global, whole: &Whole, at: usize, words: &str) -> Result<Vec<u8>, AllocError>
-    ensures { IfOk result (λ line. line.items ≡ byte_line (config_of whole.now) at words.now) }
+fn byte_line(
+    alloc: Global,
+    placed: &PlacedConfig<'_>,
+    at: usize,
+    words: &str,
+) -> Result<Vec<u8>, AllocError>
+    ensures { IfOk result (λ line. line.items ≡ byte_line placed.now at words.now) }
 {
     let mut line = Vec::new(alloc);
-    push_place(alloc, &mut line, whole, at)?;
+    placed.push_place(alloc, &mut line, at)?;
     push_texts(&mut line, &[b" ", words.as_bytes(), b"\n"])?;
     Ok(line)
 }
@@ -465,14 +481,14 @@ fn byte_line(alloc: Global, whole: &Whole, at: usize, words: &str) -> Result<Vec
 /// Tells of a byte of a configuration that begins no word, or behind which nothing is known.
 fn tell_byte<R: Read, W: Write, E: Write>(
     alloc: Global,
-    whole: &Whole,
+    placed: &PlacedConfig<'_>,
     at: usize,
     words: &str,
     console: &mut Console<R, W, E>,
 ) -> Result<(), ProgramFault>
-    ensures { OnOk result (Writes (byte_line (config_of whole.now) at words.now) console.old console.new) }
+    ensures { OnOk result (Writes (byte_line placed.now at words.now) console.old console.new) }
 {
-    let line = byte_line(alloc, whole, at, words)?;
+    let line = byte_line(alloc, placed, at, words)?;
     console.write(line.as_slice())
 }
 
@@ -481,16 +497,16 @@ fn import_drafts<F: Folder, R: Read, W: Write, E: Write>(
     files: &F,
     alloc: Global,
     how: &Importing,
-    whole: &Whole,
+    placed: &PlacedConfig<'_>,
     drafts: &[Draft<'_>],
     console: &mut Console<R, W, E>,
 ) -> Result<bool, ProgramFault>
-    ensures { IfOk result (DoesFirst (ImportsDraft (F.creates files.now) (F.leaves files.now) how.now (config_of whole.now)) drafts.now (length drafts.now)
+    ensures { IfOk result (DoesFirst (ImportsDraft (F.creates files.now) (F.leaves files.now) how.now placed.now) drafts.now (length drafts.now)
         console.old console.new) }
 {
     let mut is_left = false;
     for draft in drafts {
-        let one = import_one(files, alloc, how, whole, draft, console)?;
+        let one = import_one(files, alloc, how, placed, draft, console)?;
         is_left = is_any(is_left, one);
     }
     Ok(is_left)
@@ -501,14 +517,14 @@ fn import_parts<F: Folder, R: Read, W: Write, E: Write>(
     files: &F,
     alloc: Global,
     how: &Importing,
-    whole: &Whole,
+    placed: &PlacedConfig<'_>,
     config: &Config<'_>,
     console: &mut Console<R, W, E>,
 ) -> Result<bool, ProgramFault>
-    ensures { IfOk result (ImportsParts (F.creates files.now) (F.leaves files.now) how.now (config_of whole.now) config.now console.old console.new) }
+    ensures { IfOk result (ImportsParts (F.creates files.now) (F.leaves files.now) how.now placed.now config.now console.old console.new) }
 {
     let drafts = make_drafts(alloc, config)?;
-    import_drafts(files, alloc, how, whole, drafts.as_slice(), console)
+    import_drafts(files, alloc, how, placed, drafts.as_slice(), console)
 }
 
 /// Imports the filters among words. Returns whether one of them is left out.
@@ -516,11 +532,11 @@ fn import_words<F: Folder, R: Read, W: Write, E: Write>(
     files: &F,
     alloc: Global,
     how: &Importing,
-    whole: &Whole,
+    placed: &PlacedConfig<'_>,
     words: &[Word<'_>],
     console: &mut Console<R, W, E>,
 ) -> Result<bool, ProgramFault>
-    ensures { IfOk result (ImportsWords (F.creates files.now) (F.leaves files.now) how.now (config_of whole.now) words.now console.old console.new) }
+    ensures { IfOk result (ImportsWords (F.creates files.now) (F.leaves files.now) how.now placed.now words.now console.old console.new) }
 {
     let definitions = find_definitions(alloc, words)?;
     let items = find_items(alloc, words)?;
@@ -529,7 +545,7 @@ fn import_words<F: Folder, R: Read, W: Write, E: Write>(
         definitions: definitions.as_slice(),
         items: items.as_slice(),
     };
-    import_parts(files, alloc, how, whole, &config, console)
+    import_parts(files, alloc, how, placed, &config, console)
 }
 
 /// What is said of a byte that begins no word.
@@ -551,15 +567,15 @@ fn end_words() -> &'static str
 /// Tells of a word if it is a byte that begins none. Returns whether it is.
 fn tell_word<R: Read, W: Write, E: Write>(
     alloc: Global,
-    whole: &Whole,
+    placed: &PlacedConfig<'_>,
     word: &Word<'_>,
     console: &mut Console<R, W, E>,
 ) -> Result<bool, ProgramFault>
-    ensures { IfOk result (TellsWord (config_of whole.now) word.now console.old console.new) }
+    ensures { IfOk result (TellsWord placed.now word.now console.old console.new) }
 {
     match word.kind {
         WordKind::Strange => {
-            tell_byte(alloc, whole, word.at, strange_words(), console)?;
+            tell_byte(alloc, placed, word.at, strange_words(), console)?;
             Ok(true)
         }
         _ => Ok(false),
@@ -569,15 +585,15 @@ fn tell_word<R: Read, W: Write, E: Write>(
 /// Tells of each byte with which no word begins. Returns whether there is one.
 fn tell_strange<R: Read, W: Write, E: Write>(
     alloc: Global,
-    whole: &Whole,
+    placed: &PlacedConfig<'_>,
     words: &[Word<'_>],
     console: &mut Console<R, W, E>,
 ) -> Result<bool, ProgramFault>
-    ensures { IfOk result (TellsStrange (config_of whole.now) words.now console.old console.new) }
+    ensures { IfOk result (TellsStrange placed.now words.now console.old console.new) }
 {
     let mut has_any = false;
     for word in words {
-        let one = tell_word(alloc, whole, word, console)?;
+        let one = tell_word(alloc, placed, word, console)?;
         has_any = is_any(has_any, one);
     }
     Ok(has_any)
@@ -586,15 +602,15 @@ fn tell_strange<R: Read, W: Write, E: Write>(
 /// Tells where the words of a configuration end before its end, if they do. Returns whether they do.
 fn tell_end<R: Read, W: Write, E: Write>(
     alloc: Global,
-    whole: &Whole,
+    placed: &PlacedConfig<'_>,
     end: Option<TokenFault>,
     console: &mut Console<R, W, E>,
 ) -> Result<bool, ProgramFault>
-    ensures { IfOk result (TellsEnd (config_of whole.now) end console.old console.new) }
+    ensures { IfOk result (TellsEnd placed.now end console.old console.new) }
 {
     match end {
         Some(fault) => {
-            tell_byte(alloc, whole, fault.at(), end_words(), console)?;
+            tell_byte(alloc, placed, fault.at(), end_words(), console)?;
             Ok(true)
         }
         None => Ok(false),
@@ -606,16 +622,16 @@ fn import_cut<F: Folder, R: Read, W: Write, E: Write>(
     files: &F,
     alloc: Global,
     how: &Importing,
-    whole: &Whole,
+    placed: &PlacedConfig<'_>,
     cut: &Cut<'_>,
     console: &mut Console<R, W, E>,
 ) -> Result<bool, ProgramFault>
-    ensures { IfOk result (ImportsCut (F.creates files.now) (F.leaves files.now) how.now (config_of whole.now) cut.now.words.items cut.now.end console.old console.new) }
+    ensures { IfOk result (ImportsCut (F.creates files.now) (F.leaves files.now) how.now placed.now cut.now.words.items cut.now.end console.old console.new) }
 {
     let words = cut.words.as_slice();
-    let is_filter_left = import_words(files, alloc, how, whole, words, console)?;
-    let is_strange = tell_strange(alloc, whole, words, console)?;
-    let is_cut = tell_end(alloc, whole, cut.end, console)?;
+    let is_filter_left = import_words(files, alloc, how, placed, words, console)?;
+    let is_strange = tell_strange(alloc, placed, words, console)?;
+    let is_cut = tell_end(alloc, placed, cut.end, console)?;
     Ok(is_filter_left || is_strange || is_cut)
 }
 
@@ -630,7 +646,8 @@ fn import_whole<F: Folder, R: Read, W: Write, E: Write>(
     ensures { IfOk result (ImportsConfig (F.creates files.now) (F.leaves files.now) how.now (config_of whole.now) console.old console.new) }
 {
     let cut = cut_words(alloc, whole.text.as_slice())?;
-    import_cut(files, alloc, how, whole, &cut, console)
+    let placed = PlacedConfig::new(alloc, whole)?;
+    import_cut(files, alloc, how, &placed, &cut, console)
 }
 
 /// The exit status of an import, where something of a configuration that was read is left out or nothing.

@@ -1,20 +1,22 @@
 //! A configuration of BIRD, with the files that it includes in their places.
 ghost use Rattle.std.specs.List.{flat_map, list_any};
 ghost use Rattle.std.specs.Option.{option_map};
-ghost use Rattle.std.specs.Prelude.{◌≡◌, ◌++◌, [], ◌∷◌, IfOk, OnOk, decimal, length, map, slice_get, string_bytes};
+ghost use Rattle.std.specs.Prelude.{◌≡◌, ◌++◌, [], ◌∷◌, IfOk, OnOk, length, map, slice_get, string_bytes};
 ghost use Rattle.bird_import.specs.Including.{Includes, view_of as view_of_include};
-ghost use Rattle.ncroute.specs.Including.{IsConfig, IsText, LeavesOut, PutsFile, PutsIncluded, TakesWithin, bytes_between, closed, include_depth, left_behind, left_line, left_words, long_config};
+ghost use Rattle.ncroute.specs.Including.{IsConfig, IsText, LeavesOut, PutsFile, PutsIncluded, TakesWithin, bytes_between};
+ghost use Rattle.ncroute.specs.Including.{closed, include_depth, left_behind, left_line, left_words, long_config};
 ghost use Rattle.ncroute.specs.Including.{long_config_line, nothing, opened, why_words, with_part};
-ghost use Rattle.ncroute.specs.Inclusions.{IsBeside, IsIncludedPath, IsInclusion, has_path, is_absolute, is_open, is_path, is_pattern_sign, last_file};
-ghost use Rattle.ncroute.specs.Places.{IsAlike, config_of, file_of, path_of, place_in, place_of, stretch_of, view_of};
+ghost use Rattle.ncroute.specs.Inclusions.{IsBeside, IsIncludedPath, IsInclusion, has_path, is_absolute};
+ghost use Rattle.ncroute.specs.Inclusions.{is_open, is_path, is_pattern_sign, last_file};
+ghost use Rattle.ncroute.specs.Places.{IsAlike, config_of, file_of, path_of, place_in, stretch_of, view_of};
 ghost use Rattle.ncroute.specs.Streaming.{Tells};
 
 use crate::console::{Console, Loaded};
 use crate::texts::{Folder, name_of, tell_of};
 use bird_import::{Include, cut_words, find_includes};
 use command_line::Source;
-use filter_reports::{ProgramFault, place_in, push_shown};
-use line_protocol::{INPUT_LIMIT, push_decimal};
+use filter_reports::{ProgramFault, place_in, push_position, push_shown};
+use line_protocol::INPUT_LIMIT;
 use std::alloc::{AllocError, Global};
 use std::io::{Read, Write};
 
@@ -23,22 +25,22 @@ const INCLUDE_DEPTH: u8 = 8;
 
 /// A file of a configuration.
 #[derive(Drop)]
-struct File {
+pub struct File {
     /// Where it is.
-    source: Source,
+    pub source: Source,
     /// Its text.
-    text: Vec<u8>,
+    pub text: Vec<u8>,
 }
 
 /// A stretch of a configuration that comes from one file.
 #[derive(Clone, Copy)]
-struct Stretch {
+pub struct Stretch {
     /// The place of its first byte in the configuration.
-    from: usize,
+    pub from: usize,
     /// The index of its file.
-    file: usize,
+    pub file: usize,
     /// The place of its first byte in the file.
-    at: usize,
+    pub at: usize,
 }
 
 /// A configuration with the files that it includes in their places.
@@ -47,9 +49,9 @@ pub struct Whole {
     /// Its text.
     pub text: Vec<u8>,
     /// Where the text comes from, in order.
-    stretches: Vec<Stretch>,
+    pub stretches: Vec<Stretch>,
     /// The files.
-    files: Vec<File>,
+    pub files: Vec<File>,
     /// The indexes of the files that are being read, each of which includes the next one.
     open: Vec<usize>,
     /// Something of it was not read.
@@ -67,7 +69,7 @@ pub fn push_texts(out: &mut Vec<u8>, texts: &[&[u8]]) -> Result<(), AllocError>
 }
 
 /// The stretch that a byte of a configuration is in.
-fn stretch_of(whole: &Whole, byte: usize) -> Option<Stretch>
+pub fn stretch_of(whole: &Whole, byte: usize) -> Option<Stretch>
     ensures { result ≡ stretch_of whole.now.stretches.items byte }
 {
     let mut found = None;
@@ -77,24 +79,6 @@ fn stretch_of(whole: &Whole, byte: usize) -> Option<Stretch>
         }
     }
     found
-}
-
-/// Puts the file, the line and the column of a byte of a configuration at the end of `out`.
-pub fn push_place(
-    alloc: Global,
-    out: &mut Vec<u8>,
-    whole: &Whole,
-    byte: usize,
-) -> Result<(), AllocError>
-    ensures { OnOk result (out.new.items ≡ out.old.items ++ place_of (config_of whole.now) byte) }
-{
-    match stretch_of(whole, byte) {
-        Some(stretch) => {
-            let at = stretch.at.saturating_add(byte.saturating_sub(stretch.from));
-            push_file_place(alloc, out, whole.files.get(stretch.file), at)
-        }
-        None => Ok(()),
-    }
 }
 
 /// Puts the name of a file, and the line and the column of a byte of it, at the end of `out`, if there is a file.
@@ -110,19 +94,10 @@ fn push_file_place(
         Some(file) => {
             let place = place_in(file.text.as_slice(), at);
             push_shown(alloc, out, name_of(&file.source))?;
-            push_number(out, place.line)?;
-            push_number(out, place.column)
+            push_position(out, place.line, place.column)
         }
         None => Ok(()),
     }
-}
-
-/// Puts a number behind a colon at the end of `out`.
-fn push_number(out: &mut Vec<u8>, number: usize) -> Result<(), AllocError>
-    ensures { OnOk result (out.new.items ≡ out.old.items ++ 58 ∷ decimal number) }
-{
-    out.push(b':')?;
-    push_decimal(out, number as u64)
 }
 
 /// The bytes of a text from a place to another; none where the text has no such places.
@@ -257,7 +232,7 @@ fn inclusion_of(alloc: Global, whole: &Whole, name: &[u8]) -> Result<Inclusion, 
     ensures { IfOk result (IsInclusion (config_of whole.now) name.now) }
 {
     let Ok(name) = str::from_utf8(name) else {
-        return Ok(Inclusion::Left("its name is no text"));
+        return Ok(Inclusion::Left("its name is not UTF-8"));
     };
     if has_pattern_sign(name.as_bytes()) {
         return Ok(Inclusion::Left("include each file by its own name"));

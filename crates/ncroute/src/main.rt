@@ -15,6 +15,7 @@ mod lines;
 mod linting;
 mod loading;
 mod network;
+mod placed;
 mod planning;
 mod replay;
 mod requests;

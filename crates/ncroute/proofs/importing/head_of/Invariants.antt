@@ -1,9 +1,8 @@
 use Rattle.std.proofs.Common.{◌≡◌, ◌++◌, drop}
 use Rattle.ncroute.specs.Importing.{head_of, outside_lines}
-use Rattle.ncroute.specs.Places.{config_of}
 use Rattle.ncroute.proofs.importing.head_of.Given as goal
 
 -- the comments of the words that are left make the head whole
 abbrev pub invariant-loop-word : goal.invariant-loop-word
-invariant-loop-word l = l.head.items ++ outside_lines (config_of l.whole) l.draft.at l.draft.end l.last (drop l.word-index l.words)
-    ≡ head_of (config_of l.whole) l.draft.at l.draft.end l.words
+invariant-loop-word l = l.head.items ++ outside_lines l.placed l.draft.at l.draft.end l.last (drop l.word-index l.words)
+    ≡ head_of l.placed l.draft.at l.draft.end l.words
