@@ -10,7 +10,8 @@ use Rattle.router_operator.specs.Running.{IsBrokenOff, IsServed}
 use Rattle.router_options.specs.PlanView.{PlanView}
 use Rattle.slot_lock.specs.Passes.{PassView, RouterView}
 use Rattle.router_daemon.specs.Passes.{IsLegalPass}
-use Rattle.router_daemon.specs.Running.{Fails, HasOperator, IsEarly, IsOpened, IsWhy, Operated, Operates, RunsAsOne, RunsOperator, Saves, SavesTo, operator_of}
+use Rattle.router_daemon.specs.Running.{Fails, HasOperator, IsEarly, IsOpened, IsWhy, Operated, Operates}
+use Rattle.router_daemon.specs.Running.{RunsAsOne, RunsOperator, Saves, SavesTo, operator_of}
 use Rattle.router_daemon.specs.Uses.{BeginsWithFilters}
 use Rattle.router_daemon.specs.declared.fault.DaemonFault.{DaemonFault}
 use Rattle.router_daemon.specs.declared.fault.DaemonFault.TheVariants as fault

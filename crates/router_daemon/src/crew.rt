@@ -53,7 +53,7 @@ impl<'a> Gate for LinkCrew<'a> {
         let taken = messages.as_slice().len();
         let mut board = self.signals.board.lock(rt);
         board.note_taken(self.link, answer.at, taken, usize::from(MOST_TAKEN));
-        self.signals.wake(board);
+        self.signals.wake_saver(board);
     }
 }
 

@@ -139,7 +139,7 @@ fn tell_of_file<R: Wait, J: Naming, E: Write>(
 }
 
 /// Serves a session of a link that began: orders that it is written, enters what the neighbour says, and waits until nobody uses the
-/// streams any more. Tells why it is over. Why it is, and the pass of who wrote.
+/// streams any more. Tells people why it is over, and answers that and the pass of the writer.
 fn serve_begun<R: Wait + Clock, I: Read + Drop, O: Write + Drop, J: Naming, E: Write>(
     rt: &R,
     alloc: Global,
@@ -199,8 +199,8 @@ fn serve_opened<R: Wait + Clock, I: Read + Drop, O: Write + Drop, J: Naming, E: 
     (why, ticket)
 }
 
-/// Serves a neighbour that greeted as it has to: enters its Up, has the session written, enters what it says, and enters Down when it
-/// is over. Why it is.
+/// Serves a neighbour whose greeting was accepted: enters its Up, has the session written, enters what it says, and enters Down when it
+/// is over. Answers why it is.
 fn serve_neighbour<R: Wait + Clock, I: Read + Drop, O: Write + Drop, J: Naming, E: Write>(
     rt: &R,
     alloc: Global,

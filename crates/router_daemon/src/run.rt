@@ -55,6 +55,7 @@ fn begin_saving<
     let Some(file) = save else {
         return Ok(None);
     };
+    // Never so: a router is opened with 65,536 shares, far more than are given away. No clause says that here.
     if pass.shares() < 2 {
         return Err(DaemonFault::Memory);
     }
@@ -113,6 +114,7 @@ fn serve_all<
         (W.contents writer.old) (W.contents writer.new) operated.ticket.pass)) }
     ensures untouched { OnErr result ((reader.new ≡ reader.old) × (writer.new ≡ writer.old)) }
 {
+    // Never so: a router is opened with 65,536 shares, far more than are given away. No clause says that here.
     if pass.shares() < 2 {
         return Err(AllocError);
     }

@@ -29,6 +29,13 @@ fn bells_of(alloc: Global, count: usize) -> Result<Vec<Condvar>, AllocError> {
     Ok(bells)
 }
 
+/// Wakes who saves the history, if the board says so.
+fn ring_saver(board: &mut Board, saver_bell: &Condvar) {
+    if board.wakes_saver() {
+        saver_bell.notify_one();
+    }
+}
+
 /// Wakes whom the board says.
 fn ring(board: &mut Board, bells: &[Condvar], saver_bell: &Condvar) {
     for index in 0..bells.len() {
@@ -36,9 +43,7 @@ fn ring(board: &mut Board, bells: &[Condvar], saver_bell: &Condvar) {
             bells[index].notify_one();
         }
     }
-    if board.wakes_saver() {
-        saver_bell.notify_one();
-    }
+    ring_saver(board, saver_bell);
 }
 
 impl Signals {
@@ -56,14 +61,25 @@ impl Signals {
         ring(&mut board, self.bells.as_slice(), &self.saver_bell);
     }
 
+    /// Wakes who saves the history, if the board says so, and lets go of it. That is enough where nothing came into a queue and no session
+    /// began or ended: then no writer is to be woken, and the links, which may be many, need not be looked at.
+    pub(crate) fn wake_saver(&self, mut board: MutexGuard<'_, Board>) {
+        ring_saver(&mut board, &self.saver_bell);
+    }
+
     /// Notes the answer to a call: where it changed a distance, something waits for each neighbour.
     pub(crate) fn note<R: Wait>(&self, rt: &R, answer: &Answer) {
         let mut board = self.board.lock(rt);
         match answer.reply {
-            Reply::Done { changed } if changed > 0 => board.note_changed(answer.at),
-            _ => board.note_entry(answer.at),
+            Reply::Done { changed } if changed > 0 => {
+                board.note_changed(answer.at);
+                self.wake(board);
+            }
+            _ => {
+                board.note_entry(answer.at);
+                self.wake_saver(board);
+            }
         }
-        self.wake(board);
     }
 
     /// The session of a link, if one is there.

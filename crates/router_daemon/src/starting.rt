@@ -115,6 +115,7 @@ fn take_part<J: Naming, E: Write>(
     requires { IsLegalPass J.router pass.old }
     ensures { IsLegalPass J.router pass.new }
 {
+    // Never so: 65,536 shares are enough for 249 links. No clause says that here.
     if pass.shares() <= SHARES {
         return Err(AllocError);
     }

@@ -1,5 +1,6 @@
 -- The forms of a router's options. (This project's own choice.)
-use Rattle.std.specs.Prelude.{◌≡◌, ◌==◌, ◌&&◌, ℕ, Bool, true, false, not, nat_lt, List, length, Option, Some, None, if◌then◌else◌, is_some, string_bytes}
+use Rattle.std.specs.Prelude.{◌≡◌, ◌==◌, ◌&&◌, ℕ, Bool, true, false, not, nat_lt, List, length}
+use Rattle.std.specs.Prelude.{Option, Some, None, if◌then◌else◌, is_some, string_bytes}
 use Rattle.std.specs.List.{after_first, before_first, position_or_len}
 use Rattle.line_protocol.specs.Limits.{number_limit}
 use Rattle.operator_cmds.specs.Names.{is_name}

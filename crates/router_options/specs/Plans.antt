@@ -1,5 +1,6 @@
 -- What an option adds to what a router is told, or why it is refused. (This project's own choice.)
-use Rattle.std.specs.Prelude.{◌≡◌, ℕ, ◌+◌, ◌&&◌, Bool, true, false, nat_le, nat_lt, List, [], ◌∷◌, ◌++◌, Option, Some, None, String, slice_set, string_bytes}
+use Rattle.std.specs.Prelude.{◌≡◌, ℕ, ◌+◌, ◌&&◌, Bool, true, false, nat_le, nat_lt, List, []}
+use Rattle.std.specs.Prelude.{◌∷◌, ◌++◌, Option, Some, None, String, slice_set, string_bytes}
 use Rattle.std.specs.declared.alloc.Global.{Global}
 use Rattle.filter_code.specs.Limits.{smallest_size, largest_size}
 use Rattle.netchange_core.specs.OpeningView.{OpeningView}

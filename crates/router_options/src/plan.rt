@@ -6,16 +6,12 @@ ghost use Rattle.router_options.specs.declared.fault.OptionFault.TheVariants as 
 
 use crate::fault::{NodeFault, NumberFault, OptionFault};
 use crate::parts::{FilterUse, LinkFiles, NodePrefix};
+use filter_code::{LARGEST_SIZE, SMALLEST_SIZE};
 use netchange_core::Opening;
 use operator_cmds::default_prefixes;
 use route_history::LARGEST_LIMIT;
 use std::alloc::Global;
 use std::marker::Model;
-
-/// The least and the most nodes of a domain.
-const SMALLEST_SIZE: u32 = 2;
-
-const LARGEST_SIZE: u32 = 250;
 
 /// The numbers of a router, as they are given.
 #[derive(Clone, Copy, PartialEq, Eq)]

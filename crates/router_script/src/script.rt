@@ -207,7 +207,7 @@ impl Script {
     {
         match command {
             Command::Network(network) => self.set_up(alloc, number, network, out),
-            Command::Prefix { node, prefix } => self.set_prefix(alloc, number, node, prefix, out),
+            Command::Prefix { node, prefix } => self.set_prefix(number, node, prefix, out),
             Command::Load { name, text } => {
                 self.load(alloc, number, name, FilterSource::Text(text), out)
             }
@@ -271,7 +271,6 @@ impl Script {
     /// Answers `prefix`: sets the prefix of a node, as long as no journal is open.
     fn set_prefix(
         &mut self,
-        alloc: Global,
         number: u32,
         node: u16,
         prefix: Prefix,
@@ -287,7 +286,7 @@ impl Script {
                 if node >= setup.opening.size() {
                     return refuse(out, CommandFault::Numbers.code(), u64::from(number));
                 }
-                setup.set_prefix(alloc, node, prefix)?;
+                setup.set_prefix(node, prefix);
                 confirm(out)
             }
             Stage::Open(_) => refuse(out, StateFault::TooLate.code(), u64::from(number)),

@@ -31,6 +31,8 @@ pub enum Stage {
 }
 
 impl Setup {
+    ghost use Rattle.operator_cmds.specs.Stages.{new_journal};
+
     /// A domain with the default prefixes.
     pub fn new(alloc: Global, network: Network) -> Result<Setup, AllocError>
         ensures { IfOk result (λ setup. (setup.opening ≡ spec.default_opening network.size network.me)
@@ -45,21 +47,13 @@ impl Setup {
     }
 
     /// Sets the prefix of a node.
-    pub fn set_prefix(&mut self, alloc: Global, node: u16, prefix: Prefix) -> Result<(), AllocError>
+    pub fn set_prefix(&mut self, node: u16, prefix: Prefix)
         requires { node < self.old.opening.size }
-        ensures opening { OnOk result (self.new.opening ≡
-            record self.old.opening { prefixes = slice_set self.old.opening.prefixes node prefix }) }
-        ensures limit { OnOk result (self.new.limit ≡ self.old.limit) }
+        ensures opening { self.new.opening ≡ record self.old.opening { prefixes = slice_set self.old.opening.prefixes node prefix } }
+        ensures limit { self.new.limit ≡ self.old.limit }
     {
-        let mut prefixes = Vec::from_slice(alloc, self.opening.prefixes())?;
-        prefixes[usize::from(node)] = prefix;
-        self.opening = Opening::new(self.opening.size(), self.opening.me(), prefixes).unwrap();
-        Ok(())
+        self.opening.set_prefix(node, prefix);
     }
-}
-
-impl Setup {
-    ghost use Rattle.operator_cmds.specs.Stages.{new_journal};
 
     /// The journal that the first event finds.
     pub fn open(&self, alloc: Global) -> Result<Journal, AllocError>
