@@ -93,7 +93,7 @@ class Daemon:
             out.writelines(f"  route {net} blackhole {{ rip_metric = {metric}; }};\n" for net, metric in routes.items())
             out.write("}\n")
         self.process = subprocess.Popen(["bird", "-f", "-c", path, "-s", self.control])
-        while not os.path.exists(self.control):
+        while not os.path.exists(self.control) and self.process.poll() is None:
             time.sleep(0.05)
 
     def ask(self, question):

@@ -3,10 +3,11 @@
 
 usage: compare.py PROVED PLAIN COMMAND ROUNDS INPUT..
 
-Each program is started with the words of COMMAND (`eval`, `run`, `domain` or `check --size N`) and an input file as its standard input. Where the two differ in output or
-exit status, that is said and the status is 1; nothing is timed then. Otherwise they are run ROUNDS times each, by
-turns, and the least and the median time of each are printed with the ratio PROVED / PLAIN. A time is the processor time
-of the whole process, with its output to the null device. Where valgrind stands, their instructions are printed too.
+Each program is started with the words of COMMAND (`eval`, `run`, `domain` or `check --size N`) and an input file as its standard
+input. Where the two differ in output or exit status, that is said and the status is 1; nothing is timed then. Otherwise they are
+run ROUNDS times each, by turns, and the least and the median time of each are printed with the ratio PROVED / PLAIN. A time is the
+processor time of the whole process, with its output to the null device. Where valgrind is installed, their instructions are
+printed too.
 """
 import os
 import re
@@ -26,7 +27,8 @@ def answer(command, path):
 def seconds(command, path):
     """The processor time that a command takes, so that other work on the machine counts little."""
     with open(path, "rb") as given, open(os.devnull, "wb") as null:
-        actions = [(os.POSIX_SPAWN_DUP2, given.fileno(), 0), (os.POSIX_SPAWN_DUP2, null.fileno(), 1)]
+        # Standard error too: on a terminal `ncroute` would say there why each line is refused, and the plain program would not.
+        actions = [(os.POSIX_SPAWN_DUP2, file.fileno(), at) for at, file in enumerate((given, null, null))]
         started = os.posix_spawn(command[0], command, os.environ, file_actions=actions)
         _, _, used = os.wait4(started, 0)
         return used.ru_utime + used.ru_stime

@@ -40,6 +40,8 @@ def taken(words):
 
 
 def main():
+    if len(sys.argv) != 3:
+        sys.exit(__doc__)
     program, runs = os.path.abspath(sys.argv[1]), int(sys.argv[2])
     numbers = Numbers(7)
     short, other, long = (list(patterns(numbers, count)) for count in (290, 290, 1024))
@@ -64,4 +66,5 @@ def main():
             print(f"| {name} | {size} | {min(said)[0] * 1000:,.0f} | `{said[0][1].replace(folder + '/', '')}` |", flush=True)
 
 
-main()
+if __name__ == "__main__":
+    main()

@@ -85,6 +85,8 @@ def report(unit, rows, least):
 
 
 def main():
+    if len(sys.argv) != 3:
+        sys.exit(__doc__)
     program, runs = os.path.abspath(sys.argv[1]), int(sys.argv[2])
     numbers = Numbers(32)
     with tempfile.TemporaryDirectory() as folder:
@@ -104,4 +106,5 @@ def main():
     report("Patterns", of_patterns, least)
 
 
-main()
+if __name__ == "__main__":
+    main()

@@ -15,7 +15,8 @@ ratio to the plain machine's. In place of time, `instructions` counts by valgrin
 import os
 import sys
 
-from compare import answer, instructions, seconds
+from compare import instructions, seconds
+from router import words_said
 
 
 def commands(programs, rounds):
@@ -29,13 +30,6 @@ def commands(programs, rounds):
         machines["C switch"] = [in_c, "switch", str(rounds)]
         machines["C threaded"] = [in_c, "threaded", str(rounds)]
     return machines
-
-
-def words_said(command, path):
-    output, status = answer(command, path)
-    if status != 0:
-        sys.exit(f"{' '.join(command)}: status {status}")
-    return output.split()
 
 
 def a_round(programs, path):

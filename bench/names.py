@@ -51,6 +51,8 @@ def script(names):
 
 
 def main():
+    if len(sys.argv) != 2:
+        sys.exit(__doc__)
     command = [os.path.abspath(sys.argv[1]), "run"]
     kinds = [
         ("as they come", [b"N%07d" % (number * 7919 % 10_000_000) for number in range(NAMES)]),
@@ -73,4 +75,5 @@ def main():
             print(f"| {kind} | {count / 1e6:.1f} | {count / first:.2f} |", flush=True)
 
 
-main()
+if __name__ == "__main__":
+    main()

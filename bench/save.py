@@ -44,4 +44,6 @@ def main(program, rounds, *scripts):
 
 
 if __name__ == "__main__":
+    if len(sys.argv) < 4:
+        sys.exit(__doc__)
     sys.exit(main(sys.argv[1], int(sys.argv[2]), *sys.argv[3:]))

@@ -14,8 +14,9 @@ import sys
 import tempfile
 import time
 
-import bird_filters
-from program import finish
+sys.dont_write_bytecode = True
+import bird_filters  # noqa: E402
+from program import finish  # noqa: E402
 
 HEAD = 'log "{folder}/log" all;\nrouter id 1.2.3.4;\n'
 

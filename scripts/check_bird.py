@@ -9,8 +9,9 @@ import subprocess
 import sys
 import tempfile
 
-import bird_filters
-from program import finish
+sys.dont_write_bytecode = True
+import bird_filters  # noqa: E402
+from program import finish  # noqa: E402
 
 SIZE = "250"
 

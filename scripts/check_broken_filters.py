@@ -1,7 +1,7 @@
 #!/usr/bin/env python3
 """Runs each example of the documents that takes a filter from a file into a router or a domain, in a copy of the repository where each
-filter in `examples/` has a mistake: no neighbour comes up, and no route is found. Prints a line for each example where that is not so, and
-at last 'N passed, M failed'.
+filter in `examples/` has a mistake: no neighbour comes up, and no route is found. In a copy without a mistake one does, or one is. Prints a
+line for each example where that is not so, and at last 'N passed, M failed'.
 
 usage: NCROUTE=PATH scripts/check_broken_filters.py     (PATH: the program)
 """
@@ -19,6 +19,7 @@ TOP = os.path.realpath(os.path.join(os.path.dirname(os.path.abspath(__file__)), 
 TAKES_FILTER = re.compile(r"examples/\w+\.filter.*\bncroute (run|domain)\b|\bncroute run\b.*examples/\w+\.filter")
 IN_FORCE = re.compile(r"^(opened \d+|done [1-9]\d*|route \d+ via \d+|path \d.*)$", re.M)
 MISTAKES = {"a word that is none": ("accept;", "acept;"), "a division by zero": ("accept;", "rip_metric = 1 / 0; accept;")}
+NO_MISTAKE = {"no mistake": ("accept;", "accept;")}
 
 
 def examples():
@@ -40,23 +41,24 @@ def main():
     with tempfile.TemporaryDirectory() as folder:
         os.mkdir(os.path.join(folder, "bin"))
         os.symlink(os.path.realpath(program), os.path.join(folder, "bin", "ncroute"))
-        for name, (right, wrong) in MISTAKES.items():
+        for name, (right, wrong) in {**NO_MISTAKE, **MISTAKES}.items():
             copy = os.path.join(folder, str(passed + failed))
             shutil.copytree(os.path.join(TOP, "examples"), os.path.join(copy, "examples"))
             for path in glob.glob(os.path.join(copy, "examples", "*.filter")):
                 with open(path, encoding="utf-8") as it:
                     text = it.read()
+                assert right in text, path
                 with open(path, "w", encoding="utf-8") as it:
                     it.write(text.replace(right, wrong))
             words = {**os.environ, "PATH": os.path.join(folder, "bin") + os.pathsep + os.environ["PATH"]}
             for page, command in examples():
                 run = subprocess.run(["bash", "-c", command], cwd=copy, env=words, stdout=subprocess.PIPE, stderr=subprocess.DEVNULL, text=True)
                 found = IN_FORCE.search(run.stdout)
-                if found:
-                    failed += 1
-                    print(f"{page}: with {name} `{command}` answers {found[0]!r}")
-                else:
+                if bool(found) == (name in NO_MISTAKE):
                     passed += 1
+                else:
+                    failed += 1
+                    print(f"{page}: with {name} `{command}` answers {found[0] if found else run.stdout!r}")
     if not passed:
         failed += 1
         print("no example takes a filter from a file")

@@ -1,10 +1,11 @@
 #!/usr/bin/env python3
-"""Runs what the documents show, and compares. Prints a line a document, and at last 'N passed, M failed'.
+"""Runs what the documents show, and compares. Prints a line for each document, and at last 'N passed, M failed'.
 
 usage: scripts/check_documents.py        (NCROUTE=PATH: the program; without it, the sources as they are, by `rt try`)
 
 - Each example: a line `    $ COMMAND` of README.md or docs/*.md, run where the examples of the repository are, writes the indented lines below it. One that
-  looks at standard error (`2>&1`), names a file of a filter (`ncroute filter`) or runs a router (`ncroute router`) needs the program, and is left out without NCROUTE=PATH.
+  looks at standard error (`2>&1`), names the file of a filter or a history other than behind `<` (as `ncroute filter` and `ncroute lint` do), or runs
+  a router (`ncroute router`) needs the program, and is left out without NCROUTE=PATH.
 - Each block of several terminals (`    one$ COMMAND`, `    one> LINE`, `    one: LINE`), played as scripts/terminals.py says, needs the program too.
 - Each example that hands a filter from `ncroute check` on to another `ncroute` does nothing, and fails, with a filter that is refused.
 - The table of the examples in docs/LANGUAGE.md: each filter of examples/ answers the route so.
@@ -13,6 +14,7 @@ usage: scripts/check_documents.py        (NCROUTE=PATH: the program; without it,
   refuses it as the listing says (`V3 at 6`), or verifies it. If a line of hexadecimal follows, it is that file.
 - Each link of a document to a file of the repository, or to a heading of a document, leads there.
 """
+import collections
 import glob
 import os
 import re
@@ -146,10 +148,11 @@ def without_code(text):
 
 def anchors(text):
     """The names of a document's headings, as links write them."""
-    found = []
+    found, times = [], collections.Counter()
     for heading in re.findall(r"^#+ +(.*)$", re.sub(r"^```.*?^```", "", text, flags=re.M | re.S), flags=re.M):
         name = re.sub(r"[^\w\- ]", "", heading.strip().lower()).replace(" ", "-")
-        found.append(name if name not in found else f"{name}-{sum(other.startswith(name) for other in found)}")
+        found.append(f"{name}-{times[name]}" if times[name] else name)
+        times[name] += 1
     return found
 
 
@@ -177,6 +180,7 @@ def main():
 
     def tell(name, kind, rows):
         nonlocal passed, failed
+        rows = rows or [(kind, "there are none")]
         wrong = [row for row in rows if row[1]]
         passed += len(rows) - len(wrong)
         failed += len(wrong)

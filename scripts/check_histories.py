@@ -1,7 +1,7 @@
 #!/usr/bin/env python3
 """Kills `ncroute run --save` 200 times at random moments, and sees what is left: each line of the file but the last is whole, each event that
-was answered is there, and `ncroute replay` finds all replies right up to the last whole line. Prints a line for each run of which that is not
-so, and at last 'N passed, M failed'.
+was answered is there, and `ncroute replay` finds all replies right up to the last whole line. Prints a line for each run where this does
+not hold, and at last 'N passed, M failed'.
 
 usage: NCROUTE=PATH scripts/check_histories.py [RUNS [SEED]]     (PATH: the program; 200 runs, of seed 1)
 """
@@ -14,8 +14,6 @@ import tempfile
 import time
 
 TOP = os.path.realpath(os.path.join(os.path.dirname(os.path.abspath(__file__)), ".."))
-sys.dont_write_bytecode = True
-sys.path.insert(0, os.path.join(TOP, "bench"))
 
 # The words with which the answers to events begin, whether the router refuses them or not.
 REPLIES = (b"opened ", b"done ", b"messages", b"route ", b"refused N")
@@ -82,7 +80,7 @@ def main(runs=200, seed=1):
     with tempfile.TemporaryDirectory() as folder:
         script = os.path.join(folder, "script")
         with open(script, "wb") as it:
-            made = [sys.executable, os.path.join(TOP, "bench", "script.py"), "mixed", "16", str(LINES)]
+            made = [sys.executable, "-B", os.path.join(TOP, "bench", "script.py"), "mixed", "16", str(LINES)]
             subprocess.run(made, stdout=it, check=True)
         _, status = seconds_of(program, script, os.path.join(folder, "all"))
         if status not in (0, 1):

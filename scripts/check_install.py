@@ -21,6 +21,10 @@ import program  # noqa: E402
 INSTALL = os.path.join(program.TOP, "scripts", "install.sh")
 FILTERS = sorted(glob.glob(os.path.join(program.TOP, "examples", "*.filter")))
 
+# The words of BIRD that are refused by name.
+LEFT_OUT = """function define print printn return include string pair quad ec lc bgppath bgpmask clist eclist lclist set from proto preference
+source""".split()
+
 # What a token is, by its text; the first that fits.
 TOKENS = (
     ("comment", r"#[^\n]*|/\*.*?\*/"),
@@ -32,13 +36,13 @@ TOKENS = (
     ("kind", r"\b(?:int|bool|ip|prefix)\b"),
     ("truth", r"\b(?:true|false)\b"),
     ("route", r"\b(?:net|rip_metric|defined)\b"),
-    ("left out", r"\bprint\b"),
+    ("left out", rf"\b(?:{'|'.join(LEFT_OUT)})\b"),
     ("name", r"[A-Za-z_]\w*"),
     ("sign", r"&&|\|\||!=|!~|<=|>=|[=<>~!+*/-]"),
-    ("mark", r"[][(){};,.]"),
+    ("mark", r"[][(){};:,.]"),
 )
 # More tokens than the examples have.
-MORE = 'filter more int a; { a = 0x1F * 2; if !(net.ip.mask(8) != 10.0.0.0) || true then /* two\nlines */ accept "as is"; print "no"; }\n'
+MORE = 'filter more int a; { a = 0x1F * 2; if !(net.ip.mask(8) != 10.0.0.0) || true then /* two\nlines */ accept "as is"; print "no"; }\n' + " ".join(LEFT_OUT) + "\n"
 
 VIM = {
     "comment": "ncrouteComment", "text": "ncrouteText", "net": "ncrouteNet", "number": "ncrouteNumber", "part": "ncroutePart",
@@ -112,7 +116,10 @@ def vim_differs(prefix):
             subprocess.run(["vim", "-N", "-u", "NONE", "-es", "--cmd", f"set runtimepath^={prefix}/share/vim/vimfiles", "-c", "filetype on",
                             "-c", "syntax on", "-c", f"edit {path}", "-S", script], stdin=subprocess.DEVNULL, capture_output=True)  # fmt: skip
             with open(said) as it:
-                names = it.read().split("\n")[: len(wanted)]
+                names = it.read().split("\n")[:-1]
+            os.remove(said)
+            if len(names) != len(wanted):
+                return f"it says what {len(names)} tokens are, and not {len(wanted)}"
             for (at, kind), name in zip(wanted, names):
                 if name != VIM[kind]:
                     return f"{text[at:at + 20]!r} is {name!r}, and not {VIM[kind]!r}"
@@ -138,6 +145,8 @@ def bash_differs(prefix):
         (["ncroute", "test", "examples/customer_list.t"], ["examples/customer_list.test"]),
         (["ncroute", "eval", "--e"], ["--explain"]),
         (["ncroute", "rewrite", "--e"], []),
+        (["ncroute", "import", "--out", "exam"], ["examples"]),
+        (["ncroute", "run", "--save", "examples/no"], ["examples/no_bogons.filter"]),
     )
     for words, wanted in rows:
         if (found := completed(prefix, words)) != wanted:
@@ -153,7 +162,8 @@ def zsh_differs(prefix):
 
 def fish_differs(prefix):
     path = os.path.join(prefix, "share/fish/vendor_completions.d/ncroute.fish")
-    for line, wanted in (("ncroute che", ["check"]), ("ncroute run --exp", ["--explain"]), ("ncroute check --explain ne", ["never"])):
+    for line, wanted in (("ncroute che", ["check"]), ("ncroute run --exp", ["--explain"]), ("ncroute check --explain ne", ["never"]),
+                         ("ncroute run --save examples/no", ["examples/no_bogons.filter"])):
         said = subprocess.run(["fish", "--no-config", "-c", f"source {path}; complete -C '{line}'"], capture_output=True, text=True).stdout
         if (found := [words.split("\t")[0] for words in said.splitlines()]) != wanted:
             return f"{line}: {found}, and not {wanted}"

@@ -454,7 +454,7 @@ def greatest_plan():
     lines += [f"cut {u} {w}" for u, w in cuts] + ["table 0", "changes", "path 0 249"]
     answers += ["ok"] * len(cuts) + ["table 0:0" + "".join(f" {v}:{v}:1" for v in range(1, NODES))]
     answers += ["changes" + "".join(f" {u}:{v}" for u in range(NODES) for v in range(NODES) if abs(u - v) > 1), "path " + " ".join(map(str, range(NODES)))]
-    return "".join(line + "\n" for line in lines).encode(), "".join(line + "\n" for line in answers).encode(), 0
+    return written(lines), written(answers), 0
 
 
 def longest_plan():
@@ -666,4 +666,5 @@ def main(wanted):
     program.finish(passed, failed)
 
 
-main(sys.argv[1:])
+if __name__ == "__main__":
+    main(sys.argv[1:])

@@ -129,7 +129,7 @@ def count_calls(answers):
     return passed, failed
 
 
-def runs_of(ncroute, folder):
+def runs_of(ncroute):
     """The runs of the program: its words and its input, and how it ends where memory is refused."""
     def text(file):
         with open(file, "rb") as it:
@@ -155,7 +155,7 @@ def begins_whole(output, whole):
 def sweep_runs(sweep, pool):
     ncroute = os.environ.get("NCROUTE") or os.path.join(program.TOP, "crates", "ncroute", "out", "ncroute")
     passed = failed = all_refused = 0
-    for words, given, ends in runs_of(ncroute, sweep.folder):
+    for words, given, ends in runs_of(ncroute):
         ever = subprocess.run([ncroute, *words], input=given, capture_output=True)
         faults, refused, came = 0, 0, set()
         for nth, (status, output, errors) in sweep.all(pool, [ncroute, *words], given):
@@ -177,6 +177,8 @@ def sweep_runs(sweep, pool):
 
 def main():
     names = sys.argv[1:] or ["calls", "runs"]
+    if not set(names) <= {"calls", "runs"}:
+        sys.exit(__doc__)
     passed = failed = 0
     # Thousands of tests end by an abort, and are not to leave a core each.
     resource.setrlimit(resource.RLIMIT_CORE, (0, resource.getrlimit(resource.RLIMIT_CORE)[1]))

@@ -304,4 +304,5 @@ def main():
     program.finish(len(names) - failed, failed)
 
 
-main()
+if __name__ == "__main__":
+    main()

@@ -34,7 +34,7 @@ import program  # noqa: E402
 FILES, TEXTS, PAIRS, SCRIPTS, HISTORIES, SETS = 3000, 1500, 1000, 300, 300, 30
 ROUTES, TOLD_ROUTES, COMPARED_ROUTES, COMPARED_CLASSES = 6, 60, 100, 4000
 
-# Opcodes without an operand. METRIC stands there more than once.
+# Opcodes without an operand, but for DIV (23), which would make most code unsafe. NET, METRIC and RECEIVED occur more than once.
 OPCODES = bytes.fromhex("121314152021222430313233404150131314127071")
 
 PARTS = [
@@ -295,6 +295,8 @@ class Laws:
                 return f"{text!r}: {wanted}, but why {head}"
         ends, passed = collections.Counter(place for _, place in heads), collections.Counter(place for place, *_ in steps)
         covered = {place: int(count) for count, place, *_ in map(str.split, counts)}
+        if not covered:
+            return f"{text!r}: no command is counted"
         for place, count in ends.items():
             if covered.get(place, count) != count:
                 return f"{text!r}: {count} of {routes} end at {place}, but {counts}"

@@ -377,7 +377,7 @@ class Rows:
                 one.close()
             ends = "ended its stream" if count in (0, 16, 20) else "ended within line"
             self.name = f"closes at byte {count}"
-            # The first line that it is told is the router's own greeting: it may be gone before that is written.
+            # The first line that node 1 is told is the router's greeting. It may have closed its end before that is written.
             run = Run(self.program)
             try:
                 one = run.neighbours[1]
@@ -711,15 +711,15 @@ def main(words):
     program = os.environ.get("NCROUTE")
     if not program:
         print("check_router: no program is named by NCROUTE, so nothing is run")
-        print("0 passed, 0 failed")
-        return
+        print("0 passed, 1 failed")
+        sys.exit(1)
     soft, hard = resource.getrlimit(resource.RLIMIT_NOFILE)
     resource.setrlimit(resource.RLIMIT_NOFILE, (max(soft, min(2048, hard)), hard))
     signal.signal(signal.SIGALRM, take_too_long)
     rows = Rows(os.path.realpath(program))
     rows.run(words)
     print(f"{rows.passed} passed, {rows.failed} failed")
-    sys.exit(rows.failed > 0)
+    sys.exit(rows.failed > 0 or not rows.passed)
 
 
 if __name__ == "__main__":

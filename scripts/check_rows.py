@@ -25,7 +25,6 @@ In a line `\\t`, `\\r`, `\\n`, `\\xHH` and `\\\\` are bytes, `\\(N TEXT\\)` is t
 """
 import os
 import re
-import shutil
 import sys
 import tempfile
 
@@ -119,7 +118,14 @@ class Row:
             self.status = int(text)
         else:
             self.terminals = set(text.split())
+            if not self.terminals or self.terminals - {"input", "errors"}:
+                sys.exit(f"{self.place}: behind `~` stand `input`, `errors`, or both")
         return file
+
+    def is_files_alone(self):
+        """Whether no line says what a program is given or what it must do."""
+        has_more = self.given or self.left or self.looks_at_errors or self.terminals or self.output.parts != [b""]
+        return bool(self.files) and not has_more and self.status is None
 
     def wanted_status(self):
         """The exit status that is wanted."""
@@ -142,6 +148,8 @@ def rows_of(path):
             continue
         if not line:
             if row and row.words is None:
+                if not row.is_files_alone():
+                    sys.exit(f"{row.place}: a row needs a line `$ WORDS`")
                 files = row.files
             elif row:
                 yield row
@@ -219,8 +227,8 @@ def main(names):
     if not is_built:
         print(f"{sum(bool(row.needs_program()) for row in rows)} rows are left out: they need the program, NCROUTE=PATH")
         rows = [row for row in rows if not row.needs_program()]
-    ncroute, outer = program.Program(), tempfile.mkdtemp()
-    places = [Place(outer, number, row) for number, row in enumerate(rows)]
+    ncroute, outer = program.Program(), tempfile.TemporaryDirectory()
+    places = [Place(outer.name, number, row) for number, row in enumerate(rows)]
     plain = [place for place in places if not place.row.terminals]
     said = dict(zip(plain, ncroute.runs([(place.line(f"2>{place.errors}"), place.row.given) for place in plain])))
     failed = 0
@@ -229,9 +237,10 @@ def main(names):
         if wrong := list(place.differences(output, status, is_built)):
             failed += 1
             print(f"{place.row.place}: ncroute {place.row.words}: {'; '.join(wrong)}")
-    shutil.rmtree(outer)
+    outer.cleanup()
     ncroute.close()
     program.finish(len(rows) - failed, failed)
 
 
-main(sys.argv[1:])
+if __name__ == "__main__":
+    main(sys.argv[1:])

@@ -6,6 +6,9 @@
 set -eu
 top="$(cd "$(dirname "$0")/.." && pwd)"
 prefix="${1:-/usr/local}"
+# The files for Visual Studio Code are installed from another folder.
+mkdir -p "$prefix"
+prefix="$(cd "$prefix" && pwd)"
 if [ -z "${NCROUTE:-}" ]; then
     echo "proving and building ncroute, which takes an hour or more from nothing" >&2
     (cd "$top/crates/ncroute" && rt run -- --version >&2)

@@ -60,7 +60,10 @@ class Topology:
         asked = [f"table {node}" for node in range(self.size)]
         script = "\n".join([*self.lines, *more, *asked, ""])
         said = subprocess.run([program, "domain"], input=script.encode(), capture_output=True, check=False).stdout.decode().split("\n")
-        return ["routes" + line[len("table"):] for line in said if line.startswith("table ")]
+        tables = ["routes" + line[len("table"):] for line in said if line.startswith("table ")]
+        if len(tables) != self.size:
+            raise ValueError(f"`ncroute domain` answered {len(tables)} tables of {self.size}: {said}")
+        return tables
 
 
 class Router:
@@ -282,10 +285,10 @@ def main(words):
     program = os.environ.get("NCROUTE")
     if not program:
         print("lab: no program is named by NCROUTE, so nothing is run")
-        print("0 passed, 0 failed")
-        return
+        print("0 passed, 1 failed")
+        sys.exit(1)
     program = os.path.realpath(program)
-    # A process has two threads for each link.
+    # A router has two files open for each link, and inherits this limit.
     resource.setrlimit(resource.RLIMIT_NOFILE, (min(4096, resource.getrlimit(resource.RLIMIT_NOFILE)[1]),) * 2)
     passed = failed = 0
     for path in asked.paths:

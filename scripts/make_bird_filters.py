@@ -6,13 +6,13 @@ usage: make_bird_filters.py THEME [FILTERS [SEED]]     (FILTERS: how many, 43; T
 
 Both Gomthau and BIRD 2.0.12 take these texts, and mean the same by them: a variable is declared before the brace and assigned before it is read, no
 divisor is 0, no metric is assigned that is lower than the one received or higher than the size, which is 250, and no number is in two labels of a
-`case`. What the two read differently
-stands in `tests/bird/differences.filters`, which was written by hand.
+`case`. What the two read differently is in `tests/bird/differences.filters`, which was written by hand.
 """
 import random
 import sys
 
 FILTERS, SEED = 43, 1
+THEMES = ("sets", "prefixes", "arithmetic", "conditions", "variables", "metrics", "cases", "whole")
 ROUTES_OF_A_THEME, ROUTES_OF_A_FILTER = 160, 20
 VARIABLES = {"int": "abc", "bool": "uv", "ip": "ij", "prefix": "pq"}
 LARGEST = 2**32 - 1
@@ -239,7 +239,7 @@ def routes_of_theme(numbers):
 
 
 def main(words):
-    if not 1 <= len(words) <= 3:
+    if not 1 <= len(words) <= 3 or words[0] not in THEMES:
         sys.exit(__doc__)
     count, seed = map(int, words[1:] + [FILTERS, SEED][len(words) - 1:])
     numbers = random.Random(f"{words[0]} {seed}")

@@ -3,7 +3,7 @@
 
 usage: make_domain.py ROWS COLUMNS
 
-The nodes are a grid, by rows, whose columns are joined by longer links: what is received over one of these counts two links more. The script then
+The nodes are a grid, numbered row by row. The links between rows are longer: what is received over one of them counts two links more. The script then
 cuts the link in the middle of the first row, asks what changed, and plays the routers.
 """
 import sys

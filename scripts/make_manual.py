@@ -26,6 +26,10 @@ class Option:
     def long(self):
         return self.names[-1]
 
+    def may_come_again(self):
+        """Whether the option may be given more than once: one whose value names what it is for, as NAME=FILE, may."""
+        return bool(self.value) and "=" in self.value
+
 
 class Command:
     """What the help of a command says; that of the program has an empty name."""
@@ -134,7 +138,8 @@ def bash(program, commands):
     for command in commands:
         for option in command.options:
             if option.value:
-                words = f'COMPREPLY=($(compgen -W "{" ".join(option.values)}" -- "$word")); ' if option.values else ""
+                asked = f'-W "{" ".join(option.values)}"' if option.values else {"FILE": "-f", "FOLDER": "-d"}.get(option.value)
+                words = f'COMPREPLY=($(compgen {asked} -- "$word")); ' if asked else ""
                 lines.append(f'    "{command.name} {option.long()}") {words}return ;;')
     lines += ["    esac", '    case "${COMP_WORDS[1]} $word" in']
     for command in commands:
@@ -159,8 +164,10 @@ def zsh(program, commands):
     for command in commands:
         specs = []
         for option in command.options:
-            values = f":{option.value}:({' '.join(option.values)})" if option.value else ""
-            specs += [f"'{name}{'=' if option.value and name.startswith('--') else ''}[{in_quotes(option.text)}]{values}'" for name in option.names]
+            action = {"FILE": "_files", "FOLDER": "_files -/"}.get(option.value, f"({' '.join(option.values)})")
+            values = f":{option.value}:{action}" if option.value else ""
+            again = "*" if option.may_come_again() else ""
+            specs += [f"'{again}{name}{'=' if option.value and name.startswith('--') else ''}[{in_quotes(option.text)}]{values}'" for name in option.names]
         if command.takes_files():
             specs.append("'*:file:_files'")
         lines.append(f"    {command.name}) _arguments {' '.join(specs)} ;;")
@@ -168,15 +175,21 @@ def zsh(program, commands):
     return "\n".join(lines) + "\n"
 
 
+def in_fish_quotes(text):
+    """A text within single quotes of fish."""
+    return "'" + text.replace("\\", "\\\\").replace("'", "\\'") + "'"
+
+
 def fish(program, commands):
     lines = ["# Completes ncroute in fish.", "complete -c ncroute -f"]
-    lines += [f"complete -c ncroute -n __fish_use_subcommand -a {name} -d '{about}'" for name, about in program.commands]
+    lines += [f"complete -c ncroute -n __fish_use_subcommand -a {name} -d {in_fish_quotes(about)}" for name, about in program.commands]
     for command in commands:
         when = f"complete -c ncroute -n '__fish_seen_subcommand_from {command.name}'"
         for option in command.options:
-            value = f" -x -a '{' '.join(option.values)}'" if option.value else ""
-            text = option.text.replace("'", "\\'")
-            lines.append(f"{when} -l {option.long().lstrip('-')}{value} -d '{text}'")
+            files = {"FILE": " -r -F", "FOLDER": " -x -a '(__fish_complete_directories)'"}
+            value = files.get(option.value, f" -x -a '{' '.join(option.values)}'") if option.value else ""
+            names = " ".join(f"-l {name[2:]}" if name.startswith("--") else f"-s {name[1:]}" for name in option.names)
+            lines.append(f"{when} {names}{value} -d {in_fish_quotes(option.text)}")
         if command.takes_files():
             lines.append(f"{when} -F")
     return "\n".join(lines) + "\n"

@@ -4,11 +4,9 @@ With NCROUTE=PATH that program runs. Without, `rt try --cases` builds the source
 all inputs at once: a command that was not run yet stands for each input that the shell gave, and the shell runs again with its answers.
 """
 import concurrent.futures
-import hashlib
 import os
 import pty
 import re
-import shutil
 import subprocess
 import sys
 import tempfile
@@ -46,7 +44,9 @@ class Program:
     """The command `ncroute`, in a folder that is the first of the PATH of what `shell` runs."""
 
     def __init__(self):
-        self.folder = tempfile.mkdtemp()
+        # It goes when the script ends, however that is.
+        self.holder = tempfile.TemporaryDirectory()
+        self.folder = self.holder.name
         self.bin, self.asked, self.answers, self.here = (os.path.join(self.folder, name) for name in ("bin", "asked", "answers", "here"))
         for folder in (self.bin, self.asked, self.answers, self.here):
             os.mkdir(folder)
@@ -63,7 +63,7 @@ class Program:
             os.chmod(command, 0o755)
 
     def close(self):
-        shutil.rmtree(self.folder)
+        self.holder.cleanup()
 
     def shell(self, line, given=b""):
         """What a line writes and its status, in a folder that has what is read of the repository."""
@@ -93,7 +93,7 @@ class Program:
         return output, shown
 
     def runs(self, lines):
-        """The same for many lines with their input."""
+        """What `shell` answers to many lines, each with its input."""
         while True:
             with concurrent.futures.ThreadPoolExecutor() as pool:
                 said = list(pool.map(lambda it: self.shell(*it), lines))
@@ -126,5 +126,6 @@ def read_terminal(terminal):
 
 
 def finish(passed, failed):
+    """Ends a script with its count. Where nothing was checked, it has not passed."""
     print(f"{passed} passed, {failed} failed")
-    sys.exit(1 if failed else 0)
+    sys.exit(0 if passed and not failed else 1)

@@ -11,4 +11,5 @@ if [ -z "${SOAK:-}" ]; then
     (cd "$top/crates/test_calls" && rt test) >&2
 fi
 test="$("$soak" --list 2>&1 | sed -n 's/\(.*routers_are_soaked\): test$/\1/p')"
+[ -n "$test" ] || { echo "$soak has no test routers_are_soaked" >&2; exit 1; }
 SOAK_SECONDS="${1:-60}" SOAK_SEED="${2:-1}" "$soak" "$test"

@@ -46,7 +46,7 @@ class Terminal:
 
     def __init__(self, folder, environment):
         self.folder, self.environment = folder, environment
-        self.process, self.shown, self.typed, self.others = None, b"", None, []
+        self.process, self.shown, self.typed, self.processes = None, b"", None, []
 
     def start(self, command):
         if self.process:
@@ -55,7 +55,7 @@ class Terminal:
         started = subprocess.Popen(["bash", "-c", f"exec {command}" if re.match(r"ncroute\b", command) and "|" not in command else command],
                                    cwd=self.folder, env=self.environment, stdin=subprocess.PIPE, stdout=subprocess.PIPE, stderr=subprocess.STDOUT,
                                    start_new_session=True)
-        self.others.append(started)
+        self.processes.append(started)
         self.process, self.shown, self.typed = started, b"", None
 
     def type(self, line):
@@ -87,7 +87,7 @@ class Terminal:
         return None
 
     def close(self):
-        for process in self.others:
+        for process in self.processes:
             try:
                 os.killpg(process.pid, signal.SIGKILL)
             except ProcessLookupError:

@@ -41,7 +41,7 @@ add() {
     local status=${PIPESTATUS[0]} counts
     counts="$(tail -n 1 "$output" | sed -nE 's/^([0-9]+) passed, ([0-9]+) failed$/\1 \2/p')"
     passed=$((passed + 10#0${counts% *}))
-    if [ -z "$counts" ] || { [ "$status" != 0 ] && [ "${counts#* }" = 0 ]; }; then
+    if [ -z "$counts" ] || [ "$counts" = "0 0" ] || { [ "$status" != 0 ] && [ "${counts#* }" = 0 ]; }; then
         failed=$((failed + 1))
     else
         failed=$((failed + 10#${counts#* }))

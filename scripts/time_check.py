@@ -42,7 +42,7 @@ def processor_time(process):
 
 
 def parts_of(words):
-    """How long each module took, by its name."""
+    """How long each module took, by its name, and the checker's exit status."""
     took, doing, last = collections.Counter(), [], 0.0
     how = {"stdout": subprocess.PIPE, "stderr": subprocess.STDOUT, "stdin": subprocess.DEVNULL, "text": True, "errors": "replace"}
     checker = subprocess.Popen(words, env={**os.environ, "ANTT_CACHE_DEBUG": "1"}, **how)
@@ -58,12 +58,11 @@ def parts_of(words):
             doing.remove(ends[1])
         if "antt: cache:" not in line:
             print(line, end="", file=sys.stderr)
-    checker.wait()
-    return took
+    return took, checker.wait()
 
 
 def main(name, *flags):
-    took = parts_of(command_of(name, flags))
+    took, status = parts_of(command_of(name, flags))
     rows = collections.defaultdict(dict)
     for module, seconds in took.items():
         function, _, part = module.rpartition(".")
@@ -76,6 +75,7 @@ def main(name, *flags):
         if sum(parts.values()) >= 0.05:
             print(f"| `{function}` | {sum(parts.values()):.1f} | {shown} |")
     print(f"| in all | {sum(took.values()):.1f} | |")
+    sys.exit(status)
 
 
 if __name__ == "__main__":

@@ -105,4 +105,5 @@ def main():
     sys.exit(gate.returncode)
 
 
-main()
+if __name__ == "__main__":
+    main()
