@@ -43,7 +43,7 @@ static CLASSES: [Class; 15] = [
     },
     Class {
         letter: "K",
-        meaning: "code that was not verified went wrong on a route",
+        meaning: "code went wrong on a route that it was not verified for",
     },
     Class {
         letter: "O",

@@ -125,7 +125,7 @@ static COMMANDS: [(&str, &str); 15] = [
     ),
     (
         "test",
-        "Run test files: what the verdict of a filter is to be on some routes",
+        "Run test files, which say what verdicts a filter is to give",
     ),
     (
         "eval",
@@ -317,7 +317,7 @@ const NEW_FILE: Parameter = Parameter {
 const EXPLAINED: Parameter = Parameter {
     name: "code",
     value: "CODE",
-    help: "A code by which something was refused, as P2, or a letter, whose codes are listed; without it the letters are",
+    help: "The code to explain, as P2; or a letter, whose codes are listed; without it the letters are listed",
     kind: ParameterKind::Argument,
     is_required: false,
 };
@@ -524,7 +524,7 @@ const SAVE: Parameter = Parameter {
 const STAY: Parameter = Parameter {
     name: "stay",
     value: "",
-    help: "Go on where standard input ends, until the process is ended",
+    help: "Go on when standard input ends, until the process is killed",
     kind: ParameterKind::Flag,
     is_required: false,
 };

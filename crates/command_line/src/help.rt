@@ -43,7 +43,7 @@ Two lines are printed:
                           a route, and holds at most DEPTH operands at a time
 For a filter or code that is refused, the last line is `refused CODE AT` instead:
   P1 to P10   the text is not a filter: a syntax error at byte AT
-  Y1 to Y7    a name, a kind or a label is wrong at byte AT
+  Y1 to Y5    a name or a kind is wrong at byte AT; Y7: a label is
   G1, G2      the code would be too long, or have too many sets
   V1 to V9    instruction AT might go wrong on some route; V8: N is not 2 to 250
   C1 to C6    not a code file: an error at byte AT
@@ -51,8 +51,8 @@ For a filter or code that is refused, the last line is `refused CODE AT` instead
 
 Example:
   echo 'filter up { rip_metric = rip_metric + 2; accept; }' | ncroute check --size 16
-The exit status is 0; 1 if something was refused or a fault ended the run; 2 if
-the command line is wrong.
+The exit status is 0; 1 if something was refused, a file could not be read or a fault
+ended the run; 2 if the command line is wrong.
 ";
 
 /// Of `diff`.
@@ -99,7 +99,7 @@ and below it, behind two blanks, by what happened on the way:
   5:3 worse = 13          an assignment
   6:12 13 < 6 is false    a comparison
   6:3 if false            a condition
-With --coverage refused lines alone are answered. After all routes, a line for each command,
+With --coverage, which cannot be given with --why, refused lines alone are answered. After all routes, a line for each command,
 `COUNT LINE:COL WORD`, says how many of them came to it; those that none came to are last.
 
 Example:
@@ -132,8 +132,8 @@ line is wrong.
 /// Of `lint`.
 const LINT_HELP: &str = "\
 Each file is a filter; without one, standard input is. Each is verified first, as by
-`ncroute check`. Of one that is refused, standard error says why. For each thing that is
-plainly wrong with another one, a line is printed:
+`ncroute check`. If it is refused, standard error says why. For each thing that is plainly
+wrong with a verified one, a line is printed:
   FILE:LINE:COL: WORDS (W2)
 W1, W2 and W8 are told by all routes of the domain, which are searched as by `ncroute diff`.
   W1   a condition that is always true, or always false
@@ -144,7 +144,7 @@ W1, W2 and W8 are told by all routes of the domain, which are searched as by `nc
   W6   a variable that is never read
   W7   a metric that means unreachable, whatever the route
   W8   an assignment that would lower the metric on some route, which no filter can
-Where CLASSES are not enough for that, the line `FILE: undecided: ..` says so.
+Where CLASSES are not enough for W1, W2 and W8, the line `FILE: undecided: ..` says so.
 
 Example:
   echo 'filter f { if net.len > 32 then reject; accept; }' | ncroute lint
@@ -177,7 +177,7 @@ A test file names a filter, the number of nodes of the routing domain, and tests
   size N                      2 to 250
   PREFIX METRIC -> VERDICT    a route, and the verdict on it
   every PATTERN -> VERDICT    all routes whose prefix matches, with each metric
-  every PATTERN metric A..B -> VERDICT    and those with these metrics, or with one
+  every PATTERN metric A..B -> VERDICT    the same with these metrics alone, or with one
 PATTERN is PREFIX, PREFIX+ or PREFIX{LOW,HIGH}; VERDICT is `accept METRIC`, `reject`, or
 `accept`, which is with the metric received. Empty lines and lines that begin with # are
 skipped. The filter is verified first.
@@ -188,7 +188,7 @@ The output is that of the Test Anything Protocol, version 13, with one plan for 
                        `# PREFIX METRIC -> VERDICT`; or the next line is `# undecided`:
                        that was not found out within CLASSES
   1..N                 how many tests there are
-  Bail out!            a file was not read or refused, and nothing more is run
+  Bail out!            a file could not be read, or was refused; nothing more is run
 
 Example:
   ncroute test examples/customer_list.test
@@ -258,7 +258,7 @@ Each command is answered on standard output before more input is read:
   changes U:V U:V ..     of U to V
   settled ROUNDS COUNT   COUNT messages were heard
   digraph { .. }         draw
-  refused CODE AT        the command was refused, and nothing changed:
+  refused CODE AT        the command was refused, and no route changed:
     O1 to O8     the command is wrong (AT is the number of its line)
     D1 to D4     the domain refuses it (AT is the number of its line)
     P, Y, G, V   the filter is refused, as `ncroute check` refuses it; C: its code file
@@ -271,13 +271,13 @@ was refused; 2 if the command line is wrong; 3 if a fault ended the run.
 
 /// Of `net`.
 const NET_HELP: &str = "\
-Three routers are neighbours of one another. Each reads and writes its links in
-threads of their own, 200 turns each, and then replays its whole history. It
+Three routers are neighbours of one another. Each link is read and written by threads
+of its own, 200 turns each, and then each router replays its whole history. It
 takes about a second, and no input.
 
 Three lines are printed, `node 0 replay ok` to `node 2 replay ok`, or none and a
-fault on standard error: E2 output, E3 memory, J1 or J2 a call that a router
-refused, L3 a router, X1 or X2 sessions or threads that were not run.
+fault on standard error: E2 (output), E3 (memory), J1 or J2 (a router refused a
+call), L3 (a router was not opened), X1 or X2 (sessions or threads were not run).
 The exit status is 0; 1 if a fault ended the run; 2 if the command line is wrong.
 ";
 
@@ -306,8 +306,8 @@ neighbour is up, and each line is a message, `V D`: node V is at distance D. Whe
 ends or has another line, the neighbour is down, and standard error says why.
 
 Standard input has the operator's commands, as `ncroute run` answers them, without
-`network`, `recv` and `take`. `up` and `down` of a node with a link are refused as O9.
-`quit`, or the end of standard input, ends the router.
+`network`, `prefix`, `recv` and `take`. `up` and `down` of a node with a link are refused
+as O9. `quit` ends the router, and so does the end of standard input without --stay.
 
 Example, in two terminals after `mkfifo a b`:
   ncroute router --size 2 --node 0 --link 1=a,b
@@ -347,7 +347,7 @@ Each command is answered on standard output before more input is read:
   neighbours W:S W:S ..
   told V:D V:D>E ..      the filter made E of distance D
   history ENTRY | ENTRY ..
-  refused CODE AT        the command was refused, and nothing changed:
+  refused CODE AT        the command was refused, and no route changed:
     O1 to O8     the command is wrong (AT is the number of its line)
     N1 to N7     the router refused it (AT is its position in the history)
     J1           the history is full (AT is the number of its entries)

@@ -102,7 +102,7 @@ fn reading_once<R: Eprint>(rt: &R, words: Invocation) -> Invocation
         return words;
     }
     let _ = eprintln!(rt;
-        "error: standard input can be read once, and these words name it more than once: as `-`, or by naming no FILE"
+        "error: standard input can be read only once, and these words ask for it more than once: as `-`, or by naming no FILE"
     );
     Invocation::Shown(WRONG_WORDS)
 }

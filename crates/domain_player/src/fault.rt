@@ -7,7 +7,7 @@ use thiserror::Error;
 #[derive(Clone, Copy, Debug, PartialEq, Eq, Error)]
 pub enum LinkFault {
     /// Memory was refused.
-    #[error("memory was refused")]
+    #[error("out of memory")]
     Memory,
     /// One of the two has used its last session number.
     #[error("no session number is left")]
@@ -29,7 +29,7 @@ impl From<AllocError> for LinkFault {
 #[derive(Clone, Copy, Debug, PartialEq, Eq, Error)]
 pub enum SettleFault {
     /// Memory was refused.
-    #[error("memory was refused")]
+    #[error("out of memory")]
     Memory,
     /// More than 18,446,744,073,709,551,615 messages were heard.
     #[error("more than 18,446,744,073,709,551,615 messages were heard")]

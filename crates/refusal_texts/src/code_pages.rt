@@ -240,7 +240,7 @@ Place: the opcode
     $ echo 4e4346310000000172 | ncroute check --size 16 --code
     refused C3 8
 
-docs/MACHINE.md has the opcodes. Give the whole line that `ncroute check` wrote, without the word `code`.
+`man ncroute-machine` (docs/MACHINE.md) has the opcodes. Give the whole line that `ncroute check` wrote, without the word `code`.
 ",
     },
     Page {
@@ -252,7 +252,7 @@ Place: its first byte
     $ echo 4e4346320000000002020270 | ncroute check --size 16 --code
     refused C4 10
 
-docs/CODE_FILE.md says which operands are valid. Give the whole line that `ncroute check` wrote, without the word `code`.
+`man ncroute-code-file` (docs/CODE_FILE.md) says which operands are valid. Give the whole line that `ncroute check` wrote, without the word `code`.
 ",
     },
     Page {

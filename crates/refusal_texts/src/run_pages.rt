@@ -63,7 +63,7 @@ Place: the number of the line
     ok
     refused O5 2
 
-A script has one `network`. Put each `prefix` before the first event.
+A script has one `network`. Put each `prefix` before the first event. `ncroute router` takes neither: it has `--size`, `--node` and `--prefix`.
 ",
     },
     Page {
@@ -76,7 +76,7 @@ Place: the number of the line
     ok
     refused O6 2
 
-Name the filter first, by `load`, by `code` or by the option `--filter`; one that was refused has no name.
+Name the filter first, by `load`, by `code` or by the option `--filter`. A filter that is refused does not get the name.
 ",
     },
     Page {
@@ -135,7 +135,7 @@ E2: the output could not be written
     $ echo 4e4 | ncroute eval 2>&1 >/dev/full
     ncroute: E2
 
-See that the device has room, and that the reader of the pipe has not ended.
+See that the disk has room, and that what reads the pipe still runs. `--save` and `import --out` make new files: a FILE that is there already is E2, too.
 ",
     },
     Page {
@@ -157,13 +157,13 @@ E4: the input is longer than the command's limit
     $ (echo 4e434632000000000170; head -c 17000000 /dev/zero | tr '\\0' '\\n') | ncroute eval 2>&1
     ncroute: E4
 
-Cut the input, and give each part to a run of its own with the same first line.
+Cut the routes of `eval` or `filter`, and give each part to a run of its own, of `eval` with the same first line. A script cannot be cut so, since each run begins anew.
 ",
     },
     Page {
         code: "N1",
         text: "\
-N1: The node is the router itself, or not in the domain.
+N1: the node is the router itself, or not in the domain
 Place: the event's place in the history
 
     $ printf '%s\\n' 'network 4 0' 'up 0' | ncroute run
@@ -176,7 +176,7 @@ Name another node below N.
     Page {
         code: "N2",
         text: "\
-N2: The node is an up neighbour already.
+N2: the node is an up neighbour already
 Place: the event's place in the history
 
     $ printf '%s\\n' 'network 4 0' 'up 1' 'up 1' | ncroute run
@@ -190,7 +190,7 @@ Take it down first.
     Page {
         code: "N3",
         text: "\
-N3: No neighbour is up in this session.
+N3: no neighbour is up in this session
 Place: the event's place in the history
 
     $ printf '%s\\n' 'network 4 0' 'down 1' | ncroute run
@@ -203,7 +203,7 @@ Bring the neighbour up first. A caller whose session is over has to open another
     Page {
         code: "N4",
         text: "\
-N4: The destination is not in the domain.
+N4: the destination is not in the domain
 Place: the event's place in the history
 
     $ printf '%s\\n' 'network 4 0' 'show 9' | ncroute run
@@ -216,7 +216,7 @@ Name a node below N.
     Page {
         code: "N5",
         text: "\
-N5: The distance is above N.
+N5: the distance is above N
 Place: the event's place in the history
 
     $ printf '%s\\n' 'network 4 0' 'up 1' 'recv 1 2 9' | ncroute run
@@ -230,7 +230,7 @@ A distance is 0 to N; N means unreachable.
     Page {
         code: "N6",
         text: "\
-N6: The filter was verified for domains of another size.
+N6: the filter was verified for domains of another size
 Place: the event's place in the history
 
 Verify it for the size of the router's domain. `ncroute run` does, so no script earns this.
@@ -239,7 +239,7 @@ Verify it for the size of the router's domain. `ncroute run` does, so no script 
     Page {
         code: "N7",
         text: "\
-N7: No session number is left, after 4,294,967,295 sessions.
+N7: no session number is left, after 4,294,967,295 sessions
 Place: the event's place in the history
 
 Start the router anew.
@@ -248,7 +248,7 @@ Start the router anew.
     Page {
         code: "J1",
         text: "\
-J1: The journal has as many entries as its limit allows. This is judged before memory is asked for.
+J1: the journal has as many entries as its limit allows; this is judged before memory is asked for
 Place: the number of entries
 
     $ printf '%s\\n' 'network 4 0 1' 'up 1' 'show 0' | ncroute run
@@ -256,13 +256,13 @@ Place: the number of entries
     opened 1
     refused J1 1
 
-Give `network` a higher LIMIT, at most 1,000,000, or start the router anew.
+Give `network` a higher LIMIT, or `ncroute router` a higher `--limit`, at most 1,000,000; or start the router anew, with a new FILE for `--save`.
 ",
     },
     Page {
         code: "J2",
         text: "\
-J2: The memory for the event or for its entry was refused.
+J2: the memory for the event or for its entry was refused
 
 Give the process more memory. `ncroute run` answers E3 in its place.
 ",
@@ -278,7 +278,7 @@ Try again, or make the call that waits. No command of `ncroute` answers it.
     Page {
         code: "L2",
         text: "\
-L2: at the close another pass has the journal; no call of this crate leads to that
+L2: the router was closed while another pass had the journal; no public call leads to that
 
 Join all passes before the close.
 ",
@@ -294,7 +294,7 @@ Give the process more memory.
     Page {
         code: "X1",
         text: "\
-X1: The memory for the jobs or for their results was refused.
+X1: the memory for the jobs or for their results was refused
 
 Give the process more memory.
 ",
@@ -302,7 +302,7 @@ Give the process more memory.
     Page {
         code: "X2",
         text: "\
-X2: A thread was not started.
+X2: a thread was not started
 
 Allow the process more threads, or run fewer sessions.
 ",
@@ -350,7 +350,7 @@ Only a link that is there can be cut.
     Page {
         code: "D4",
         text: "\
-D4: the routers cannot be played any further: a count of theirs is full
+D4: the routers cannot run any further: one of their counts is at its maximum
 Place: the number of the line
 
 A router has at most 4,294,967,295 sessions, and `settle` counts its messages in 64 bits. No script within the limit of the input is known to get there. Questions about rest are answered as before.

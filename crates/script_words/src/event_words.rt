@@ -30,7 +30,9 @@ fn event_fault(
             let dist = number_at(line, 3);
             Ok((
                 3,
-                format!(in alloc; "distance {dist} is more than {size}, which means unreachable")?,
+                format!(in alloc;
+                    "distance {dist} is above {size}, the distance that means unreachable"
+                )?,
             ))
         }
         Cause::OtherSize => Ok((

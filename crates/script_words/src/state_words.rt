@@ -38,7 +38,7 @@ pub(crate) fn late_words(
         match kind {
             ScriptKind::Router => "it is too late: write `prefix` before the first event",
             ScriptKind::Domain =>
-                "it is too late: write `prefix` before the first command from `link` on",
+                "it is too late: write `prefix` before the first `link`, `cut`, filter or question",
         },
     )
 }
@@ -105,7 +105,7 @@ pub(crate) fn domain_words(
         _ => {
             let words = String::from_str(
                 alloc,
-                "the routers cannot be played any further: a count of theirs is full",
+                "the routers cannot run any further: one of their counts is at its maximum",
             )?;
             Ok(found_at(line, 0, words))
         }
