@@ -11,7 +11,7 @@ import tempfile
 
 sys.dont_write_bytecode = True
 import bird_filters  # noqa: E402
-from program import finish  # noqa: E402
+from program import built, finish  # noqa: E402
 
 SIZE = "250"
 
@@ -26,10 +26,7 @@ def answers(ncroute, path, block):
 
 
 def main():
-    ncroute = os.environ.get("NCROUTE")
-    if not ncroute:
-        sys.exit("NCROUTE=PATH: the program that is to run")
-    ncroute = os.path.realpath(ncroute)
+    ncroute = built()
     passed = failed = 0
     with tempfile.TemporaryDirectory() as folder:
         for path in bird_filters.files():

@@ -13,7 +13,8 @@ import subprocess
 import sys
 import tempfile
 
-TOP = os.path.realpath(os.path.join(os.path.dirname(os.path.abspath(__file__)), ".."))
+sys.dont_write_bytecode = True
+from program import TOP, built, finish  # noqa: E402
 
 # A filter of a file that gets into a script.
 TAKES_FILTER = re.compile(r"examples/\w+\.filter.*\bncroute (run|domain)\b|\bncroute run\b.*examples/\w+\.filter")
@@ -32,15 +33,11 @@ def examples():
 
 
 def main():
-    program = os.environ.get("NCROUTE")
-    if not program:
-        print("scripts/check_broken_filters.py needs NCROUTE=PATH")
-        print("0 passed, 1 failed")
-        return 1
+    program = built()
     passed = failed = 0
     with tempfile.TemporaryDirectory() as folder:
         os.mkdir(os.path.join(folder, "bin"))
-        os.symlink(os.path.realpath(program), os.path.join(folder, "bin", "ncroute"))
+        os.symlink(program, os.path.join(folder, "bin", "ncroute"))
         for name, (right, wrong) in {**NO_MISTAKE, **MISTAKES}.items():
             copy = os.path.join(folder, str(passed + failed))
             shutil.copytree(os.path.join(TOP, "examples"), os.path.join(copy, "examples"))
@@ -62,9 +59,8 @@ def main():
     if not passed:
         failed += 1
         print("no example takes a filter from a file")
-    print(f"{passed} passed, {failed} failed")
-    return 1 if failed else 0
+    finish(passed, failed)
 
 
 if __name__ == "__main__":
-    sys.exit(main())
+    main()

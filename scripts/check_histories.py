@@ -13,7 +13,8 @@ import sys
 import tempfile
 import time
 
-TOP = os.path.realpath(os.path.join(os.path.dirname(os.path.abspath(__file__)), ".."))
+sys.dont_write_bytecode = True
+from program import TOP, built, finish  # noqa: E402
 
 # The words with which the answers to events begin, whether the router refuses them or not.
 REPLIES = (b"opened ", b"done ", b"messages", b"route ", b"refused N")
@@ -70,11 +71,7 @@ def fault_in(program, answered, saved):
 
 
 def main(runs=200, seed=1):
-    program = os.environ.get("NCROUTE")
-    if not program:
-        print("scripts/check_histories.py needs NCROUTE=PATH")
-        print("0 passed, 1 failed")
-        return 1
+    program = built()
     chosen = random.Random(seed)
     failed = 0
     with tempfile.TemporaryDirectory() as folder:
@@ -102,9 +99,8 @@ def main(runs=200, seed=1):
         if cut < runs // 4:
             failed += 1
             print(f"only {cut} of {runs} runs had saved something")
-    print(f"{runs + 2 - failed} passed, {failed} failed")
-    return 1 if failed else 0
+    finish(runs + 2 - failed, failed)
 
 
 if __name__ == "__main__":
-    sys.exit(main(*map(int, sys.argv[1:])))
+    main(*map(int, sys.argv[1:]))

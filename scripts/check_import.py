@@ -16,7 +16,7 @@ import tempfile
 
 sys.dont_write_bytecode = True
 import bird_filters  # noqa: E402
-from program import finish  # noqa: E402
+from program import built, finish  # noqa: E402
 
 SIZE = "250"
 TOKEN = re.compile(r"\s+|#[^\n]*|/\*.*?\*/|(\"[^\"\n]*\"|\d+\.\d+\.\d+\.\d+(?:/\d+)?|0x[0-9a-fA-F]+|\d+|[A-Za-z_]\w*|&&|\|\||!=|!~|<=|>=|\.\.|.)", re.S)
@@ -383,12 +383,10 @@ def verdicts(trial):
 
 
 def main():
-    ncroute = os.environ.get("NCROUTE")
-    if not ncroute:
-        sys.exit("NCROUTE=PATH: the program that is to run")
+    ncroute = built()
     seed = int(os.environ.get("SEED", "1"))
     with tempfile.TemporaryDirectory() as folder:
-        trial = Trial(os.path.realpath(ncroute), folder)
+        trial = Trial(ncroute, folder)
         for name, config, filters in TAKEN:
             trial.taken(name, config, filters)
         for name, config, place, words in LEFT_OUT:

@@ -184,9 +184,8 @@ CHECKS = (
 
 
 def main():
-    if not os.environ.get("NCROUTE"):
-        sys.exit("NCROUTE=PATH: the program that is to be installed")
-    os.environ["NCROUTE"] = os.path.realpath(os.environ["NCROUTE"])
+    # `install.sh` reads it too.
+    os.environ["NCROUTE"] = program.built()
     passed = failed = 0
     with tempfile.TemporaryDirectory() as prefix:
         subprocess.run([INSTALL, prefix], check=True, capture_output=True)

@@ -638,10 +638,7 @@ def million_routes(ncroute):
 
 
 def main(wanted):
-    ncroute = os.environ.get("NCROUTE")
-    if not ncroute:
-        sys.exit("NCROUTE=PATH: the program that is to run")
-    ncroute = os.path.realpath(ncroute)
+    ncroute = program.built()
     rows = [(name, lambda words=words, row=row: differs(run(ncroute, words, (made := row())[0]), made[1:])) for name, words, row in ROWS]
     rows += [
         (name, lambda row=row: row(ncroute))

@@ -533,10 +533,7 @@ def dotted(address):
 
 
 def main(words):
-    ncroute = os.environ.get("NCROUTE")
-    if not ncroute:
-        sys.exit("NCROUTE=PATH: the program that is to run")
-    laws = Laws(os.path.realpath(ncroute), words[0] if words else "1")
+    laws = Laws(program.built(), words[0] if words else "1")
     laws.all()
     program.finish(laws.passed, laws.failed)
 

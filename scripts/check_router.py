@@ -19,6 +19,9 @@ import sys
 import tempfile
 import time
 
+sys.dont_write_bytecode = True
+from program import built, finish  # noqa: E402
+
 SIZE = 8
 PATIENCE = 10.0
 
@@ -708,18 +711,13 @@ def take_too_long(*_):
 
 
 def main(words):
-    program = os.environ.get("NCROUTE")
-    if not program:
-        print("check_router: no program is named by NCROUTE, so nothing is run")
-        print("0 passed, 1 failed")
-        sys.exit(1)
+    program = built()
     soft, hard = resource.getrlimit(resource.RLIMIT_NOFILE)
     resource.setrlimit(resource.RLIMIT_NOFILE, (max(soft, min(2048, hard)), hard))
     signal.signal(signal.SIGALRM, take_too_long)
-    rows = Rows(os.path.realpath(program))
+    rows = Rows(program)
     rows.run(words)
-    print(f"{rows.passed} passed, {rows.failed} failed")
-    sys.exit(rows.failed > 0 or not rows.passed)
+    finish(rows.passed, rows.failed)
 
 
 if __name__ == "__main__":

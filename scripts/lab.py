@@ -28,7 +28,8 @@ import sys
 import tempfile
 import time
 
-TOP = os.path.realpath(os.path.join(os.path.dirname(os.path.abspath(__file__)), ".."))
+sys.dont_write_bytecode = True
+from program import TOP, built, finish  # noqa: E402
 TOPOLOGIES = ("examples/ring_of_five.domain", "examples/grid_of_sixteen.domain")
 SETUP = ("domain", "prefix", "load", "link", "import", "export")
 
@@ -282,12 +283,7 @@ def main(words):
     parser.add_argument("--idle", type=float, default=IDLE)
     parser.add_argument("paths", nargs="*", default=[os.path.join(TOP, path) for path in TOPOLOGIES])
     asked = parser.parse_args(words)
-    program = os.environ.get("NCROUTE")
-    if not program:
-        print("lab: no program is named by NCROUTE, so nothing is run")
-        print("0 passed, 1 failed")
-        sys.exit(1)
-    program = os.path.realpath(program)
+    program = built()
     # A router has two files open for each link, and inherits this limit.
     resource.setrlimit(resource.RLIMIT_NOFILE, (min(4096, resource.getrlimit(resource.RLIMIT_NOFILE)[1]),) * 2)
     passed = failed = 0
@@ -302,8 +298,7 @@ def main(words):
             lab.close(asked.keep)
         print(f"{lab.name}: {lab.passed} passed, {lab.failed} failed, {time.monotonic() - begun:.1f} s", file=sys.stderr)
         passed, failed = passed + lab.passed, failed + lab.failed
-    print(f"{passed} passed, {failed} failed")
-    sys.exit(failed > 0)
+    finish(passed, failed)
 
 
 if __name__ == "__main__":

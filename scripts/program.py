@@ -125,6 +125,14 @@ def read_terminal(terminal):
         return b""
 
 
+def built():
+    """The path of the program that NCROUTE names, for a script that runs nothing else. Without it the script ends, and has not passed."""
+    if path := os.environ.get("NCROUTE"):
+        return os.path.realpath(path)
+    print("nothing is run: NCROUTE=PATH names the program")
+    return finish(0, 1)
+
+
 def finish(passed, failed):
     """Ends a script with its count. Where nothing was checked, it has not passed."""
     print(f"{passed} passed, {failed} failed")
