@@ -10,7 +10,7 @@ use Rattle.route_history.specs.JournalView.{JournalView}
 use Rattle.route_history.specs.Positions.{times}
 use Rattle.lock_rule.specs.declared.rule.Fragment.{Fragment}
 use Rattle.lock_rule.specs.declared.rule.View.{View}
-use Rattle.lock_rule.specs.Closing.{AnotherHolds, Closed, HasEachOnce}
+use Rattle.lock_rule.specs.Closing.{Closed, HasEachOnce}
 use Rattle.lock_rule.specs.RouterView.{router_view}
 use Rattle.lock_rule.specs.Rule.{IsKept, journal}
 use Rattle.lock_rule.specs.Views.{all_shares, empty_fragment, shares_of, times_in_view}
@@ -76,12 +76,4 @@ held_by o l id n v words slots held incoming (s, (kept, at), same, _, come) word
     let sum = kept.known.shares in
     let some_shares = holder_has_shares o l kept.log kept.log is_held.who (kept.known.fits is_held.holder is_held.who is_held.there) is_held.held in
     omega arith)
-    kept.lock
-
--- where the word is not 0 at the end, it is 1
-pub held_elsewhere : (o : OpeningView) (l id n : ℕ) (v : View) (table : TableId) (words : List ℕ) (slots : List JournalView) → v.held ≡ None →
-    Final (Seen (IsKept o l) id v) words slots → get_elem? words 0 ≡ some n → n ≢ 0 → AnotherHolds (router_view table o l) v.fragment
-held_elsewhere o l id n v table words slots held (s, (kept, at), same, _, come) word not_free = ⊎_elim
-    (λ is_free. absurd (not_free (word_of s words n 0 is_free.words same word)))
-    (λ is_held. record { state = s; kept = kept; word = is_held.words; id = id; view = v; there = at; fragment = refl; held = held })
     kept.lock

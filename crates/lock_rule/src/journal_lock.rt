@@ -2,7 +2,7 @@
 //! and no others.
 
 ghost use Rattle.std.specs.Prelude.{◌≡◌, ◌≢◌, ◌<◌, IfErr, IfNone, IfOk, IfSome, MatchBool, None, []};
-ghost use Rattle.lock_rule.specs.Closing.{AnotherHolds, Closed};
+ghost use Rattle.lock_rule.specs.Closing.{Closed};
 ghost use Rattle.lock_rule.specs.Entering.{Enters, EntersNot, IsHolding, IsMet, Observes};
 ghost use Rattle.lock_rule.specs.Steps.{Acquired, FoundHeld, Merges};
 ghost use Rattle.lock_rule.specs.Views.{all_shares, empty_fragment, first_view, shares_of, split_left, split_right, with_incoming};
@@ -156,13 +156,12 @@ impl JournalLock {
         LockSeat { inner }
     }
 
-    /// Ends the lock, and returns its journal; `None` where another seat holds the lock, so that the word is 1.
+    /// Ends the lock, and returns its journal; `None` where another seat holds the lock.
     pub fn close(self, seat: LockSeat) -> Option<Journal>
         requires at { seat.table ≡ self.table }
         requires not_holding { (seat.me.0.held ≡ None) × (seat.me.0.incoming ≡ empty_fragment) }
         ensures closed { IfSome result (λ j. Closed self seat.me.0.fragment j) }
         ensures held { IfNone result (seat.me.0.fragment.shares ≢ all_shares) }
-        ensures another { IfNone result (AnotherHolds self seat.me.0.fragment) }
     {
         close(self.table, seat.inner)
     }

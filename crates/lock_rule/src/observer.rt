@@ -9,7 +9,7 @@ pub trait Observer {
     // The observer may be the later one after it was shown this journal.
     ghost sees: { Self → JournalView → Self → Type 0 };
 
-    /// Is shown a journal. All other callers of the router wait meanwhile.
+    /// Is shown a journal. Meanwhile no other caller of the router has it.
     fn see(&mut self, journal: &Journal)
         ensures { sees self.old journal.now self.new };
 }

@@ -2,7 +2,7 @@
 //! tables and seats are out of their reach.
 
 ghost use Rattle.std.specs.Prelude.{◌≡◌, ◌≢◌, ◌<◌, IfErr, IfNone, IfOk, IfSome, MatchBool, None, []};
-ghost use Rattle.lock_rule.specs.Closing.{AnotherHolds, Closed};
+ghost use Rattle.lock_rule.specs.Closing.{Closed};
 ghost use Rattle.lock_rule.specs.RouterView.{router_view};
 ghost use Rattle.lock_rule.specs.Entering.{Enters, EntersNot, IsAtTable, IsHolding, IsMet, Observes};
 ghost use Rattle.lock_rule.specs.Steps.{Acquired, FoundHeld, Merges};
@@ -116,8 +116,6 @@ pub(crate) fn close(table: LockTable, seat: TableSeat) -> Option<Journal>
     ensures closed { IfSome result (λ j.
         Closed (router_view table.shared.table_id table.shared.key.value.opening table.shared.key.value.limit) seat.me.0.fragment j) }
     ensures held { IfNone result (seat.me.0.fragment.shares ≢ all_shares) }
-    ensures another { IfNone result
-        (AnotherHolds (router_view table.shared.table_id table.shared.key.value.opening table.shared.key.value.limit) seat.me.0.fragment) }
 {
     let mut closed = table.close_with(seat);
     let word = closed.word(0);

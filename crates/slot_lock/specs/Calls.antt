@@ -13,7 +13,7 @@ use Rattle.slot_lock.specs.declared.fault.TryFault.{TryFault}
 use Rattle.slot_lock.specs.declared.fault.TryFault.TheVariants as try_fault
 use Rattle.slot_lock.specs.Passes.{PassView}
 use Rattle.lock_rule.specs.declared.rule.Fragment.{Fragment}
-pub use Rattle.lock_rule.specs.Closing.{AnotherHolds, Closed}
+pub use Rattle.lock_rule.specs.Closing.{Closed}
 use Rattle.lock_rule.specs.RouterView.{RouterView}
 use Rattle.lock_rule.specs.Steps.{Agree, merged, with_seen}
 use Rattle.lock_rule.specs.Views.{all_shares, longer}

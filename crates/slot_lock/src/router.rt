@@ -1,7 +1,7 @@
 //! A router that many threads call.
 
 ghost use Rattle.std.specs.Prelude.{◌≡◌, ◌≢◌, ◌-◌, ◌<◌, ◌≤◌, [], IfErr, IfOk, length};
-ghost use Rattle.slot_lock.specs.Calls.{AnotherHolds, Answered, Closed, Merged, Met, Observed, Refused, TryRefused};
+ghost use Rattle.slot_lock.specs.Calls.{Answered, Closed, Merged, Met, Observed, Refused, TryRefused};
 ghost use Rattle.slot_lock.specs.declared.fault.LockFault.TheVariants as lock_fault;
 ghost use Rattle.slot_lock.specs.Passes.{IsFirst, IsOwn, IsPassOf};
 
@@ -146,7 +146,6 @@ impl Router {
         ensures closed { IfOk result (λ j. Closed self pass.fragment j) }
         ensures count { IfOk result (λ j. pass.fragment.shares ≡ ALL_SHARES → length pass.fragment.mine ≡ length j.entries) }
         ensures held { IfErr result (λ f. (f ≡ lock_fault.Held) × (pass.fragment.shares ≢ ALL_SHARES)) }
-        ensures another { IfErr result (λ _. AnotherHolds self pass.fragment) }
     {
         match self.lock.close(pass.seat) {
             Some(journal) => Ok(journal),

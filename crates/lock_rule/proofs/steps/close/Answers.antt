@@ -1,6 +1,6 @@
 use Rattle.std.proofs.Common.{◌∙◌, ap}
 use mathlib.Core.Option.{some}
-use Rattle.lock_rule.proofs.Closing.{closing, held_by, held_elsewhere}
+use Rattle.lock_rule.proofs.Closing.{closing, held_by}
 use Rattle.lock_rule.proofs.steps.close.Goals as goal
 
 pub returns-then-word-eq0-clause-closed : goal.returns-then-word-eq0-clause-closed
@@ -14,9 +14,3 @@ returns-else-word-eq0-clause-held c =
     held_by c.args.table.shared.key.value.opening c.args.table.shared.key.value.limit c.args.seat.id c.word-word.result c.args.seat.me.0
     _ _
     c.requires.not_holding.0 c.requires.not_holding.1 c.close_with-closed.ensures.values.2 c.word-word.ensures c.if-word-eq0.false
-
-pub returns-else-word-eq0-clause-another : goal.returns-else-word-eq0-clause-another
-returns-else-word-eq0-clause-another c =
-    held_elsewhere c.args.table.shared.key.value.opening c.args.table.shared.key.value.limit c.args.seat.id c.word-word.result c.args.seat.me.0
-    c.args.table.shared.table_id _ _
-    c.requires.not_holding.0 c.close_with-closed.ensures.values.2 c.word-word.ensures c.if-word-eq0.false
