@@ -4,7 +4,8 @@ use Rattle.netchange_core.specs.declared.reply.Via.{Via}
 use Rattle.netchange_core.specs.declared.reply.Via.TheVariants.{Node, Nowhere}
 use Rattle.routing_domain.proofs.Alone.{leads_nearer}
 use Rattle.domain_routes.specs.PlanView.{PlanView}
-use Rattle.domain_routes.specs.Routes.{AreRoutes, GoesVia, route_at}
+use Rattle.domain_routes.specs.Routes.{AreRoutes, route_at}
+use Rattle.routing_domain.specs.Ways.{GoesVia}
 use Rattle.domain_routes.specs.Topology.{topology}
 use Rattle.domain_routes.specs.declared.best.Best.{Best}
 use Rattle.domain_routes.proofs.Increasing.{never_nearer}

@@ -1,21 +1,24 @@
 -- A plan's topology and that of a domain with its links and filters are at rest together.
 use Rattle.std.proofs.Common.{◌≡◌, ℕ, suc, ◌<◌, Option, Some, None, sym, ap, refl, ◌∙◌, arith}
 use Rattle.filter_verifier.specs.VerifiedView.{VerifiedView}
+use Rattle.netchange_core.specs.declared.reply.Via.{Via}
+use Rattle.netchange_core.specs.declared.reply.Via.TheVariants.{Local, Node, Nowhere}
 use Rattle.netchange_core.specs.OpeningView.{OpeningView}
 use Rattle.netchange_core.specs.FilteredDistance.{filtered_distance}
 use Rattle.routing_domain.specs.Domain.{Domain, exported, imported, neighbour, topology as domain_topology}
 use Rattle.routing_domain.specs.Rest.{IsRest, LeadsThrough, Topology}
+use Rattle.routing_domain.specs.Ways.{GoesVia}
 use Rattle.domain_routes.specs.OfDomain.{IsPlanOf}
 use Rattle.domain_routes.specs.PlanView.{PlanView, opening_of, peer}
 use Rattle.domain_routes.specs.Topology.{toll, topology}
 
 -- two topologies of one size, with the same links and tolls between their nodes
-record AreAlike (m n : Topology) : Type 0 where
+pub record AreAlike (m n : Topology) : Type 0 where
   size : m.size ≡ n.size
   linked : (u w : ℕ) → u < m.size → w < m.size → m.linked u w ≡ n.linked u w
   toll : (u w x : ℕ) → u < m.size → w < m.size → m.toll u w x ≡ n.toll u w x
 
-leads_alike : (m n : Topology) → AreAlike m n → (to : ℕ) (dist : ℕ → ℕ) (u w : ℕ) → u < m.size → LeadsThrough m to dist u w →
+pub leads_alike : (m n : Topology) → AreAlike m n → (to : ℕ) (dist : ℕ → ℕ) (u w : ℕ) → u < m.size → LeadsThrough m to dist u w →
     LeadsThrough n to dist u w
 leads_alike m n s to dist u w short l = record {
   other = l.other;
@@ -54,12 +57,32 @@ toll_alike d p s v u w x short within =
     ∙ ap (λ f. filtered_distance (d.router u).opening f v (filtered_distance (d.router w).opening (peer p w u).exports v x)) (sym (s.imports u w short within))
     ∙ ap (λ f. filtered_distance (d.router u).opening (neighbour d u w).imports v (filtered_distance (d.router w).opening f v x)) (sym (s.exports w u within short))
 
+-- a plan's topology and that of its domain
+pub alike : (d : Domain) (p : PlanView) → IsPlanOf d p → (v : ℕ) → AreAlike (topology p v) (domain_topology d v)
+alike d p s v = record {
+  size = sym s.size;
+  linked = λ u w short within. sym (s.linked u w short within);
+  toll = λ u w x short within. toll_alike d p s v u w x short within;
+}
+
+-- and back
+pub alike_back : (m n : Topology) → AreAlike m n → AreAlike n m
+alike_back m n s = record {
+  size = sym s.size;
+  linked = λ u w short within. sym (s.linked u w (omega (arith, short, s.size)) (omega (arith, within, s.size)));
+  toll = λ u w x short within. sym (s.toll u w x (omega (arith, short, s.size)) (omega (arith, within, s.size)));
+}
+
+-- through whom a route goes in the one, it goes in the other
+pub goes_alike : (m n : Topology) → AreAlike m n → (to : ℕ) (dist : ℕ → ℕ) (u : ℕ) → u < m.size → (via : Via) → GoesVia m to dist u via → GoesVia n to dist u via
+goes_alike m n s to dist u short Local goes = goes
+goes_alike m n s to dist u short (Node w) goes = record {
+  leads = leads_alike m n s to dist u w short goes.leads;
+  first = λ x before l. goes.first x before (leads_alike n m (alike_back m n s) to dist u x (omega (arith, short, s.size)) l);
+}
+goes_alike m n s to dist u short Nowhere goes = (goes.0, goes.1 ∙ s.size)
+
 pub of_domain : (d : Domain) (p : PlanView) → IsPlanOf d p → (v : ℕ) (dist : ℕ → ℕ) → IsRest (topology p v) v dist →
     IsRest (domain_topology d v) v dist
 of_domain d p s v dist r =
-    rest_alike (topology p v) (domain_topology d v)
-    (record {
-      size = sym s.size;
-      linked = λ u w short within. sym (s.linked u w short within);
-      toll = λ u w x short within. toll_alike d p s v u w x short within;
-    }) v dist r
+    rest_alike (topology p v) (domain_topology d v) (alike d p s v) v dist r

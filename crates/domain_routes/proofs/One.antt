@@ -5,11 +5,12 @@ use Rattle.std.proofs.lemmas.List.{ext_get_or}
 use Rattle.netchange_core.specs.declared.reply.Via.{Via}
 use Rattle.netchange_core.specs.declared.reply.Via.TheVariants.{Local, Node, Nowhere}
 use Rattle.routing_domain.specs.Rest.{LeadsThrough, NeverNearer, Topology}
+use Rattle.routing_domain.specs.Ways.{GoesVia}
 use Rattle.routing_domain.proofs.Alone.{alone}
 use Rattle.domain_routes.specs.declared.best.Best.{Best}
-use Rattle.domain_routes.specs.Routes.{AreRoutes, GoesVia, nowhere, route_at}
+use Rattle.domain_routes.specs.Routes.{AreRoutes, nowhere, route_at}
 
-abbrev AreSame : Topology → (ℕ → ℕ) → (ℕ → ℕ) → Type 0
+abbrev pub AreSame : Topology → (ℕ → ℕ) → (ℕ → ℕ) → Type 0
 AreSame m a b = (u : ℕ) → u < m.size → a u ≡ b u
 
 leads_too : (m : Topology) (to : ℕ) (a b : ℕ → ℕ) → AreSame m a b → (u w : ℕ) → u < m.size → LeadsThrough m to a u w → LeadsThrough m to b u w
@@ -22,7 +23,7 @@ leads_too m to a b same u w short l = record {
 }
 
 -- at the same distances a route goes one way
-one_via : (m : Topology) (to : ℕ) (a b : ℕ → ℕ) → AreSame m a b → AreSame m b a → (u : ℕ) → u < m.size → (v w : Via) →
+pub one_via : (m : Topology) (to : ℕ) (a b : ℕ → ℕ) → AreSame m a b → AreSame m b a → (u : ℕ) → u < m.size → (v w : Via) →
     GoesVia m to a u v → GoesVia m to b u w → v ≡ w
 one_via m to a b ab ba u short Local Local p q = refl
 one_via m to a b ab ba u short Local (Node w) p q = absurd (q.leads.other p)

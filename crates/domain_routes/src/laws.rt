@@ -6,7 +6,7 @@ ghost use Rattle.domain_routes.specs.Edits.{linking, put};
 ghost use Rattle.domain_routes.specs.OfDomain.{IsPlanOf};
 ghost use Rattle.domain_routes.specs.PlanView.{IsPlan, PeerView, PlanView, is_linked, peer};
 ghost use Rattle.domain_routes.specs.Routes.{AreRoutes, route_at};
-ghost use Rattle.netchange_core.specs.Best.{distance};
+ghost use Rattle.netchange_core.specs.Best.{best, distance};
 ghost use Rattle.domain_routes.specs.Topology.{topology};
 ghost use Rattle.routing_domain.specs.Domain.{Domain, IsInOrder, IsQuiet, topology as domain_topology};
 ghost use Rattle.routing_domain.specs.Rest.{IsRest};
@@ -32,9 +32,11 @@ pub fn routes_are_one()
         AreRoutes (topology p v) v a → AreRoutes (topology p v) v b → a ≡ b }
 {}
 
-/// When a domain in order with the links and filters of a plan is quiet, its routers are at the distances that the plan's routes
-/// have.
+/// When a domain in order with the links and filters of a plan is quiet, its routers have the plan's routes: the distances, and the next
+/// hops.
 pub fn quiet_routers_have_the_routes()
     ensures distances { (d : Domain) → (p : PlanView) → IsInOrder d → IsQuiet d → IsPlanOf d p → (v : ℕ) → v < p.size → (routes : List Best) →
         AreRoutes (topology p v) v routes → (u : ℕ) → u < p.size → (route_at p.size routes u).dist ≡ distance (d.router u) v }
+    ensures vias { (d : Domain) → (p : PlanView) → IsInOrder d → IsQuiet d → IsPlanOf d p → (v : ℕ) → v < p.size → (routes : List Best) →
+        AreRoutes (topology p v) v routes → (u : ℕ) → u < p.size → (route_at p.size routes u).via ≡ (best (d.router u) v).via }
 {}

@@ -11,10 +11,10 @@ use Rattle.netchange_core.proofs.Change.{change_good, changed_at}
 use Rattle.netchange_core.proofs.Good.{gone_good}
 use Rattle.netchange_core.proofs.Holders.{holder_found, up_in}
 use Rattle.netchange_core.proofs.Queued.{changes_good}
-use Rattle.routing_domain.specs.Domain.{Domain, IsInOrder, IsWithin, are_linked, neighbour}
+use Rattle.routing_domain.specs.Domain.{Domain, IsInOrder, IsMember, IsWithin, are_linked, neighbour}
 use Rattle.routing_domain.specs.Events.{cuts, enters_in, in_session}
 use Rattle.routing_domain.specs.Steps.{with_flight}
-use Rattle.routing_domain.proofs.Keeping.{IsMember, KeepsLink, member_of}
+use Rattle.routing_domain.proofs.Keeping.{KeepsLink, member_of}
 use Rattle.routing_domain.proofs.Pairs.{two_routers_keep_order}
 use Rattle.routing_domain.proofs.Places.{flight_from_other, flight_here, flight_other, router_here, router_other}
 use Rattle.routing_domain.proofs.Recomputed.{changed_other, told_again}
@@ -32,7 +32,7 @@ leaver r k = (recomputed r (changed r k (gone r.opening))).world
 near_of : (size u k : ℕ) (r : World) → IsMember size u r → k < size → k < length r.neighbours
 near_of size u k r m short = omega (arith, short, m.tables.one_a_node)
 
-leaver_member : (size u k : ℕ) (r : World) → IsMember size u r → k < size → (k ≡ u → ⊥) → IsMember size u (leaver r k)
+pub leaver_member : (size u k : ℕ) (r : World) → IsMember size u r → k < size → (k ≡ u → ⊥) → IsMember size u (leaver r k)
 leaver_member size u k r m short other =
     let near = near_of size u k r m short in
     let n = neighbour_at r.neighbours k in
@@ -47,7 +47,7 @@ leaver_member size u k r m short other =
       apart = recomputed_other is_up r k f u (λ _ _. refl) near (λ e. other (sym e)) ∙ m.apart;
     }
 
-leaver_keeps : (size u k b : ℕ) (r : World) → IsMember size u r → k < size → b < size → (b ≡ k → ⊥) → KeepsLink size r (leaver r k) b
+pub leaver_keeps : (size u k b : ℕ) (r : World) → IsMember size u r → k < size → b < size → (b ≡ k → ⊥) → KeepsLink size r (leaver r k) b
 leaver_keeps size u k b r m short to other =
     let near = near_of size u k r m short in
     let f = gone r.opening in
@@ -70,7 +70,7 @@ pub down_leaves : (d : Domain) (u w s : ℕ) → IsInOrder d → u < d.size → 
     next (d.router u) (event.Down s) ≡ recomputed (d.router u) (changed (d.router u) w (gone (d.router u).opening))
 down_leaves d u w s o short held = ap (λ h. down (d.router u) h) (holds d u w s o short held)
 
-abbrev goes : ℕ → Event
+abbrev pub goes : ℕ → Event
 goes s = event.Down s
 
 leaves : (d : Domain) (u w : ℕ) → IsInOrder d → u < d.size → are_linked d u w ≡ true →

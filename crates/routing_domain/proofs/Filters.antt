@@ -20,10 +20,10 @@ use Rattle.netchange_core.proofs.Goes.{neighbour_below}
 use Rattle.netchange_core.proofs.Good.{exporting_good, importing_good}
 use Rattle.netchange_core.proofs.Opened.{best_within}
 use Rattle.netchange_core.proofs.Queued.{changes_good}
-use Rattle.routing_domain.specs.Domain.{Domain, IsInOrder, IsQueued, IsWithin, last_told}
+use Rattle.routing_domain.specs.Domain.{Domain, IsInOrder, IsMember, IsQueued, IsWithin, last_told}
 use Rattle.routing_domain.specs.Events.{enters}
 use Rattle.routing_domain.specs.Steps.{with_router}
-use Rattle.routing_domain.proofs.Keeping.{IsMember, IsTold, KeepsLink, member_of, router_keeps_order}
+use Rattle.routing_domain.proofs.Keeping.{IsTold, KeepsLink, member_of, router_keeps_order}
 use Rattle.routing_domain.proofs.Places.{router_same}
 use Rattle.routing_domain.proofs.Recomputed.{changed_other, recomputed_tells}
 use Rattle.routing_domain.proofs.Seen.{changed_seen, recomputed_seen}
@@ -44,7 +44,7 @@ told_all o exports dist (suc u) v before below =
     (cases_eq u v)
 
 -- the import filter: all is told as after a message
-import_member : (size u k : ℕ) (r : World) (f : VerifiedView) → IsMember size u r → k < size → f.size ≡ r.opening.size →
+pub import_member : (size u k : ℕ) (r : World) (f : VerifiedView) → IsMember size u r → k < size → f.size ≡ r.opening.size →
     IsMember size u (recomputed r (changed r k (importing f))).world
 import_member size u k r f m short fits =
     let near : k < length r.neighbours = omega (arith, short, m.tables.one_a_node) in
@@ -60,7 +60,7 @@ import_member size u k r f m short fits =
       apart = recomputed_seen is_up r k (importing f) u (λ _ _. refl) refl ∙ m.apart;
     }
 
-import_keeps : (size u k b : ℕ) (r : World) (f : VerifiedView) → IsMember size u r → k < size → b < size →
+pub import_keeps : (size u k b : ℕ) (r : World) (f : VerifiedView) → IsMember size u r → k < size → b < size →
     KeepsLink size r (recomputed r (changed r k (importing f))).world b
 import_keeps size u k b r f m short to =
     let near : k < length r.neighbours = omega (arith, short, m.tables.one_a_node) in
@@ -107,7 +107,7 @@ exporting_queued size r f n e q = record {
   idle = λ down. ap (λ b. cond b (n.queue ++ all_messages r.opening (Some f) (distance r) r.opening.size) n.queue) down ∙ q.idle down;
 }
 
-export_member : (size u k : ℕ) (r : World) (f : VerifiedView) → IsMember size u r → k < size → f.size ≡ r.opening.size →
+pub export_member : (size u k : ℕ) (r : World) (f : VerifiedView) → IsMember size u r → k < size → f.size ≡ r.opening.size →
     IsMember size u (exporter r k f)
 export_member size u k r f m short fits =
     let near : k < length r.neighbours = omega (arith, short, m.tables.one_a_node) in
@@ -123,7 +123,7 @@ export_member size u k r f m short fits =
       apart = changed_seen is_up r k change_of u refl ∙ m.apart;
     }
 
-export_keeps : (size u k b : ℕ) (r : World) (f : VerifiedView) → IsMember size u r → k < size → KeepsLink size r (exporter r k f) b
+pub export_keeps : (size u k b : ℕ) (r : World) (f : VerifiedView) → IsMember size u r → k < size → KeepsLink size r (exporter r k f) b
 export_keeps size u k b r f m short = record {
   session = changed_seen (λ n. n.session) r k change_of b refl;
   advertised = changed_seen (λ n. n.advertised) r k change_of b refl;

@@ -5,23 +5,15 @@ use Rattle.std.proofs.lemmas.Bool.{cases_eq}
 use Rattle.std.proofs.lemmas.List.Elements.{All-nil}
 use Rattle.netchange_core.specs.declared.message.Message.{Message}
 use Rattle.netchange_core.specs.Best.{distance}
-use Rattle.netchange_core.specs.Kept.{AreNeighbours}
 use Rattle.netchange_core.specs.FilteredDistance.{filtered_distance}
 use Rattle.netchange_core.specs.World.{World, is_up, neighbour_at}
-use Rattle.routing_domain.specs.Domain.{Domain, IsInOrder, IsSound, IsWithin, are_linked, last_told}
+use Rattle.routing_domain.specs.Domain.{Domain, IsInOrder, IsMember, IsWithin, are_linked, last_told}
 use Rattle.routing_domain.specs.Steps.{with_router}
 use Rattle.routing_domain.proofs.Receives.{ToldBy}
 use Rattle.routing_domain.proofs.Places.{router_here, router_other}
 use Rattle.routing_domain.proofs.Told.{last_told_both}
 
--- a router of a domain of this size, at this place
-pub record IsMember (n u : ℕ) (r : World) : Type 0 where
-  pub size : r.opening.size ≡ n
-  pub me : r.opening.me ≡ u
-  pub tables : AreNeighbours n r.neighbours
-  pub sound : IsSound n r
-  pub apart : is_up (neighbour_at r.neighbours u) ≡ false
-
+-- each router of a domain in order is a member
 pub member_of : (d : Domain) (u : ℕ) → IsInOrder d → u < d.size → IsMember d.size u (d.router u)
 member_of d u o short =
     record { size = o.size u short; me = o.me u short; tables = o.tables u short; sound = o.sound u short; apart = o.apart u short }
@@ -59,12 +51,14 @@ pub record IsGone (e : Domain) (a b : ℕ) : Type 0 where
 abbrev pub IsAfter : Domain → Domain → ℕ → ℕ → Type 0
 IsAfter d e a b = (IsKept d e a b) ⊎ ((IsFresh d e a b) ⊎ (IsGone e a b))
 
-kept_told : (size : ℕ) (ra sa rb sb : World) (flight : List Message) (a b v : ℕ) → is_up (neighbour_at ra.neighbours b) ≡ true → v < size →
-    KeepsLink size ra sa b → KeepsLink size rb sb a → ToldBy ra rb flight a b v → ToldBy sa sb flight a b v
-kept_told size ra sa rb sb flight a b v up below ka kb told =
+-- what is told over a link that is kept, to one who knows as much as before
+pub kept_told : (size : ℕ) (ra sa rb sb : World) (flight : List Message) (a b v : ℕ) → is_up (neighbour_at ra.neighbours b) ≡ true → v < size →
+    KeepsLink size ra sa b → (neighbour_at sb.neighbours a).advertised ≡ (neighbour_at rb.neighbours a).advertised →
+    ToldBy ra rb flight a b v → ToldBy sa sb flight a b v
+kept_told size ra sa rb sb flight a b v up below ka heard told =
     let advertised = slice_index (neighbour_at rb.neighbours a).advertised v in
     let before = last_told v advertised flight in
-    ap (λ distances. last_told v (slice_index distances v) (flight ++ (neighbour_at sa.neighbours b).queue)) kb.advertised
+    ap (λ distances. last_told v (slice_index distances v) (flight ++ (neighbour_at sa.neighbours b).queue)) heard
     ∙ last_told_both v advertised flight (neighbour_at sa.neighbours b).queue
     ∙ ka.tells up v before below (sym (last_told_both v advertised flight (neighbour_at ra.neighbours b).queue) ∙ told)
 
@@ -101,7 +95,7 @@ told_after d e a b v o from to below after linked =
     (λ (kept : IsKept d e a b).
     let was : are_linked d a b ≡ true = sym (linked_as d e a b kept.here) ∙ linked in
     subst (λ f. ToldBy (e.router a) (e.router b) f a b v) (sym kept.flight)
-    (kept_told d.size (d.router a) (e.router a) (d.router b) (e.router b) (d.flight a b) a b v was below kept.here kept.there (o.told a b v from to below was)))
+    (kept_told d.size (d.router a) (e.router a) (d.router b) (e.router b) (d.flight a b) a b v was below kept.here kept.there.advertised (o.told a b v from to below was)))
     (λ (rest : (IsFresh d e a b) ⊎ (IsGone e a b)). ⊎_elim (λ (fresh : IsFresh d e a b). fresh.told v below) (λ (gone : IsGone e a b). absurd (let h : true ≡ false = sym linked ∙ gone.down in cc)) rest)
     after
 

@@ -15,11 +15,11 @@ use Rattle.netchange_core.proofs.Goes.{up_goes}
 use Rattle.netchange_core.proofs.Good.{joined_distance, joined_good}
 use Rattle.netchange_core.proofs.Holders.{down_none}
 use Rattle.netchange_core.proofs.Opened.{best_within}
-use Rattle.routing_domain.specs.Domain.{Domain, IsInOrder, IsQueued, are_linked, last_told}
+use Rattle.routing_domain.specs.Domain.{Domain, IsInOrder, IsMember, IsQueued, are_linked, last_told}
 use Rattle.routing_domain.specs.Events.{CanLink, enters, links}
 use Rattle.routing_domain.proofs.Filters.{told_all}
 use Rattle.routing_domain.proofs.Receives.{ToldBy}
-use Rattle.routing_domain.proofs.Keeping.{IsMember, KeepsLink, member_of}
+use Rattle.routing_domain.proofs.Keeping.{KeepsLink, member_of}
 use Rattle.routing_domain.proofs.Pairs.{two_routers_keep_order}
 use Rattle.routing_domain.proofs.Places.{router_here, router_other}
 use Rattle.routing_domain.proofs.Recomputed.{changed_other}
@@ -85,7 +85,7 @@ joiner_keeps size u k b r m short down other =
           (told ∙ ap (λ x. filtered_distance r.opening (neighbour_at r.neighbours b).exports v x) (sym (joiner_distance size u k v r m down below)));
     }
 
-joiner_at : (size u k : ℕ) (r : World) → IsMember size u r → k < size →
+pub joiner_at : (size u k : ℕ) (r : World) → IsMember size u r → k < size →
     neighbour_at (joiner r k).neighbours k ≡ joined r.opening (distance r) (r.sessions + 1) (neighbour_at r.neighbours k)
 joiner_at size u k r m short = changed_at k (joined r.opening (distance r) (r.sessions + 1)) r.neighbours (near_of size u k r m short)
 

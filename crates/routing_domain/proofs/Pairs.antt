@@ -2,8 +2,8 @@
 use Rattle.std.proofs.Common.{◌≡◌, ⊎_elim, inl, ℕ, ◌<◌, sym, subst, ◌∙◌}
 use Rattle.std.proofs.lemmas.Bool.{cases_eq}
 use Rattle.netchange_core.specs.World.{World}
-use Rattle.routing_domain.specs.Domain.{Domain, IsInOrder}
-use Rattle.routing_domain.proofs.Keeping.{IsAfter, IsMember, KeepsLink, keeps_itself, links_keep_order, member_of}
+use Rattle.routing_domain.specs.Domain.{Domain, IsInOrder, IsMember}
+use Rattle.routing_domain.proofs.Keeping.{IsAfter, KeepsLink, keeps_itself, links_keep_order, member_of}
 use Rattle.routing_domain.proofs.Places.{IsOther}
 
 -- the links that are kept, at one end

@@ -2,9 +2,9 @@
 use Rattle.std.proofs.Common.{◌≡◌, inl, ℕ, ◌<◌, sym, ap, subst, ◌∙◌, arith}
 use Rattle.netchange_core.specs.Best.{distance}
 use Rattle.netchange_core.specs.World.{neighbour_at}
-use Rattle.routing_domain.specs.Domain.{Domain, IsInOrder, IsSame}
+use Rattle.routing_domain.specs.Domain.{Domain, IsInOrder, IsMember, IsSame}
 use Rattle.routing_domain.specs.Weight.{link_weight, mass, router_weight, sum_below, weigh, weight}
-use Rattle.routing_domain.proofs.Keeping.{IsMember, KeepsLink, keeps_itself, links_keep_order, member_of}
+use Rattle.routing_domain.proofs.Keeping.{KeepsLink, keeps_itself, links_keep_order, member_of}
 use Rattle.routing_domain.proofs.Sums.{sum_same}
 
 -- the same routers, in a domain of the same size

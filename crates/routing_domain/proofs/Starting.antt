@@ -13,20 +13,20 @@ use Rattle.netchange_core.proofs.Lists.{below_repeated}
 use Rattle.routing_domain.specs.Domain.{AreOpenings, IsInOrder, IsQueued, IsWithin, opened_domain}
 
 -- no neighbour has a session, nor does anything wait for one
-abbrev IsIdle : NeighbourView → Type 0
+abbrev pub IsIdle : NeighbourView → Type 0
 IsIdle n = (n.session ≡ None) × (n.queue ≡ [])
 
-idle_at : (o : OpeningView) (k : ℕ) → IsIdle (neighbour_at (opened o).neighbours k)
+pub idle_at : (o : OpeningView) (k : ℕ) → IsIdle (neighbour_at (opened o).neighbours k)
 idle_at o k =
     ⊎_elim
     (λ near. subst IsIdle (sym (get_or-replicate o.size k (newcomer o) nobody near)) (refl, refl))
     (λ past. subst IsIdle (sym (get_or_past (replicate o.size (newcomer o)) k nobody (omega (arith, past, length-replicate o.size (newcomer o))))) (refl, refl))
     (cases_lt k o.size)
 
-down_at : (o : OpeningView) (k : ℕ) → is_up (neighbour_at (opened o).neighbours k) ≡ false
+pub down_at : (o : OpeningView) (k : ℕ) → is_up (neighbour_at (opened o).neighbours k) ≡ false
 down_at o k = ap is_some ((idle_at o k).0)
 
-tables_of : (o : OpeningView) → AreNeighbours o.size (opened o).neighbours
+pub tables_of : (o : OpeningView) → AreNeighbours o.size (opened o).neighbours
 tables_of o = record {
   one_a_node = length-replicate o.size (newcomer o);
   each = λ k d near.
@@ -34,7 +34,7 @@ tables_of o = record {
       (record { one_a_node = length-replicate o.size o.size; reachable = below_repeated o.size o.size; imports = tt; exports = tt });
 }
 
-queued_at : (size : ℕ) (o : OpeningView) (k : ℕ) → IsQueued size (neighbour_at (opened o).neighbours k)
+pub queued_at : (size : ℕ) (o : OpeningView) (k : ℕ) → IsQueued size (neighbour_at (opened o).neighbours k)
 queued_at size o k =
     let idle = idle_at o k in
     record { within = subst (λ ms. Rattle.std.proofs.Common.All (IsWithin size) ms) (sym (idle.1)) (All-nil (IsWithin size)); idle = λ _. idle.1 }

@@ -16,13 +16,13 @@ use Rattle.netchange_core.specs.World.{World, changed, is_up, neighbour_at}
 use Rattle.netchange_core.proofs.Change.{changed_at}
 use Rattle.netchange_core.proofs.Goes.{export_goes, import_goes}
 use Rattle.routing_domain.specs.Changes.{is_between, is_pair, with_link, with_toll, without_link}
-use Rattle.routing_domain.specs.Domain.{Domain, IsInOrder, are_linked, exported, imported, topology}
+use Rattle.routing_domain.specs.Domain.{Domain, IsInOrder, IsMember, are_linked, exported, imported, topology}
 use Rattle.routing_domain.specs.Events.{CanLink, cuts, enters, links}
 use Rattle.routing_domain.specs.Rest.{Topology}
 use Rattle.routing_domain.specs.Steps.{receives, sends, with_router}
 use Rattle.routing_domain.proofs.Cuts.{cut_one, cut_other, cut_third, leaver, leaver_down, unlike}
 use Rattle.routing_domain.proofs.Filters.{exporter}
-use Rattle.routing_domain.proofs.Keeping.{IsMember, member_of}
+use Rattle.routing_domain.proofs.Keeping.{member_of}
 use Rattle.routing_domain.proofs.Links.{joiner, joiner_up, linked_one, linked_other, linked_third, no_neighbour}
 use Rattle.routing_domain.proofs.Places.{IsOther, router_here, router_other}
 use Rattle.routing_domain.proofs.Recomputed.{changed_other}
@@ -34,10 +34,10 @@ no_both true true h = absurd (h refl refl)
 no_both true false h = refl
 no_both false y h = refl
 
-pair_is : (u w : ℕ) → is_pair u w u w ≡ true
+pub pair_is : (u w : ℕ) → is_pair u w u w ≡ true
 pair_is u w = ap (λ b. b && nat_eq w w) (eq-eqb u u refl) ∙ eq-eqb w w refl
 
-pair_not : (u w a b : ℕ) → IsOther u w a b → is_pair u w a b ≡ false
+pub pair_not : (u w a b : ℕ) → IsOther u w a b → is_pair u w a b ≡ false
 pair_not u w a b i = no_both (nat_eq a u) (nat_eq b w) (λ p q. i.other (eqb-true a u p) (eqb-true b w q))
 
 -- what has one value at a pair, and is as it was elsewhere

@@ -1,0 +1,54 @@
+-- Where a run ends quiet, it ends in the one rest of the topology that it began in.
+use Rattle.std.proofs.Common.{◌≡◌, ◌⊎◌, ⊎_elim, ℕ, ◌<◌, zero, suc, sym, ap, subst, ◌∙◌, arith}
+use Rattle.netchange_core.specs.Best.{best, distance}
+use Rattle.routing_domain.specs.Domain.{Domain, IsInOrder, IsQuiet, topology}
+use Rattle.routing_domain.specs.Rest.{IsRest, Topology}
+use Rattle.routing_domain.specs.Runs.{ReceivesOne, Runs, SendsSome}
+use Rattle.routing_domain.specs.Ways.{GoesVia}
+use Rattle.routing_domain.proofs.Alone.{alone}
+use Rattle.routing_domain.proofs.Forwarding.{Hops, forwards}
+use Rattle.routing_domain.proofs.Increasing.{never_nearer}
+use Rattle.routing_domain.proofs.Quiet.{quiet_goes, quiet_rests}
+use Rattle.routing_domain.proofs.Running.{run_is_short}
+use Rattle.routing_domain.proofs.Topologies.{receives_same_topology, sends_same_topology}
+
+step_topology : (d e : Domain) (v : ℕ) → (ReceivesOne d e) ⊎ (SendsSome d e) → topology e v ≡ topology d v
+step_topology d e v step =
+    ⊎_elim
+    (λ (h : ReceivesOne d e). ap (λ x. topology x v) h.after ∙ receives_same_topology d h.from h.to h.message h.rest v)
+    (λ (s : SendsSome d e). ap (λ x. topology x v) s.after ∙ sends_same_topology d s.from s.to s.max v)
+    step
+
+pub run_topology : (k : ℕ) (d e : Domain) (v : ℕ) → Runs k d e → topology e v ≡ topology d v
+run_topology zero d e v run = ap (λ x. topology x v) (sym run)
+run_topology (suc k) d e v run = run_topology k run.0 e v run.2 ∙ step_topology d run.0 v run.1
+
+-- the end of a run, and what is known of it
+pub record IsEnd (d e : Domain) (v : ℕ) : Type 0 where
+  pub order : IsInOrder e
+  pub same : topology e v ≡ topology d v
+  pub size : e.size ≡ d.size
+
+pub end_of : (k : ℕ) (d e : Domain) (v : ℕ) → IsInOrder d → Runs k d e → IsEnd d e v
+end_of k d e v o run =
+    let same : topology e v ≡ topology d v = run_topology k d e v run in
+    record { order = (run_is_short k d e o run).0; same = same; size = ap (λ (m : Topology). m.size) same }
+
+pub end_rests : (d e : Domain) (v : ℕ) → IsEnd d e v → IsQuiet e → v < d.size → IsRest (topology d v) v (λ u. distance (e.router u) v)
+end_rests d e v end q there =
+    subst (λ m. IsRest m v (λ u. distance (e.router u) v)) end.same (quiet_rests e end.order q v (omega (arith, there, end.size)))
+
+pub end_is_one : (d e : Domain) (v : ℕ) → IsInOrder d → IsEnd d e v → IsQuiet e → v < d.size → (a : ℕ → ℕ) → IsRest (topology d v) v a →
+    (u : ℕ) → u < d.size → distance (e.router u) v ≡ a u
+end_is_one d e v o end q there a r u short =
+    alone (topology d v) v (λ x. distance (e.router x) v) a (never_nearer d o v) (end_rests d e v end q there) r u short
+
+pub end_goes : (d e : Domain) (v : ℕ) → IsEnd d e v → IsQuiet e → v < d.size → (u : ℕ) → u < d.size →
+    GoesVia (topology d v) v (λ x. distance (e.router x) v) u (best (e.router u) v).via
+end_goes d e v end q there u short =
+    subst (λ m. GoesVia m v (λ x. distance (e.router x) v) u (best (e.router u) v).via) end.same
+    (quiet_goes e end.order q v (omega (arith, there, end.size)) u (omega (arith, short, end.size)))
+
+pub end_forwards : (d e : Domain) (v : ℕ) → IsEnd d e v → IsQuiet e → v < d.size → (u : ℕ) → u < d.size → distance (e.router u) v < d.size → Hops e v u
+end_forwards d e v end q there u short reach =
+    forwards e end.order q v (omega (arith, there, end.size)) u (omega (arith, short, end.size)) (omega (arith, reach, end.size))
