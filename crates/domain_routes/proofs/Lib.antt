@@ -1,4 +1,6 @@
 pub mod Filtering
+pub mod Following
+pub mod FollowingFilters
 pub mod Increasing
 pub mod Kept
 pub mod Linking

@@ -13,7 +13,7 @@ of_replicate n i x = ⊎_elim
     (λ (more : n ≤ i). get_or_past (replicate n x) i x (omega (arith, length-replicate n x, more)))
     (cases_lt i n)
 
-strange : (prefixes : List (List Bool)) (u w : ℕ) → peer (unlinked prefixes) u w ≡ stranger
+pub strange : (prefixes : List (List Bool)) (u w : ℕ) → peer (unlinked prefixes) u w ≡ stranger
 strange prefixes u w = ⊎_elim
     (λ (less : u < length prefixes).
     ap (λ (r : List PeerView). slice_index_or r w stranger)

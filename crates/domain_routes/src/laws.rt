@@ -1,14 +1,20 @@
 //! What plans and their routes come to: laws that hold whatever the code does.
 
-ghost use Rattle.std.specs.Prelude.{◌≡◌, ◌≢◌, ℕ, ◌<◌, ◌==◌, ◌&&◌, ◌||◌, if◌then◌else◌, Bool, List};
+ghost use Rattle.std.specs.Prelude.{◌≡◌, ◌≢◌, ℕ, ◌<◌, ◌==◌, ◌&&◌, ◌||◌, if◌then◌else◌, Bool, List, length, true, false};
 ghost use Rattle.domain_routes.specs.declared.best.Best.{Best};
-ghost use Rattle.domain_routes.specs.Edits.{linking, put};
+ghost use Rattle.domain_routes.specs.Edits.{exporting, importing, linking, put, unlinked};
 ghost use Rattle.domain_routes.specs.OfDomain.{IsPlanOf};
 ghost use Rattle.domain_routes.specs.PlanView.{IsPlan, PeerView, PlanView, is_linked, peer};
 ghost use Rattle.domain_routes.specs.Routes.{AreRoutes, route_at};
 ghost use Rattle.netchange_core.specs.Best.{best, distance};
 ghost use Rattle.domain_routes.specs.Topology.{topology};
-ghost use Rattle.routing_domain.specs.Domain.{Domain, IsInOrder, IsQuiet, topology as domain_topology};
+ghost use Rattle.std.proofs.Common.{Global};
+ghost use Rattle.std.specs.declared.sync.Arc.{Arc};
+ghost use Rattle.filter_verifier.specs.VerifiedView.{VerifiedView};
+ghost use Rattle.netchange_core.specs.declared.event.Event.TheVariants as event;
+ghost use Rattle.netchange_core.specs.OpeningView.{OpeningView};
+ghost use Rattle.routing_domain.specs.Domain.{AreOpenings, Domain, IsInOrder, IsQuiet, are_linked, opened_domain, topology as domain_topology};
+ghost use Rattle.routing_domain.specs.Events.{CanLink, cuts, enters, links};
 ghost use Rattle.routing_domain.specs.Rest.{IsRest};
 
 /// What one node has for another is changed for these two alone, and a link in both directions.
@@ -24,6 +30,21 @@ pub fn edits_change_one_place()
 pub fn rest_is_of_the_domain()
     ensures rest { (d : Domain) → (p : PlanView) → IsPlanOf d p → (v : ℕ) → (dist : ℕ → ℕ) →
         IsRest (topology p v) v dist → IsRest (domain_topology d v) v dist }
+{}
+
+/// Routers that were just opened have the links and filters of a plan without any. They have those of a plan after an edit of it when
+/// they did the same: a link that comes up at both ends, or goes down, and a new filter.
+pub fn domains_follow_plans()
+    ensures opened { (prefixes : List (List Bool)) → (openings : ℕ → OpeningView) → AreOpenings (length prefixes) openings →
+        ((u : ℕ) → u < length prefixes → (openings u).prefixes ≡ prefixes) → IsPlanOf (opened_domain (length prefixes) openings) (unlinked prefixes) }
+    ensures link { (d : Domain) → (p : PlanView) → (u w : ℕ) → IsInOrder d → IsPlanOf d p → IsPlan p → CanLink d u w →
+        IsPlanOf (links d u w) (linking true u w p) }
+    ensures cut { (d : Domain) → (p : PlanView) → (u w : ℕ) → IsInOrder d → IsPlanOf d p → IsPlan p → u < d.size → w < d.size → are_linked d u w ≡ true →
+        IsPlanOf (cuts d u w) (linking false u w p) }
+    ensures import { (d : Domain) → (p : PlanView) → (u w : ℕ) → (f : Arc VerifiedView Global) → IsInOrder d → IsPlanOf d p → IsPlan p → u < d.size → w < d.size →
+        u ≢ w → f.value.size ≡ d.size → IsPlanOf (enters d u (event.SetImport w f)) (importing f.value u w p) }
+    ensures export { (d : Domain) → (p : PlanView) → (u w : ℕ) → (f : Arc VerifiedView Global) → IsInOrder d → IsPlanOf d p → IsPlan p → u < d.size → w < d.size →
+        u ≢ w → f.value.size ≡ d.size → IsPlanOf (enters d u (event.SetExport w f)) (exporting f.value u w p) }
 {}
 
 /// A plan has just one list of routes to a node.

@@ -11,6 +11,7 @@ mod solving;
 
 pub use best::Best;
 pub use laws::{
-    edits_change_one_place, quiet_routers_have_the_routes, rest_is_of_the_domain, routes_are_one,
+    domains_follow_plans, edits_change_one_place, quiet_routers_have_the_routes,
+    rest_is_of_the_domain, routes_are_one,
 };
 pub use plan::Plan;

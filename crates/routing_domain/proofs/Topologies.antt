@@ -83,7 +83,7 @@ between_set f g u w now apart there back elsewhere a b =
     otherwise i j = elsewhere a b i j ∙ sym (ap (λ c. cond c now (g a b)) (or_from (is_pair u w a b) (is_pair w u a b) (pair_not u w a b i) (pair_not w u a b j)))
 
 -- what is read of each router, where one changed, and where two did
-one_read : {A : Type 0} (g : World → A) (d : Domain) (u : ℕ) (s : World) (x : ℕ) → (x ≡ u → g s ≡ g (d.router u)) →
+pub one_read : {A : Type 0} (g : World → A) (d : Domain) (u : ℕ) (s : World) (x : ℕ) → (x ≡ u → g s ≡ g (d.router u)) →
     g ((with_router d u s).router x) ≡ g (d.router x)
 one_read g d u s x same =
     ⊎_elim
@@ -92,12 +92,12 @@ one_read g d u s x same =
     (cases_eq x u)
 
 -- two routers, and what became of them
-record AreNow (d e : Domain) (u w : ℕ) (s t : World) : Type 0 where
+pub record AreNow (d e : Domain) (u w : ℕ) (s t : World) : Type 0 where
   pub one : e.router u ≡ s
   pub other : e.router w ≡ t
   pub third : (x : ℕ) → (x ≡ u → ⊥) → (x ≡ w → ⊥) → e.router x ≡ d.router x
 
-two_read : {A : Type 0} (g : World → A) (d e : Domain) (u w : ℕ) (s t : World) → AreNow d e u w s t → (x : ℕ) →
+pub two_read : {A : Type 0} (g : World → A) (d e : Domain) (u w : ℕ) (s t : World) → AreNow d e u w s t → (x : ℕ) →
     (x ≡ u → g s ≡ g (d.router u)) → (x ≡ w → g t ≡ g (d.router w)) → g (e.router x) ≡ g (d.router x)
 two_read g d e u w s t now x same_u same_w =
     ⊎_elim
@@ -169,7 +169,7 @@ receives_same_topology d u w m rest v = seen_topology d w v (receive r (Some u) 
         }))
 
 -- a router whose link with one neighbour changed, and nothing else of the topology
-record SeesBut (r s : World) (k : ℕ) (now : Bool) : Type 0 where
+pub record SeesBut (r s : World) (k : ℕ) (now : Bool) : Type 0 where
   pub opening : s.opening ≡ r.opening
   pub here : is_up (neighbour_at s.neighbours k) ≡ now
   pub up : (b : ℕ) → (b ≡ k → ⊥) → is_up (neighbour_at s.neighbours b) ≡ is_up (neighbour_at r.neighbours b)
@@ -196,7 +196,7 @@ link_topology d e u w v s t now size apart are su sw = λ i. record {
     opening : (x : ℕ) → (e.router x).opening ≡ (d.router x).opening
     opening x = two_read (λ r. r.opening) d e u w s t are x (λ _. su.opening) (λ _. sw.opening)
 
-joiner_sees : (size u k : ℕ) (r : World) → IsMember size u r → k < size → SeesBut r (joiner r k) k true
+pub joiner_sees : (size u k : ℕ) (r : World) → IsMember size u r → k < size → SeesBut r (joiner r k) k true
 joiner_sees size u k r m short =
     let f = joined r.opening (distance r) (r.sessions + 1) in
     record {
@@ -207,7 +207,7 @@ joiner_sees size u k r m short =
       exports = λ b. changed_seen (λ n. n.exports) r k f b refl;
     }
 
-leaver_sees : (size u k : ℕ) (r : World) → IsMember size u r → k < size → SeesBut r (leaver r k) k false
+pub leaver_sees : (size u k : ℕ) (r : World) → IsMember size u r → k < size → SeesBut r (leaver r k) k false
 leaver_sees size u k r m short =
     let f = gone r.opening in
     record {

@@ -1,6 +1,6 @@
-use Rattle.std.proofs.Common.{◌≡◌, List, [], slice_index_or, subst, sym, ap, ◌∙◌, arith}
+use Rattle.std.proofs.Common.{◌≡◌, List, [], slice_index_or, subst, ap, ◌∙◌, arith}
 use Rattle.std.proofs.lemmas.Grind.{common_steps}
-use Rattle.domain_routes.specs.PlanView.{IsPlan, PeerView, is_linked, stranger}
+use Rattle.domain_routes.specs.PlanView.{IsPlan, PeerView, stranger}
 use Rattle.domain_routes.proofs.plan.Plan.row.Goals as goal
 
 pub returns-clause-linked : goal.returns-clause-linked
