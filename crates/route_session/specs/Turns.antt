@@ -1,5 +1,5 @@
 -- How a session uses up its turns. (This project's own choice.)
-use Rattle.std.specs.Prelude.{◌≡◌, ℕ, suc, ◌+◌, Bool, true, false, List, [], ◌∷◌, length, ⊤}
+use Rattle.std.specs.Prelude.{◌≡◌, ℕ, suc, ◌+◌, ◌≤◌, Bool, true, false, List, [], ◌∷◌, length, ⊤}
 use Rattle.route_session.specs.declared.ends.Cause.{Cause}
 use Rattle.route_session.specs.declared.ends.Cause.TheVariants as cause
 use Rattle.route_session.specs.Told.{Told, counted}
@@ -23,19 +23,35 @@ pub record Asked (may : ℕ → Bool → Type 0) (turns goes : ℕ) : Type 0 whe
   pub turns_are : length answers ≡ turns
   pub goes_are : let_go answers ≡ goes
 
--- a reader's turns: at each that the gate let go the link handed out a message, which was entered, or answered that none was there
-pub record ReadsByTurns (may : ℕ → Bool → Type 0) (turns entered : ℕ) (t u : Told) : Type 0 where
+-- How many of a reader's turns are in no other count: the last, where the link ended or failed at it or the router did not enter the call.
+-- A message of a session that is over was entered.
+abbrev pub uncounted_read : Cause → ℕ
+uncounted_read cause.Turns = 0
+uncounted_read cause.Stale = 0
+uncounted_read _ = 1
+
+-- how many of a writer's: the last, where the router did not enter the call; one whose messages the link did not take was made
+abbrev pub uncounted_take : Cause → ℕ
+uncounted_take cause.Full = 1
+uncounted_take cause.Memory = 1
+uncounted_take _ = 0
+
+-- A reader's turns, whatever it ended for: at each that the gate let go, but for an uncounted last one, the link handed out a message,
+-- which was entered, or answered that none was there.
+pub record ReadsByTurns (may : ℕ → Bool → Type 0) (turns : ℕ) (why : Cause) (entered : ℕ) (t u : Told) : Type 0 where
+  pub used : ℕ
+  pub within : used ≤ turns
+  pub all : why ≡ cause.Turns → used ≡ turns
   pub nothings : ℕ
   pub told : u.nothings ≡ counted t.nothings nothings
-  pub asked : Asked may turns (entered + nothings)
+  pub asked : Asked may used (entered + nothings + uncounted_read why)
 
--- a writer's turns: at each that the gate let go it made one call, which is one position more that is the caller's own
-pub record TakesByTurns (may : ℕ → Bool → Type 0) (turns : ℕ) (old new : Fragment) : Type 0 where
+-- A writer's turns, whatever it ended for: at each that the gate let go, but for an uncounted last one, it made one call, which is one
+-- position more that is the caller's own.
+pub record TakesByTurns (may : ℕ → Bool → Type 0) (turns : ℕ) (why : Cause) (old new : Fragment) : Type 0 where
+  pub used : ℕ
+  pub within : used ≤ turns
+  pub all : why ≡ cause.Turns → used ≡ turns
   pub takes : ℕ
   pub calls : length new.mine ≡ length old.mine + takes
-  pub asked : Asked may turns takes
-
--- what holds of a session that ended because its turns were used up
-abbrev pub IfTurns : Cause → Type 0 → Type 0
-IfTurns cause.Turns holds = holds
-IfTurns _ holds = ⊤
+  pub asked : Asked may used (takes + uncounted_take why)

@@ -19,6 +19,6 @@ pub trait Gate {
         ensures { may_answer self.now job turn result };
 
     /// Is told of the answer to each call of a job, before the job asks for its next turn: a reader's calls are Receives, a writer's
-    /// Takes. So a gate can let a writer sleep until something is queued for it.
+    /// Takes. So a gate can let a writer sleep until something is queued for it. That a gate is told is in no clause.
     fn answered<R: Wait + Clock>(&self, _rt: &R, _job: u32, _answer: &Answer) {}
 }

@@ -3,7 +3,7 @@
 ghost use Rattle.std.specs.Prelude.{◌≡◌, ◌↔◌, IsTrue};
 ghost use Rattle.route_session.specs.Calls.{StaysSound, stale};
 ghost use Rattle.route_session.specs.Reads.{IsReadBy};
-ghost use Rattle.route_session.specs.Turns.{IfTurns, ReadsByTurns};
+ghost use Rattle.route_session.specs.Turns.{ReadsByTurns};
 ghost use Rattle.slot_lock.specs.Passes.{IsPassOf};
 
 use crate::ends::{Cause, ReadEnd};
@@ -40,7 +40,7 @@ pub fn read_session<R: Wait + Clock, L: Link, G: Gate>(
     requires { IsPassOf router.now pass.old }
     ensures pass { StaysSound router.now pass.old pass.new }
     ensures read { IsReadBy router.now session pass.old.fragment (L.told link.old) result pass.new.fragment (L.told link.new) }
-    ensures turns { IfTurns result.cause (ReadsByTurns (G.may_answer gate.now job) turns result.entered (L.told link.old) (L.told link.new)) }
+    ensures turns { ReadsByTurns (G.may_answer gate.now job) turns result.cause result.entered (L.told link.old) (L.told link.new) }
 {
     let mut entered = 0;
     for turn in 0..turns {

@@ -3,7 +3,7 @@
 ghost use Rattle.std.specs.Prelude.{◌≡◌, []};
 ghost use Rattle.netchange_core.specs.Calls.{carried};
 ghost use Rattle.route_session.specs.Calls.{StaysSound};
-ghost use Rattle.route_session.specs.Turns.{IfTurns, TakesByTurns};
+ghost use Rattle.route_session.specs.Turns.{TakesByTurns};
 ghost use Rattle.route_session.specs.Writes.{Hands, IsWrittenBy};
 ghost use Rattle.slot_lock.specs.Passes.{IsPassOf};
 
@@ -39,7 +39,7 @@ pub fn write_session<R: Wait + Clock, L: Link, G: Gate>(
     requires { IsPassOf router.now pass.old }
     ensures pass { StaysSound router.now pass.old pass.new }
     ensures written { IsWrittenBy router.now session pass.old.fragment (L.told link.old) result pass.new.fragment (L.told link.new) }
-    ensures turns { IfTurns result.cause (TakesByTurns (G.may_answer gate.now job) turns pass.old.fragment pass.new.fragment) }
+    ensures turns { TakesByTurns (G.may_answer gate.now job) turns result.cause pass.old.fragment pass.new.fragment }
 {
     // So that the number of messages cannot overflow: a reply has at most as many as were asked for.
     taken_begins_sent();

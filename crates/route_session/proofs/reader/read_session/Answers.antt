@@ -1,11 +1,13 @@
-use Rattle.std.proofs.Common.{rules, ◌≡◌, Ok, arith}
+use Rattle.std.proofs.Common.{rules, ◌≡◌, ◌+◌, ◌<◌, ap, refl, Ok, Err, arith}
 use Rattle.route_history.specs.declared.fault.CallFault.TheVariants as fault
+use Rattle.route_session.specs.declared.ends.Cause.TheVariants as cause
 use Rattle.route_session.specs.declared.link.Got.TheVariants as got
 use Rattle.route_session.specs.Calls.{receive, stale}
 use Rattle.route_session.specs.Links.{Received}
+use Rattle.route_session.specs.Told.{Told}
 use Rattle.route_session.proofs.Gaining.{called}
 use Rattle.route_session.proofs.Reading.{begins_reading, ends_refused, ends_stale, reads_on, reads_nothing}
-use Rattle.route_session.proofs.Turning.{no_turn_read, read_held_back, read_message, read_nothing}
+use Rattle.route_session.proofs.Turning.{no_turn_read, read_cut_off, read_held_back, read_message, read_nothing, read_so_far}
 use Rattle.slot_lock.specs.Calls.{Answered, Refused}
 use Rattle.route_session.proofs.reader.read_session.Goals as goal
 
@@ -99,3 +101,54 @@ returns-in-Err-Memory-clause-read g c =
     c.loop-turn.pass c.call.new.pass (g.L.Link.told c.loop-turn.link) (g.L.Link.told c.recv.new.self) c.in-Ok-Message.message fault.Memory
     c.loop-turn.invariant.reading handed refused
     (called c.args.router.now c.loop-turn.pass c.call.new.pass c.call.ensures.pass c.call.ensures.own c.call.ensures.failed_tries))
+
+pub returns-in-Ok-Ended-clause-turns : goal.returns-in-Ok-Ended-clause-turns
+returns-in-Ok-Ended-clause-turns g c =
+    let end : Received (g.L.Link.told c.loop-turn.link) (Ok got.Ended)
+    (g.L.Link.told c.recv.new.self) = search rules in
+    let within : c.loop-turn.turn < c.args.turns = search rules in
+    rw c.ended.ensures
+    (read_cut_off (g.G.Gate.may_answer c.args.gate.now c.args.job) c.args.turns c.loop-turn.turn c.loop-turn.entered (g.L.Link.told c.args.link.now)
+    (g.L.Link.told c.loop-turn.link) (g.L.Link.told c.recv.new.self) cause.LinkEnded refl within c.loop-turn.invariant.turned (search rules)
+    (ap (λ (w : Told). w.nothings) end))
+
+pub returns-in-Err-clause-turns : goal.returns-in-Err-clause-turns
+returns-in-Err-clause-turns g c =
+    let fault : Received (g.L.Link.told c.loop-turn.link) (Err c.in-Err.field-0)
+    (g.L.Link.told c.recv.new.self) = search rules in
+    let within : c.loop-turn.turn < c.args.turns = search rules in
+    rw c.ended-in-Err.ensures
+    (read_cut_off (g.G.Gate.may_answer c.args.gate.now c.args.job) c.args.turns c.loop-turn.turn c.loop-turn.entered (g.L.Link.told c.args.link.now)
+    (g.L.Link.told c.loop-turn.link) (g.L.Link.told c.recv.new.self) cause.LinkFault refl within c.loop-turn.invariant.turned (search rules)
+    (ap (λ (w : Told). w.nothings) fault.1.only))
+
+pub returns-then-is_stale-clause-turns : goal.returns-then-is_stale-clause-turns
+returns-then-is_stale-clause-turns g c =
+    let handed : Received (g.L.Link.told c.loop-turn.link) (Ok (got.Message c.in-Ok-Message.message))
+    (g.L.Link.told c.recv.new.self) = search rules in
+    let within : c.loop-turn.turn < c.args.turns = search rules in
+    rw c.ended-then-is_stale.ensures
+    (read_so_far (g.G.Gate.may_answer c.args.gate.now c.args.job) c.args.turns (c.loop-turn.turn + 1) (c.loop-turn.entered + 1)
+    (g.L.Link.told c.args.link.now) (g.L.Link.told c.recv.new.self) cause.Stale refl (omega arith) (λ by_turns. absurd cc)
+    (read_message (g.G.Gate.may_answer c.args.gate.now c.args.job) c.loop-turn.turn c.loop-turn.entered (g.L.Link.told c.args.link.now)
+    (g.L.Link.told c.loop-turn.link) (g.L.Link.told c.recv.new.self) c.in-Ok-Message.message c.loop-turn.invariant.turned (search rules) handed))
+
+pub returns-in-Err-Full-clause-turns : goal.returns-in-Err-Full-clause-turns
+returns-in-Err-Full-clause-turns g c =
+    let handed : Received (g.L.Link.told c.loop-turn.link) (Ok (got.Message c.in-Ok-Message.message))
+    (g.L.Link.told c.recv.new.self) = search rules in
+    let within : c.loop-turn.turn < c.args.turns = search rules in
+    rw c.ended-in-Err-Full.ensures
+    (read_cut_off (g.G.Gate.may_answer c.args.gate.now c.args.job) c.args.turns c.loop-turn.turn c.loop-turn.entered (g.L.Link.told c.args.link.now)
+    (g.L.Link.told c.loop-turn.link) (g.L.Link.told c.recv.new.self) cause.Full refl within c.loop-turn.invariant.turned (search rules)
+    (ap (λ (w : Told). w.nothings) handed.1))
+
+pub returns-in-Err-Memory-clause-turns : goal.returns-in-Err-Memory-clause-turns
+returns-in-Err-Memory-clause-turns g c =
+    let handed : Received (g.L.Link.told c.loop-turn.link) (Ok (got.Message c.in-Ok-Message.message))
+    (g.L.Link.told c.recv.new.self) = search rules in
+    let within : c.loop-turn.turn < c.args.turns = search rules in
+    rw c.ended-in-Err-Memory.ensures
+    (read_cut_off (g.G.Gate.may_answer c.args.gate.now c.args.job) c.args.turns c.loop-turn.turn c.loop-turn.entered (g.L.Link.told c.args.link.now)
+    (g.L.Link.told c.loop-turn.link) (g.L.Link.told c.recv.new.self) cause.Memory refl within c.loop-turn.invariant.turned (search rules)
+    (ap (λ (w : Told). w.nothings) handed.1))

@@ -1,13 +1,15 @@
-use Rattle.std.proofs.Common.{rules, ◌≡◌, [], List, subst, length, ◌≤◌, arith}
+use Rattle.std.proofs.Common.{rules, ◌≡◌, ◌+◌, ◌<◌, ap, refl, [], List, subst, length, ◌≤◌, arith}
 use Rattle.netchange_core.specs.declared.message.Message.{Message}
 use Rattle.netchange_core.specs.Calls.{carried}
 use Rattle.route_history.specs.declared.fault.CallFault.TheVariants as fault
+use Rattle.route_session.specs.declared.ends.Cause.TheVariants as cause
 use Rattle.route_session.specs.Calls.{stale, take}
 use Rattle.route_session.specs.Writes.{Hands}
 use Rattle.route_session.proofs.Gaining.{called}
 use Rattle.route_session.proofs.Writing.{at_most_16, begins_writing, ends_by_failure, ends_full, ends_stale, none_left, writes_on}
-use Rattle.route_session.proofs.Turning.{no_turn_taken, take_held_back, take_made}
+use Rattle.route_session.proofs.Turning.{no_turn_taken, take_held_back, take_made, take_refused, taken_so_far}
 use Rattle.slot_lock.specs.Calls.{Answered, Refused}
+use Rattle.slot_lock.specs.Passes.{PassView}
 use Rattle.route_session.proofs.writer.write_session.Goals as goal
 
 pub loop-turn-init : goal.loop-turn-init
@@ -95,3 +97,42 @@ loop-turn-preserved-then-not-may_go g c = record {
       c.loop-turn.pass.fragment c.loop-turn.invariant.turned c.if-not-may_go.ensures;
   room = omega arith;
 }
+
+pub returns-in-Err-Full-clause-turns : goal.returns-in-Err-Full-clause-turns
+returns-in-Err-Full-clause-turns g c =
+    let refused : Refused fault.Full c.args.router.now c.loop-turn.pass c.call.new.pass = rw c.in-Err-Full.field-0-is at
+    c.in-Err-Full.ensures.refused in
+    let within : c.loop-turn.turn < c.args.turns = search rules in
+    rw c.ended.ensures
+    (take_refused (g.G.Gate.may_answer c.args.gate.now c.args.job) c.args.turns c.loop-turn.turn c.args.pass.now.fragment
+    c.loop-turn.pass.fragment c.call.new.pass.fragment cause.Full refl within c.loop-turn.invariant.turned (search rules) refused.mine)
+
+pub returns-in-Err-Memory-clause-turns : goal.returns-in-Err-Memory-clause-turns
+returns-in-Err-Memory-clause-turns g c =
+    let refused : Refused fault.Memory c.args.router.now c.loop-turn.pass c.call.new.pass = rw c.in-Err-Memory.field-0-is at
+    c.in-Err-Memory.ensures.refused in
+    let within : c.loop-turn.turn < c.args.turns = search rules in
+    rw c.ended-in-Err-Memory.ensures
+    (take_refused (g.G.Gate.may_answer c.args.gate.now c.args.job) c.args.turns c.loop-turn.turn c.args.pass.now.fragment
+    c.loop-turn.pass.fragment c.call.new.pass.fragment cause.Memory refl within c.loop-turn.invariant.turned (search rules) (ap (λ (v : PassView). v.fragment.mine) refused.1))
+
+pub returns-then-is_stale-clause-turns : goal.returns-then-is_stale-clause-turns
+returns-then-is_stale-clause-turns g c =
+    let answered : Answered c.args.router.now c.loop-turn.pass
+    (take c.args.session) c.in-Ok.answer c.call.new.pass = c.in-Ok.ensures.answered in
+    let within : c.loop-turn.turn < c.args.turns = search rules in
+    rw c.ended-then-is_stale.ensures
+    (taken_so_far (g.G.Gate.may_answer c.args.gate.now c.args.job) c.args.turns (c.loop-turn.turn + 1) c.args.pass.now.fragment
+    c.call.new.pass.fragment cause.Stale refl (omega arith) (λ by_turns. absurd cc)
+    (take_made (g.G.Gate.may_answer c.args.gate.now c.args.job) c.loop-turn.turn c.args.pass.now.fragment c.args.router.now
+    c.loop-turn.pass c.call.new.pass (take c.args.session) c.in-Ok.answer c.loop-turn.invariant.turned (search rules) answered))
+
+pub returns-then-not-is_empty-clause-turns : goal.returns-then-not-is_empty-clause-turns
+returns-then-not-is_empty-clause-turns g c =
+    let answered : Answered c.args.router.now c.loop-turn.pass
+    (take c.args.session) c.in-Ok.answer c.call.new.pass = c.in-Ok.ensures.answered in
+    let within : c.loop-turn.turn < c.args.turns = search rules in
+    taken_so_far (g.G.Gate.may_answer c.args.gate.now c.args.job) c.args.turns (c.loop-turn.turn + 1) c.args.pass.now.fragment
+    c.call.new.pass.fragment cause.LinkFault refl (omega arith) (λ by_turns. absurd cc)
+    (take_made (g.G.Gate.may_answer c.args.gate.now c.args.job) c.loop-turn.turn c.args.pass.now.fragment c.args.router.now
+    c.loop-turn.pass c.call.new.pass (take c.args.session) c.in-Ok.answer c.loop-turn.invariant.turned (search rules) answered)
