@@ -3,6 +3,7 @@ pub mod Calls
 pub mod Codes
 pub mod Jobs
 pub mod Links
+pub mod Plans
 pub mod Reads
 pub mod Telling
 pub mod Told

@@ -1,6 +1,6 @@
 //! A link in memory.
 
-ghost use Rattle.std.specs.Prelude.{◌≡◌, ◌+◌, ◌≤◌, false, None, Some, [], vec_len};
+ghost use Rattle.std.specs.Prelude.{◌≡◌, ◌↔◌, ◌≤◌, IsTrue, false, None, Some, [], vec_len};
 ghost use Rattle.std.specs.Option.{option_or};
 ghost use Rattle.route_session.specs.Told.{Rose};
 
@@ -26,11 +26,13 @@ pub struct MemoryLink {
 }
 
 impl MemoryLink {
+    ghost use Rattle.route_session.specs.Plans.{IsToFail, memory_plan, next_call};
     ghost use Rattle.route_session.specs.Telling.{known, memory_told};
 
     /// A link that hands out these messages, and fails at the call of this number, counted from 1 over both directions.
     pub fn new(alloc: Global, waiting: Vec<Message>, fails_at: Option<u64>) -> MemoryLink
-        ensures { memory_told result ≡ record { handed = Some []; given = Some []; first_refused = Some None; nothings = Some 0; ended = Some false; failures = Some 0; closed = false } }
+        ensures told { memory_told result ≡ record { handed = Some []; given = Some []; first_refused = Some None; nothings = Some 0; ended = Some false; failures = Some 0; closed = false } }
+        ensures plan { memory_plan result ≡ record { waiting = waiting.items; calls = 0; fails_at = fails_at } }
     {
         MemoryLink {
             waiting,
@@ -61,7 +63,8 @@ impl MemoryLink {
 
     /// Counts a call, and says whether it is to fail.
     fn is_to_fail(&mut self) -> bool
-        ensures { self.new ≡ record self.old { calls = self.new.calls } }
+        ensures counted { self.new ≡ record self.old { calls = next_call (memory_plan self.old) } }
+        ensures fails { IsTrue result ↔ IsToFail (memory_plan self.old) }
     {
         self.calls = self.calls.saturating_add(1);
         self.fails_at == Some(self.calls)
@@ -87,11 +90,17 @@ impl MemoryLink {
 }
 
 impl Link for MemoryLink {
+    ghost use Rattle.route_session.specs.Links.{Received, Sent};
+    ghost use Rattle.route_session.specs.Plans.{HandsOut, TakesOne, memory_plan};
     ghost use Rattle.route_session.specs.Telling.{memory_told};
 
     ghost told = { memory_told };
 
-    fn recv<R: Wait>(&mut self, _rt: &R) -> Result<Got, LinkFault> {
+    #[tactic(auto, using(crate::proofs::Planning::next_waits, crate::proofs::Planning::none_waits))]
+    fn recv<R: Wait>(&mut self, _rt: &R) -> Result<Got, LinkFault>
+        ensures told { Received (memory_told self.old) result (memory_told self.new) }
+        ensures plan { (memory_told self.old).closed ≡ false → HandsOut (memory_plan self.old) result (memory_plan self.new) }
+    {
         if self.is_closed {
             self.has_ended = true;
             return Ok(Got::Ended);
@@ -112,7 +121,10 @@ impl Link for MemoryLink {
         }
     }
 
-    fn send<R: Wait>(&mut self, _rt: &R, message: Message) -> Result<(), LinkFault> {
+    fn send<R: Wait>(&mut self, _rt: &R, message: Message) -> Result<(), LinkFault>
+        ensures told { Sent (memory_told self.old) message result (memory_told self.new) }
+        ensures plan { (memory_told self.old).closed ≡ false → TakesOne (memory_plan self.old) result (memory_plan self.new) }
+    {
         if self.is_closed || self.is_to_fail() {
             return Err(self.refuse(message));
         }
