@@ -24,6 +24,8 @@ use std::io::{Read, Write};
 struct Joined<'a> {
     /// The text.
     text: Vec<u8>,
+    /// The number of its lines, each of which ends, so that they are not counted again for each source.
+    lines: u32,
     /// The parts that the sources are, in order.
     parts: Vec<ScriptPart<'a>>,
 }
@@ -74,30 +76,35 @@ fn read_next<'a, F: Folder, R: Read>(
     reader: &mut R,
     joined: &mut Joined<'a>,
 ) -> Result<(), Unread>
+    requires counted { joined.old.lines ≡ lines_of joined.old.text.items }
     ensures read { OnOk result (JoinsNext (F.opens files.now) source.now joined.old.text.items joined.new.text.items
         (R.remaining reader.old) (R.remaining reader.new)) }
     ensures part { OnOk result (AddsPart source.now joined.old.text.items joined.old.parts.items joined.new.parts.items) }
+    ensures counted { OnOk result (joined.new.lines ≡ lines_of joined.new.text.items) }
     ensures unread { IfErr result (λ why. LeavesNext (F.opens files.now) source.now why (R.remaining reader.old) (R.remaining reader.new)) }
 {
-    let part = ScriptPart {
-        name: name_of(source),
-        before: count_lines(joined.text.as_slice()),
-    };
     let text = read_source(files, alloc, source, INPUT_LIMIT, reader)?;
-    match joined.add(part, text.as_slice()) {
+    match joined.add(name_of(source), text.as_slice()) {
         Ok(()) => Ok(()),
         Err(_) => Err(Unread::Memory),
     }
 }
 
 impl<'a> Joined<'a> {
-    /// Adds the text of a part.
-    fn add(&mut self, part: ScriptPart<'a>, text: &[u8]) -> Result<(), AllocError>
+    /// Adds the text of the part of this name.
+    fn add(&mut self, name: &'a [u8], text: &[u8]) -> Result<(), AllocError>
+        requires counted { self.old.lines ≡ lines_of self.old.text.items }
         ensures text { OnOk result (self.new.text.items ≡ self.old.text.items ++ ended text.now) }
-        ensures part { OnOk result (self.new.parts.items ≡ self.old.parts.items ++ part.entry ∷ []) }
+        ensures counted { OnOk result (self.new.lines ≡ lines_of self.new.text.items) }
+        ensures part { OnOk result (self.new.parts.items ≡ self.old.parts.items ++ (record { name = name.entry; before = self.old.lines }) ∷ []) }
     {
-        self.parts.push(part)?;
-        add_text(&mut self.text, text)
+        let before = self.lines;
+        self.parts.push(ScriptPart { name, before })?;
+        let from = self.text.len();
+        add_text(&mut self.text, text)?;
+        let more = count_lines(&self.text.as_slice()[from..]);
+        self.lines = before.saturating_add(more);
+        Ok(())
     }
 }
 
@@ -115,7 +122,11 @@ fn read_texts<'a, F: Folder, R: Read>(
 {
     let text = Vec::new(alloc);
     let parts = Vec::new(alloc);
-    let mut joined = Joined { text, parts };
+    let mut joined = Joined {
+        text,
+        lines: 0,
+        parts,
+    };
     for source in sources {
         match read_next(files, alloc, source, reader, &mut joined) {
             Ok(()) => {}
