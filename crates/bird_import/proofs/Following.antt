@@ -139,13 +139,13 @@ module _ (words : List Word) (blocks : BlocksView) (at : ℕ) where
   named_begins : (one : ItemKind) → named_kind words at ≡ Some one → BeginsHere one
   unfolding named_kind item_name
   named_begins one is =
-      let other : Option ItemKind = if is_foreign_at words at (codes "function") then Some item.Function else None in
-      let first : Option ItemKind = if is_symbol symbol.Filter (kind_at words at) then Some item.Filter else other in
-      let named = some_if (is_any_name words (at + 1)) first one is in
-      elim (one_way (is_symbol symbol.Filter (kind_at words at)) (Some item.Filter) other one named.1) [
+      let is_function = is_foreign_at words at (codes "function") in
+      let other : Option ItemKind = if is_function && is_any_name words (at + 1) then Some item.Function else None in
+      elim (one_way (is_symbol symbol.Filter (kind_at words at)) (Some item.Filter) other one is) [
         | inl here ↦ subst BeginsHere (same_Some item.Filter one here.1) ((symbol_decides symbol.Filter (kind_at words at)).0 here.0, refl)
-        | inr not_here ↦ let function = some_if (is_foreign_at words at (codes "function")) (Some item.Function) one not_here.1 in
-            subst BeginsHere (same_Some item.Function one function.1) (foreign_is words at (codes "function") function.0, refl)
+        | inr not_here ↦ let function = some_if (is_function && is_any_name words (at + 1)) (Some item.Function) one not_here.1 in
+            subst BeginsHere (same_Some item.Function one function.1)
+            (foreign_is words at (codes "function") (and_parts is_function (is_any_name words (at + 1)) function.0).0, refl)
       ]
 
   direction_begins : (one : ItemKind) → direction_kind words at ≡ Some one → BeginsHere one

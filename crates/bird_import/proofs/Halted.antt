@@ -8,6 +8,7 @@ use Rattle.bird_import.specs.Steps.{BecomesWithin, Reaches}
 use Rattle.bird_import.specs.Stuck.{Calls, Halts, Hinder, Hinders, IsCallBy, IsCalled, IsFunctionNamed}
 use Rattle.bird_import.specs.Stuck.{IsFunctionOf, IsOutside, IsStuck, IsTooDeep, IsUsed}
 use Rattle.bird_import.proofs.Below.{same_some}
+use Rattle.bird_import.proofs.Reached.{no_step}
 use Rattle.bird_import.specs.declared.config.Config.{Config}
 use Rattle.bird_import.specs.declared.drafts.Next.{Next}
 use Rattle.bird_import.specs.declared.drafts.Outcome.{Outcome}
@@ -83,6 +84,16 @@ pub too_deep : (config : Config) (depth : ℕ) (words : List Word) (k : ℕ) (wo
     → IsCalled config word.bytes.now one → why ≡ TooLong → depth ≡ 0 → Hinders config words why ⊎ IsTooDeep config depth words why
 too_deep config depth words k word one why call called is deep = rw is (inr (one, calls_by config words k word one call called, inl deep))
 
+-- the steps go no further at the words with which they begin
+pub at_once : (config : Config) (depth : ℕ) (before slice : List Word) (why : Why) → slice ≡ before → Hinders config slice why
+    → IsStuck config depth before why
+at_once config depth before slice why same is =
+    inr (
+      before,
+      (0, no_step config.words.now (BecomesWithin config.words.now depth) before),
+      subst (λ list. Halts config depth list why) same (by_hinders config depth slice why is),
+    )
+
 -- what hinders whatever else the configuration has
 pub hinders_of : (config : Config) (words : List Word) (why : Why) → Hinder words why → Hinders config words why
 hinders_of config words (why.Unknown name) is = absurd is
@@ -99,9 +110,12 @@ hinders_of config words (why.SetVariable name) is = is
 hinders_of config words why.PrintDoesMore is = is
 hinders_of config words why.CaseLabels is = is
 hinders_of config words why.Unclosed is = absurd is
+hinders_of config words (why.LeftOpen name) is = absurd is
 hinders_of config words why.SameName is = absurd is
+hinders_of config words why.NoName is = absurd is
 hinders_of config words (why.Unset name) is = absurd is
 hinders_of config words (why.NoValue name) is = absurd is
+hinders_of config words (why.TwoMeanings name) is = absurd is
 hinders_of config words why.Ipv6 is = absurd is
 hinders_of config words why.TooLong is = absurd is
 hinders_of config words why.Unwritten is = is

@@ -7,9 +7,9 @@ use Rattle.bird_import.specs.Items.{ItemView, block_end, block_from, blocks_befo
 use Rattle.bird_import.specs.Items.{definition_at, definition_behind, definitions_before, definitions_in}
 use Rattle.bird_import.specs.Items.{depth_past, directed_name, direction_kind, first_opening, first_outside}
 use Rattle.bird_import.specs.Items.{have_ipv6, is_anonymous, is_any_name, is_direction, is_foreign_at}
-use Rattle.bird_import.specs.Items.{is_name, is_nameless, is_plain_word, is_prefix}
+use Rattle.bird_import.specs.Items.{is_name, is_nameless, is_other_channel, is_plain_word, is_prefix}
 use Rattle.bird_import.specs.Items.{is_protocol, is_symbol, is_variant, is_word_at, item_at, item_end}
-use Rattle.bird_import.specs.Items.{item_kind, item_name, item_of, items_in, name_of_owner, name_of_protocol}
+use Rattle.bird_import.specs.Items.{item_kind, item_name, item_of, items_in, name_of_owner, name_of_protocol, plain_name, unquoted}
 use Rattle.bird_import.specs.Items.{named_kind, opens_block, outside_from}
 use Rattle.bird_import.specs.Items.{owner_among, walk_before, walk_behind, walk_past, with_nameless, words_before_name}
 use Rattle.bird_import.specs.declared.items.Definition.{Definition}
@@ -66,8 +66,8 @@ named : items_in ((sign symbol.Filter ∷ name (codes "f") ∷ []) ++ block acce
     ++ (sign symbol.Filter ∷ name (codes "h") ∷ sign symbol.LeftBrace ∷ []))
     ≡ view item.Filter 0 6 (codes "f") true false ∷ view item.Function 6 14 (codes "g") true false ∷ view item.Filter 14 17 (codes "h") false false ∷ []
 unfolding walk_before walk_past walk_behind blocks_past with_nameless item_at item_of item_end item_name item_kind named_kind direction_kind is_any_name
-    is_foreign_at is_direction is_anonymous is_word_at is_protocol is_nameless name_of_protocol words_before_name is_variant directed_name name_of_owner
-    owner_among count_of_kind have_ipv6 block_end block_from first_opening opens_block outside_from first_outside depth_past is_symbol is_name is_prefix
+    is_foreign_at is_direction is_anonymous is_word_at is_protocol is_nameless name_of_protocol plain_name unquoted words_before_name is_variant directed_name name_of_owner
+    owner_among count_of_kind have_ipv6 is_other_channel block_end block_from first_opening opens_block outside_from first_outside depth_past is_symbol is_name is_prefix
     is_plain_word
 named = refl
 
@@ -80,12 +80,12 @@ directed : items_in ((name (codes "protocol") ∷ name (codes "bgp") ∷ name (c
     ≡ view item.Anonymous 6 12 (codes "up_import") true true ∷ view item.Condition 15 18 (codes "up_export") true false
     ∷ view item.Condition 23 26 (codes "bgp1_import") true false ∷ []
 unfolding walk_before walk_past walk_behind blocks_past with_nameless item_at item_of item_end item_name item_kind named_kind direction_kind is_any_name
-    is_foreign_at is_direction is_anonymous is_word_at is_protocol is_nameless name_of_protocol words_before_name is_variant directed_name name_of_owner
-    owner_among count_of_kind have_ipv6 block_end block_from first_opening opens_block outside_from first_outside depth_past is_symbol is_name is_prefix
+    is_foreign_at is_direction is_anonymous is_word_at is_protocol is_nameless name_of_protocol plain_name unquoted words_before_name is_variant directed_name name_of_owner
+    owner_among count_of_kind have_ipv6 is_other_channel block_end block_from first_opening opens_block outside_from first_outside depth_past is_symbol is_name is_prefix
     is_plain_word digits
 directed = refl
 
 -- protocol rip {, the hundredth of its kind without a name
 hundredth : name_of_owner (name (codes "protocol") ∷ name (codes "rip") ∷ sign symbol.LeftBrace ∷ []) (replicate 100 0) 0 ≡ codes "rip100"
-unfolding name_of_owner name_of_protocol words_before_name is_variant is_name count_of_kind digits
+unfolding name_of_owner name_of_protocol plain_name unquoted words_before_name is_variant is_name count_of_kind digits
 hundredth = refl

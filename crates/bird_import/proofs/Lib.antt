@@ -1,6 +1,7 @@
 mod Balanced
 mod Below
 mod Cutting
+mod Defining
 mod Ends
 mod Following
 mod Halted

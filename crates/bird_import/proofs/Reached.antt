@@ -99,7 +99,7 @@ call_is_next config words depth less source copy function slice next of same sli
     (Replaces (IsCallWritten config (BecomesWithin config depth)) words) next
     (λ after step. called config (BecomesWithin config depth) source slice words after of.part within step) is
 
-one_step : (config : List Word) (Becoming : List Word → List Word → Type 0) (n : ℕ) (before mid after : List Word)
+pub one_step : (config : List Word) (Becoming : List Word → List Word → Type 0) (n : ℕ) (before mid after : List Word)
     → Reaches config Becoming n before mid → Writes config Becoming mid after → Reaches config Becoming (suc n) before after
 unfolding Reaches
 one_step config Becoming n before mid after steps step = (mid, steps, step)

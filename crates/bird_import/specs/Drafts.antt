@@ -1,5 +1,5 @@
 -- What becomes of the filters of a configuration.
-use Rattle.std.specs.Prelude.{◌≡◌, ℕ, zero, suc, ◌+◌, ◌-◌, List, Some, [], ◌∷◌, ◌++◌, drop, map, slice_get, take, ⊤}
+use Rattle.std.specs.Prelude.{◌≡◌, ◌⊎◌, ℕ, zero, suc, ◌+◌, ◌-◌, List, Some, [], ◌∷◌, ◌++◌, drop, map, slice_get, take, ⊤}
 use Rattle.filter_tokens.specs.declared.symbol.Symbol.TheVariants as symbol
 use Rattle.bird_import.specs.declared.drafts.Draft.{Draft}
 use Rattle.bird_import.specs.declared.drafts.Next.{Next}
@@ -12,7 +12,7 @@ use Rattle.bird_import.specs.declared.items.ItemKind.TheVariants as item
 use Rattle.bird_import.specs.declared.word.Word.{Word}
 use Rattle.bird_import.specs.declared.word.WordKind.{WordKind}
 use Rattle.bird_import.specs.declared.word.WordKind.TheVariants as kind
-use Rattle.bird_import.specs.Rules.{Is, IsNamed}
+use Rattle.bird_import.specs.Rules.{Is, IsDefined, IsNamed}
 use Rattle.bird_import.specs.Steps.{Becomes, IsPart}
 
 -- a fact of the words of a filter that is drafted
@@ -34,6 +34,11 @@ words_of words one = take (one.to - one.from) (drop one.from words)
 pub record IsCallee (words : List Word) (depth : ℕ) (source : List Word) (less : ℕ) : Type 0 where
   pub part : IsPart words source
   pub deep : depth ≡ less + 1
+
+-- a word is put behind others, or what it is defined as
+abbrev pub IsDefinedHere : List Word → Word → List Word → List Word → Type 0
+IsDefinedHere config word before after =
+    (after ≡ before ++ word ∷ []) ⊎ ((value : List Word) × IsDefined config (word ∷ []) value × (after ≡ before ++ value))
 
 -- the kinds of words
 abbrev pub kinds_of : List Word → List WordKind

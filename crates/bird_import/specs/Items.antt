@@ -109,6 +109,27 @@ is_variant protocol word =
     (bytes_eq protocol (codes "ospf") && (bytes_eq word (codes "v2") || bytes_eq word (codes "v3")))
     || (bytes_eq protocol (codes "rip") && bytes_eq word (codes "ng"))
 
+-- A channel that begins with a word carries other routes than those of IPv4: its kind is one of IPv6, of VPNs, origins, flows or labels. These
+-- are the kinds of BIRD's channels but for `ipv4`.
+unfoldable pub is_other_channel : List ℕ → Bool
+is_other_channel word =
+    starts_with nat_eq word (codes "ipv6") || (starts_with nat_eq word (codes "vpn") || (starts_with nat_eq word (codes "roa")
+    || (starts_with nat_eq word (codes "flow") || starts_with nat_eq word (codes "mpls"))))
+
+-- what stands between the single quotes of a word, if it is in quotes
+unfoldable pub unquoted : List ℕ → Option (List ℕ)
+unquoted word =
+    if nat_lt 1 (length word) && starts_with nat_eq word (codes "'") then Some (take (length word - 1 - 1) (drop 1 word)) else None
+
+-- the name that a word is, if it is one: in single quotes or without
+unfoldable pub plain_name : WordKind → List ℕ → Option (List ℕ)
+plain_name kind word = if is_name kind then Some word else unquoted word
+
+-- a name, unless it is `from`
+abbrev pub no_template : Option (List ℕ) → Option (List ℕ)
+no_template None = None
+no_template (Some name) = if bytes_eq name (codes "from") then None else Some name
+
 -- `words` are those of the configuration.
 module _ (words : List Word) where
   -- the index of the first wanted word from an index on, outside of what is opened from there on
@@ -181,14 +202,10 @@ module _ (words : List Word) where
   unfoldable pub words_before_name : ℕ → ℕ
   words_before_name head = if is_variant (bytes_at words (head + 1)) (bytes_at words (head + 2)) then 3 else 2
 
-  -- a word so many words behind the first one of a protocol names it
-  abbrev pub names_protocol : ℕ → ℕ → Bool
-  names_protocol head more = is_name (kind_at words (head + more)) && not (bytes_eq (bytes_at words (head + more)) (codes "from"))
-
-  -- the name of the protocol that begins at an index, if it has one
+  -- the name of the protocol that begins at an index, if it has one: in single quotes or without, and not `from`, behind which stands a template
   unfoldable pub name_of_protocol : ℕ → Option (List ℕ)
   name_of_protocol head =
-      if names_protocol head (words_before_name head) then Some (bytes_at words (head + words_before_name head)) else None
+      no_template (plain_name (kind_at words (head + words_before_name head)) (bytes_at words (head + words_before_name head)))
 
   -- a protocol without a name begins at an index
   unfoldable pub is_nameless : ℕ → Bool
@@ -202,9 +219,9 @@ module _ (words : List Word) where
   unfoldable pub count_of_kind : List ℕ → List ℕ → ℕ
   count_of_kind heads protocol = count_by (λ (head : ℕ). bytes_eq (bytes_at words (head + 1)) protocol) heads
 
-  -- at some index begins a channel of IPv6
+  -- at some index begins a channel of other routes than those of IPv4
   unfoldable pub have_ipv6 : List ℕ → Bool
-  have_ipv6 heads = list_any (λ (head : ℕ). starts_with nat_eq (bytes_at words head) (codes "ipv6")) heads
+  have_ipv6 heads = list_any (λ (head : ℕ). is_other_channel (bytes_at words head)) heads
 
   -- the name of a protocol, or its kind with the number that BIRD gives it: how many of its kind without a name have begun
   abbrev pub name_or_number : List ℕ → ℕ → Option (List ℕ) → List ℕ
@@ -229,13 +246,11 @@ module _ (words : List Word) where
   unfoldable pub is_any_name : ℕ → Bool
   is_any_name k = is_name (kind_at words k) || starts_with nat_eq (bytes_at words k) (codes "'")
 
-  -- the kind of what begins with a name at an index, outside of each block
+  -- the kind of what begins at an index, outside of each block: `filter`, whatever stands behind it, or `function NAME`
   unfoldable pub named_kind : ℕ → Option ItemKind
   named_kind at =
-      if is_any_name (at + 1)
-      then (if is_symbol symbol.Filter (kind_at words at) then Some item.Filter
-      else (if is_foreign_at at (codes "function") then Some item.Function else None))
-      else None
+      if is_symbol symbol.Filter (kind_at words at) then Some item.Filter
+      else (if is_foreign_at at (codes "function") && is_any_name (at + 1) then Some item.Function else None)
 
   -- the word at an index is `import` or `export`
   unfoldable pub is_direction : ℕ → Bool
@@ -353,7 +368,7 @@ IsPlainAt bytes words k = (bytes_at words k ≡ bytes) × ((kind_at words k ≡ 
 abbrev pub IsDirectionAt : List Word → ℕ → Type 0
 IsDirectionAt words k = IsPlainAt (codes "import") words k ⊎ IsPlainAt (codes "export") words k
 
--- what stands where an item of a kind begins: `filter NAME`, `function NAME`, a direction with `filter` and no name, or a direction with `where`
+-- what stands where an item of a kind begins: `filter` and what stands in the place of its name, `function NAME`, a direction with `filter` and no name, or a direction with `where`
 abbrev pub BeginsItem : ItemKind → List Word → ℕ → List ℕ → Type 0
 BeginsItem item.Filter words from name = IsAt symbol.Filter words from × (name ≡ bytes_at words (from + 1))
 BeginsItem item.Function words from name = IsForeignAt (codes "function") words from × (name ≡ bytes_at words (from + 1))

@@ -1,9 +1,9 @@
 -- Which filters are left out, and what the others become.
 use Rattle.std.specs.Prelude.{◌≡◌, ◌⊎◌, ℕ, zero, suc, true, false, List, [], ◌∷◌, ◌++◌, Some, slice_get}
 use Rattle.bird_import.specs.Drafts.{BeginsAs, words_of}
-use Rattle.bird_import.specs.Reasons.{AreKnown, HaveNoValue, HaveUnknown, HaveValues, IsNamedBefore}
+use Rattle.bird_import.specs.Reasons.{AreKnown, HasLeftOpen, HaveNoValue, HaveUnknown, HaveValues, IsNamedBefore, is_nameable}
 use Rattle.bird_import.specs.Steps.{Becomes}
-use Rattle.bird_import.specs.Stuck.{IsOutside, IsStuck}
+use Rattle.bird_import.specs.Stuck.{AreApart, IsOutside, IsStuck}
 use Rattle.bird_import.specs.declared.config.Config.{Config}
 use Rattle.bird_import.specs.declared.drafts.Draft.{Draft}
 use Rattle.bird_import.specs.declared.drafts.Outcome.{Outcome}
@@ -15,10 +15,11 @@ use Rattle.bird_import.specs.declared.reason.Why.{Why}
 use Rattle.bird_import.specs.declared.reason.Why.TheVariants as why
 use Rattle.bird_import.specs.declared.word.Word.{Word}
 
--- The words with which a filter begins become these: each variable has a value, and each word in the end can be kept. Functions call
--- functions at most 16 deep.
+-- The words with which a filter begins become these: each variable has a value, none has the name of a definition, and each word in the end can
+-- be kept. Functions call functions at most 16 deep.
 pub record AreTaken (config : Config) (first after : List Word) : Type 0 where
   pub values : HaveValues first
+  pub apart : AreApart config first
   pub becomes : Becomes config.words.now 16 first after
   pub known : AreKnown after
 
@@ -33,11 +34,12 @@ abbrev pub AreJudged : Config → List Word → Outcome → Type 0
 AreJudged config first (outcome.Drafted words) = AreTaken config first words.items
 AreJudged config first (outcome.LeftOut reason) = AreRefused config first reason.why
 
--- an item is that of a filter: its braces are closed, it is not for routes of IPv6, and no filter before it has its name
+-- an item is that of a filter: its braces are closed, its routes are those of IPv4, no filter before it has its name, and that is one
 pub record IsFilter (config : Config) (one : Item) : Type 0 where
   pub closed : one.is_closed ≡ true
   pub ipv4 : one.is_ipv6 ≡ false
   pub first_of_name : IsNamedBefore config.items.now one → ⊥
+  pub nameable : is_nameable one.kind one.name.items ≡ true
 
 -- some words are those with which an item begins
 abbrev pub Begins : Config → Item → List Word → Type 0
@@ -46,8 +48,10 @@ Begins config one first = BeginsAs one.kind one.name.items (words_of config.word
 -- why an item is not that of a filter
 abbrev pub IsNoFilter : Config → Item → Why → Type 0
 IsNoFilter config one why.Unclosed = (one.is_closed ≡ false) ⊎ IsOutside config one
+IsNoFilter config one (why.LeftOpen name) = (one.is_closed ≡ false) × HasLeftOpen config.words.now one.from name.now
 IsNoFilter config one why.Ipv6 = one.is_ipv6 ≡ true
 IsNoFilter config one why.SameName = IsNamedBefore config.items.now one
+IsNoFilter config one why.NoName = is_nameable one.kind one.name.items ≡ false
 IsNoFilter config one other = ⊥
 
 -- Why an item is left out.

@@ -1,15 +1,19 @@
 -- Why a filter is left out.
-use Rattle.std.specs.Prelude.{◌≡◌, ◌≢◌, ◌⊎◌, ℕ, ◌+◌, ◌-◌, ◌<◌, ◌≤◌, ◌++◌, true, List, Option}
+use Rattle.std.specs.Prelude.{◌≡◌, ◌≢◌, ◌⊎◌, ℕ, ◌+◌, ◌-◌, ◌<◌, ◌≤◌, ◌++◌, ◌∷◌, [], ◌&&◌, ◌||◌, nat_eq, not, Bool, true, false, List, Option}
 use Rattle.std.specs.Prelude.{Some, None, Result, Ok, Err, codes, length, slice_get, ⊤}
+use Rattle.std.specs.Char.{is_ascii_digit}
+use Rattle.std.specs.List.{list_all, starts_with}
+use Rattle.filter_tokens.specs.Shapes.{continues_word}
 use Rattle.filter_tokens.specs.declared.symbol.Symbol.TheVariants as symbol
 use Rattle.bird_import.specs.Indices.{IsAt, IsBehind, IsForeignAt, IsNameAt, IsNamedAt, kind_at, bytes_at}
-use Rattle.bird_import.specs.Items.{opens_block}
+use Rattle.bird_import.specs.Items.{is_symbol, opens_block, outside_from}
 use Rattle.bird_import.specs.Rules.{is_kind}
 use Rattle.bird_import.specs.declared.drafts.Next.{Next}
 use Rattle.bird_import.specs.declared.drafts.Next.TheVariants as next
 use Rattle.bird_import.specs.declared.drafts.Outcome.{Outcome}
 use Rattle.bird_import.specs.declared.drafts.Outcome.TheVariants as outcome
 use Rattle.bird_import.specs.declared.items.Item.{Item}
+use Rattle.bird_import.specs.declared.items.ItemKind.{ItemKind}
 use Rattle.bird_import.specs.declared.items.ItemKind.TheVariants as item
 use Rattle.bird_import.specs.declared.reason.Reason.{Reason}
 use Rattle.bird_import.specs.declared.reason.Why.{Why}
@@ -35,6 +39,8 @@ name_in (why.FunctionShape name) = Some name.now
 name_in (why.SetVariable name) = Some name.now
 name_in (why.Unset name) = Some name.now
 name_in (why.NoValue name) = Some name.now
+name_in (why.LeftOpen name) = Some name.now
+name_in (why.TwoMeanings name) = Some name.now
 name_in others = None
 
 -- words name a name, if there is one
@@ -73,6 +79,28 @@ pub record HasNameBefore (other one : Item) : Type 0 where
   pub earlier : other.from < one.from
   pub is_filter : other.kind ≢ item.Function
   pub same : other.name.items ≡ one.name.items
+
+-- bytes are spelled as a name: letters, digits and `_`, of which the first is no digit
+abbrev pub is_spelled_name : List ℕ → Bool
+is_spelled_name [] = false
+is_spelled_name (first ∷ others) = not (is_ascii_digit first) && list_all continues_word (first ∷ others)
+
+-- an item of a kind has a name of this language: one in quotes is a filter's own, and a word that cannot be kept
+abbrev pub is_nameable : ItemKind → List ℕ → Bool
+is_nameable item.Anonymous name = is_spelled_name name
+is_nameable item.Condition name = is_spelled_name name
+is_nameable item.Filter name = starts_with nat_eq name (codes "'") || is_spelled_name name
+is_nameable item.Function name = true
+
+-- a parenthesis or a bracket is not closed: a `;` stands behind it, outside of what is opened between
+pub record IsLeftOpen (words : List Word) (k : ℕ) : Type 0 where
+  pub opens : IsAt symbol.LeftParen words k ⊎ IsAt symbol.LeftBracket words k
+  pub stop : ℕ
+  pub stops : outside_from words (is_symbol symbol.Semicolon) (k + 1) ≡ Some stop
+
+-- so is one from an index on, which is spelled so
+abbrev pub HasLeftOpen : List Word → ℕ → List ℕ → Type 0
+HasLeftOpen words from bytes = (k : ℕ) × (from ≤ k) × IsLeftOpen words k × (bytes_at words k ≡ bytes)
 
 -- a filter before an item has its name
 abbrev pub IsNamedBefore : List Item → Item → Type 0

@@ -1,8 +1,10 @@
 -- The rules by which words of a filter of BIRD's are written as others: each keeps what the filter does. As in the BIRD 2.0 User's Guide;
 -- that printing is left out, and where a `;` may be missing, is this project's own choice.
-use Rattle.std.specs.Prelude.{◌≡◌, ◌≢◌, ◌⊎◌, ℕ, ◌+◌, ◌-◌, ◌<◌, ◌==◌, Bool, true, false, if◌then◌else◌}
+use Rattle.std.specs.Prelude.{◌≡◌, ◌≢◌, ◌⊎◌, ℕ, ◌+◌, ◌-◌, ◌<◌, ◌==◌, ◌||◌, Bool, true, false, if◌then◌else◌}
 use Rattle.std.specs.Prelude.{List, [], ◌∷◌, ◌++◌, Option, Some, None, All, codes, drop, ⊤}
+use Rattle.std.specs.Str.{bytes_eq}
 use Rattle.bird_import.specs.Alike.{AreAlike}
+use Rattle.bird_import.specs.Indices.{IsAt, IsNameAt, bytes_at}
 use Rattle.filter_tokens.specs.declared.symbol.Symbol.{Symbol}
 use Rattle.filter_tokens.specs.declared.symbol.Symbol.TheVariants as symbol
 use Rattle.bird_import.specs.declared.word.Word.{Word}
@@ -69,6 +71,8 @@ pub record IsDefined (config old new : List Word) : Type 0 where
 abbrev pub is_harmless_symbol : Symbol → Bool
 is_harmless_symbol symbol.Comma = true
 is_harmless_symbol symbol.Dot = true
+is_harmless_symbol symbol.LeftParen = true
+is_harmless_symbol symbol.RightParen = true
 is_harmless_symbol symbol.Plus = true
 is_harmless_symbol symbol.Minus = true
 is_harmless_symbol symbol.Times = true
@@ -79,15 +83,28 @@ is_harmless_symbol symbol.True = true
 is_harmless_symbol symbol.False = true
 is_harmless_symbol other = false
 
--- a word that may be printed: neither a call nor a division can be made of such words
-abbrev pub is_harmless : WordKind → Bool
-is_harmless (kind.Symbol symbol) = is_harmless_symbol symbol
-is_harmless kind.Foreign = false
-is_harmless kind.Strange = false
-is_harmless other = true
+-- attributes whose names this language leaves out
+abbrev pub is_attribute_word : List ℕ → Bool
+is_attribute_word word =
+    bytes_eq word (codes "from") || (bytes_eq word (codes "proto") || (bytes_eq word (codes "source") || bytes_eq word (codes "preference")))
+
+-- a word that may be printed: no division can be made of such words
+abbrev pub is_harmless : WordKind → List ℕ → Bool
+is_harmless (kind.Symbol symbol) bytes = is_harmless_symbol symbol
+is_harmless kind.Foreign bytes = is_attribute_word bytes
+is_harmless kind.Strange bytes = false
+is_harmless other bytes = true
 
 abbrev pub IsHarmless : Word → Type 0
-IsHarmless word = is_harmless word.kind ≡ true
+IsHarmless word = is_harmless word.kind word.bytes.now ≡ true
+
+-- no function is called at an index: of names, `mask` alone stands before a parenthesis
+abbrev pub CallsNoneAt : List Word → ℕ → Type 0
+CallsNoneAt words k = IsNameAt words k → IsAt symbol.LeftParen words (k + 1) → bytes_at words k ≡ codes "mask"
+
+-- none is called among some words
+abbrev pub CallsNone : List Word → Type 0
+CallsNone words = (k : ℕ) → CallsNoneAt words k
 
 -- a command that prints: its words do nothing else, and a `;` stands in its place
 pub record IsUnprinted (old new : List Word) : Type 0 where
@@ -95,6 +112,7 @@ pub record IsUnprinted (old new : List Word) : Type 0 where
   pub prints : IsForeign (codes "print") print ⊎ IsForeign (codes "printn") print
   pub terms : List Word
   pub harmless : All IsHarmless terms
+  pub free : CallsNone terms
   pub end : Word
   pub ends : Is symbol.Semicolon end
   pub whole : old ≡ print ∷ (terms ++ end ∷ [])
@@ -115,6 +133,7 @@ pub record IsShortened (front old new : List Word) : Type 0 where
   pub last : front ≡ before ++ command ∷ []
   pub ends : Is symbol.Accept command ⊎ Is symbol.Reject command
   pub harmless : All IsHarmless old
+  pub free : CallsNone old
   pub kept : IsFirstText old new
 
 -- a `;` is put in before `else` or a closing brace

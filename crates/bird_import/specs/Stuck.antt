@@ -3,6 +3,7 @@ use Rattle.std.specs.Prelude.{◌≡◌, ◌≢◌, ◌⊎◌, ℕ, zero, suc, �
 use Rattle.filter_tokens.specs.declared.symbol.Symbol.TheVariants as symbol
 use Rattle.bird_import.specs.Drafts.{words_of}
 use Rattle.bird_import.specs.Indices.{IsAt, IsBehind, IsForeignAt, IsNamedAt, kind_at}
+use Rattle.bird_import.specs.Reasons.{IsVariable}
 use Rattle.bird_import.specs.Rules.{IsNamed, ends_command, is_kind}
 use Rattle.bird_import.specs.Sets.{IsDeclared}
 use Rattle.bird_import.specs.Steps.{Becomes, BecomesWithin, Reaches}
@@ -118,6 +119,10 @@ module _ (config : Config) where
   abbrev pub IsDefinedName : List ℕ → Type 0
   IsDefinedName name = (i : ℕ) × (definition : Definition) × IsDefinition name i definition
 
+  -- no variable among some words has the name of a definition, so that no name means both
+  abbrev pub AreApart : List Word → Type 0
+  AreApart words = (name : List ℕ) → IsVariable name words → IsDefinedName name → ⊥
+
   -- what is found of a name among so many definitions
   abbrev pub IsFound : List ℕ → ℕ → Found → Type 0
   IsFound name n (found.Once definition) = (i : ℕ) × (i < n) × IsDefinition name i definition
@@ -133,6 +138,7 @@ module _ (config : Config) where
   Hinders words (why.Unknown name) = (word : Word) × IsUsed name.now word words × IsDefinedName name.now
   Hinders words (why.DefinedLater name) = (word : Word) × IsUsed name.now word words × IsLater name.now word
   Hinders words (why.DefinedTwice name) = (word : Word) × IsUsed name.now word words × IsTwice name.now
+  Hinders words (why.TwoMeanings name) = IsVariable name.now words × IsDefinedName name.now
   Hinders words (why.OneWord name) = (word : Word) × IsUsed name.now word words × IsDefinedLonger name.now
   Hinders words (why.UnknownCall name) = (word : Word) × IsUsed name.now word words × ((i : ℕ) → i < length config.items.now → (one : Item) → IsFunctionOf name.now i one → ⊥)
   Hinders words other = Hinder words other

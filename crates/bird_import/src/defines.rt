@@ -1,13 +1,16 @@
 //! Defined names: the definition stands where the name is used.
-ghost use Rattle.std.specs.Prelude.{◌≡◌, ◌↔◌, ◌<◌, ℕ, IfErr, IfOk, IfSome, IsTrue, length};
+ghost use Rattle.std.specs.Prelude.{◌≡◌, ◌↔◌, ◌<◌, ℕ, [], ◌∷◌, List, IfErr, IfOk, IfSome, IsTrue, None, OnOk, Some, length, slice_get};
 ghost use Rattle.bird_import.specs.Indices.{IsNameAt};
 ghost use Rattle.bird_import.specs.Reasons.{IsVariable, IsVariableAt, why_of_plan};
-ghost use Rattle.bird_import.specs.Stuck.{Hinders, IsDefinition, IsFound, IsUsed, StandsBefore};
+ghost use Rattle.bird_import.specs.Rules.{IsDefined};
+ghost use Rattle.bird_import.specs.Steps.{Becomes};
+ghost use Rattle.bird_import.specs.Drafts.{IsDefinedHere};
+ghost use Rattle.bird_import.specs.Stuck.{AreApart, Hinders, IsDefinedName, IsDefinition, IsFound, IsUsed, StandsBefore};
 
 use crate::config::Config;
 use crate::items::Definition;
 use crate::reason::{Reason, Why};
-use crate::rules::is_kind;
+use crate::rules::{is_defined, is_kind};
 use crate::step::{Plan, Rule, Step, enclosed, joined};
 use crate::word::{
     Word, WordKind, closing, is_at, is_before, is_foreign_at, is_name_at, is_named_at, kind_at,
@@ -15,6 +18,9 @@ use crate::word::{
 };
 use filter_tokens::Symbol;
 use std::alloc::{AllocError, Global};
+
+/// The most words of a filter: each has a byte.
+pub const WORD_LIMIT: usize = 65_536;
 
 /// Whether a name is declared at an index.
 fn declares(words: &[Word<'_>], at: usize, name: &[u8]) -> bool
@@ -35,6 +41,47 @@ pub fn is_declared(words: &[Word<'_>], name: &[u8]) -> bool
         }
     }
     false
+}
+
+/// Whether a name is defined.
+fn is_defined_name(config: &Config<'_>, name: &[u8]) -> bool
+    ensures { IsTrue result ↔ IsDefinedName config.now name.now }
+{
+    for definition in config.definitions {
+        if is_named_at(config.words, definition.name, name) {
+            return true;
+        }
+    }
+    false
+}
+
+/// The word at an index, if a variable is declared there that has the name of a definition.
+fn two_meanings_at<'a>(config: &Config<'a>, words: &[Word<'a>], at: usize) -> Option<Word<'a>>
+    ensures some { IfSome result (λ word. IsVariableAt word.bytes.now words.now at × IsDefinedName config.now word.bytes.now) }
+    ensures none { result ≡ None → (name : List ℕ) → IsVariableAt name words.now at → IsDefinedName config.now name → ⊥ }
+{
+    let word = word_at(words, at)?;
+    if declares(words, at, word.bytes) && is_defined_name(config, word.bytes) {
+        Some(word)
+    } else {
+        None
+    }
+}
+
+/// The first variable among some words that has the name of a definition: what the name means depends on where it stands.
+pub fn first_of_two_meanings<'a>(config: &Config<'a>, words: &[Word<'a>]) -> Option<Reason<'a>>
+    ensures some { IfSome result (λ reason. Hinders config.now words.now reason.why) }
+    ensures none { result ≡ None → AreApart config.now words.now }
+{
+    for at in 0..words.len() {
+        if let Some(word) = two_meanings_at(config, words, at) {
+            return Some(Reason {
+                at: word.at,
+                why: Why::TwoMeanings(word.bytes),
+            });
+        }
+    }
+    None
 }
 
 /// Whether the word at an index is a name that may be a defined one: neither that of the filter, nor one behind a dot or before
@@ -97,17 +144,24 @@ fn placed<'a>(
     }
 }
 
-/// Whether the word at an index is within the brackets of a set.
-fn is_in_brackets(words: &[Word<'_>], at: usize) -> bool {
-    let mut depth = 0usize;
-    for before in 0..at {
-        if is_at(words, before, Symbol::LeftBracket) {
-            depth = depth.saturating_add(1);
-        } else if is_at(words, before, Symbol::RightBracket) {
-            depth = depth.saturating_sub(1);
-        }
+/// How many brackets are open behind a word, where so many are before it.
+fn brackets_behind(depth: usize, word: Word<'_>) -> usize {
+    if word.is(Symbol::LeftBracket) {
+        depth.saturating_add(1)
+    } else if word.is(Symbol::RightBracket) {
+        depth.saturating_sub(1)
+    } else {
+        depth
     }
-    depth > 0
+}
+
+/// How many brackets are open before the word at an index.
+fn open_brackets(words: &[Word<'_>], at: usize) -> usize {
+    let mut depth = 0usize;
+    for word in words.iter().take(at) {
+        depth = brackets_behind(depth, *word);
+    }
+    depth
 }
 
 /// Whether the word at an index belongs to a label of a `case`: from it on there are constants and a `:`.
@@ -138,8 +192,8 @@ fn is_masked(words: &[Word<'_>], at: usize) -> bool {
 }
 
 /// Whether only one word can stand at an index: in a set, a label or a mask, where nothing is computed.
-fn wants_one_word(words: &[Word<'_>], at: usize) -> bool {
-    is_in_brackets(words, at) || is_in_label(words, at) || is_masked(words, at)
+fn wants_one_word(words: &[Word<'_>], at: usize, is_in_brackets: bool) -> bool {
+    is_in_brackets || is_in_label(words, at) || is_masked(words, at)
 }
 
 /// Whether a definition ends before a place.
@@ -159,6 +213,7 @@ fn value_for<'a>(
     definition: Definition,
     word: Word<'a>,
     at: usize,
+    is_in_brackets: bool,
 ) -> Result<&'a [Word<'a>], Why<'a>>
     requires used { IsUsed word.bytes.now word words.now }
     requires defined { (i : ℕ) × (i < length config.now.definitions.now) × IsDefinition config.now word.bytes.now i definition }
@@ -169,7 +224,9 @@ fn value_for<'a>(
     }
     match config.words.get(definition.from..definition.to) {
         None | Some([]) => Err(Why::Unknown(word.bytes)),
-        Some(value) if is_closed_value(value) || !wants_one_word(words, at) => Ok(value),
+        Some(value) if is_closed_value(value) || !wants_one_word(words, at, is_in_brackets) => {
+            Ok(value)
+        }
         Some(_) => Err(Why::OneWord(word.bytes)),
     }
 }
@@ -187,7 +244,8 @@ fn place<'a>(
     requires defined { (i : ℕ) × (i < length config.now.definitions.now) × IsDefinition config.now word.bytes.now i definition }
     ensures { IfOk result (λ plan. IfSome (why_of_plan plan) (Hinders config.now words.now)) }
 {
-    match value_for(config, words, definition, word, at) {
+    let is_in_brackets = open_brackets(words, at) > 0;
+    match value_for(config, words, definition, word, at, is_in_brackets) {
         Ok(value) => Ok(Plan::Step(Step {
             rule: Rule::Defined,
             origin: definition.name.saturating_sub(1),
@@ -220,7 +278,6 @@ pub fn plan_definition<'a>(
         };
         match look_up(config, word.bytes) {
             Found::Never => {}
-            _ if is_declared(words, word.bytes) => {}
             Found::Once(definition) => return place(alloc, config, words, definition, word, at),
             Found::Twice => return Ok(Plan::Stuck(Reason {
                 at: word.at,
@@ -229,4 +286,107 @@ pub fn plan_definition<'a>(
         }
     }
     Ok(Plan::Done)
+}
+
+/// What a name at an index is defined as, as it stands in its place, if it is defined and that can stand there.
+fn value_at<'a>(
+    alloc: Global,
+    config: &Config<'a>,
+    words: &[Word<'a>],
+    at: usize,
+    word: Word<'a>,
+    is_in_brackets: bool,
+) -> Result<Option<Vec<Word<'a>>>, AllocError>
+    requires { slice_get words.now at ≡ Some word }
+    ensures { IfOk result (λ found. IfSome found (λ value. IsDefined config.now.words.now (word.entry ∷ []) value.items)) }
+{
+    if !may_be_defined(words, at) {
+        return Ok(None);
+    }
+    let Found::Once(definition) = look_up(config, word.bytes) else {
+        return Ok(None);
+    };
+    let Ok(value) = value_for(config, words, definition, word, at, is_in_brackets) else {
+        return Ok(None);
+    };
+    let origin = definition.name.saturating_sub(1);
+    let value = placed(alloc, value, word)?;
+    if is_defined(config.words, origin, &[word], value.as_slice()) {
+        Ok(Some(value))
+    } else {
+        Ok(None)
+    }
+}
+
+/// Puts the word at an index behind others, or what it is defined as. Whether the latter is done.
+fn push_defined<'a>(
+    alloc: Global,
+    config: &Config<'a>,
+    words: &[Word<'a>],
+    at: usize,
+    word: Word<'a>,
+    is_in_brackets: bool,
+    done: &mut Vec<Word<'a>>,
+) -> Result<bool, AllocError>
+    requires { slice_get words.now at ≡ Some word }
+    ensures { OnOk result (IsDefinedHere config.now.words.now word.entry done.old.items done.new.items) }
+{
+    let value = if done.len() > WORD_LIMIT {
+        None
+    } else {
+        value_at(alloc, config, words, at, word, is_in_brackets)?
+    };
+    match value {
+        Some(value) => {
+            done.extend_from_slice(value.as_slice())?;
+            Ok(true)
+        }
+        None => {
+            done.push(word)?;
+            Ok(false)
+        }
+    }
+}
+
+/// The words with the definition of each name in its place, of those that stand there, until there are too many words. Whether there is one.
+fn define_each<'a>(
+    alloc: Global,
+    config: &Config<'a>,
+    words: &[Word<'a>],
+) -> Result<(Vec<Word<'a>>, bool), AllocError>
+    ensures { IfOk result (λ found. (depth : ℕ) → Becomes config.now.words.now depth words.now found.0.items) }
+{
+    let mut done = Vec::new(alloc);
+    let mut brackets = 0usize;
+    let mut is_any = false;
+    for at in 0..words.len() {
+        let word = words[at];
+        let is_defined = push_defined(alloc, config, words, at, word, brackets > 0, &mut done)?;
+        is_any = is_any || is_defined;
+        brackets = brackets_behind(brackets, word);
+    }
+    Ok((done, is_any))
+}
+
+/// The words with all definitions in place that can be, until there are too many of them. A definition speaks of those before it alone, so
+/// there are no more rounds than definitions.
+pub fn define_all<'a>(
+    alloc: Global,
+    config: &Config<'a>,
+    words: Vec<Word<'a>>,
+) -> Result<Vec<Word<'a>>, AllocError>
+    ensures { IfOk result (λ after. (depth : ℕ) → Becomes config.now.words.now depth words.entry.items after.items) }
+{
+    let mut words = words;
+    for _ in config.definitions {
+        if words.len() > WORD_LIMIT {
+            return Ok(words);
+        }
+        let (after, is_any) = define_each(alloc, config, words.as_slice())?;
+        words = after;
+        if !is_any {
+            return Ok(words);
+        }
+    }
+    Ok(words)
 }

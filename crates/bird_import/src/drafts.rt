@@ -1,22 +1,24 @@
 //! The filters of a configuration, word by word.
-ghost use Rattle.std.specs.Prelude.{◌≡◌, ◌↔◌, ◌⊎◌, ◌+◌, ◌<◌, [], ◌∷◌, List, IfErr, IfOk, IfSome, IsTrue, None, OnOk, Some, length, max};
+ghost use Rattle.std.specs.List.{list_all};
+ghost use Rattle.std.specs.Prelude.{◌≡◌, ◌↔◌, ◌⊎◌, ◌+◌, ◌<◌, ◌≤◌, false, [], ◌∷◌, List, IfErr, IfOk, IfSome, IsTrue, None, OnOk, Some, length, max};
 ghost use Rattle.bird_import.specs.Drafts.{BeginsAs, IfDrafted, IsCallee, IsNext, kinds_of, words_of};
 ghost use Rattle.bird_import.specs.Functions.{IsCallOf};
 ghost use Rattle.bird_import.specs.Judged.{AreJudged, HasDraft, HaveDrafts, IsDraft, IsFilter, IsJudged, IsNoFilter};
-ghost use Rattle.bird_import.specs.Reasons.{AreKnown, HasNameBefore, HaveUnknown, IsNamedBefore, why_of, why_of_next, why_of_plan};
-ghost use Rattle.bird_import.specs.Stuck.{Calls, Halts, Hinder, Hinders, IsCallBy, IsOutside, IsStuck, IsTooDeep};
+ghost use Rattle.bird_import.specs.Reasons.{AreKnown, HasNameBefore, HaveUnknown, IsLeftOpen, IsNamedBefore, is_nameable, is_spelled_name, why_of, why_of_next, why_of_plan};
+ghost use Rattle.bird_import.specs.Stuck.{AreApart, Calls, Halts, Hinder, Hinders, IsCallBy, IsOutside, IsStuck, IsTooDeep};
 ghost use Rattle.bird_import.specs.Steps.{Becomes, BecomesWithin, Fits, IsCallWritten, Replaces, Writes};
 ghost use Rattle.bird_import.specs.declared.step.Rule.{Rule as TheRule};
 ghost use Rattle.bird_import.specs.declared.items.ItemKind.TheVariants as item_kind;
 ghost use Rattle.bird_import.specs.declared.reason.Why.TheVariants as why;
 ghost use Rattle.bird_import.specs.declared.word.WordKind.TheVariants as word_kind;
+ghost use Rattle.filter_tokens.specs.Shapes.{continues_word};
 ghost use Rattle.filter_tokens.specs.declared.symbol.Symbol.TheVariants as symbol;
 
 use crate::calls::{call_at, first_call, item_of, plan_return};
 use crate::cases::plan_case;
 use crate::config::Config;
 use crate::declarations::{first_without_value, plan_declaration};
-use crate::defines::plan_definition;
+use crate::defines::{WORD_LIMIT, define_all, first_of_two_meanings, plan_definition};
 use crate::items::{Item, ItemKind};
 use crate::operators::{plan_grouping, plan_semicolon, plan_type_test};
 use crate::printing::plan_printing;
@@ -24,12 +26,9 @@ use crate::reason::{Reason, Why};
 use crate::set_variables::plan_sets;
 use crate::step::{Plan, Rule, apply, apply_call, joined};
 use crate::unknown::first_unknown;
-use crate::word::Word;
-use filter_tokens::Symbol;
+use crate::word::{Word, bytes_at, find_outside, is_at};
+use filter_tokens::{Symbol, continues_word};
 use std::alloc::{AllocError, Global};
-
-/// The most words of a filter: each has a byte.
-const WORD_LIMIT: usize = 65_536;
 
 /// The most steps that are made for a filter.
 const STEP_LIMIT: usize = 65_536;
@@ -279,9 +278,13 @@ fn rewrite<'a>(
     depth: u8,
 ) -> Result<Outcome<'a>, AllocError>
     ensures drafted { IfOk result (IfDrafted (Becomes config.now.words.now depth words.entry.items)) }
+    ensures apart { IfOk result (IfDrafted (λ after. AreApart config.now words.entry.items)) }
     ensures stuck { IfOk result (λ outcome. IfSome (why_of outcome) (IsStuck config.now depth words.entry.items)) }
 {
-    let mut words = words;
+    if let Some(reason) = first_of_two_meanings(config, words.as_slice()) {
+        return Ok(Outcome::LeftOut(reason));
+    }
+    let mut words = define_all(alloc, config, words)?;
     for made in 0..STEP_LIMIT {
         let all = words.as_slice();
         if all.len() > WORD_LIMIT {
@@ -407,19 +410,103 @@ fn copy_of<'a>(alloc: Global, all: &[Word<'a>]) -> Result<Vec<Word<'a>>, AllocEr
     Vec::from_slice(alloc, all)
 }
 
-/// Why an item cannot be a filter at all, if it cannot.
-fn why_no_filter<'a>(config: &Config<'a>, item: &Item) -> Option<Why<'a>>
-    ensures some { IfSome result (IsNoFilter config.now item.now) }
+/// Whether a parenthesis or a bracket at an index is not closed: a `;` comes before what closes it.
+fn is_left_open(words: &[Word<'_>], at: usize) -> bool
+    requires { at < length words.now }
+    ensures { IsTrue result → IsLeftOpen words.now at }
+{
+    if !is_at(words, at, Symbol::LeftParen) && !is_at(words, at, Symbol::LeftBracket) {
+        return false;
+    }
+    match find_outside(words, at + 1, Symbol::Semicolon) {
+        Some(_stop) => true,
+        None => false,
+    }
+}
+
+/// The index of the first parenthesis or bracket from an index on that is not closed, if there is one.
+fn first_left_open(words: &[Word<'_>], from: usize) -> Option<usize>
+    ensures { IfSome result (λ k. (from ≤ k) × (k < length words.now) × IsLeftOpen words.now k) }
+{
+    for at in from..words.len() {
+        if is_left_open(words, at) {
+            return Some(at);
+        }
+    }
+    None
+}
+
+/// Why an item that begins at a place and is not closed is no filter.
+fn unclosed<'a>(config: &Config<'a>, item: &Item, at: usize) -> Reason<'a>
+    ensures { item.now.is_closed ≡ false → IsNoFilter config.now item.now result.why }
+{
+    match first_left_open(config.words, item.from) {
+        Some(index) => Reason {
+            at: place_of(config, index),
+            why: Why::LeftOpen(bytes_at(config.words, index)),
+        },
+        None => Reason {
+            at,
+            why: Why::Unclosed,
+        },
+    }
+}
+
+/// Why an item that begins at a place cannot be a filter at all, if it cannot.
+fn why_no_filter<'a>(config: &Config<'a>, item: &Item, at: usize) -> Option<Reason<'a>>
+    ensures some { IfSome result (λ reason. IsNoFilter config.now item.now reason.why) }
     ensures none { result ≡ None → IsFilter config.now item.now }
 {
     if !item.is_closed {
-        Some(Why::Unclosed)
+        Some(unclosed(config, item, at))
     } else if item.is_ipv6 {
-        Some(Why::Ipv6)
+        Some(Reason { at, why: Why::Ipv6 })
     } else if is_named_before(config, item) {
-        Some(Why::SameName)
+        Some(Reason {
+            at,
+            why: Why::SameName,
+        })
+    } else if !is_nameable(item) {
+        Some(Reason {
+            at,
+            why: Why::NoName,
+        })
     } else {
         None
+    }
+}
+
+/// Whether each byte may stand in a name.
+fn has_name_bytes(name: &[u8]) -> bool
+    ensures { result ≡ list_all continues_word name.now }
+{
+    for byte in name {
+        if !continues_word(*byte) {
+            return false;
+        }
+    }
+    true
+}
+
+/// Whether bytes are spelled as a name: letters, digits and `_`, of which the first is no digit.
+fn is_spelled_name(name: &[u8]) -> bool
+    ensures { result ≡ is_spelled_name name.now }
+{
+    if name.is_empty() || name[0].is_ascii_digit() {
+        return false;
+    }
+    has_name_bytes(name)
+}
+
+/// Whether an item has a name of this language. Of a filter with one in quotes that is told at the name.
+fn is_nameable(item: &Item) -> bool
+    ensures { result ≡ is_nameable item.now.kind item.now.name.items }
+{
+    let name = item.name.as_slice();
+    match item.kind {
+        ItemKind::Anonymous | ItemKind::Condition => is_spelled_name(name),
+        ItemKind::Filter => name.starts_with(b"'") || is_spelled_name(name),
+        ItemKind::Function => true,
     }
 }
 
@@ -465,8 +552,8 @@ fn outcome_of<'a>(
 ) -> Result<Outcome<'a>, AllocError>
     ensures { IfOk result (IsJudged config.now item.now) }
 {
-    if let Some(why) = why_no_filter(config, item) {
-        return Ok(Outcome::LeftOut(Reason { at, why }));
+    if let Some(reason) = why_no_filter(config, item, at) {
+        return Ok(Outcome::LeftOut(reason));
     }
     let Some(all) = words_of_item_at(config.words, item) else {
         return Ok(Outcome::LeftOut(Reason {

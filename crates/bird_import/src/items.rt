@@ -40,7 +40,7 @@ pub struct Item {
     pub name: Vec<u8>,
     /// Its braces are closed.
     pub is_closed: bool,
-    /// It is for routes of IPv6.
+    /// It is for routes of IPv6, or for others that are none of IPv4.
     pub is_ipv6: bool,
 }
 
@@ -240,17 +240,42 @@ fn words_before_name(words: &[Word<'_>], head: usize) -> usize
     }
 }
 
+/// What stands between the single quotes of a word, if it is in quotes.
+#[tactic(auto, unfolding(crate::specs::Items::unquoted))]
+fn unquoted<'a>(word: &'a [u8]) -> Option<&'a [u8]>
+    ensures { option_copied result ≡ spec.unquoted word.now }
+{
+    if word.len() > 1 && word.starts_with(b"'") {
+        Some(&word[1..word.len() - 1])
+    } else {
+        None
+    }
+}
+
+/// The name that a word is, if it is one: in single quotes or without.
+#[tactic(auto, unfolding(crate::specs::Items::plain_name))]
+fn plain_name<'a>(kind: WordKind, word: &'a [u8]) -> Option<&'a [u8]>
+    ensures { option_copied result ≡ spec.plain_name kind word.now }
+{
+    if is_name(kind) {
+        Some(word)
+    } else {
+        unquoted(word)
+    }
+}
+
 /// The name of the protocol that begins at an index, if it has one.
 #[tactic(auto, unfolding(crate::specs::Items::name_of_protocol))]
 fn name_of_protocol<'a>(words: &[Word<'a>], head: usize) -> Option<&'a [u8]>
     ensures { option_copied result ≡ spec.name_of_protocol words.now head }
 {
     let more = words_before_name(words, head);
-    let name = bytes_behind(words, head, more);
-    if is_name(kind_behind(words, head, more)) && name != b"from".as_slice() {
-        Some(name)
-    } else {
-        None
+    match plain_name(
+        kind_behind(words, head, more),
+        bytes_behind(words, head, more),
+    ) {
+        Some(name) if name != b"from".as_slice() => Some(name),
+        _ => None,
     }
 }
 
@@ -293,13 +318,25 @@ fn count_of_kind(words: &[Word<'_>], heads: &[usize], kind: &[u8]) -> usize
     number
 }
 
-/// Whether a channel of IPv6 begins at some index.
+/// Whether a channel that begins with a word carries other routes than those of IPv4: routes of IPv6, of VPNs, origins, flows or labels.
+#[tactic(auto, unfolding(crate::specs::Items::is_other_channel))]
+fn is_other_channel(word: &[u8]) -> bool
+    ensures { result ≡ spec.is_other_channel word.now }
+{
+    word.starts_with(b"ipv6")
+        || word.starts_with(b"vpn")
+        || word.starts_with(b"roa")
+        || word.starts_with(b"flow")
+        || word.starts_with(b"mpls")
+}
+
+/// Whether a channel of other routes than those of IPv4 begins at some index.
 #[tactic(auto, using(std::proofs::lemmas::List::Folds::list_any_at, std::proofs::lemmas::List::Folds::list_any_more), unfolding(crate::specs::Items::have_ipv6))]
 fn have_ipv6(words: &[Word<'_>], heads: &[usize]) -> bool
     ensures { result ≡ spec.have_ipv6 words.now heads.now }
 {
     for head in heads {
-        if bytes_at(words, *head).starts_with(b"ipv6") {
+        if is_other_channel(bytes_at(words, *head)) {
             return true;
         }
     }
@@ -422,7 +459,7 @@ impl Blocks {
     }
 }
 
-/// Whether a name is at an index. One in quotes is none of this language: its filter is left out, and not overlooked.
+/// Whether a name is at an index. One in quotes is none of this language.
 #[tactic(auto, unfolding(crate::specs::Items::is_any_name))]
 fn is_any_name(words: &[Word<'_>], at: usize) -> bool
     ensures { result ≡ spec.is_any_name words.now at }
@@ -430,17 +467,16 @@ fn is_any_name(words: &[Word<'_>], at: usize) -> bool
     is_name(kind_at(words, at)) || bytes_at(words, at).starts_with(b"'")
 }
 
-/// The kind of the item with a name that begins at an index of the outermost level, if one does.
+/// The kind of the item that begins at an index of the outermost level, if one does. A filter whose name is none is left out, and not
+/// overlooked.
 #[tactic(auto, unfolding(crate::specs::Items::named_kind))]
 fn named_kind(words: &[Word<'_>], at: usize) -> Option<ItemKind>
     requires { at < length words.now }
     ensures { result ≡ spec.named_kind words.now at }
 {
-    if !is_any_name(words, at + 1) {
-        None
-    } else if is_symbol(kind_at(words, at), Symbol::Filter) {
+    if is_symbol(kind_at(words, at), Symbol::Filter) {
         Some(ItemKind::Filter)
-    } else if is_foreign_at(words, at, b"function") {
+    } else if is_foreign_at(words, at, b"function") && is_any_name(words, at + 1) {
         Some(ItemKind::Function)
     } else {
         None

@@ -50,7 +50,7 @@ fn operator_at(words: &[Word<'_>], at: usize) -> Option<Symbol>
     }
 }
 
-/// The chain that is being read behind the word at an index, which opens or closes no parentheses.
+/// The chain that is being read behind the word at an index, which opens or closes neither parentheses nor brackets.
 fn chain_behind(chain: Chain, word: Word<'_>, operator: Option<Symbol>, at: usize) -> Chain {
     let next = at.saturating_add(1);
     if word.is(Symbol::If) || word.is(Symbol::Case) || word.is_foreign(b"return") {
@@ -78,10 +78,11 @@ fn first_mixed(alloc: Global, words: &[Word<'_>]) -> Result<Option<(usize, usize
     let mut chain = Chain::at(0, false);
     for at in 0..words.len() {
         let word = words[at];
-        if word.is(Symbol::LeftParen) {
+        if word.is(Symbol::LeftParen) || word.is(Symbol::LeftBracket) {
+            // The braces of a pattern in brackets are none of a block.
             outer.push(chain)?;
             chain = Chain::at(at.saturating_add(1), true);
-        } else if word.is(Symbol::RightParen) {
+        } else if word.is(Symbol::RightParen) || word.is(Symbol::RightBracket) {
             chain = outer
                 .pop()
                 .unwrap_or(Chain::at(at.saturating_add(1), false));

@@ -4,6 +4,7 @@ ghost use Rattle.std.specs.Prelude.{◌≡◌, IfOk};
 ghost use Rattle.bird_import.specs.Reasons.{AreReasonWords, name_in};
 ghost use Rattle.bird_import.specs.declared.reason.Why.TheVariants as why;
 
+use prefix_patterns::read_ip;
 use std::alloc::{AllocError, Global};
 
 /// Why a filter is left out, and at which byte of the configuration.
@@ -46,19 +47,28 @@ pub enum Why<'a> {
     CaseLabels,
     /// The braces are not closed.
     Unclosed,
+    /// A parenthesis or a bracket that is not closed.
+    LeftOpen(&'a [u8]),
     /// A filter before it has the name.
     SameName,
+    /// Its name, or that of its protocol, is none of this language.
+    NoName,
     /// A variable that may be read before it is assigned.
     Unset(&'a [u8]),
     /// A variable that the body declares without a value.
     NoValue(&'a [u8]),
-    /// It is for routes of IPv6.
+    /// A variable with the name of a definition.
+    TwoMeanings(&'a [u8]),
+    /// It is for routes of IPv6, or for others that are none of IPv4.
     Ipv6,
     /// More words or steps than are taken.
     TooLong,
     /// The words could not be written.
     Unwritten,
 }
+
+/// The most bytes of a name.
+const NAME_LIMIT: usize = 64;
 
 /// What is said where nothing else can be.
 pub fn unwritten<'a>(at: usize) -> Reason<'a>
@@ -179,10 +189,43 @@ fn text_of(bytes: &[u8]) -> &str {
     }
 }
 
+/// Whether a text begins with an address that is one: an address, or the front of a prefix.
+fn has_address(name: &[u8]) -> bool {
+    let front = match name.iter().position(|byte| *byte == b'/') {
+        Some(slash) => name.get(..slash),
+        None => Some(name),
+    };
+    match front {
+        Some(address) => read_ip(address).is_some(),
+        None => false,
+    }
+}
+
+/// What is said of a number, an address or a prefix that is none.
+fn words_of_number(name: &[u8]) -> &'static str {
+    let dots = name.iter().filter(|byte| **byte == b'.').count();
+    if name.starts_with(b"0x") && name.len() == 2 {
+        "is no number: no hexadecimal digit follows (P1)"
+    } else if dots != 3 {
+        "is out of range: the number exceeds 4294967295 (P3)"
+    } else if has_address(name) {
+        "is out of range: the length of the prefix exceeds 32 (P4)"
+    } else {
+        "is out of range: a number of the address exceeds 255 (P4)"
+    }
+}
+
 /// What is said of a word that is neither a variable nor defined, or of one of BIRD's.
 fn words_of_word(name: &[u8], is_foreign: bool) -> &'static str {
     if name.starts_with(b"'") {
         return "is a name in quotes: take one of letters, digits and `_`";
+    }
+    match name.first() {
+        Some(first) if first.is_ascii_digit() => return words_of_number(name),
+        _ => {}
+    }
+    if is_foreign && name.len() > NAME_LIMIT {
+        return "is a name of more than 64 bytes (P8)";
     }
     let name = text_of(name);
     if let Some(words) = owner_of(name) {
@@ -192,6 +235,20 @@ fn words_of_word(name: &[u8], is_foreign: bool) -> &'static str {
         Some(words) => words,
         None if is_foreign => "is not taken",
         None => "is no variable, no attribute, and not defined",
+    }
+}
+
+/// What is said of a word before a parenthesis that is no function of the configuration: BIRD has functions, commands and attributes of its own.
+fn words_of_call(name: &[u8]) -> &'static str {
+    let name = text_of(name);
+    match name {
+        "prepend" | "add" | "delete" | "filter" =>
+            "changes a path or a list of communities, and none is taken",
+        "format" => "makes a text of a value, and there are none",
+        "not" => "is no operator: write `!`",
+        _ => owner_of(name)
+            .or(words_for(name))
+            .unwrap_or("is no function of this configuration"),
     }
 }
 
@@ -226,6 +283,7 @@ impl<'a> Why<'a> {
                 Some(*name)
             }
             Why::Unset(name) | Why::NoValue(name) | Why::OneWord(name) => Some(*name),
+            Why::LeftOpen(name) | Why::TwoMeanings(name) => Some(*name),
             _ => None,
         }
     }
@@ -251,13 +309,16 @@ impl<'a> Why<'a> {
             Why::DefinedTwice(_) => "has two definitions",
             Why::OneWord(_) =>
                 "is defined by more than one word, and a set, a label or a mask takes one: define it as its value",
-            Why::UnknownCall(_) => "is no function of this configuration",
+            Why::UnknownCall(_) => words_of_call(name),
+            Why::LeftOpen(_) => "is not closed: nothing behind it was read",
             Why::FunctionArguments(_) => "is called with arguments: write its commands in place",
             Why::FunctionShape(_) =>
                 "cannot be put in place: it has variables, or returns where it is not at its end",
             Why::SetVariable(_) => "is not assigned just once, before all else: `define` it",
             Why::Unset(_) =>
                 "may be read before it is assigned, and is void in BIRD then: assign it before",
+            Why::TwoMeanings(_) =>
+                "is a variable here and a definition too: give one of them another name",
             _ => "has no value in the body, so BIRD 2.0.12 rejects each route there: give it one",
         }
     }
@@ -270,9 +331,11 @@ impl<'a> Why<'a> {
                 "what is printed here is computed by more than attributes: take it out",
             Why::CaseLabels =>
                 "the labels of a `case` of addresses are lists of addresses, and share none",
-            Why::Unclosed => "its braces are not closed",
+            Why::Unclosed => "its braces are not closed: nothing behind them was read",
             Why::SameName => "a filter before it has this name",
-            Why::Ipv6 => "IPv6 is not supported",
+            Why::NoName => "a name is letters, digits and `_`, with no digit first",
+            Why::Ipv6 =>
+                "its channel carries no routes of IPv4: IPv6 is not supported, nor are VPNs, flows, origins and labels",
             Why::TooLong => "it is longer than 65536 bytes with all definitions in place",
             _ => "its words could not be written",
         }

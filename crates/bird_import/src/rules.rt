@@ -1,10 +1,10 @@
 //! Whether words are written as others by the rules that look at few of them.
 ghost use Rattle.bird_import.specs.Alike.{AreAlike};
-ghost use Rattle.std.specs.Prelude.{◌≡◌, ◌≢◌, ◌∷◌, ◌++◌, false, All, IfSome, IsTrue, Some};
+ghost use Rattle.std.specs.Prelude.{◌≡◌, ◌≢◌, ◌∷◌, ◌++◌, ◌<◌, false, length, All, IfSome, IsTrue, Some};
 ghost use Rattle.bird_import.specs.Rules as spec;
 ghost use Rattle.bird_import.specs.declared.word.WordKind.TheVariants as kind;
 
-use crate::word::{Word, WordKind};
+use crate::word::{Word, WordKind, bytes_at, is_at, is_name_at};
 use filter_tokens::Symbol;
 
 /// Whether two words are the same, wherever they stand.
@@ -107,15 +107,27 @@ pub fn is_defined(config: &[Word<'_>], at: usize, old: &[Word<'_>], new: &[Word<
     none.is_empty() && name.is_name() && is_defined_by(words, name, new)
 }
 
-/// Whether a word may be printed.
-fn is_harmless(kind: WordKind) -> bool
-    ensures { result ≡ spec.is_harmless kind }
+/// Whether a word of BIRD's is an attribute whose name this language leaves out.
+fn is_attribute_word(word: &[u8]) -> bool
+    ensures { result ≡ spec.is_attribute_word word.now }
 {
-    match kind {
+    word == b"from".as_slice()
+        || word == b"proto".as_slice()
+        || word == b"source".as_slice()
+        || word == b"preference".as_slice()
+}
+
+/// Whether a word may be printed.
+fn is_harmless(word: &Word<'_>) -> bool
+    ensures { result ≡ spec.is_harmless word.now.kind word.now.bytes.now }
+{
+    match word.kind {
         WordKind::Symbol(symbol) => matches!(
             symbol,
             Symbol::Comma
                 | Symbol::Dot
+                | Symbol::LeftParen
+                | Symbol::RightParen
                 | Symbol::Plus
                 | Symbol::Minus
                 | Symbol::Times
@@ -125,16 +137,40 @@ fn is_harmless(kind: WordKind) -> bool
                 | Symbol::True
                 | Symbol::False
         ),
-        WordKind::Foreign | WordKind::Strange => false,
+        WordKind::Foreign => is_attribute_word(word.bytes),
+        WordKind::Strange => false,
         _ => true,
     }
 }
 
+/// Whether a function is called at an index: `mask` is none.
+fn may_call(words: &[Word<'_>], at: usize) -> bool
+    requires { at < length words.now }
+    ensures { result ≡ false → spec.CallsNoneAt words.now at }
+{
+    is_name_at(words, at)
+        && is_at(words, at + 1, Symbol::LeftParen)
+        && bytes_at(words, at) != b"mask".as_slice()
+}
+
+/// Whether no function is called among some words.
+fn calls_none(words: &[Word<'_>]) -> bool
+    ensures { IsTrue result → spec.CallsNone words.now }
+{
+    for at in 0..words.len() {
+        if may_call(words, at) {
+            return false;
+        }
+    }
+    true
+}
+
 /// Whether words may be printed.
 pub fn are_harmless(words: &[Word<'_>]) -> bool
-    ensures { IsTrue result → All spec.IsHarmless words.now }
+    ensures each { IsTrue result → All spec.IsHarmless words.now }
+    ensures free { IsTrue result → spec.CallsNone words.now }
 {
-    words.iter().all(|word| is_harmless(word.kind))
+    words.iter().all(|word| is_harmless(word)) && calls_none(words)
 }
 
 /// Whether a command that prints is left out.

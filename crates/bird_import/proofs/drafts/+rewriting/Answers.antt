@@ -1,8 +1,8 @@
-use Rattle.std.proofs.Common.{◌<◌, length, subst}
+use Rattle.std.proofs.Common.{◌<◌, ◌+◌, length, subst, arith}
 use Rattle.bird_import.specs.Steps.{BecomesWithin}
-use Rattle.bird_import.specs.Stuck.{Halts, Hinder, Hinders}
-use Rattle.bird_import.proofs.Halted.{by_copy, by_hinders, by_refusal, by_steps, by_words, hinders_of, more_of_why, stuck_at}
-use Rattle.bird_import.proofs.Reached.{call_is_next, no_step, steps_on}
+use Rattle.bird_import.specs.Stuck.{AreApart, Halts, Hinder, Hinders}
+use Rattle.bird_import.proofs.Halted.{at_once, by_copy, by_hinders, by_refusal, by_steps, by_words, hinders_of, more_of_why, stuck_at}
+use Rattle.bird_import.proofs.Reached.{call_is_next, steps_on}
 use Rattle.bird_import.proofs.drafts.+rewriting.Goals as goal
 
 pub next_call-returns-in-Err-clause-stuck : goal.next_call-returns-in-Err-clause-stuck
@@ -35,30 +35,40 @@ next_words-returns-in-None-clause-stuck t c =
     more_of_why (Hinders config words) (Halts config c.args.depth words) c.next_step.result (λ why is. by_hinders config c.args.depth words why is)
     c.next_step.ensures.stuck
 
+pub rewrite-returns-in-Some-clause-stuck : goal.rewrite-returns-in-Some-clause-stuck
+rewrite-returns-in-Some-clause-stuck t c =
+    at_once c.args.config.now c.args.depth c.args.words.items c.as_slice.result.now c.in-Some.reason.why c.as_slice.ensures.value c.in-Some.ensures.some
+
+pub rewrite-returns-in-Done-clause-apart : goal.rewrite-returns-in-Done-clause-apart
+rewrite-returns-in-Done-clause-apart t c =
+    subst (λ list. AreApart c.args.config.now list) c.as_slice.ensures.value (c.first_of_two_meanings.ensures.none c.in_default.is)
+
 pub rewrite-loop-made-init : goal.rewrite-loop-made-init
-rewrite-loop-made-init t c =
-    no_step c.args.config.now.words.now (BecomesWithin c.args.config.now.words.now c.args.depth) c.args.words.items
+rewrite-loop-made-init t c = let defined = c.in_ok-words.ensures c.args.depth in (defined.0, omega arith, defined.1)
 
 pub rewrite-loop-made-preserved : goal.rewrite-loop-made-preserved
 rewrite-loop-made-preserved t c =
-    steps_on c.args.config.now.words.now (BecomesWithin c.args.config.now.words.now c.args.depth) c.loop-made.made c.args.words.items
-    c.loop-made.words.items c.as_slice-all.result.now c.in-Words.after.items c.as_slice-all.ensures.value c.loop-made.invariant
-    (rw c.in-Words.is at c.in_ok-after.ensures.step)
+    let so_far = c.loop-made.invariant in
+    let config = c.args.config.now.words.now in
+    let later = steps_on config (BecomesWithin config c.args.depth) so_far.0 c.args.words.items c.loop-made.words.items
+    c.as_slice-all.result.now c.in-Words.after.items c.as_slice-all.ensures.value so_far.2 (rw c.in-Words.is at c.in_ok-after.ensures.step) in
+    (so_far.0 + 1, omega (arith, so_far.1), later)
 
 pub rewrite-returns-then-all-gt-WORD_LIMIT-clause-stuck : goal.rewrite-returns-then-all-gt-WORD_LIMIT-clause-stuck
 rewrite-returns-then-all-gt-WORD_LIMIT-clause-stuck t c =
-    by_words c.args.config.now c.args.depth c.loop-made.made c.args.words.items c.loop-made.words.items c.loop-made.invariant c.too_long.result
-    c.too_long.ensures (subst (λ list. 65536 < length list) c.as_slice-all.ensures.value c.if-all-gt-WORD_LIMIT.true)
+    by_words c.args.config.now c.args.depth c.loop-made.invariant.0 c.args.words.items c.loop-made.words.items c.loop-made.invariant.2
+    c.too_long.result c.too_long.ensures
+    (subst (λ list. 65536 < length list) c.as_slice-all.ensures.value c.if-all-gt-WORD_LIMIT.true)
 
 pub rewrite-returns-in-Stuck-clause-stuck : goal.rewrite-returns-in-Stuck-clause-stuck
 rewrite-returns-in-Stuck-clause-stuck t c =
-    stuck_at c.args.config.now c.args.depth c.loop-made.made c.args.words.items c.loop-made.words.items c.loop-made.invariant
+    stuck_at c.args.config.now c.args.depth c.loop-made.invariant.0 c.args.words.items c.loop-made.words.items c.loop-made.invariant.2
     c.as_slice-all.result.now c.in-Stuck.reason.why c.as_slice-all.ensures.value (rw c.in-Stuck.is at c.in_ok-after.ensures.stuck)
 
 pub rewrite-returns-in-Done-clause-drafted : goal.rewrite-returns-in-Done-clause-drafted
-rewrite-returns-in-Done-clause-drafted t c = (c.loop-made.made, c.loop-made.invariant)
+rewrite-returns-in-Done-clause-drafted t c = (c.loop-made.invariant.0, c.loop-made.invariant.2)
 
 pub rewrite-returns-clause-stuck : goal.rewrite-returns-clause-stuck
 rewrite-returns-clause-stuck t c =
-    by_steps c.args.config.now c.args.depth c.loop-made.made c.args.words.items c.loop-made.words.items c.loop-made.invariant c.too_long-2.result
-    c.too_long-2.ensures c.loop-made-test.false
+    by_steps c.args.config.now c.args.depth c.loop-made.invariant.0 c.args.words.items c.loop-made.words.items c.loop-made.invariant.2
+    c.too_long-2.result c.too_long-2.ensures (omega (arith, c.loop-made.invariant.1, c.loop-made-test.false))

@@ -1,4 +1,4 @@
-use Rattle.std.proofs.Common.{◌+◌, ◌*◌}
+use Rattle.std.proofs.Common.{◌+◌, ◌*◌, ◌≤◌, ℕ}
 use Rattle.bird_import.specs.Steps.{BecomesWithin, Reaches}
 use Rattle.bird_import.proofs.drafts.+rewriting.Given as goal
 
@@ -13,4 +13,4 @@ decreases-rewrite l = 3 * l.depth + 2
 
 abbrev pub invariant-rewrite-loop-made : goal.invariant-rewrite-loop-made
 invariant-rewrite-loop-made l =
-    Reaches l.config.words.now (BecomesWithin l.config.words.now l.depth) l.made l.fn.words.items l.words.items
+    (n : ℕ) × (l.made ≤ n) × Reaches l.config.words.now (BecomesWithin l.config.words.now l.depth) n l.fn.words.items l.words.items
