@@ -444,6 +444,30 @@ class Rows:
         finally:
             run.close()
 
+    def row_out_breaks_in_silence(self):
+        """Node 1 closes what it is told, and says nothing: that is told at once, and once. Once it has ended, it can come again."""
+        run = Run(self.program, more=("--retry", "1"))
+        try:
+            one = run.neighbours[1]
+            one.open()
+            one.greet()
+            self.judge("1 hears", one.hear(b"7 8\n"))
+            one.close_one("reads")
+            self.serve_two(run)
+            wanted = "link 1: a line could not be written: closed\n"
+            text = run.said(wanted)
+            self.judge("says", text == wanted, text)
+            one.close()
+            one.open()
+            one.greet()
+            up = run.asks_until("neighbours", " 1:")
+            self.judge("1 is up again", " 1:" in up, up)
+            text = run.said("", patience=0)
+            self.judge("says once", text == wanted, text)
+            self.end(run)
+        finally:
+            run.close()
+
     def row_comes_again(self):
         """Node 1 ends and comes again, with --retry: each time in a session of its own."""
         run = Run(self.program, more=("--retry", "1"))

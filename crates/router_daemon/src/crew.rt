@@ -5,17 +5,37 @@ use neighbour_session::{Crew, READER};
 use netchange_core::Reply;
 use route_session::{Gate, MOST_TAKEN};
 use slot_lock::Answer;
+use std::cell::Cell;
 use std::rt::Clock;
 use std::sync::Wait;
 
 /// Who serves one session of a link.
 #[derive(Drop)]
 pub(crate) struct LinkCrew<'a> {
-    pub(crate) signals: &'a Signals,
+    signals: &'a Signals,
     /// The link's number.
-    pub(crate) link: usize,
+    link: usize,
     /// The session.
-    pub(crate) session: u32,
+    session: u32,
+    /// Whether this one ended the session, and nobody else did before.
+    ended_it: Cell<bool>,
+}
+
+impl<'a> LinkCrew<'a> {
+    /// One of those who serve a session of a link.
+    pub(crate) fn new(signals: &'a Signals, link: usize, session: u32) -> LinkCrew<'a> {
+        LinkCrew {
+            signals,
+            link,
+            session,
+            ended_it: Cell::new(false),
+        }
+    }
+
+    /// Whether this one ended the session, and nobody else did before: then this one tells people why.
+    pub(crate) fn ended_it(&self) -> bool {
+        self.ended_it.get()
+    }
 }
 
 /// Lets the writer of a link sleep until something waits for the neighbour: true then, and false where its session is over.
@@ -63,7 +83,9 @@ impl<'a> Crew for LinkCrew<'a> {
     }
 
     fn end<R: Wait + Clock>(&self, rt: &R) -> bool {
-        self.signals.end(rt, self.link, self.session)
+        let is_first = self.signals.end(rt, self.link, self.session);
+        self.ended_it.set(is_first);
+        is_first
     }
 
     fn ended<R: Wait + Clock>(&self, rt: &R, answer: &Answer) {

@@ -112,7 +112,7 @@ fn open_streams<'a, I: Read + Drop, O: Write + Drop, D: LinkFolder<I, O>>(
 }
 
 /// Tells people why a session is over, unless another thread tells it or the router is being closed.
-fn tell_unless_closed<R: Wait, J: Naming, E: Write>(
+pub(crate) fn tell_unless_closed<R: Wait, J: Naming, E: Write>(
     rt: &R,
     alloc: Global,
     shared: &Shared<J, E>,
@@ -139,7 +139,7 @@ fn tell_of_file<R: Wait, J: Naming, E: Write>(
 }
 
 /// Serves a session of a link that began: orders that it is written, enters what the neighbour says, and waits until nobody uses the
-/// streams any more. Tells people why it is over, and answers that and the pass of the writer.
+/// streams any more. Where the writer did not end it, tells people why it is over. Answers that and the pass of the writer.
 fn serve_begun<R: Wait + Clock, I: Read + Drop, O: Write + Drop, J: Naming, E: Write>(
     rt: &R,
     alloc: Global,
@@ -156,18 +156,12 @@ fn serve_begun<R: Wait + Clock, I: Read + Drop, O: Write + Drop, J: Naming, E: W
 {
     let (node, session) = (link.files.node, order.session);
     room.put_order(rt, order);
-    let crew = LinkCrew {
-        signals: &shared.signals,
-        link: link.index,
-        session,
-    };
+    let crew = LinkCrew::new(&shared.signals, link.index, session);
     let why = serve_reader(rt, &shared.router, pass, session, input, &crew);
-    tell_unless_closed(rt, alloc, shared, node, why);
-    let done = room.await_done(rt);
-    if why == SessionEnd::Closed {
-        tell_unless_closed(rt, alloc, shared, node, done.why);
+    if crew.ended_it() {
+        tell_unless_closed(rt, alloc, shared, node, why);
     }
-    (why, done.ticket)
+    (why, room.await_done(rt))
 }
 
 /// Serves a session whose Up has this answer, until it is over and nobody uses the streams any more. Where the link has a session

@@ -3,7 +3,6 @@ ghost use Rattle.std.specs.Prelude.{◌≡◌};
 
 use crate::naming::Ticket;
 use message_streams::MessageWriter;
-use neighbour_session::SessionEnd;
 use router_operator::Naming;
 use std::io::Write;
 use std::sync::{Condvar, Mutex, Wait};
@@ -16,18 +15,12 @@ pub(crate) struct Order<O: Write, J: Naming> {
     pub(crate) ticket: Ticket<J>,
 }
 
-/// A session whose writer is done: why it is over, and the writer's pass.
-#[derive(Drop)]
-pub(crate) struct Done<J: Naming> {
-    pub(crate) why: SessionEnd,
-    pub(crate) ticket: Ticket<J>,
-}
-
 /// What lies there for the other one.
 #[derive(Drop)]
 pub(crate) struct Desk<O: Write, J: Naming> {
     order: Option<Order<O, J>>,
-    done: Option<Done<J>>,
+    /// The pass of the writer, which is done.
+    done: Option<Ticket<J>>,
 }
 
 /// Where who reads a link and who writes to it meet: the one orders that a session is written, and waits until it is done.
@@ -57,10 +50,10 @@ impl<O: Write + Drop, J: Naming> Room<O, J> {
         self.bell.notify_all();
     }
 
-    /// Says that a session is done.
-    pub(crate) fn put_done<R: Wait>(&self, rt: &R, done: Done<J>) {
+    /// Says that a session is done, and gives back the writer's pass.
+    pub(crate) fn put_done<R: Wait>(&self, rt: &R, ticket: Ticket<J>) {
         let mut desk = self.desk.lock(rt);
-        desk.done = Some(done);
+        desk.done = Some(ticket);
         drop(desk);
         self.bell.notify_all();
     }
@@ -77,12 +70,12 @@ impl<O: Write + Drop, J: Naming> Room<O, J> {
         unreachable!()
     }
 
-    /// Waits until the session that was ordered is done.
-    pub(crate) fn await_done<R: Wait>(&self, rt: &R) -> Done<J> {
+    /// Waits until the session that was ordered is done: the writer's pass.
+    pub(crate) fn await_done<R: Wait>(&self, rt: &R) -> Ticket<J> {
         let mut desk = self.desk.lock(rt);
         for _ in rt.forever() {
-            if let Some(done) = desk.done.take() {
-                return done;
+            if let Some(ticket) = desk.done.take() {
+                return ticket;
             }
             desk = self.bell.wait(rt, desk);
         }

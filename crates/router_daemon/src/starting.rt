@@ -48,12 +48,13 @@ fn start_writer<
     shared: &Arc<Shared<J, E>>,
     room: &Arc<Room<O, J>>,
     link: usize,
+    node: u16,
 ) -> Result<bool, AllocError> {
     let handle = *rt;
     let shared = Arc::try_clone(shared)?;
     let room = Arc::try_clone(room)?;
     let started = thread::spawn(rt, move || {
-        write_link::<R, O, J, E>(handle, alloc, shared, room, link)
+        write_link::<R, O, J, E>(handle, alloc, shared, room, link, node)
     });
     Ok(started.is_ok())
 }
@@ -101,7 +102,7 @@ fn start_link<
     ticket: Ticket<J>,
 ) -> Result<bool, AllocError> {
     let room: Arc<Room<O, J>> = Arc::new(alloc, Room::new())?;
-    if !start_writer::<R, O, J, E>(rt, alloc, shared, &room, link.index)? {
+    if !start_writer::<R, O, J, E>(rt, alloc, shared, &room, link.index, link.files.node)? {
         return Ok(false);
     }
     start_keeper::<R, I, O, D, J, E>(rt, alloc, folder, shared, room, link, ticket)
