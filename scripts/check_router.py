@@ -559,9 +559,9 @@ class Rows:
                 one.reads = os.open(one.back, os.O_RDONLY | os.O_NONBLOCK)
                 one.greet()
                 one.say(b"quit\n")
-                wanted = "link 1: line 2 is no message: closed\n"
-                text = run.said(wanted)
-                self.judge("says", wanted in text, text)
+                for wanted in ("link 1: line 2 is no message: closed\n", "operator: E1: no more lines are taken\n"):
+                    text = run.said(wanted)
+                    self.judge("says", wanted in text, text)
                 self.judge("stays", run.process.poll() is None)
                 run.process.kill()
                 answers = run.process.stdout.read()
@@ -582,6 +582,24 @@ class Rows:
         finally:
             run.close()
 
+    def row_stays_without_operator(self):
+        """Nobody reads the answers any more: with --stay that is told, and the router goes on without its operator."""
+        run = Run(self.program, more=("--stay",))
+        try:
+            self.serve_two(run)
+            run.process.stdout.close()
+            run.process.stdin.write(b"routes\n")
+            run.process.stdin.flush()
+            wanted = "operator: E2: no more lines are taken\n"
+            text = run.said(wanted)
+            self.judge("says", text == wanted, text)
+            two = run.neighbours[2]
+            two.say(b"3 1\n")
+            self.judge("2 hears", two.hear(b"3 2\n"), two.told)
+            self.judge("stays", run.process.poll() is None)
+        finally:
+            run.close()
+
     def row_stays_and_is_killed(self):
         run = Run(self.program, more=("--stay",))
         try:
@@ -593,6 +611,8 @@ class Rows:
             self.judge("2 hears", good.hear(b"3 2\n"), good.told)
             time.sleep(1.0)
             self.judge("stays", run.process.poll() is None)
+            text = run.said("", patience=0)
+            self.judge("says nothing", text == "", text)
             run.process.send_signal(signal.SIGKILL)
             run.process.wait()
             said = run.replays()

@@ -1,8 +1,10 @@
--- What people are told of links and of the history that is saved. (This project's own choice.)
+-- What people are told of links, of the operator and of the history that is saved. (This project's own choice.)
 use Rattle.std.specs.Prelude.{ℕ, List, ◌++◌, codes, decimal}
 use Rattle.history_saver.specs.Codes.{save_code}
 use Rattle.history_saver.specs.declared.fault.SaveFault.{SaveFault}
 use Rattle.history_saver.specs.declared.fault.SaveFault.TheVariants as fault
+use Rattle.line_protocol.specs.Faults.{fault_code}
+use Rattle.line_protocol.specs.declared.faults.StreamFault.{StreamFault}
 use Rattle.neighbour_session.specs.Words.{end_words}
 use Rattle.neighbour_session.specs.declared.ends.SessionEnd.{SessionEnd}
 
@@ -29,3 +31,7 @@ save_words fault.Memory = codes "out of memory"
 
 abbrev pub unsaved_line : SaveFault → List ℕ
 unsaved_line why = codes "history: " ++ save_words why ++ codes " (" ++ save_code why ++ codes "): not saved from here on\n"
+
+-- no line of the operator is taken any more, for a fault
+abbrev pub deaf_line : StreamFault → List ℕ
+deaf_line why = codes "operator: " ++ fault_code why ++ codes ": no more lines are taken\n"

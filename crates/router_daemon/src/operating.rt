@@ -8,6 +8,7 @@ use crate::naming::{LegalTicket, Ticket};
 use crate::setting::Filters;
 use crate::shared::Shared;
 use crate::signals::Signals;
+use crate::telling::tell_deaf;
 use line_protocol::StreamFault;
 use router_operator::{Naming, Operator};
 use slot_lock::Pass;
@@ -34,6 +35,19 @@ pub(crate) struct OperatorEnd<J: Naming> {
     pub(crate) answered: Result<u32, StreamFault>,
     /// The operator's pass, at the end.
     pub(crate) ticket: Ticket<J>,
+}
+
+/// Tells people that a router that goes on takes no line of its operator any more, where a fault broke the lines off.
+fn tell_if_broken_off<R: Wait, J: Naming, E: Write>(
+    rt: &R,
+    alloc: Global,
+    shared: &Shared<J, E>,
+    answered: &Result<u32, StreamFault>,
+) {
+    if let Err(why) = answered {
+        let mut errors = shared.errors.lock(rt);
+        tell_deaf(alloc, &mut *errors, *why);
+    }
 }
 
 /// Answers the operator's lines, to their end or to `quit`.
@@ -64,6 +78,7 @@ pub(crate) fn serve_operator<'a, R: Wait + Clock, I: Read, W: Write, J: Naming, 
     );
     let answered = operator.run(alloc, reader, writer);
     if figures.stays && !operator.has_quit() {
+        tell_if_broken_off(rt, alloc, shared, &answered);
         stay(rt, shared);
     }
     OperatorEnd {

@@ -5,7 +5,7 @@ ghost use Rattle.router_daemon.specs.Told as spec;
 
 use history_saver::SaveFault;
 use itoa::Buffer;
-use line_protocol::write_text;
+use line_protocol::{StreamFault, write_text};
 use neighbour_session::SessionEnd;
 use std::alloc::{AllocError, Global};
 use std::io::{self, Write};
@@ -137,4 +137,21 @@ pub(crate) fn tell_unsaved<E: Write>(alloc: Global, errors: &mut E, why: SaveFau
     ensures { AppendsFront (E.contents errors.old) (E.contents errors.new) (spec.unsaved_line why) }
 {
     tell(errors, unsaved_line(alloc, why));
+}
+
+/// The line that tells that no line of the operator is taken any more.
+fn deaf_line(alloc: Global, why: StreamFault) -> Result<String, AllocError>
+    ensures { IfOk result (λ line. string_bytes line ≡ spec.deaf_line why) }
+{
+    let mut line = String::from_str(alloc, "operator: ")?;
+    line.push_str(why.code())?;
+    line.push_str(": no more lines are taken\n")?;
+    Ok(line)
+}
+
+/// Tells that no line of the operator is taken any more.
+pub(crate) fn tell_deaf<E: Write>(alloc: Global, errors: &mut E, why: StreamFault)
+    ensures { AppendsFront (E.contents errors.old) (E.contents errors.new) (spec.deaf_line why) }
+{
+    tell(errors, deaf_line(alloc, why));
 }
