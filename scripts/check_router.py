@@ -651,6 +651,35 @@ class Rows:
         finally:
             run.close()
 
+    def row_memory_is_refused(self):
+        """Memory is refused while node 1 floods the link, and is there again later: no session stays that nobody serves."""
+        run = Run(self.program, more=("--retry", "1"), prepare=lambda: os.environ.update(MALLOC_ARENA_MAX="1"))
+        try:
+            one, two = run.neighbours[1], run.neighbours[2]
+            for each in (one, two):
+                each.open()
+                each.greet()
+                self.judge("is up", each.hear(b"7 8\n"), each.told)
+            taken = int(run.status("VmSize").split()[0]) << 10
+            resource.prlimit(run.process.pid, resource.RLIMIT_AS, (taken, resource.RLIM_INFINITY))
+            with contextlib.suppress(BrokenPipeError):
+                while "J2" not in run.said("", patience=0):
+                    one.say(b"3 0\n3 1\n" * 50)
+            text = run.said("J2")
+            self.judge("says", "out of memory (J2): closed\n" in text, text)
+            resource.prlimit(run.process.pid, resource.RLIMIT_AS, (resource.RLIM_INFINITY, resource.RLIM_INFINITY))
+            for each in (one, two):
+                each.close()
+            answer = run.asks_until("neighbours", "^neighbours$")
+            self.judge("none is left", answer == "neighbours", answer)
+            one.open()
+            one.greet()
+            answer = run.asks_until("neighbours", " 1:")
+            self.judge("1 comes again", " 1:" in answer, answer)
+            self.end(run)
+        finally:
+            run.close()
+
     def row_twenty_links(self):
         self.serve_many(20)
 

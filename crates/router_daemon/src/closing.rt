@@ -17,21 +17,19 @@ fn close<R: Wait, J: Naming, E: Write>(rt: &R, shared: &Shared<J, E>) -> usize {
     count
 }
 
-/// Ends the session of a link, if one is there and nobody else ended it.
+/// Ends the session of a link, if one is there and nobody else ended it. Or takes one that is over, but whose Down was refused.
 fn take_session<R: Wait, J: Naming, E: Write>(
     rt: &R,
     shared: &Shared<J, E>,
     link: usize,
 ) -> Option<u32> {
-    let session = shared.signals.session(rt, link)?;
-    if shared.signals.end(rt, link, session) {
-        Some(session)
-    } else {
-        None
+    match shared.signals.session(rt, link) {
+        Some(session) if shared.signals.end(rt, link, session) => Some(session),
+        _ => shared.signals.take_owed(rt, link),
     }
 }
 
-/// Ends the session of a link, if one is there and nobody else ended it, and enters its Down.
+/// Ends the session of a link, if one is there and nobody else ended it, and enters its Down, or the one that was refused before.
 fn close_link<R: Wait, J: Naming, E: Write>(
     rt: &R,
     shared: &Shared<J, E>,

@@ -19,6 +19,8 @@ pub(crate) struct LinkCrew<'a> {
     session: u32,
     /// Whether this one ended the session, and nobody else did before.
     ended_it: Cell<bool>,
+    /// Whether this one is to enter its Down.
+    owes_down: Cell<bool>,
 }
 
 impl<'a> LinkCrew<'a> {
@@ -29,12 +31,20 @@ impl<'a> LinkCrew<'a> {
             link,
             session,
             ended_it: Cell::new(false),
+            owes_down: Cell::new(false),
         }
     }
 
     /// Whether this one ended the session, and nobody else did before: then this one tells people why.
     pub(crate) fn ended_it(&self) -> bool {
         self.ended_it.get()
+    }
+
+    /// Notes, when this one is done, whether the Down that it was to enter was refused.
+    pub(crate) fn note_owed<R: Wait>(&self, rt: &R) {
+        if self.owes_down.get() {
+            self.signals.owe(rt, self.link, self.session);
+        }
     }
 }
 
@@ -85,10 +95,12 @@ impl<'a> Crew for LinkCrew<'a> {
     fn end<R: Wait + Clock>(&self, rt: &R) -> bool {
         let is_first = self.signals.end(rt, self.link, self.session);
         self.ended_it.set(is_first);
+        self.owes_down.set(is_first);
         is_first
     }
 
     fn ended<R: Wait + Clock>(&self, rt: &R, answer: &Answer) {
+        self.owes_down.set(false);
         self.signals.note(rt, answer);
     }
 }

@@ -8,6 +8,7 @@ use crate::crew::LinkCrew;
 use crate::folder::LinkFolder;
 use crate::naming::Ticket;
 use crate::room::{Order, Room};
+use crate::settling::settle;
 use crate::shared::Shared;
 use crate::telling::{tell_end, tell_unopened};
 use message_streams::{MessageReader, MessageWriter};
@@ -158,6 +159,7 @@ fn serve_begun<R: Wait + Clock, I: Read + Drop, O: Write + Drop, J: Naming, E: W
     room.put_order(rt, order);
     let crew = LinkCrew::new(&shared.signals, link.index, session);
     let why = serve_reader(rt, &shared.router, pass, session, input, &crew);
+    crew.note_owed(rt);
     if crew.ended_it() {
         tell_unless_closed(rt, alloc, shared, node, why);
     }
@@ -308,6 +310,7 @@ pub(crate) fn keep_link<
         let again = keep_once::<R, I, O, D, J, E>(
             &rt, alloc, &folder, &shared, &room, &link, &mut pass,
         );
+        settle(&rt, &shared, &mut pass, link.index);
         let Some(seconds) = link.retry else {
             return;
         };

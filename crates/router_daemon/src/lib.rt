@@ -17,6 +17,7 @@ mod room;
 mod run;
 mod saving;
 mod setting;
+mod settling;
 mod shared;
 mod signals;
 mod starting;

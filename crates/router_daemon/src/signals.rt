@@ -18,6 +18,8 @@ pub(crate) struct Signals {
     pub(crate) bells: Vec<Condvar>,
     /// Who saves the history sleeps on it.
     pub(crate) saver_bell: Condvar,
+    /// For each link the session that is over, but whose Down was refused, so that the router has it still.
+    owed: Vec<Mutex<Option<u32>>>,
 }
 
 /// So many bells.
@@ -27,6 +29,15 @@ fn bells_of(alloc: Global, count: usize) -> Result<Vec<Condvar>, AllocError> {
         bells.push(Condvar::new())?;
     }
     Ok(bells)
+}
+
+/// So many links, of which each Down was entered.
+fn owed_of(alloc: Global, count: usize) -> Result<Vec<Mutex<Option<u32>>>, AllocError> {
+    let mut owed = Vec::with_capacity(alloc, count)?;
+    for _ in 0..count {
+        owed.push(Mutex::new(None))?;
+    }
+    Ok(owed)
 }
 
 /// Wakes who saves the history, if the board says so.
@@ -53,6 +64,7 @@ impl Signals {
             board: Mutex::new(Board::new(alloc, nodes)?),
             bells: bells_of(alloc, nodes.len())?,
             saver_bell: Condvar::new(),
+            owed: owed_of(alloc, nodes.len())?,
         })
     }
 
@@ -113,6 +125,18 @@ impl Signals {
         let is_first = board.end(link, session);
         self.wake(board);
         is_first
+    }
+
+    /// Notes a session of a link that is over, but whose Down was refused.
+    pub(crate) fn owe<R: Wait>(&self, rt: &R, link: usize, session: u32) {
+        if let Some(owed) = self.owed.get(link) {
+            *owed.lock(rt) = Some(session);
+        }
+    }
+
+    /// Takes the session of a link whose Down was refused, if there is one: who takes it is to enter its Down.
+    pub(crate) fn take_owed<R: Wait>(&self, rt: &R, link: usize) -> Option<u32> {
+        self.owed.get(link)?.lock(rt).take()
     }
 }
 

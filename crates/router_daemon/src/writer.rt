@@ -6,6 +6,7 @@ use crate::crew::LinkCrew;
 use crate::keeper::tell_unless_closed;
 use crate::naming::Ticket;
 use crate::room::{Order, Room};
+use crate::settling::settle;
 use crate::shared::Shared;
 use message_streams::MessageWriter;
 use neighbour_session::{SessionEnd, serve_writer};
@@ -58,9 +59,12 @@ pub(crate) fn write_link<R: Wait + Clock + Drop, O: Write + Drop, J: Naming, E: 
         let crew = LinkCrew::new(&shared.signals, link, order.session);
         let (done, written) = write_session(&rt, alloc, &shared, &crew, order);
         drop(written);
+        crew.note_owed(&rt);
         if crew.ended_it() {
             tell_unless_closed(&rt, alloc, &shared, node, done.why);
         }
-        room.put_done(&rt, done.ticket);
+        let mut pass = done.ticket.pass();
+        settle(&rt, &shared, &mut pass, link);
+        room.put_done(&rt, Ticket::new(pass));
     }
 }
