@@ -1,11 +1,11 @@
 -- Definitions are put in, one after another.
-use Rattle.std.proofs.Common.{◌≡◌, ℕ, suc, ◌+◌, ◌<◌, ◌≤◌, ◌⊎◌, ◌++◌, List, [], ◌∷◌, inl, inr, refl, sym, ◌∙◌, ap, subst, length, drop, get_or, append_assoc, append-nil, zero, add-one}
+use Rattle.std.proofs.Common.{◌≡◌, ℕ, suc, ◌+◌, ◌≤◌, ◌++◌, List, [], ◌∷◌, inl, inr, refl, sym, ◌∙◌, ap, subst, length, drop, append_assoc, append-nil, zero}
 use Rattle.std.proofs.lemmas.List.{drop_all, drop_more}
 use Rattle.std.proofs.lemmas.Option.{get_or_from_slice_get, slice_get_within}
 use Rattle.std.specs.Prelude.{Some, slice_get}
 use Rattle.bird_import.specs.Drafts.{IsDefinedHere}
 use Rattle.bird_import.specs.Rules.{IsDefined}
-use Rattle.bird_import.specs.Steps.{Becomes, BecomesWithin, Fits, Reaches, Replaces, Writes}
+use Rattle.bird_import.specs.Steps.{Becomes, BecomesWithin, Reaches}
 use Rattle.bird_import.specs.declared.step.Rule.TheVariants as rule
 use Rattle.bird_import.specs.declared.word.Word.{Word}
 use Rattle.bird_import.proofs.Reached.{no_step, one_step}

@@ -116,6 +116,7 @@ hinders_of config words why.NoName is = absurd is
 hinders_of config words (why.Unset name) is = absurd is
 hinders_of config words (why.NoValue name) is = absurd is
 hinders_of config words (why.TwoMeanings name) is = absurd is
+hinders_of config words (why.OutOfScope name) is = is
 hinders_of config words why.Ipv6 is = absurd is
 hinders_of config words why.TooLong is = absurd is
 hinders_of config words why.Unwritten is = is

@@ -1,7 +1,6 @@
 -- What becomes of the filters of a configuration.
-use Rattle.std.specs.Prelude.{◌≡◌, ◌⊎◌, ℕ, zero, suc, ◌+◌, ◌-◌, List, Some, [], ◌∷◌, ◌++◌, drop, map, slice_get, take, ⊤}
+use Rattle.std.specs.Prelude.{◌≡◌, ◌⊎◌, ℕ, ◌+◌, ◌-◌, List, [], ◌∷◌, ◌++◌, drop, map, take, ⊤}
 use Rattle.filter_tokens.specs.declared.symbol.Symbol.TheVariants as symbol
-use Rattle.bird_import.specs.declared.drafts.Draft.{Draft}
 use Rattle.bird_import.specs.declared.drafts.Next.{Next}
 use Rattle.bird_import.specs.declared.drafts.Next.TheVariants.{Done, Stuck, Words}
 use Rattle.bird_import.specs.declared.drafts.Outcome.{Outcome}
@@ -13,7 +12,7 @@ use Rattle.bird_import.specs.declared.word.Word.{Word}
 use Rattle.bird_import.specs.declared.word.WordKind.{WordKind}
 use Rattle.bird_import.specs.declared.word.WordKind.TheVariants as kind
 use Rattle.bird_import.specs.Rules.{Is, IsDefined, IsNamed}
-use Rattle.bird_import.specs.Steps.{Becomes, IsPart}
+use Rattle.bird_import.specs.Steps.{IsPart}
 
 -- a fact of the words of a filter that is drafted
 abbrev pub IfDrafted : (List Word → Type 0) → Outcome → Type 0

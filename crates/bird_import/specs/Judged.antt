@@ -2,6 +2,7 @@
 use Rattle.std.specs.Prelude.{◌≡◌, ◌⊎◌, ℕ, zero, suc, true, false, List, [], ◌∷◌, ◌++◌, Some, slice_get}
 use Rattle.bird_import.specs.Drafts.{BeginsAs, words_of}
 use Rattle.bird_import.specs.Reasons.{AreKnown, HasLeftOpen, HaveNoValue, HaveUnknown, HaveValues, IsNamedBefore, is_nameable}
+use Rattle.bird_import.specs.Scopes.{AreInScope}
 use Rattle.bird_import.specs.Steps.{Becomes}
 use Rattle.bird_import.specs.Stuck.{AreApart, IsOutside, IsStuck}
 use Rattle.bird_import.specs.declared.config.Config.{Config}
@@ -15,11 +16,12 @@ use Rattle.bird_import.specs.declared.reason.Why.{Why}
 use Rattle.bird_import.specs.declared.reason.Why.TheVariants as why
 use Rattle.bird_import.specs.declared.word.Word.{Word}
 
--- The words with which a filter begins become these: each variable has a value, none has the name of a definition, and each word in the end can
--- be kept. Functions call functions at most 16 deep.
+-- The words with which a filter begins become these: each variable has a value, none has the name of a definition or is used where it is not
+-- known, and each word in the end can be kept. Functions call functions at most 16 deep.
 pub record AreTaken (config : Config) (first after : List Word) : Type 0 where
   pub values : HaveValues first
   pub apart : AreApart config first
+  pub in_scope : AreInScope first
   pub becomes : Becomes config.words.now 16 first after
   pub known : AreKnown after
 

@@ -11,6 +11,7 @@ pub mod Judged
 pub mod Laying
 pub mod Reasons
 pub mod Rules
+pub mod Scopes
 pub mod Sets
 pub mod Spelling
 pub mod Steps

@@ -41,6 +41,7 @@ name_in (why.Unset name) = Some name.now
 name_in (why.NoValue name) = Some name.now
 name_in (why.LeftOpen name) = Some name.now
 name_in (why.TwoMeanings name) = Some name.now
+name_in (why.OutOfScope name) = Some name.now
 name_in others = None
 
 -- words name a name, if there is one

@@ -1,10 +1,11 @@
 -- Where the steps from the words of a filter go no further, so that it is left out.
-use Rattle.std.specs.Prelude.{◌≡◌, ◌≢◌, ◌⊎◌, ℕ, zero, suc, ◌+◌, ◌-◌, ◌<◌, ◌≤◌, List, ◌++◌, Some, false, true, codes, length, max, slice_get, ⊤}
+use Rattle.std.specs.Prelude.{◌≡◌, ◌⊎◌, ℕ, zero, suc, ◌+◌, ◌-◌, ◌<◌, ◌≤◌, List, ◌++◌, Some, true, codes, length, max, slice_get, ⊤}
 use Rattle.filter_tokens.specs.declared.symbol.Symbol.TheVariants as symbol
 use Rattle.bird_import.specs.Drafts.{words_of}
 use Rattle.bird_import.specs.Indices.{IsAt, IsBehind, IsForeignAt, IsNamedAt, kind_at}
 use Rattle.bird_import.specs.Reasons.{IsVariable}
 use Rattle.bird_import.specs.Rules.{IsNamed, ends_command, is_kind}
+use Rattle.bird_import.specs.Scopes.{IsStray}
 use Rattle.bird_import.specs.Sets.{IsDeclared}
 use Rattle.bird_import.specs.Steps.{Becomes, BecomesWithin, Reaches}
 use Rattle.bird_import.specs.declared.config.Config.{Config}
@@ -78,6 +79,7 @@ abbrev pub Hinder : List Word → Why → Type 0
 Hinder words (why.FunctionArguments name) = (k : ℕ) × IsCallAt name.now words k × (IsAt symbol.RightParen words (k + 2) → ⊥)
 Hinder words (why.FunctionShape name) = (k : ℕ) × IsCallAt name.now words k × IsAt symbol.RightParen words (k + 2)
 Hinder words (why.SetVariable name) = HasSetVariable name.now words
+Hinder words (why.OutOfScope name) = (declared : ℕ) × (k : ℕ) × IsStray name.now words declared k
 Hinder words why.PrintDoesMore = (k : ℕ) × Prints words k
 Hinder words why.CaseLabels = (k : ℕ) × IsAt symbol.Case words k
 Hinder words why.Unwritten = (k : ℕ) × IsDue words k

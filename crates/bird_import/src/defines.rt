@@ -23,7 +23,7 @@ use std::alloc::{AllocError, Global};
 pub const WORD_LIMIT: usize = 65_536;
 
 /// Whether a name is declared at an index.
-fn declares(words: &[Word<'_>], at: usize, name: &[u8]) -> bool
+pub fn declares(words: &[Word<'_>], at: usize, name: &[u8]) -> bool
     ensures { IsTrue result ↔ IsVariableAt name.now words.now at }
 {
     at > 0

@@ -5,6 +5,7 @@ ghost use Rattle.bird_import.specs.Drafts.{BeginsAs, IfDrafted, IsCallee, IsNext
 ghost use Rattle.bird_import.specs.Functions.{IsCallOf};
 ghost use Rattle.bird_import.specs.Judged.{AreJudged, HasDraft, HaveDrafts, IsDraft, IsFilter, IsJudged, IsNoFilter};
 ghost use Rattle.bird_import.specs.Reasons.{AreKnown, HasNameBefore, HaveUnknown, IsLeftOpen, IsNamedBefore, is_nameable, is_spelled_name, why_of, why_of_next, why_of_plan};
+ghost use Rattle.bird_import.specs.Scopes.{AreInScope};
 ghost use Rattle.bird_import.specs.Stuck.{AreApart, Calls, Halts, Hinder, Hinders, IsCallBy, IsOutside, IsStuck, IsTooDeep};
 ghost use Rattle.bird_import.specs.Steps.{Becomes, BecomesWithin, Fits, IsCallWritten, Replaces, Writes};
 ghost use Rattle.bird_import.specs.declared.step.Rule.{Rule as TheRule};
@@ -23,6 +24,7 @@ use crate::items::{Item, ItemKind};
 use crate::operators::{plan_grouping, plan_semicolon, plan_type_test};
 use crate::printing::plan_printing;
 use crate::reason::{Reason, Why};
+use crate::scopes::first_stray;
 use crate::set_variables::plan_sets;
 use crate::step::{Plan, Rule, apply, apply_call, joined};
 use crate::unknown::first_unknown;
@@ -279,9 +281,13 @@ fn rewrite<'a>(
 ) -> Result<Outcome<'a>, AllocError>
     ensures drafted { IfOk result (IfDrafted (Becomes config.now.words.now depth words.entry.items)) }
     ensures apart { IfOk result (IfDrafted (λ after. AreApart config.now words.entry.items)) }
+    ensures in_scope { IfOk result (IfDrafted (λ after. AreInScope words.entry.items)) }
     ensures stuck { IfOk result (λ outcome. IfSome (why_of outcome) (IsStuck config.now depth words.entry.items)) }
 {
     if let Some(reason) = first_of_two_meanings(config, words.as_slice()) {
+        return Ok(Outcome::LeftOut(reason));
+    }
+    if let Some(reason) = first_stray(words.as_slice()) {
         return Ok(Outcome::LeftOut(reason));
     }
     let mut words = define_all(alloc, config, words)?;

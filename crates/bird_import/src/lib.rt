@@ -19,6 +19,7 @@ mod operators;
 mod printing;
 mod reason;
 mod rules;
+mod scopes;
 mod set_variables;
 mod sets;
 mod step;

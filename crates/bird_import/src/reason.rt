@@ -59,6 +59,8 @@ pub enum Why<'a> {
     NoValue(&'a [u8]),
     /// A variable with the name of a definition.
     TwoMeanings(&'a [u8]),
+    /// A variable that is used before its declaration, or behind its block.
+    OutOfScope(&'a [u8]),
     /// It is for routes of IPv6, or for others that are none of IPv4.
     Ipv6,
     /// More words or steps than are taken.
@@ -283,7 +285,7 @@ impl<'a> Why<'a> {
                 Some(*name)
             }
             Why::Unset(name) | Why::NoValue(name) | Why::OneWord(name) => Some(*name),
-            Why::LeftOpen(name) | Why::TwoMeanings(name) => Some(*name),
+            Why::LeftOpen(name) | Why::TwoMeanings(name) | Why::OutOfScope(name) => Some(*name),
             _ => None,
         }
     }
@@ -317,6 +319,8 @@ impl<'a> Why<'a> {
             Why::SetVariable(_) => "is not assigned just once, before all else: `define` it",
             Why::Unset(_) =>
                 "may be read before it is assigned, and is void in BIRD then: assign it before",
+            Why::OutOfScope(_) =>
+                "stands outside the braces in which it is declared, or before that: declare it once, before the first command",
             Why::TwoMeanings(_) =>
                 "is a variable here and a definition too: give one of them another name",
             _ => "has no value in the body, so BIRD 2.0.12 rejects each route there: give it one",

@@ -1,4 +1,4 @@
-use Rattle.std.proofs.Common.{◌++◌, length, subst, sym, arith}
+use Rattle.std.proofs.Common.{◌++◌, subst, sym, arith}
 use Rattle.std.proofs.lemmas.Option.{slice_get-get_or}
 use Rattle.bird_import.specs.Steps.{Becomes}
 use Rattle.bird_import.proofs.Defining.{all_defined, further, unchanged}

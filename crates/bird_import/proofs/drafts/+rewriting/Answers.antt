@@ -1,4 +1,5 @@
 use Rattle.std.proofs.Common.{◌<◌, ◌+◌, length, subst, arith}
+use Rattle.bird_import.specs.Scopes.{AreInScope}
 use Rattle.bird_import.specs.Steps.{BecomesWithin}
 use Rattle.bird_import.specs.Stuck.{AreApart, Halts, Hinder, Hinders}
 use Rattle.bird_import.proofs.Halted.{at_once, by_copy, by_hinders, by_refusal, by_steps, by_words, hinders_of, more_of_why, stuck_at}
@@ -42,6 +43,17 @@ rewrite-returns-in-Some-clause-stuck t c =
 pub rewrite-returns-in-Done-clause-apart : goal.rewrite-returns-in-Done-clause-apart
 rewrite-returns-in-Done-clause-apart t c =
     subst (λ list. AreApart c.args.config.now list) c.as_slice.ensures.value (c.first_of_two_meanings.ensures.none c.in_default.is)
+
+pub rewrite-returns-in-Some-first_stray-clause-stuck : goal.rewrite-returns-in-Some-first_stray-clause-stuck
+rewrite-returns-in-Some-first_stray-clause-stuck t c =
+    let slice = c.as_slice-2.result.now in
+    let why = c.in-Some-first_stray.reason.why in
+    at_once c.args.config.now c.args.depth c.args.words.items slice why c.as_slice-2.ensures.value
+    (hinders_of c.args.config.now slice why c.in-Some-first_stray.ensures.some)
+
+pub rewrite-returns-in-Done-clause-in_scope : goal.rewrite-returns-in-Done-clause-in_scope
+rewrite-returns-in-Done-clause-in_scope t c =
+    subst (λ list. AreInScope list) c.as_slice-2.ensures.value (c.first_stray.ensures.none c.in_default-first_stray.is)
 
 pub rewrite-loop-made-init : goal.rewrite-loop-made-init
 rewrite-loop-made-init t c = let defined = c.in_ok-words.ensures c.args.depth in (defined.0, omega arith, defined.1)
