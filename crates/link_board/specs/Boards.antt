@@ -1,6 +1,7 @@
 -- What is noted on a board. (This project's own choice.)
 use Rattle.std.specs.Prelude.{◌≡◌, ◌==◌, ℕ, ◌+◌, ◌&&◌, ◌||◌, max, nat_lt, nat_le, not, Bool, true, false, if◌then◌else◌}
 use Rattle.std.specs.Prelude.{List, map, position, Option, Some, None, slice_get, slice_set}
+use Rattle.std.specs.List.{list_any}
 use Rattle.link_board.specs.Steps.{Begins, Ends, Wakes, link_to, queued_at, taken_at, waits}
 use Rattle.link_board.specs.declared.link.Link.{Link}
 
@@ -23,6 +24,27 @@ abbrev pub At : (Link → Bool → Link → Type 0) → ℕ → Option Link → 
 At becomes index None old answer new = (answer ≡ false) × (new ≡ old)
 At becomes index (Some l) old answer new = (m : Link) × becomes l answer m × (new ≡ record old { links = slice_set old.links index m })
 
+-- a link becomes what a function makes of it
+abbrev pub ByFunction : (Link → Link) → ℕ → Option Link → BoardView → BoardView → Type 0
+ByFunction f index None old new = new ≡ old
+ByFunction f index (Some l) old new = new ≡ record old { links = slice_set old.links index (f l) }
+
+-- the Up of a session of a link is about to be entered, unless the router is being closed
+abbrev pub OpensIf : Bool → ℕ → BoardView → Bool → BoardView → Type 0
+OpensIf true index old opens new = (opens ≡ false) × (new ≡ old)
+OpensIf false index old opens new = (opens ≡ true) × ByFunction (λ l. record l { is_changing = true }) index (slice_get old.links index) old new
+
+abbrev pub OpensAt : ℕ → BoardView → Bool → BoardView → Type 0
+OpensAt index old opens new = OpensIf old.closing index old opens new
+
+-- it is entered, or was refused; or the Down of a session is
+abbrev pub SettlesAt : ℕ → BoardView → BoardView → Type 0
+SettlesAt index old new = ByFunction (λ l. record l { is_changing = false }) index (slice_get old.links index) old new
+
+-- the Up or the Down of a session is being entered
+abbrev pub is_changing : List Link → Bool
+is_changing links = list_any (λ l. l.is_changing) links
+
 -- a session of a link begins, unless the router is being closed
 abbrev pub BeginsIf : Bool → ℕ → ℕ → ℕ → BoardView → Bool → BoardView → Type 0
 BeginsIf true index session at old began new = (began ≡ false) × (new ≡ old)
@@ -38,11 +60,6 @@ EndsAt index session old ended new = At (Ends session) index (slice_get old.link
 -- its writer is woken
 abbrev pub WakesAt : ℕ → BoardView → Bool → BoardView → Type 0
 WakesAt index old woken new = At (Wakes old.changed) index (slice_get old.links index) old woken new
-
--- a link becomes what a function makes of it
-abbrev pub ByFunction : (Link → Link) → ℕ → Option Link → BoardView → BoardView → Type 0
-ByFunction f index None old new = new ≡ old
-ByFunction f index (Some l) old new = new ≡ record old { links = slice_set old.links index (f l) }
 
 -- its writer sleeps
 abbrev pub SleepsAt : ℕ → BoardView → BoardView → Type 0

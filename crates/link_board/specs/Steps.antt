@@ -18,19 +18,19 @@ taken_at at taken most w = if nat_lt taken most then record w { emptied = max w.
 
 -- a link to a node, without a session
 abbrev pub link_to : ℕ → Link
-link_to node = record { node = node; session = None; waiting = record { queued = 0; emptied = 0 }; is_asleep = false }
+link_to node = record { node = node; session = None; waiting = record { queued = 0; emptied = 0 }; is_asleep = false; is_changing = false }
 
--- A session begins, whose Up stands at a position: its first messages wait. Where one is there already nothing is done, so there are never
--- two.
+-- A session begins, whose Up is entered and stands at a position: its first messages wait. Where one is there already nothing is done, so
+-- there are never two.
 abbrev pub Begins : ℕ → ℕ → Link → Bool → Link → Type 0
 Begins session at old began new = MatchBool began
-    ((old.session ≡ None) × (new ≡ record old { session = Some session; waiting = queued_at at old.waiting }))
+    ((old.session ≡ None) × (new ≡ record old { session = Some session; waiting = queued_at at old.waiting; is_changing = false }))
     ((old.session ≢ None) × (new ≡ old))
 
--- a session ends, if it is the one that is there: so it ends once
+-- a session ends, if it is the one that is there: so it ends once, and its Down is to be entered
 abbrev pub Ends : ℕ → Link → Bool → Link → Type 0
 Ends session old ended new = MatchBool ended
-    ((old.session ≡ Some session) × (new ≡ record old { session = None }))
+    ((old.session ≡ Some session) × (new ≡ record old { session = None; is_changing = true }))
     ((old.session ≢ Some session) × (new ≡ old))
 
 abbrev pub has_session : Option ℕ → Bool

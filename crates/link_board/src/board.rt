@@ -46,8 +46,37 @@ impl Board {
         })
     }
 
-    /// Begins a session of a link, whose Up has this position. False, and nothing is done, where a session is there already, there is
-    /// no such link, or the router is being closed.
+    /// The Up of a session of a link is about to be entered. False, and nothing is done, where the router is being closed.
+    pub fn open(&mut self, index: usize) -> bool
+        ensures { spec.OpensAt index self.old result self.new }
+    {
+        if self.closing {
+            return false;
+        }
+        if let Some(link) = self.links.get_mut(index) {
+            link.is_changing = true;
+        }
+        true
+    }
+
+    /// The Up or the Down of a session of a link that was being entered is entered, or was refused.
+    pub fn settle(&mut self, index: usize)
+        ensures { spec.SettlesAt index self.old self.new }
+    {
+        if let Some(link) = self.links.get_mut(index) {
+            link.is_changing = false;
+        }
+    }
+
+    /// Whether the Up or the Down of a session is being entered.
+    pub fn is_changing(&self) -> bool
+        ensures { result ≡ spec.is_changing self.now.links }
+    {
+        self.links.iter().any(|link| link.is_changing)
+    }
+
+    /// Begins a session of a link, whose Up was entered and has this position. False, and nothing is done, where a session is there
+    /// already, there is no such link, or the router is being closed.
     pub fn begin(&mut self, index: usize, session: u32, at: u32) -> bool
         ensures { spec.BeginsAt index session at self.old result self.new }
     {
@@ -60,7 +89,7 @@ impl Board {
         }
     }
 
-    /// Ends a session of a link: true for the first who does.
+    /// Ends a session of a link: true for the first who does, who is to enter its Down.
     pub fn end(&mut self, index: usize, session: u32) -> bool
         ensures { spec.EndsAt index session self.old result self.new }
     {

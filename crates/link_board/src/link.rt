@@ -15,6 +15,8 @@ pub struct Link {
     pub waiting: Waiting,
     /// Its writer sleeps until something waits.
     pub is_asleep: bool,
+    /// The Up or the Down of one of its sessions is being entered.
+    pub is_changing: bool,
 }
 
 impl Link {
@@ -27,10 +29,11 @@ impl Link {
             session: None,
             waiting: Waiting::new(),
             is_asleep: false,
+            is_changing: false,
         }
     }
 
-    /// Begins a session, whose Up has this position. False, and nothing is done, where a session is there already.
+    /// Begins a session, whose Up was entered and has this position. False, and nothing is done, where a session is there already.
     pub fn begin(&mut self, session: u32, at: u32) -> bool
         ensures { spec.Begins session at self.old result self.new }
     {
@@ -39,10 +42,11 @@ impl Link {
         }
         self.session = Some(session);
         self.waiting.note_queued(at);
+        self.is_changing = false;
         true
     }
 
-    /// Ends a session: true for the first who does.
+    /// Ends a session: true for the first who does, who is to enter its Down.
     pub fn end(&mut self, session: u32) -> bool
         ensures { spec.Ends session self.old result self.new }
     {
@@ -50,6 +54,7 @@ impl Link {
             return false;
         }
         self.session = None;
+        self.is_changing = true;
         true
     }
 
