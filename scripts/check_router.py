@@ -30,6 +30,9 @@ LONGEST = 120
 
 GIGABYTE = 1 << 30
 
+# How often a router is ended while its neighbours greet it.
+GREETED_QUITS = 20
+
 # What a line without an end may cost: the bytes that are taken of it beyond those that a FIFO holds, and kilobytes of memory.
 MOST_TAKEN, MOST_MEMORY = 1 << 16, 4096
 
@@ -679,6 +682,24 @@ class Rows:
             self.end(run)
         finally:
             run.close()
+
+    def row_quits_while_neighbours_greet(self):
+        """`quit` comes while sessions begin: the history that is saved has the Down of each of them."""
+        for turn in range(GREETED_QUITS):
+            run = Run(self.program, nodes=range(1, 61), size=80)
+            try:
+                neighbours = list(run.neighbours.values())
+                for neighbour in neighbours:
+                    neighbour.open()
+                for neighbour in neighbours[: 20 + 2 * turn]:
+                    neighbour.greet(size=80)
+                self.end(run)
+                with open(run.history) as it:
+                    text = it.read()
+                opened, closed = (sorted(re.findall(pattern, text, re.MULTILINE)) for pattern in (r" up \d+ opened (\d+)$", r" down (\d+) done \d+$"))
+                self.judge("each session has its Down", opened == closed, (turn, len(opened), len(closed)))
+            finally:
+                run.close()
 
     def row_twenty_links(self):
         self.serve_many(20)

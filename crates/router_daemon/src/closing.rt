@@ -17,19 +17,26 @@ fn close<R: Wait, J: Naming, E: Write>(rt: &R, shared: &Shared<J, E>) -> usize {
     count
 }
 
-/// Ends the session of a link, if one is there and nobody else ended it. Or takes one that is over, but whose Down was refused.
-fn take_session<R: Wait, J: Naming, E: Write>(
-    rt: &R,
-    shared: &Shared<J, E>,
-    link: usize,
-) -> Option<u32> {
-    match shared.signals.session(rt, link) {
-        Some(session) if shared.signals.end(rt, link, session) => Some(session),
-        _ => shared.signals.take_owed(rt, link),
+/// Ends the session of a link, if one is there and nobody else ended it. Its Down is owed then.
+fn end_session<R: Wait, J: Naming, E: Write>(rt: &R, shared: &Shared<J, E>, link: usize) {
+    let Some(session) = shared.signals.session(rt, link) else {
+        return;
+    };
+    if shared.signals.end(rt, link, session) {
+        shared.signals.owe(rt, link, session);
+        shared.signals.settle(rt, link);
     }
 }
 
-/// Ends the session of a link, if one is there and nobody else ended it, and enters its Down, or the one that was refused before.
+/// Ends the sessions of the first `count` links, and waits for those who are entering an Up or a Down.
+fn end_sessions<R: Wait, J: Naming, E: Write>(rt: &R, shared: &Shared<J, E>, count: usize) {
+    for link in 0..count {
+        end_session(rt, shared, link);
+    }
+    shared.signals.await_settled(rt);
+}
+
+/// Enters the Down of the session of a link that is over, if it is not entered.
 fn close_link<R: Wait, J: Naming, E: Write>(
     rt: &R,
     shared: &Shared<J, E>,
@@ -39,7 +46,7 @@ fn close_link<R: Wait, J: Naming, E: Write>(
     requires { IsLegalPass J.router pass.old }
     ensures { IsLegalPass J.router pass.new }
 {
-    let Some(session) = take_session(rt, shared, link) else {
+    let Some(session) = shared.signals.take_owed(rt, link) else {
         return;
     };
     if let Ok(answer) = enter_down(rt, &shared.router, pass, session) {
@@ -47,7 +54,7 @@ fn close_link<R: Wait, J: Naming, E: Write>(
     }
 }
 
-/// Closes the links: no session begins any more, each that is there ends, and its Down is entered.
+/// Closes the links: no session begins any more, each that is there ends, and its Down is entered, by whoever ended it.
 pub(crate) fn close_links<R: Wait, J: Naming, E: Write>(
     rt: &R,
     shared: &Shared<J, E>,
@@ -56,7 +63,9 @@ pub(crate) fn close_links<R: Wait, J: Naming, E: Write>(
     requires { IsLegalPass J.router pass.old }
     ensures { IsLegalPass J.router pass.new }
 {
-    for link in 0..close(rt, shared) {
+    let count = close(rt, shared);
+    end_sessions(rt, shared, count);
+    for link in 0..count {
         close_link(rt, shared, pass, link);
     }
 }

@@ -44,6 +44,7 @@ impl<'a> LinkCrew<'a> {
     pub(crate) fn note_owed<R: Wait>(&self, rt: &R) {
         if self.owes_down.get() {
             self.signals.owe(rt, self.link, self.session);
+            self.signals.settle(rt, self.link);
         }
     }
 }
@@ -102,5 +103,6 @@ impl<'a> Crew for LinkCrew<'a> {
     fn ended<R: Wait + Clock>(&self, rt: &R, answer: &Answer) {
         self.owes_down.set(false);
         self.signals.note(rt, answer);
+        self.signals.settle(rt, self.link);
     }
 }

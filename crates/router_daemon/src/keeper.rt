@@ -4,6 +4,7 @@ ghost use Rattle.slot_lock.specs.Passes.{IsPassOf};
 ghost use Rattle.router_daemon.specs.Links.{AreFresh, IsOver, IsUnopened, IsUnreadable, KeepsOnce, Serves, ServesNeighbour};
 ghost use Rattle.neighbour_session.specs.Reading.{Hears};
 
+use crate::closing::stay;
 use crate::crew::LinkCrew;
 use crate::folder::LinkFolder;
 use crate::naming::Ticket;
@@ -192,11 +193,15 @@ fn serve_opened<R: Wait + Clock, I: Read + Drop, O: Write + Drop, J: Naming, E: 
         ..
     } = order;
     let why = abandon_session(rt, &shared.router, pass, session);
+    if why == SessionEnd::Memory {
+        shared.signals.owe(rt, link.index, session);
+    }
+    shared.signals.settle(rt, link.index);
     (why, ticket)
 }
 
 /// Serves a neighbour whose greeting was accepted: enters its Up, has the session written, enters what it says, and enters Down when it
-/// is over. Answers why it is.
+/// is over. Answers why it is. Where the router is being closed this never returns, and its thread ends with the process.
 fn serve_neighbour<R: Wait + Clock, I: Read + Drop, O: Write + Drop, J: Naming, E: Write>(
     rt: &R,
     alloc: Global,
@@ -212,9 +217,13 @@ fn serve_neighbour<R: Wait + Clock, I: Read + Drop, O: Write + Drop, J: Naming, 
     ensures of { IsPassOf J.router pass.new }
     ensures served { ServesNeighbour J.router link.now.files.node input pass.old result pass.new }
 {
+    if !shared.signals.open(rt, link.index) {
+        stay(rt, shared);
+    }
     let (session, answer) = match enter_up(rt, &shared.router, pass, link.files.node) {
         Ok(opened) => opened,
         Err(why) => {
+            shared.signals.settle(rt, link.index);
             tell_unless_closed(rt, alloc, shared, link.files.node, why);
             return why;
         }

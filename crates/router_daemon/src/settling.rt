@@ -38,8 +38,8 @@ fn enter_owed<R: Wait, J: Naming, E: Write>(
     }
 }
 
-/// Waits until the router has no session of a link any more that is over: each second its Down is tried again, unless the router is being
-/// closed.
+/// Waits until the router has no session of a link any more that is over: each second its Down is tried again. Not where the router is
+/// being closed: who closes it enters the Down.
 pub(crate) fn settle<R: Wait + Clock, J: Naming, E: Write>(
     rt: &R,
     shared: &Shared<J, E>,
@@ -50,7 +50,12 @@ pub(crate) fn settle<R: Wait + Clock, J: Naming, E: Write>(
     ensures { IsPassOf J.router pass.new }
 {
     for _ in rt.forever() {
-        if shared.signals.is_closing(rt) || enter_owed(rt, shared, pass, link) {
+        if !shared.signals.open(rt, link) {
+            return;
+        }
+        let is_entered = enter_owed(rt, shared, pass, link);
+        shared.signals.settle(rt, link);
+        if is_entered {
             return;
         }
         thread::sleep(rt, Duration::from_secs(1));

@@ -18,7 +18,9 @@ pub(crate) struct Signals {
     pub(crate) bells: Vec<Condvar>,
     /// Who saves the history sleeps on it.
     pub(crate) saver_bell: Condvar,
-    /// For each link the session that is over, but whose Down was refused, so that the router has it still.
+    /// Who closes the router sleeps on it until no Up and no Down of a session is being entered.
+    settled: Condvar,
+    /// For each link the session that is over, but whose Down is not entered, so that the router has it still.
     owed: Vec<Mutex<Option<u32>>>,
 }
 
@@ -64,6 +66,7 @@ impl Signals {
             board: Mutex::new(Board::new(alloc, nodes)?),
             bells: bells_of(alloc, nodes.len())?,
             saver_bell: Condvar::new(),
+            settled: Condvar::new(),
             owed: owed_of(alloc, nodes.len())?,
         })
     }
@@ -104,6 +107,34 @@ impl Signals {
         self.board.lock(rt).is_closing()
     }
 
+    /// Says that the Up or the Down of a session of a link is about to be entered. False, and it is not to be, where the router is being
+    /// closed.
+    pub(crate) fn open<R: Wait>(&self, rt: &R, link: usize) -> bool {
+        self.board.lock(rt).open(link)
+    }
+
+    /// Says that it is entered, or was refused.
+    pub(crate) fn settle<R: Wait>(&self, rt: &R, link: usize) {
+        let mut board = self.board.lock(rt);
+        board.settle(link);
+        let is_closing = board.is_closing();
+        drop(board);
+        if is_closing {
+            self.settled.notify_all();
+        }
+    }
+
+    /// Waits until no Up and no Down of a session is being entered.
+    pub(crate) fn await_settled<R: Wait>(&self, rt: &R) {
+        let mut board = self.board.lock(rt);
+        for _ in rt.forever() {
+            if !board.is_changing() {
+                return;
+            }
+            board = self.settled.wait(rt, board);
+        }
+    }
+
     /// Begins a session of a link, whose Up has this answer. False where one is there already or the router is being closed.
     pub(crate) fn begin<R: Wait>(
         &self,
@@ -119,7 +150,7 @@ impl Signals {
         begins
     }
 
-    /// Ends a session of a link: true for the first who does.
+    /// Ends a session of a link: true for the first who does, who is to enter its Down, and to say when that is settled.
     pub(crate) fn end<R: Wait>(&self, rt: &R, link: usize, session: u32) -> bool {
         let mut board = self.board.lock(rt);
         let is_first = board.end(link, session);
@@ -127,14 +158,14 @@ impl Signals {
         is_first
     }
 
-    /// Notes a session of a link that is over, but whose Down was refused.
+    /// Notes a session of a link that is over, but whose Down is not entered.
     pub(crate) fn owe<R: Wait>(&self, rt: &R, link: usize, session: u32) {
         if let Some(owed) = self.owed.get(link) {
             *owed.lock(rt) = Some(session);
         }
     }
 
-    /// Takes the session of a link whose Down was refused, if there is one: who takes it is to enter its Down.
+    /// Takes the session of a link whose Down is not entered, if there is one: who takes it is to enter it.
     pub(crate) fn take_owed<R: Wait>(&self, rt: &R, link: usize) -> Option<u32> {
         self.owed.get(link)?.lock(rt).take()
     }

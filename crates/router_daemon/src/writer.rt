@@ -58,8 +58,8 @@ pub(crate) fn write_link<R: Wait + Clock + Drop, O: Write + Drop, J: Naming, E: 
         let order = room.await_order(&rt);
         let crew = LinkCrew::new(&shared.signals, link, order.session);
         let (done, written) = write_session(&rt, alloc, &shared, &crew, order);
-        drop(written);
         crew.note_owed(&rt);
+        drop(written);
         if crew.ended_it() {
             tell_unless_closed(&rt, alloc, &shared, node, done.why);
         }
