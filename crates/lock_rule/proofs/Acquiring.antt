@@ -13,6 +13,7 @@ use Rattle.lock_rule.specs.declared.rule.View.{View}
 use Rattle.lock_rule.specs.Views.{shares_of, with_failed_tries, with_held}
 use Rattle.lock_rule.specs.Rule.{Fits, IsFree, IsHeld, IsKept, journal}
 use Rattle.lock_rule.specs.Steps.{TriesAcquire}
+use Rattle.lock_rule.proofs.Alone.{all_seen}
 use Rattle.lock_rule.proofs.Totals.{total_two}
 use Rattle.lock_rule.proofs.Prefixes.{whole}
 use Rattle.lock_rule.proofs.Keeping.{holder_has_shares, known_set, there_below}
@@ -68,6 +69,7 @@ acquires_free o l id v s kept is_free at some_shares = let log = kept.log in let
       legal = kept.legal;
       room = kept.room;
       begins = fits.fragment.begins;
+      alone = λ incoming all. all_seen o l id v s kept at incoming all;
     };
     found_held = λ not_free. absurd (not_free refl);
   },

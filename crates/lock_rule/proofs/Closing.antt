@@ -1,5 +1,5 @@
 -- The table of a router at its end.
-use Rattle.std.proofs.Common.{◌≡◌, ◌≢◌, ◌∙◌, sym, ap, refl, subst, ℕ, ⊎_elim, None, List, [], ◌∷◌, length, arith}
+use Rattle.std.proofs.Common.{◌≡◌, ◌≢◌, ◌∙◌, sym, ap, refl, subst, ℕ, ⊎_elim, None, List, [], ◌∷◌, arith}
 use mathlib.Core.Option.{none, some, some-injective}
 use mathlib.Core.Option as core_option
 use lib.ListN.{get_elem?}
@@ -7,40 +7,15 @@ use Rattle.atomic_table.specs.Seated.{TableId}
 use Rattle.atomic_table.specs.Table.{Final, Seen, State}
 use Rattle.netchange_core.specs.OpeningView.{OpeningView}
 use Rattle.route_history.specs.JournalView.{JournalView}
-use Rattle.route_history.specs.Positions.{times}
-use Rattle.lock_rule.specs.declared.rule.Fragment.{Fragment}
 use Rattle.lock_rule.specs.declared.rule.View.{View}
-use Rattle.lock_rule.specs.Closing.{Closed, HasEachOnce}
+use Rattle.lock_rule.specs.Closing.{Closed}
 use Rattle.lock_rule.specs.RouterView.{router_view}
 use Rattle.lock_rule.specs.Rule.{IsKept, journal}
-use Rattle.lock_rule.specs.Views.{all_shares, empty_fragment, shares_of, times_in_view}
+use Rattle.lock_rule.specs.Views.{all_shares, empty_fragment, shares_of}
 use Rattle.lock_rule.proofs.Keeping.{holder_has_shares}
 use Rattle.lock_rule.proofs.Acquiring.{not_holder}
-use Rattle.lock_rule.proofs.Totals.{total_alone, total_two}
-
-all_own : (v : View) → v.incoming ≡ empty_fragment → v.fragment.shares ≡ all_shares → shares_of v ≡ all_shares
-all_own v incoming all = let none_more : v.incoming.shares ≡ 0 = ap (λ (p : Fragment). p.shares) incoming in omega arith
-
-times_alone : (x : ℕ) (v : View) → v.incoming ≡ empty_fragment → times_in_view x v ≡ times x v.fragment.mine
-times_alone x v incoming = let none_more : times x v.incoming.mine ≡ 0 = ap (λ (p : Fragment). times x p.mine) incoming in omega arith
-
--- whoever has all shares has each position
-all_mine : (o : OpeningView) (l id : ℕ) (v : View) (s : State JournalView View) (kept : IsKept o l s) → get_elem? s.views id ≡ some v →
-    v.incoming ≡ empty_fragment →
-    v.fragment.shares ≡ all_shares → HasEachOnce (length kept.log) v.fragment.mine
-all_mine o l id v s kept at incoming all x =
-    let alone = total_alone (times_in_view x) s.views id v at (λ k w there apart. empty_has_none k w there apart) in
-    let here = times_alone x v incoming in
-    let once = kept.known.once x in omega arith
-  where
-    none_left : (k : ℕ) (w : View) → get_elem? s.views k ≡ some w → k ≢ id → shares_of w ≡ 0
-    none_left k w there apart =
-        let two = total_two shares_of s.views k id w v there at apart in
-        let whole = all_own v incoming all in
-        let sum = kept.known.shares in omega arith
-
-    empty_has_none : (k : ℕ) (w : View) → get_elem? s.views k ≡ some w → k ≢ id → times_in_view x w ≡ 0
-    empty_has_none k w there apart = ap (times_in_view x) ((kept.known.fits k w there).empty (none_left k w there apart))
+use Rattle.lock_rule.proofs.Alone.{all_mine, all_own}
+use Rattle.lock_rule.proofs.Totals.{total_two}
 
 word_of : (s : State JournalView View) (words : List ℕ) (n k : ℕ) → s.words ≡ k ∷ [] → s.words ≡ words → get_elem? words 0 ≡ some n → n ≡ k
 word_of s words n k here same at =

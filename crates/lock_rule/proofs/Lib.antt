@@ -1,4 +1,5 @@
 mod Acquiring
+mod Alone
 mod Closing
 mod Joining
 pub mod Keeping

@@ -13,7 +13,8 @@ use Rattle.lock_rule.specs.Views.{all_shares, empty_fragment, held_history, long
 abbrev pub Seated : Type 0
 Seated = Me JournalView View
 
--- the seat has acquired the lock: it has the journal, whose history is legal, within the limit, and goes on from what the seat has seen
+-- the seat has acquired the lock: it has the journal, whose history is legal, within the limit, and goes on from what the seat has seen.
+-- Whoever has all shares has seen all of it, since nobody else can have entered anything.
 pub record Acquired (m w : Seated) : Type 0 where
   pub journal : JournalView
   pub slots : w.1 ≡ (0, journal) ∷ []
@@ -22,6 +23,7 @@ pub record Acquired (m w : Seated) : Type 0 where
   pub legal : IsLegal journal.opening journal.entries
   pub room : length journal.entries ≤ journal.limit
   pub begins : Begins m.0.fragment.seen journal.entries
+  pub alone : m.0.incoming ≡ empty_fragment → m.0.fragment.shares ≡ all_shares → journal.entries ≡ m.0.fragment.seen
 
 -- the try found the lock held, by another that has shares
 pub record FoundHeld (m w : Seated) : Type 0 where

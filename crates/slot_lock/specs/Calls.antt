@@ -19,7 +19,8 @@ use Rattle.lock_rule.specs.Steps.{Agree, merged, with_seen}
 use Rattle.lock_rule.specs.Views.{all_shares, longer}
 
 -- what the pass has seen goes on from before and ends with the event and its reply, at the position answered; the position
--- is the caller's, and the history is legal
+-- is the caller's, and the history is legal. No part of the pass was split off, and nothing was entered before by others than have the other
+-- shares: where the pass has all of them, the event comes right behind what it had seen.
 pub record Answered (r : RouterView) (old : PassView) (event : Event) (a : Answer) (new : PassView) : Type 0 where
   pub log : List Entry
   pub begins : Begins old.fragment.seen log
@@ -27,13 +28,18 @@ pub record Answered (r : RouterView) (old : PassView) (event : Event) (a : Answe
   pub seen : new.fragment.seen ≡ log ++ entry event a.reply ∷ []
   pub legal : IsLegal r.opening new.fragment.seen
   pub mine : new.fragment.mine ≡ old.fragment.mine ++ a.at ∷ []
+  pub shares : new.fragment.shares ≡ old.fragment.shares
+  pub alone : old.fragment.shares ≡ all_shares → log ≡ old.fragment.seen
 
--- the pass has seen a whole history, with as many entries as the limit; none of the caller's calls was entered
+-- the pass has seen a whole history, with as many entries as the limit; none of the caller's calls was entered, and none at all where it
+-- has all shares
 pub record IsAtLimit (r : RouterView) (old new : PassView) : Type 0 where
   pub begins : Begins old.fragment.seen new.fragment.seen
   pub legal : IsLegal r.opening new.fragment.seen
   pub full : length new.fragment.seen ≡ r.limit
   pub mine : new.fragment.mine ≡ old.fragment.mine
+  pub shares : new.fragment.shares ≡ old.fragment.shares
+  pub alone : old.fragment.shares ≡ all_shares → new.fragment.seen ≡ old.fragment.seen
 
 -- the pass after so many failed tries
 abbrev pub pass_with_failed_tries : ℕ → PassView → PassView
@@ -57,7 +63,7 @@ Refused fault.Full r old new = IsAtLimit r old new
 Refused fault.Memory r old new = (n : ℕ) × (new ≡ pass_with_failed_tries n old)
 
 -- the observer saw a journal of the router, whose history goes on from what the pass had seen, and which the pass has seen now; none of
--- the caller's calls was entered
+-- the caller's calls was entered, and none at all where the pass has all shares
 pub record Observed {Seer : Type 0} (sees : Seer → JournalView → Seer → Type 0) (r : RouterView) (old : PassView) (before after : Seer)
     (new : PassView) : Type 0 where
   pub begins : Begins old.fragment.seen new.fragment.seen
@@ -65,6 +71,8 @@ pub record Observed {Seer : Type 0} (sees : Seer → JournalView → Seer → Ty
   pub room : length new.fragment.seen ≤ r.limit
   pub saw : sees before (record { opening = r.opening; limit = r.limit; entries = new.fragment.seen }) after
   pub mine : new.fragment.mine ≡ old.fragment.mine
+  pub shares : new.fragment.shares ≡ old.fragment.shares
+  pub alone : old.fragment.shares ≡ all_shares → new.fragment.seen ≡ old.fragment.seen
 
 -- two passes in one: the shares and the failed tries add up, the second's positions follow the first's, and the
 -- longer history is kept
