@@ -691,15 +691,24 @@ class Rows:
                 neighbours = list(run.neighbours.values())
                 for neighbour in neighbours:
                     neighbour.open()
-                for neighbour in neighbours[: 20 + 2 * turn]:
-                    neighbour.greet(size=80)
-                self.end(run)
+                self.quit_behind(run, neighbours, 3 * turn)
                 with open(run.history) as it:
                     text = it.read()
                 opened, closed = (sorted(re.findall(pattern, text, re.MULTILINE)) for pattern in (r" up \d+ opened (\d+)$", r" down (\d+) done \d+$"))
                 self.judge("each session has its Down", opened == closed, (turn, len(opened), len(closed)))
             finally:
                 run.close()
+
+    def quit_behind(self, run, neighbours, count):
+        """Neighbours greet, and behind so many of them comes `quit`."""
+        for neighbour in neighbours[:count]:
+            neighbour.greet(size=80)
+        run.process.stdin.write(b"quit\n")
+        run.process.stdin.close()
+        with contextlib.suppress(BrokenPipeError):
+            for neighbour in neighbours[count:]:
+                neighbour.greet(size=80)
+        self.judge("ends", run.process.wait(timeout=PATIENCE) == 0)
 
     def row_twenty_links(self):
         self.serve_many(20)
