@@ -1,6 +1,8 @@
 -- What holds below a number, and below the next.
-use Rattle.std.proofs.Common.{◌≡◌, ℕ, ◌+◌, ◌<◌, ◌≤◌, ◌⊎◌, List, Option, Some, subst, sym, inl, inr, arith}
+use Rattle.std.proofs.Common.{◌≡◌, ℕ, zero, suc, ◌+◌, ◌<◌, ◌≤◌, ◌⊎◌, ◌||◌, Bool, true, false, List, Option, Some, add-one, refl, ap, ◌∙◌, subst, sym, inl, inr, arith}
 use Rattle.std.specs.Prelude.{slice_get}
+use Rattle.std.proofs.lemmas.Bool.{or_left, or_right}
+use Rattle.bird_import.specs.Items.{any_below}
 
 pub below_or_at : (k n : ℕ) → k < n + 1 → (k < n) ⊎ (k ≡ n)
 below_or_at k n h = grind arith
@@ -25,3 +27,18 @@ pub none_more : {A : Type 0} (P : A → Type 0) (xs : List A) (n : ℕ) (there :
 none_more {A} P xs n there is not before k x below at has =
     one_more (λ k. (x : A) → slice_get xs k ≡ Some x → P x → ⊥) n (λ k below x. before k x below)
     (λ x at has. not (subst P (same_some (slice_get xs n) x there at is) has)) k below x at has
+
+-- one below a number passes a test
+pub any_here : (passes : ℕ → Bool) (k n : ℕ) → k < n → passes k ≡ true → any_below passes n ≡ true
+unfolding any_below
+any_here passes k zero below is = absurd (omega (arith, below))
+any_here passes k (suc n) below is =
+    elim (below_or_at k n (omega (arith, below))) [
+      | inl earlier ↦ or_left (any_below passes n) (passes n) (any_here passes k n earlier is)
+      | inr same ↦ or_right (any_below passes n) (passes n) (subst (λ m. passes m ≡ true) same is)
+    ]
+
+-- none does, nor the next
+pub none_further : (passes : ℕ → Bool) (n : ℕ) → any_below passes n ≡ false → passes n ≡ false → any_below passes (n + 1) ≡ false
+unfolding any_below
+none_further passes n before here = rw add-one (ap (λ b. b || passes n) before ∙ here)

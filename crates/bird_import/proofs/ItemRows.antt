@@ -3,10 +3,11 @@ use Rattle.std.proofs.Common.{◌≡◌, ℕ, Bool, true, false, List, [], ◌�
 use Rattle.std.specs.Fmt.{digits}
 use Rattle.filter_tokens.specs.declared.symbol.Symbol.{Symbol}
 use Rattle.filter_tokens.specs.declared.symbol.Symbol.TheVariants as symbol
-use Rattle.bird_import.specs.Items.{ItemView, block_end, block_from, blocks_before, blocks_behind, blocks_past, count_of_kind}
+use Rattle.bird_import.specs.Items.{ItemView, any_below, block_end, block_from, blocks_before, blocks_behind, blocks_past, blocks_round, count_of_kind}
 use Rattle.bird_import.specs.Items.{definition_at, definition_behind, definitions_before, definitions_in}
 use Rattle.bird_import.specs.Items.{depth_past, directed_name, direction_kind, first_opening, first_outside}
-use Rattle.bird_import.specs.Items.{have_ipv6, is_anonymous, is_any_name, is_direction, is_foreign_at}
+use Rattle.bird_import.specs.Items.{declares_other_table, has_other_table, have_ipv6, is_anonymous, is_any_name, is_direction, is_foreign_at, is_for_others}
+use Rattle.bird_import.specs.Items.{is_other_pipe, is_other_table, is_pipe, is_used, is_used_for_ipv4, is_used_for_others, takes_other_table, use_at, uses_before}
 use Rattle.bird_import.specs.Items.{is_name, is_nameless, is_other_channel, is_plain_word, is_prefix}
 use Rattle.bird_import.specs.Items.{is_protocol, is_symbol, is_variant, is_word_at, item_at, item_end}
 use Rattle.bird_import.specs.Items.{item_kind, item_name, item_of, items_in, name_of_owner, name_of_protocol, plain_name, unquoted}
@@ -68,7 +69,8 @@ named : items_in ((sign symbol.Filter ∷ name (codes "f") ∷ []) ++ block acce
 unfolding walk_before walk_past walk_behind blocks_past with_nameless item_at item_of item_end item_name item_kind named_kind direction_kind is_any_name
     is_foreign_at is_direction is_anonymous is_word_at is_protocol is_nameless name_of_protocol plain_name unquoted words_before_name is_variant directed_name name_of_owner
     owner_among count_of_kind have_ipv6 is_other_channel block_end block_from first_opening opens_block outside_from first_outside depth_past is_symbol is_name is_prefix
-    is_plain_word
+    is_plain_word any_below blocks_round declares_other_table has_other_table is_for_others is_other_pipe is_other_table is_pipe is_used is_used_for_ipv4
+    is_used_for_others takes_other_table use_at uses_before
 named = refl
 
 -- protocol bgp up { ipv6 { import filter { accept; }; }; export where 1; } protocol bgp { import where 1; }
@@ -82,8 +84,23 @@ directed : items_in ((name (codes "protocol") ∷ name (codes "bgp") ∷ name (c
 unfolding walk_before walk_past walk_behind blocks_past with_nameless item_at item_of item_end item_name item_kind named_kind direction_kind is_any_name
     is_foreign_at is_direction is_anonymous is_word_at is_protocol is_nameless name_of_protocol plain_name unquoted words_before_name is_variant directed_name name_of_owner
     owner_among count_of_kind have_ipv6 is_other_channel block_end block_from first_opening opens_block outside_from first_outside depth_past is_symbol is_name is_prefix
-    is_plain_word digits
+    is_plain_word any_below blocks_round declares_other_table has_other_table is_for_others is_other_pipe is_other_table is_pipe is_used is_used_for_ipv4
+    is_used_for_others takes_other_table use_at uses_before digits
 directed = refl
+
+-- filter f { accept; } filter g { accept; } protocol kernel { ipv6 { import filter f; export filter g; }; ipv4 { export filter g; }; }
+used : items_in ((sign symbol.Filter ∷ name (codes "f") ∷ []) ++ block accept ++ (sign symbol.Filter ∷ name (codes "g") ∷ []) ++ block accept
+    ++ (name (codes "protocol") ∷ name (codes "kernel") ∷ [])
+    ++ block ((name (codes "ipv6") ∷ []) ++ block (name (codes "import") ∷ sign symbol.Filter ∷ name (codes "f") ∷ sign symbol.Semicolon
+    ∷ name (codes "export") ∷ sign symbol.Filter ∷ name (codes "g") ∷ sign symbol.Semicolon ∷ [])
+    ++ (sign symbol.Semicolon ∷ name (codes "ipv4") ∷ []) ++ block (name (codes "export") ∷ sign symbol.Filter ∷ name (codes "g") ∷ sign symbol.Semicolon ∷ [])))
+    ≡ view item.Filter 0 6 (codes "f") true true ∷ view item.Filter 6 12 (codes "g") true false ∷ []
+unfolding walk_before walk_past walk_behind blocks_past with_nameless item_at item_of item_end item_name item_kind named_kind direction_kind is_any_name
+    is_foreign_at is_direction is_anonymous is_word_at is_protocol is_nameless name_of_protocol plain_name unquoted words_before_name is_variant directed_name name_of_owner
+    owner_among count_of_kind have_ipv6 is_other_channel block_end block_from first_opening opens_block outside_from first_outside depth_past is_symbol is_name is_prefix
+    is_plain_word any_below blocks_round declares_other_table has_other_table is_for_others is_other_pipe is_other_table is_pipe is_used is_used_for_ipv4
+    is_used_for_others takes_other_table use_at uses_before
+used = refl
 
 -- protocol rip {, the hundredth of its kind without a name
 hundredth : name_of_owner (name (codes "protocol") ∷ name (codes "rip") ∷ sign symbol.LeftBrace ∷ []) (replicate 100 0) 0 ≡ codes "rip100"

@@ -1,6 +1,6 @@
 -- What a configuration consists of: its definitions, its filters and its functions. (Definitions, filters, functions and protocols are those
 -- of the BIRD 2.0 User's Guide. That a filter without a name gets its protocol's, with the direction, is this project's own choice.)
-use Rattle.std.specs.Prelude.{◌≡◌, ◌⊎◌, ℕ, zero, suc, ◌+◌, ◌-◌, ◌<◌, ◌≤◌, ◌&&◌, ◌||◌, ◌==◌, not, if◌then◌else◌, nat_eq, nat_lt, Bool, true, false}
+use Rattle.std.specs.Prelude.{◌≡◌, ◌⊎◌, ℕ, zero, suc, ◌+◌, ◌-◌, ◌<◌, ◌≤◌, ◌&&◌, ◌||◌, ◌==◌, not, if◌then◌else◌, nat_eq, nat_le, nat_lt, Bool, true, false}
 use Rattle.std.specs.Prelude.{List, [], ◌∷◌, ◌++◌, All, AllPairs, codes, count_by, decimal, drop}
 use Rattle.std.specs.Prelude.{fold, length, map, take, Option, Some, None, is_some, unwrap_or}
 use Rattle.std.specs.Option.{option_and_then, option_map, option_to_list}
@@ -18,6 +18,7 @@ use Rattle.bird_import.specs.declared.items.Definition.{Definition}
 use Rattle.bird_import.specs.declared.items.Item.{Item}
 use Rattle.bird_import.specs.declared.items.ItemKind.{ItemKind}
 use Rattle.bird_import.specs.declared.items.ItemKind.TheVariants as item
+use Rattle.bird_import.specs.declared.items.Use.{Use}
 use Rattle.bird_import.specs.declared.items.Walk.{Walk}
 use Rattle.bird_import.specs.declared.word.Word.{Word}
 use Rattle.bird_import.specs.declared.word.WordKind.{WordKind}
@@ -85,6 +86,10 @@ pub record BlocksView : Type 0 where
 abbrev pub view_of_blocks : Blocks → BlocksView
 view_of_blocks blocks = record { heads = blocks.heads.items; start = blocks.start; nameless = blocks.nameless.items }
 
+-- before the first word
+abbrev pub outermost : BlocksView
+outermost = record { heads = []; start = 0; nameless = [] }
+
 -- at a place: what is round it, the index behind the last item, and the items so far
 pub record WalkView : Type 0 where
   pub blocks : BlocksView
@@ -115,6 +120,11 @@ unfoldable pub is_other_channel : List ℕ → Bool
 is_other_channel word =
     starts_with nat_eq word (codes "ipv6") || (starts_with nat_eq word (codes "vpn") || (starts_with nat_eq word (codes "roa")
     || (starts_with nat_eq word (codes "flow") || starts_with nat_eq word (codes "mpls"))))
+
+-- an index below another passes a test
+unfoldable pub any_below : (ℕ → Bool) → ℕ → Bool
+any_below passes zero = false
+any_below passes (suc k) = any_below passes k || passes k
 
 -- what stands between the single quotes of a word, if it is in quotes
 unfoldable pub unquoted : List ℕ → Option (List ℕ)
@@ -219,9 +229,34 @@ module _ (words : List Word) where
   unfoldable pub count_of_kind : List ℕ → List ℕ → ℕ
   count_of_kind heads protocol = count_by (λ (head : ℕ). bytes_eq (bytes_at words (head + 1)) protocol) heads
 
-  -- at some index begins a channel of other routes than those of IPv4
+  -- a table of a name is declared at an index, for other routes than those of IPv4: `KIND table NAME`
+  unfoldable pub declares_other_table : List ℕ → ℕ → Bool
+  declares_other_table name k = is_other_channel (bytes_at words k)
+      && (bytes_eq (bytes_at words (k + 1)) (codes "table") && bytes_eq (bytes_at words (k + 2)) name)
+
+  -- the table of a name has other routes: it is BIRD's own of IPv6, or declared so
+  unfoldable pub is_other_table : List ℕ → Bool
+  is_other_table name = bytes_eq name (codes "master6") || any_below (declares_other_table name) (length words)
+
+  -- a protocol takes such a table at an index: `table NAME`
+  unfoldable pub takes_other_table : ℕ → Bool
+  takes_other_table k = bytes_eq (bytes_at words k) (codes "table") && is_other_table (bytes_at words (k + 1))
+
+  -- so it does from one index on and before another
+  unfoldable pub has_other_table : ℕ → ℕ → Bool
+  has_other_table from to = any_below (λ k. nat_le from k && takes_other_table k) to
+
+  -- a pipe begins at an index
+  unfoldable pub is_pipe : ℕ → Bool
+  is_pipe head = is_protocol head && bytes_eq (bytes_at words (head + 1)) (codes "pipe")
+
+  -- a pipe between tables of other routes begins there
+  unfoldable pub is_other_pipe : ℕ → Bool
+  is_other_pipe head = is_pipe head && has_other_table head (unwrap_or (block_end head) (length words))
+
+  -- at some index begins a channel of other routes than those of IPv4, or such a pipe
   unfoldable pub have_ipv6 : List ℕ → Bool
-  have_ipv6 heads = list_any (λ (head : ℕ). is_other_channel (bytes_at words head)) heads
+  have_ipv6 heads = list_any (λ (head : ℕ). is_other_channel (bytes_at words head) || is_other_pipe head) heads
 
   -- the name of a protocol, or its kind with the number that BIRD gives it: how many of its kind without a name have begun
   abbrev pub name_or_number : List ℕ → ℕ → Option (List ℕ) → List ℕ
@@ -231,6 +266,66 @@ module _ (words : List Word) where
 
   unfoldable pub name_of_owner : List ℕ → ℕ → List ℕ
   name_of_owner nameless owner = name_or_number nameless owner (name_of_protocol owner)
+
+  -- ---- blocks
+
+  -- the protocols without a name that have begun, once a block opens whose statement begins at an index
+  unfoldable pub with_nameless : ℕ → List ℕ → List ℕ
+  with_nameless head nameless = if is_nameless head then nameless ++ head ∷ [] else nameless
+
+  -- round the place behind a word: one block more, one less, or a new statement
+  unfoldable pub blocks_past : ℕ → BlocksView → BlocksView
+  blocks_past at blocks =
+      if is_symbol symbol.LeftBrace (kind_at words at) then record {
+        heads = blocks.heads ++ blocks.start ∷ [];
+        start = at + 1;
+        nameless = with_nameless blocks.start blocks.nameless;
+      }
+      else (if is_symbol symbol.RightBrace (kind_at words at) then record {
+        heads = take (length blocks.heads - 1) blocks.heads;
+        start = at + 1;
+        nameless = blocks.nameless;
+      }
+      else (if is_symbol symbol.Semicolon (kind_at words at) then record {
+        heads = blocks.heads;
+        start = at + 1;
+        nameless = blocks.nameless;
+      }
+      else blocks))
+
+  -- round the place before a word, where filters are gone into as other blocks are
+  unfoldable pub blocks_round : ℕ → BlocksView
+  blocks_round zero = outermost
+  blocks_round (suc k) = blocks_past k (blocks_round k)
+
+  -- ---- uses of filters
+
+  -- the use of a filter at an index: `filter NAME`, within a block
+  unfoldable pub use_at : BlocksView → ℕ → Option Use
+  use_at blocks at =
+      if is_symbol symbol.Filter (kind_at words at) && not (length blocks.heads == 0)
+      then Some (record { name = at + 1; is_other = have_ipv6 blocks.heads }) else None
+
+  -- the uses that begin before an index, in order
+  unfoldable pub uses_before : ℕ → List Use
+  uses_before zero = []
+  uses_before (suc k) = uses_before k ++ option_to_list (use_at (blocks_round k) k)
+
+  -- all of them
+  abbrev pub uses_in : List Use
+  uses_in = uses_before (length words)
+
+  -- a filter of a name is used
+  unfoldable pub is_used : List Use → List ℕ → Bool
+  is_used uses name = list_any (λ (one : Use). bytes_eq (bytes_at words one.name) name) uses
+
+  -- it is used for routes of IPv4
+  unfoldable pub is_used_for_ipv4 : List Use → List ℕ → Bool
+  is_used_for_ipv4 uses name = list_any (λ (one : Use). not one.is_other && bytes_eq (bytes_at words one.name) name) uses
+
+  -- it is used, and never for those
+  unfoldable pub is_used_for_others : List ℕ → Bool
+  is_used_for_others name = is_used uses_in name && not (is_used_for_ipv4 uses_in name)
 
   -- ---- filters and functions
 
@@ -287,6 +382,13 @@ module _ (words : List Word) where
   item_end item.Function from = block_end from
   item_end item.Anonymous from = block_end from
 
+  -- it is for other routes than those of IPv4: it stands in a channel of such, or has a name by which no other channel uses it
+  unfoldable pub is_for_others : BlocksView → ItemKind → ℕ → Bool
+  is_for_others blocks item.Filter at = is_used_for_others (bytes_at words (at + 1))
+  is_for_others blocks item.Function at = have_ipv6 blocks.heads
+  is_for_others blocks item.Anonymous at = have_ipv6 blocks.heads
+  is_for_others blocks item.Condition at = have_ipv6 blocks.heads
+
   -- the item of a kind that begins at an index
   unfoldable pub item_of : BlocksView → ℕ → ItemKind → ItemView
   item_of blocks at kind = record {
@@ -295,36 +397,12 @@ module _ (words : List Word) where
     to = unwrap_or (item_end kind at) (length words);
     name = item_name blocks kind at;
     is_closed = is_some (item_end kind at);
-    is_ipv6 = have_ipv6 blocks.heads;
+    is_ipv6 = is_for_others blocks kind at;
   }
 
   -- the item that begins at an index, if one does
   unfoldable pub item_at : BlocksView → ℕ → Option ItemView
   item_at blocks at = option_map (item_of blocks at) (item_kind blocks at)
-
-  -- the protocols without a name that have begun, once a block opens whose statement begins at an index
-  unfoldable pub with_nameless : ℕ → List ℕ → List ℕ
-  with_nameless head nameless = if is_nameless head then nameless ++ head ∷ [] else nameless
-
-  -- round the place behind a word: one block more, one less, or a new statement
-  unfoldable pub blocks_past : ℕ → BlocksView → BlocksView
-  blocks_past at blocks =
-      if is_symbol symbol.LeftBrace (kind_at words at) then record {
-        heads = blocks.heads ++ blocks.start ∷ [];
-        start = at + 1;
-        nameless = with_nameless blocks.start blocks.nameless;
-      }
-      else (if is_symbol symbol.RightBrace (kind_at words at) then record {
-        heads = take (length blocks.heads - 1) blocks.heads;
-        start = at + 1;
-        nameless = blocks.nameless;
-      }
-      else (if is_symbol symbol.Semicolon (kind_at words at) then record {
-        heads = blocks.heads;
-        start = at + 1;
-        nameless = blocks.nameless;
-      }
-      else blocks))
 
   -- an item is gone past as a whole, and else one word
   abbrev pub walk_on : ℕ → WalkView → Option ItemView → WalkView
@@ -337,7 +415,7 @@ module _ (words : List Word) where
 
   -- so before it, from the first word on
   unfoldable pub walk_before : ℕ → WalkView
-  walk_before zero = record { blocks = record { heads = []; start = 0; nameless = [] }; next = 0; found = [] }
+  walk_before zero = record { blocks = outermost; next = 0; found = [] }
   walk_before (suc k) = walk_past k (walk_before k)
 
   -- the filters and functions of a configuration, in order

@@ -44,6 +44,15 @@ pub struct Item {
     pub is_ipv6: bool,
 }
 
+/// A use of a filter that has a name.
+#[derive(Clone, Copy)]
+struct Use {
+    /// The index of the name.
+    name: usize,
+    /// It is for other routes than those of IPv4.
+    is_other: bool,
+}
+
 /// A constant or a set that is defined.
 #[derive(Clone, Copy)]
 pub struct Definition {
@@ -330,13 +339,82 @@ fn is_other_channel(word: &[u8]) -> bool
         || word.starts_with(b"mpls")
 }
 
-/// Whether a channel of other routes than those of IPv4 begins at some index.
+/// Whether a table of a name is declared at an index, for other routes than those of IPv4: `KIND table NAME`.
+#[tactic(auto, unfolding(crate::specs::Items::declares_other_table))]
+fn declares_other_table(words: &[Word<'_>], name: &[u8], at: usize) -> bool
+    ensures { result ≡ spec.declares_other_table words.now name.now at }
+{
+    is_other_channel(bytes_at(words, at))
+        && bytes_behind(words, at, 1) == b"table".as_slice()
+        && bytes_behind(words, at, 2) == name
+}
+
+/// Whether a table of a name is declared for other routes than those of IPv4.
+#[tactic(auto, using(crate::proofs::Below::any_here))]
+fn is_declared_other(words: &[Word<'_>], name: &[u8]) -> bool
+    ensures { result ≡ spec.any_below (spec.declares_other_table words.now name.now) (length words.now) }
+{
+    for at in 0..words.len() {
+        if declares_other_table(words, name, at) {
+            return true;
+        }
+    }
+    false
+}
+
+/// Whether the table of a name has other routes than those of IPv4: BIRD's own of IPv6, or one that is declared so.
+#[tactic(auto, unfolding(crate::specs::Items::is_other_table))]
+fn is_other_table(words: &[Word<'_>], name: &[u8]) -> bool
+    ensures { result ≡ spec.is_other_table words.now name.now }
+{
+    name == b"master6".as_slice() || is_declared_other(words, name)
+}
+
+/// Whether a protocol takes such a table at an index: `table NAME`.
+#[tactic(auto, unfolding(crate::specs::Items::takes_other_table))]
+fn takes_other_table(words: &[Word<'_>], at: usize) -> bool
+    ensures { result ≡ spec.takes_other_table words.now at }
+{
+    bytes_at(words, at) == b"table".as_slice() && is_other_table(words, bytes_behind(words, at, 1))
+}
+
+/// Whether it does so from one index on and before another.
+#[tactic(auto, using(crate::proofs::Below::any_here, crate::proofs::Below::none_further), unfolding(crate::specs::Items::has_other_table, crate::specs::Items::any_below))]
+fn has_other_table(words: &[Word<'_>], from: usize, to: usize) -> bool
+    ensures { result ≡ spec.has_other_table words.now from to }
+{
+    for at in 0..to {
+        if from <= at && takes_other_table(words, at) {
+            return true;
+        }
+    }
+    false
+}
+
+/// Whether a pipe begins at an index.
+#[tactic(auto, unfolding(crate::specs::Items::is_pipe))]
+fn is_pipe(words: &[Word<'_>], head: usize) -> bool
+    ensures { result ≡ spec.is_pipe words.now head }
+{
+    is_protocol(words, head) && bytes_behind(words, head, 1) == b"pipe".as_slice()
+}
+
+/// Whether a pipe between tables of other routes than those of IPv4 begins at an index.
+#[tactic(auto, unfolding(crate::specs::Items::is_other_pipe))]
+fn is_other_pipe(words: &[Word<'_>], head: usize) -> bool
+    ensures { result ≡ spec.is_other_pipe words.now head }
+{
+    is_pipe(words, head)
+        && has_other_table(words, head, block_end(words, head).unwrap_or(words.len()))
+}
+
+/// Whether a channel of other routes than those of IPv4 begins at some index, or a pipe between tables of such.
 #[tactic(auto, using(std::proofs::lemmas::List::Folds::list_any_at, std::proofs::lemmas::List::Folds::list_any_more), unfolding(crate::specs::Items::have_ipv6))]
 fn have_ipv6(words: &[Word<'_>], heads: &[usize]) -> bool
     ensures { result ≡ spec.have_ipv6 words.now heads.now }
 {
     for head in heads {
-        if is_other_channel(bytes_at(words, *head)) {
+        if is_other_channel(bytes_at(words, *head)) || is_other_pipe(words, *head) {
             return true;
         }
     }
@@ -371,6 +449,17 @@ struct Blocks {
 }
 
 impl Blocks {
+    /// No block is open, before the first word.
+    fn outermost(alloc: Global) -> Self
+        ensures { spec.view_of_blocks result ≡ spec.outermost }
+    {
+        Blocks {
+            heads: Vec::new(alloc),
+            start: 0,
+            nameless: Vec::new(alloc),
+        }
+    }
+
     /// Goes into the block that opens at an index.
     fn enter(&mut self, words: &[Word<'_>], at: usize) -> Result<(), AllocError>
         requires { at < length words.now }
@@ -456,6 +545,86 @@ impl Blocks {
         name.push(b'_')?;
         name.extend_from_slice(direction)?;
         Ok(name)
+    }
+}
+
+/// The use of a filter at an index, if one is there: `filter NAME` within a block.
+#[tactic(auto, unfolding(crate::specs::Items::use_at))]
+fn use_at(words: &[Word<'_>], blocks: &Blocks, at: usize) -> Option<Use>
+    requires { at < length words.now }
+    ensures { result ≡ spec.use_at words.now (spec.view_of_blocks blocks.now) at }
+{
+    if is_symbol(kind_at(words, at), Symbol::Filter) && !blocks.heads.as_slice().is_empty() {
+        Some(Use {
+            name: at + 1,
+            is_other: have_ipv6(words, blocks.heads.as_slice()),
+        })
+    } else {
+        None
+    }
+}
+
+/// Where filters are used, in order.
+fn find_uses(alloc: Global, words: &[Word<'_>]) -> Result<Vec<Use>, AllocError>
+    ensures { IfOk result (λ found. found.items ≡ spec.uses_in words.now) }
+{
+    let mut blocks = Blocks::outermost(alloc);
+    let mut found = Vec::new(alloc);
+    for at in 0..words.len() {
+        if let Some(one) = use_at(words, &blocks, at) {
+            found.push(one)?;
+        }
+        blocks.go_past(words, at)?;
+    }
+    Ok(found)
+}
+
+/// Whether a filter of a name is used.
+#[tactic(auto, using(std::proofs::lemmas::List::Folds::list_any_at, std::proofs::lemmas::List::Folds::list_any_more), unfolding(crate::specs::Items::is_used))]
+fn is_used(words: &[Word<'_>], uses: &[Use], name: &[u8]) -> bool
+    ensures { result ≡ spec.is_used words.now uses.now name.now }
+{
+    for one in uses {
+        if bytes_at(words, one.name) == name {
+            return true;
+        }
+    }
+    false
+}
+
+/// Whether a filter of a name is used for routes of IPv4.
+#[tactic(auto, using(std::proofs::lemmas::List::Folds::list_any_at, std::proofs::lemmas::List::Folds::list_any_more), unfolding(crate::specs::Items::is_used_for_ipv4))]
+fn is_used_for_ipv4(words: &[Word<'_>], uses: &[Use], name: &[u8]) -> bool
+    ensures { result ≡ spec.is_used_for_ipv4 words.now uses.now name.now }
+{
+    for one in uses {
+        if !one.is_other && bytes_at(words, one.name) == name {
+            return true;
+        }
+    }
+    false
+}
+
+/// Whether the filter or function of a kind that begins at an index is for other routes than those of IPv4. One that has a name is where it
+/// is used for such alone.
+#[tactic(auto, unfolding(crate::specs::Items::is_for_others, crate::specs::Items::is_used_for_others))]
+fn is_for_others(
+    words: &[Word<'_>],
+    uses: &[Use],
+    blocks: &Blocks,
+    kind: ItemKind,
+    at: usize,
+) -> bool
+    requires below { at < length words.now }
+    requires used { uses.now ≡ spec.uses_in words.now }
+    ensures { result ≡ spec.is_for_others words.now (spec.view_of_blocks blocks.now) kind at }
+{
+    match kind {
+        ItemKind::Filter => {
+            let name = bytes_at(words, at + 1);
+            is_used(words, uses, name) && !is_used_for_ipv4(words, uses, name)
+        }
+        _ => have_ipv6(words, blocks.heads.as_slice()),
     }
 }
 
@@ -567,11 +736,13 @@ fn item_end(words: &[Word<'_>], kind: ItemKind, from: usize) -> Option<usize>
 fn item_of(
     alloc: Global,
     words: &[Word<'_>],
+    uses: &[Use],
     blocks: &Blocks,
     at: usize,
     kind: ItemKind,
 ) -> Result<Item, AllocError>
-    requires { at < length words.now }
+    requires below { at < length words.now }
+    requires used { uses.now ≡ spec.uses_in words.now }
     ensures { IfOk result (λ one. spec.view_of_item one ≡ spec.item_of words.now (spec.view_of_blocks blocks.now) at kind) }
 {
     let name = item_name(alloc, words, blocks, kind, at)?;
@@ -582,7 +753,7 @@ fn item_of(
         to: end.unwrap_or(words.len()),
         name,
         is_closed: end.is_some(),
-        is_ipv6: have_ipv6(words, blocks.heads.as_slice()),
+        is_ipv6: is_for_others(words, uses, blocks, kind, at),
     })
 }
 
@@ -591,14 +762,16 @@ fn item_of(
 fn item_at(
     alloc: Global,
     words: &[Word<'_>],
+    uses: &[Use],
     blocks: &Blocks,
     at: usize,
 ) -> Result<Option<Item>, AllocError>
-    requires { at < length words.now }
+    requires below { at < length words.now }
+    requires used { uses.now ≡ spec.uses_in words.now }
     ensures { IfOk result (λ found. option_map spec.view_of_item found ≡ spec.item_at words.now (spec.view_of_blocks blocks.now) at) }
 {
     match item_kind(words, blocks, at) {
-        Some(kind) => Ok(Some(item_of(alloc, words, blocks, at, kind)?)),
+        Some(kind) => Ok(Some(item_of(alloc, words, uses, blocks, at, kind)?)),
         None => Ok(None),
     }
 }
@@ -628,14 +801,21 @@ impl Walk {
 
     /// Goes past the word at an index. An item is gone past as a whole.
     #[tactic(auto, unfolding(crate::specs::Items::walk_past))]
-    fn go_past(&mut self, alloc: Global, words: &[Word<'_>], at: usize) -> Result<(), AllocError>
-        requires { at < length words.now }
+    fn go_past(
+        &mut self,
+        alloc: Global,
+        words: &[Word<'_>],
+        uses: &[Use],
+        at: usize,
+    ) -> Result<(), AllocError>
+        requires below { at < length words.now }
+        requires used { uses.now ≡ spec.uses_in words.now }
         ensures { OnOk result (spec.view_of_walk self.new ≡ spec.walk_past words.now at (spec.view_of_walk self.old)) }
     {
         if at < self.next {
             return Ok(());
         }
-        match item_at(alloc, words, &self.blocks, at)? {
+        match item_at(alloc, words, uses, &self.blocks, at)? {
             Some(item) => self.take(item),
             None => self.blocks.go_past(words, at),
         }
@@ -647,17 +827,14 @@ pub fn find_items(alloc: Global, words: &[Word<'_>]) -> Result<Vec<Item>, AllocE
     ensures found { IfOk result (λ found. map spec.view_of_item found.items ≡ spec.items_in words.now) }
     ensures follow { IfOk result (λ found. AreItemsIn words.now (map spec.view_of_item found.items)) }
 {
+    let uses = find_uses(alloc, words)?;
     let mut walk = Walk {
-        blocks: Blocks {
-            heads: Vec::new(alloc),
-            start: 0,
-            nameless: Vec::new(alloc),
-        },
+        blocks: Blocks::outermost(alloc),
         next: 0,
         found: Vec::new(alloc),
     };
     for at in 0..words.len() {
-        walk.go_past(alloc, words, at)?;
+        walk.go_past(alloc, words, uses.as_slice(), at)?;
     }
     let Walk {
         blocks: _blocks,

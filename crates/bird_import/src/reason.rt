@@ -320,7 +320,7 @@ impl<'a> Why<'a> {
             Why::Unset(_) =>
                 "may be read before it is assigned, and is void in BIRD then: assign it before",
             Why::OutOfScope(_) =>
-                "stands outside the braces in which it is declared, or before that: declare it once, before the first command",
+                "stands outside the braces or the part of a `case` in which it is declared, or before that: declare it once, before the first command",
             Why::TwoMeanings(_) =>
                 "is a variable here and a definition too: give one of them another name",
             _ => "has no value in the body, so BIRD 2.0.12 rejects each route there: give it one",
@@ -339,7 +339,7 @@ impl<'a> Why<'a> {
             Why::SameName => "a filter before it has this name",
             Why::NoName => "a name is letters, digits and `_`, with no digit first",
             Why::Ipv6 =>
-                "its channel carries no routes of IPv4: IPv6 is not supported, nor are VPNs, flows, origins and labels",
+                "the routes that it is for are none of IPv4: IPv6 is not supported, nor are VPNs, flows, origins and labels",
             Why::TooLong => "it is longer than 65536 bytes with all definitions in place",
             _ => "its words could not be written",
         }

@@ -1,13 +1,17 @@
-//! Where variables are known: from their declaration on, up to the end of its block.
+//! Where variables are known: from their declaration on, up to the end of its block, or of its part of a `case`.
 
 ghost use Rattle.std.specs.Prelude.{◌≡◌, ◌↔◌, ◌<◌, ℕ, List, IfSome, IsTrue, None, length};
 ghost use Rattle.bird_import.specs.Reasons.{IsVariableAt};
-ghost use Rattle.bird_import.specs.Scopes.{AreInScope, IsUse, LiesOutside, end_of_block};
+ghost use Rattle.bird_import.specs.Items.{outside_from};
+ghost use Rattle.bird_import.specs.Scopes.{AreInScope, IsUse, LiesOutside, end_of_block, ends_block};
 ghost use Rattle.bird_import.specs.Stuck.{Hinder};
 
 use crate::defines::declares;
 use crate::reason::{Reason, Why};
-use crate::word::{Word, bytes_at, closing, is_before, is_named_at, is_symbol, kind_at};
+use crate::rules::closes;
+use crate::word::{
+    Word, WordKind, bytes_at, depth_past, is_before, is_named_at, is_symbol, kind_at,
+};
 use filter_tokens::Symbol;
 
 /// Whether a name stands at an index, and is neither that of the filter nor behind a dot.
@@ -29,14 +33,43 @@ fn lies_outside(declared: usize, end: Option<usize>, at: usize) -> bool
     }
 }
 
-/// The index of the brace that closes the block in which a word stands, if one does: parentheses are no block.
+/// Whether a block ends with a word, or a part of a `case`, or what is in parentheses.
+#[tactic(auto, unfolding(crate::specs::Scopes::ends_block))]
+fn ends_block(kind: WordKind) -> bool
+    ensures { result ≡ ends_block kind }
+{
+    closes(kind) || is_symbol(kind, Symbol::Colon)
+}
+
+/// The index of the first such word from an index on, outside parentheses, brackets and braces that are opened there.
+#[tactic(auto, using(crate::proofs::Outside::none_outside, crate::proofs::Outside::one_outside), unfolding(crate::specs::Items::outside_from))]
+fn first_end(words: &[Word<'_>], from: usize) -> Option<usize>
+    ensures is { result ≡ outside_from words.now ends_block from }
+    ensures within { IfSome result (λ at. at < length words.now) }
+{
+    let mut depth = 0usize;
+    for at in from..words.len() {
+        let kind = kind_at(words, at);
+        if depth == 0 && ends_block(kind) {
+            return Some(at);
+        }
+        depth = depth_past(depth, kind)?;
+    }
+    None
+}
+
+/// The index of the brace that closes the block in which a word stands, or of the `:` behind its part of a `case`, if one does: parentheses
+/// are no block.
 fn end_behind(words: &[Word<'_>], at: usize) -> Option<usize>
     requires { at < length words.now }
     ensures { result ≡ end_of_block words.now at }
 {
-    match closing(words, at.saturating_add(1)) {
-        Some(close) if is_symbol(kind_at(words, close), Symbol::RightBrace) => Some(close),
-        _ => None,
+    let end = first_end(words, at.saturating_add(1))?;
+    let kind = kind_at(words, end);
+    if is_symbol(kind, Symbol::RightBrace) || is_symbol(kind, Symbol::Colon) {
+        Some(end)
+    } else {
+        None
     }
 }
 

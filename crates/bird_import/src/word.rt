@@ -221,7 +221,7 @@ pub fn is_symbol(kind: WordKind, symbol: Symbol) -> bool
 
 /// How many parentheses, brackets and braces are open behind a word, where so many are before it, unless it closes one that is not open.
 #[tactic(auto, unfolding(crate::specs::Items::depth_past))]
-fn depth_past(depth: usize, kind: WordKind) -> Option<usize>
+pub fn depth_past(depth: usize, kind: WordKind) -> Option<usize>
     requires { depth < 2 ^ 64 - 1 }
     ensures is { result ≡ items.depth_past depth kind }
     ensures bound { IfSome result (λ after. after ≤ depth + 1) }

@@ -1,13 +1,12 @@
 use Rattle.std.proofs.Common.{◌≡◌, length, map, sym, ◌∙◌, ap, subst, arith}
-use Rattle.bird_import.specs.Items.{AreItemsIn, items_in, view_of_item, walk_before, walk_past}
+use Rattle.bird_import.specs.Items.{AreItemsIn, items_in, view_of_blocks, view_of_item, walk_before, walk_past}
 use Rattle.bird_import.proofs.Following.{are_items}
 use Rattle.bird_import.proofs.Walked.{walk_begins, walk_further}
 use Rattle.bird_import.proofs.items.find_items.Goals as goal
 
 pub loop-at-init : goal.loop-at-init
 loop-at-init c =
-    walk_begins c.args.words.now c.new.result.items c.new-2.result.items c.new-3.result.items c.new.ensures.items c.new-2.ensures.items
-    c.new-3.ensures.items
+    walk_begins c.args.words.now (view_of_blocks c.outermost.result) c.new.result.items c.outermost.ensures c.new.ensures.items
 
 pub loop-at-preserved : goal.loop-at-preserved
 loop-at-preserved c =
