@@ -1,7 +1,10 @@
 -- A pass gains calls, and then more.
-use Rattle.std.proofs.Common.{◌≡◌, ◌∙◌, sym, ap, subst, refl, ℕ, zero, suc, Option, Some, None, List, [], ◌∷◌, ◌++◌, append_assoc, append-nil, arith}
-use Rattle.std.specs.Prelude.{All}
-use Rattle.std.proofs.lemmas.List.Elements.{All-append}
+use Rattle.std.proofs.Common.{◌≡◌, ◌∙◌, sym, ap, subst, refl, ℕ, zero, suc, ◌+◌, ◌<◌, ◌≤◌, Option, Some, None, List, [], ◌∷◌, ◌++◌}
+use Rattle.std.proofs.Common.{append_assoc, append-nil, length, length-append, arith}
+use Rattle.std.specs.Prelude.{All, AllPairs}
+use Rattle.std.proofs.lemmas.List.Elements.{All-nil, All-cons, All-append, All-head, All-tail, All-weaker}
+use Rattle.std.proofs.lemmas.List.Kept.{AllPairs-cons}
+use Rattle.std.proofs.lemmas.Option.{slice_get_within}
 use Rattle.std.specs.List.{AllZip}
 use Rattle.netchange_core.specs.declared.message.Message.{Message}
 use Rattle.route_history.specs.declared.entry.Entry.{Entry}
@@ -31,6 +34,28 @@ stand_longer xs ys (k ∷ ks) [] b h = absurd h
 stand_longer xs ys (k ∷ ks) (e ∷ es) b h =
     (subst (λ (l : List Entry). StandsAt l k e) (sym b.is) (stands_before xs b.rest k e h.0), stand_longer xs ys ks es b h.1)
 
+-- positions at which something stands are below the length
+stand_below : (xs : List Entry) (ks : List ℕ) (es : List Entry) → AllZip (StandsAt xs) ks es → All (λ k. k < length xs) ks
+stand_below xs [] [] h = All-nil (λ k. k < length xs)
+stand_below xs [] (e ∷ es) h = absurd h
+stand_below xs (k ∷ ks) [] h = absurd h
+stand_below xs (k ∷ ks) (e ∷ es) h =
+    All-cons (λ k. k < length xs) k ks (slice_get_within xs k e h.0) (stand_below xs ks es h.1)
+
+no_shorter : (xs ys : List Entry) → Begins xs ys → length xs ≤ length ys
+no_shorter xs ys b = let lengths : length ys ≡ length xs + length b.rest = ap length b.is ∙ length-append xs b.rest in omega arith
+
+-- numbers that rise below a bound, and then ones that rise from it on
+rise_both : (n : ℕ) (xs ys : List ℕ) → AllPairs (λ a b. a < b) xs → All (λ x. x < n) xs → AllPairs (λ a b. a < b) ys →
+    All (λ y. n ≤ y) ys → AllPairs (λ a b. a < b) (xs ++ ys)
+rise_both n [] ys rising below more above = more
+rise_both n (x ∷ xs) ys rising below more above =
+    AllPairs-cons (λ a b. a < b) x (xs ++ ys)
+    (All-append (λ y. x < y) xs ys (λ k d inside. rising 0 (suc k) d (omega arith) (omega (arith, inside)))
+    (All-weaker (λ y. n ≤ y) (λ y. x < y) (λ y from. omega (arith, from, All-head (λ x. x < n) x xs below)) ys above))
+    (rise_both n xs ys (λ i j d before inside. rising (suc i) (suc j) d (omega (arith, before)) (omega (arith, inside)))
+    (All-tail (λ x. x < n) x xs below) more above)
+
 pub zip_both : {A B : Type 0} (R : A → B → Type 0) (xs : List A) (ys : List B) (xs' : List A) (ys' : List B) → AllZip R xs ys →
     AllZip R xs' ys' → AllZip R (xs ++ xs') (ys ++ ys')
 zip_both R [] [] xs' ys' h k = k
@@ -43,6 +68,8 @@ gained_none p = record {
   positions = [];
   mine = sym (append-nil p.mine);
   stand = tt;
+  rising = λ i j d before inside. absurd (omega arith);
+  after = All-nil (λ position. length p.seen ≤ position);
   begins = record { rest = []; is = sym (append-nil p.seen) };
   failed_tries = omega arith;
   shares = refl;
@@ -53,6 +80,10 @@ gained_both a xs b ys c g h = record {
   positions = g.positions ++ h.positions;
   mine = h.mine ∙ ap (λ (l : List ℕ). l ++ h.positions) g.mine ∙ append_assoc a.mine g.positions h.positions;
   stand = zip_both (StandsAt c.seen) g.positions xs h.positions ys (stand_longer b.seen c.seen g.positions xs h.begins g.stand) h.stand;
+  rising = rise_both (length b.seen) g.positions h.positions g.rising (stand_below b.seen g.positions xs g.stand) h.rising h.after;
+  after = All-append (λ position. length a.seen ≤ position) g.positions h.positions g.after
+      (All-weaker (λ position. length b.seen ≤ position) (λ position. length a.seen ≤ position)
+      (λ position from. omega (arith, from, no_shorter a.seen b.seen g.begins)) h.positions h.after);
   begins = begins_further a.seen b.seen c.seen g.begins h.begins;
   failed_tries = omega (arith, g.failed_tries, h.failed_tries);
   shares = h.shares ∙ g.shares;

@@ -1,5 +1,5 @@
 -- What the calls of a session add to what its pass knows, and why a session ends. (This project's own choice.)
-use Rattle.std.specs.Prelude.{◌≡◌, ℕ, ◌≤◌, All, Some, List, [], ◌∷◌, ◌++◌, length, slice_get}
+use Rattle.std.specs.Prelude.{◌≡◌, ℕ, ◌<◌, ◌≤◌, All, AllPairs, Some, List, [], ◌∷◌, ◌++◌, length, slice_get}
 use Rattle.std.specs.List.{AllZip}
 use Rattle.netchange_core.specs.declared.event.Event.{Event}
 use Rattle.netchange_core.specs.declared.event.Event.TheVariants as event
@@ -27,12 +27,14 @@ take session = event.Take session 16
 abbrev pub StandsAt : List Entry → ℕ → Entry → Type 0
 StandsAt seen position e = slice_get seen position ≡ Some e
 
--- These calls, in this order, are what the caller's own calls grew by. What it has seen goes on from before, and its shares are
--- the same.
+-- These calls, in this order, are what the caller's own calls grew by, and in this order they stand in the history, behind all that
+-- it had seen. What it has seen goes on from before, and its shares are the same.
 pub record Gained (old : Fragment) (calls : List Entry) (new : Fragment) : Type 0 where
   pub positions : List ℕ
   pub mine : new.mine ≡ old.mine ++ positions
   pub stand : AllZip (StandsAt new.seen) positions calls
+  pub rising : AllPairs (λ a b. a < b) positions
+  pub after : All (λ position. length old.seen ≤ position) positions
   pub begins : Begins old.seen new.seen
   pub failed_tries : old.failed_tries ≤ new.failed_tries
   pub shares : new.shares ≡ old.shares
