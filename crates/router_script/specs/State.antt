@@ -1,6 +1,7 @@
 -- What contracts see of a script between two lines.
-use Rattle.std.specs.Prelude.{Option}
+use Rattle.std.specs.Prelude.{ℕ, Option, Some, None}
 use Rattle.filter_source.specs.declared.diagnosis.Diagnosis.{Diagnosis}
+use Rattle.netchange_core.specs.OpeningView.{OpeningView}
 use Rattle.operator_cmds.specs.Script.{ScriptView}
 use Rattle.operator_cmds.specs.Stages.{StageView, Empty, Setting, Open}
 use Rattle.operator_cmds.specs.State.{filter_at}
@@ -19,3 +20,9 @@ script_of script = record { stage = stage_of script.stage; filters = filter_at s
 -- what is told of the last filter that it refused, which no answer names
 abbrev pub told_of : Script → Option Diagnosis
 told_of script = script.told
+
+-- what the first event will open the journal with, as long as there was none: the opening, and the most entries
+abbrev pub setting_in : StageView → Option (OpeningView × ℕ)
+setting_in Empty = None
+setting_in (Setting opening limit) = Some (opening, limit)
+setting_in (Open journal) = None

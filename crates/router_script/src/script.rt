@@ -7,7 +7,7 @@ use crate::watch::run_watched_script;
 use filter_source::Diagnosis;
 use filter_verifier::Verified;
 use line_protocol::{LineReply, Service, StreamFault};
-use netchange_core::Event;
+use netchange_core::{Event, Opening};
 use operator_cmds::{
     Command, CommandFault, Direction, FilterSource, Look, NamedFilters, Network, Nobody,
     PlainCommand, RefusedLine, StateFault, answer_history, answer_look, confirm, enter, give_name,
@@ -69,7 +69,7 @@ impl Script {
     ghost use Rattle.operator_cmds.specs.Script as spec;
     ghost use Rattle.operator_cmds.specs.Stages.{session_in, size_in};
     ghost use Rattle.operator_cmds.specs.State.{filter_at};
-    ghost use Rattle.router_script.specs.State.{script_of, stage_of, told_of};
+    ghost use Rattle.router_script.specs.State.{script_of, setting_in, stage_of, told_of};
 
     /// A script at its first line.
     pub fn new(alloc: Global) -> Script
@@ -96,6 +96,17 @@ impl Script {
         match &self.stage {
             Stage::Open(journal) => Some(journal),
             Stage::Empty | Stage::Setting(_) => None,
+        }
+    }
+
+    /// What the first event will open the journal with, once a domain is set up and as long as there was no event: the opening, and the
+    /// most entries.
+    pub fn setting(&self) -> Option<(&Opening, u32)>
+        ensures { option_map (λ setting. (setting.0.now, setting.1)) result ≡ setting_in (script_of self.now).stage }
+    {
+        match &self.stage {
+            Stage::Setting(setup) => Some((&setup.opening, setup.limit)),
+            Stage::Empty | Stage::Open(_) => None,
         }
     }
 
