@@ -219,6 +219,21 @@ FAULTS = [
     ("ncroute run --filter b=- <(printf 'network 16 0\\nimport 1 b\\n') < examples/backup_link.filter; echo $?", b"ok\ndone 0\n0\n"),
     ("echo network 16 0 | ncroute run --filter b=examples/backup_link.filter --filter b=- 2>&1; echo $?",
      b"error: '--filter b=-' gives a name that an earlier --filter gives\n2\n"),
+    # What `--save` leaves: of a script without an event the opening, and without a domain nothing.
+    ("cd $(mktemp -d); echo network 4 0 9 | ncroute run --save h; echo $?; cat h; ncroute replay h",
+     b"ok\n0\nNCH1 4 0 9 10.0.0.0/16 10.1.0.0/16 10.2.0.0/16 10.3.0.0/16\nreplay ok 0\n"),
+    ("cd $(mktemp -d); printf 'network 4 0\\nprefix 1 8.0.0.0/8\\nup 9 9\\nshow 0\\n' | ncroute run --stop --save h 2>/dev/null; ncroute replay h; cut -d ' ' -f 6 h",
+     b"ok\nok\nrefused O1 3\nreplay ok 0\n8.0.0.0/8\n"),
+    ("cd $(mktemp -d); echo '# nothing' | ncroute run --save h; echo $?; wc -c < h", b"0\n0\n"),
+    # Whether the answers or the file of `--save` failed is told apart.
+    ("cd $(mktemp -d); printf 'network 4 0\\nup 1\\n' | ncroute run --save h 2>&1 >/dev/full; echo $?; ncroute replay h", b"ncroute: E2\n1\nreplay ok 1\n"),
+    ("cd $(mktemp -d); trap '' XFSZ; ulimit -f 1; (echo network 4 0; yes show 0 | head -60) | ncroute run --save h 2>&1 >/dev/null; echo $?; wc -c < h; ncroute replay h; echo $?",
+     b"h: could not be written to its end (E2)\n1\n1024\ncut 42\n1\n"),
+    ("cd $(mktemp -d); trap '' XFSZ; ulimit -f 0; echo network 4 0 | ncroute run --save h 2>&1; echo $?", b"ok\nh: could not be written to its end (E2)\n1\n"),
+    ("cd $(mktemp -d); trap '' XFSZ; ulimit -f 0; echo network 4 0 | ncroute run --save h 2>/dev/full; echo $?", b"ok\n1\n"),
+    # No history is written over the script.
+    ("f=$(mktemp); cp examples/tie.script $f; ncroute run --save $f $f 2>&1 | sed 's/.*: //'; echo ${PIPESTATUS[0]}; cmp $f examples/tie.script", b"File exists (E2)\n1\n"),
+    ("ncroute run --save /dev/stdout examples/tie.script 2>&1; echo $?", b"/dev/stdout: File exists (E2)\n1\n"),
     ("ncroute domain examples/office.domain 2>&1 >/dev/full; echo $?", b"ncroute: E2\n3\n"),
     ("ncroute domain <(head -c 16777217 /dev/zero | tr '\\0' '\\n') 2>&1; echo $?", b"ncroute: E4\n3\n"),
     ("ncroute domain examples/office.domain | cmp - <(ncroute domain < examples/office.domain); echo $?", b"0\n"),

@@ -7,14 +7,17 @@ use Rattle.std.specs.declared.alloc.Global.{Global}
 use Rattle.filter_reports.specs.Cuts.{IsCut}
 use Rattle.line_protocol.specs.Limits.{input_limit}
 use Rattle.line_protocol.specs.declared.faults.StreamFault.{StreamFault}
+use Rattle.line_protocol.specs.declared.faults.StreamFault.TheVariants.{Write}
+use Rattle.script_runs.specs.Faults.{stream_of}
 use Rattle.script_runs.specs.Running.{IsSaved, IsSavedInPart}
+use Rattle.script_runs.specs.declared.fault.SavingFault.TheVariants.{Saver}
 use Rattle.script_runs.specs.declared.naming.NamedFilter.{NamedFilter}
 use Rattle.script_runs.specs.declared.naming.Unfit.{Unfit}
 use Rattle.command_line.specs.declared.requests.Running.{Running}
 use Rattle.command_line.specs.declared.requests.Source.{Source}
 use Rattle.command_line.specs.declared.requests.Source.TheVariants.{Input, File}
 use Rattle.ncroute.specs.Filters.{IsCutUnfit, ReadsThem, SkipsFilter, StopsAtFault, TellsUnfit}
-use Rattle.ncroute.specs.Reading.{Reads, SkipsUnread, StopsReading, unmade_line}
+use Rattle.ncroute.specs.Reading.{Reads, SkipsUnread, StopsReading, unmade_line, unwritten_line}
 use Rattle.ncroute.specs.Scripts.{IsQuiet, TakesLines}
 use Rattle.ncroute.specs.Ending.{status_of}
 use Rattle.ncroute.specs.Streaming.{Streams}
@@ -32,6 +35,32 @@ pub record RunsSaved (how : Running) (filters : List NamedFilter) (text kept kee
   pub quiet : IsQuiet (how.is_explained || how.stops) before.tells mid
   pub told : TellsUnfit filters unfit mid after.tells
   pub ends : status ≡ status_of refused
+
+-- Standard error was told that the file of a history did not get all of it. `told` is what it held, `tells` what it holds now.
+abbrev pub TellsLoss : Option (String Global) → Option (List ℕ) → Option (List ℕ) → Type 0
+TellsLoss None told tells = ⊥
+TellsLoss (Some name) told tells = Appends told tells (unwritten_line (string_bytes name))
+
+-- A fault cut that. Where there is no file of which to tell, it is that of a failed write.
+abbrev pub IsCutLoss : StreamFault → Option (String Global) → Option (List ℕ) → Option (List ℕ) → Type 0
+IsCutLoss fault None told tells = (fault ≡ Write) × (tells ≡ told)
+IsCutLoss fault (Some name) told tells = IsCut fault told tells (unwritten_line (string_bytes name))
+
+-- The file of the history did not take what was written to it: the first lines are answered, each of them whole, and at last standard error
+-- was told of the file.
+pub record LosesHistory (how : Running) (filters : List NamedFilter) (text kept keeps : Option (List ℕ)) (before after : Streams) (status : ℕ)
+    : Type 0 where
+  pub mid : Option (List ℕ)
+  pub left_off : TakesLines text (λ input left.
+      IsSavedInPart (stream_of Saver) how.stops filters input left before.holds after.holds kept keeps) before.reads after.reads
+  pub quiet : IsQuiet (how.is_explained || how.stops) before.tells mid
+  pub told : TellsLoss how.save mid after.tells
+  pub ends : status ≡ 1
+
+-- a script was carried out, or ended by the file of its history
+abbrev pub EndsSaved : Running → List NamedFilter → Option (List ℕ) → Option (List ℕ) → Option (List ℕ) → Streams → Streams → ℕ → Type 0
+EndsSaved how filters text kept keeps before after status =
+    RunsSaved how filters text kept keeps before after status ⊎ LosesHistory how filters text kept keeps before after status
 
 -- A fault broke it off.
 pub record BreaksSaved (fault : StreamFault) (how : Running) (filters : List NamedFilter) (text kept keeps : Option (List ℕ))
@@ -51,9 +80,19 @@ pub record CutsSaved (fault : StreamFault) (how : Running) (filters : List Named
   pub quiet : IsQuiet (how.is_explained || how.stops) before.tells mid
   pub cut : IsCutUnfit fault filters unfit mid after.tells
 
+-- A fault cut what was told of the file of the history.
+pub record CutsLoss (fault : StreamFault) (how : Running) (filters : List NamedFilter) (text kept keeps : Option (List ℕ))
+    (before after : Streams) : Type 0 where
+  pub mid : Option (List ℕ)
+  pub left_off : TakesLines text (λ input left.
+      IsSavedInPart (stream_of Saver) how.stops filters input left before.holds after.holds kept keeps) before.reads after.reads
+  pub quiet : IsQuiet (how.is_explained || how.stops) before.tells mid
+  pub cut : IsCutLoss fault how.save mid after.tells
+
 abbrev pub StopsSaved : StreamFault → Running → List NamedFilter → Option (List ℕ) → Option (List ℕ) → Option (List ℕ) → Streams → Streams → Type 0
 StopsSaved fault how filters text kept keeps before after =
     BreaksSaved fault how filters text kept keeps before after ⊎ CutsSaved fault how filters text kept keeps before after
+    ⊎ CutsLoss fault how filters text kept keeps before after
 
 -- `creates name` says what may come of making a file of this name: what it holds at first, or why there is none.
 module _ (creates : List ℕ → Result (Option (List ℕ)) Error → Type 0) where
@@ -69,12 +108,12 @@ module _ (creates : List ℕ → Result (Option (List ℕ)) Error → Type 0) (l
   IsSaver None kept keeps = ⊤
   IsSaver (Some name) kept keeps = creates (string_bytes name) (Ok kept) × leaves (string_bytes name) keeps
 
-  -- A script was carried out, and its history saved; or the file of the history was not made, which standard error was told, and no line
-  -- was answered. Its lines are those of this text, or else of standard input.
+  -- A script was carried out, and its history saved, or not all of it, which standard error was told; or the file of the history was not
+  -- made, which standard error was told, and no line was answered. Its lines are those of this text, or else of standard input.
   unfoldable pub GuidesScript : Running → List NamedFilter → Option (List ℕ) → Streams → Streams → ℕ → Type 0
   GuidesScript how filters text before after status =
       ((kept : Option (List ℕ)) × (keeps : Option (List ℕ)) × IsSaver how.save kept keeps
-      × RunsSaved how filters text kept keeps before after status)
+      × EndsSaved how filters text kept keeps before after status)
       ⊎ ((name : List ℕ) × (words : List ℕ) × IsUnmade creates how.save name words × Appends before.tells after.tells (unmade_line name words)
       × (after.reads ≡ before.reads) × (after.holds ≡ before.holds) × (status ≡ 1))
 

@@ -1,21 +1,23 @@
 //! The script of a router whose history is kept in a file, that is started with filters, or that ends at its first refused line.
 ghost use Rattle.std.specs.Prelude.{◌≡◌, ◌||◌, IfErr, IfOk, IfSome};
 ghost use Rattle.filter_reports.specs.Faults.{stream_fault};
-ghost use Rattle.ncroute.specs.Guiding.{GuidesScript, RunsGuided, RunsNamed, RunsSaved, StopsGuided, StopsNamed, StopsRun, StopsSaved};
+ghost use Rattle.ncroute.specs.Guiding.{EndsSaved, GuidesScript, IsCutLoss, RunsGuided, RunsNamed, StopsGuided, StopsNamed, StopsRun};
+ghost use Rattle.ncroute.specs.Guiding.{StopsSaved, TellsLoss};
 ghost use Rattle.ncroute.specs.Scripts.{IsQuiet, TakesLines, text_of};
+ghost use Rattle.script_runs.specs.Faults.{stream_of};
 ghost use Rattle.script_runs.specs.Running.{IsSaved, IsSavedInPart};
 
 use crate::console::{Console, Loaded};
 use crate::ending::{FAILED, status_of};
 use crate::filters::{LoadedFilters, read_given, tell_unfit};
 use crate::script::Lines;
-use crate::texts::{Folder, name_of, tell_unmade};
+use crate::texts::{Folder, name_of, tell_unmade, tell_unwritten};
 use crate::watcher::{Guide, ScriptPart, whole};
 use command_line::{Running, Source};
 use filter_reports::ProgramFault;
 use line_protocol::{INPUT_LIMIT, StreamFault};
 use operator_cmds::Nobody;
-use script_runs::{NamedFilter, Unfit, run_saved_script};
+use script_runs::{NamedFilter, SavingFault, Unfit, run_saved_script};
 use std::alloc::Global;
 use std::io::{self, Read, Write};
 
@@ -30,12 +32,12 @@ fn answer<R: Read, W: Write, V: Write + Drop, E: Write>(
     reader: &mut R,
     writer: &mut W,
     errors: &mut E,
-) -> (Result<u32, StreamFault>, V, Option<Unfit>)
+) -> (Result<u32, SavingFault>, V, Option<Unfit>)
     ensures finished { IfOk result.0 (λ refused. IfSome (R.remaining reader.old) (λ input.
         IsSaved how.now.stops filters.now input (R.remaining reader.new) (W.contents writer.old) (W.contents writer.new) refused
         (V.contents saver) (V.contents result.1) result.2)) }
     ensures left_off { IfErr result.0 (λ fault. IfSome (R.remaining reader.old) (λ input.
-        IsSavedInPart fault how.now.stops filters.now input (R.remaining reader.new) (W.contents writer.old) (W.contents writer.new)
+        IsSavedInPart (stream_of fault) how.now.stops filters.now input (R.remaining reader.new) (W.contents writer.old) (W.contents writer.new)
         (V.contents saver) (V.contents result.1))) }
     ensures quiet { IsQuiet (how.now.is_explained || how.now.stops) (E.contents errors.old) (E.contents errors.new) }
 {
@@ -62,12 +64,12 @@ fn answer_lines<R: Read, W: Write, V: Write + Drop, E: Write>(
     saver: V,
     lines: Lines<'_>,
     console: &mut Console<R, W, E>,
-) -> (Result<u32, StreamFault>, V, Option<Unfit>)
+) -> (Result<u32, SavingFault>, V, Option<Unfit>)
     ensures finished { IfOk result.0 (λ refused. TakesLines (text_of lines.entry) (λ input left.
         IsSaved how.now.stops filters.now input left console.old.holds console.new.holds refused (V.contents saver) (V.contents result.1) result.2)
         console.old.reads console.new.reads) }
     ensures left_off { IfErr result.0 (λ fault. TakesLines (text_of lines.entry) (λ input left.
-        IsSavedInPart fault how.now.stops filters.now input left console.old.holds console.new.holds (V.contents saver) (V.contents result.1))
+        IsSavedInPart (stream_of fault) how.now.stops filters.now input left console.old.holds console.new.holds (V.contents saver) (V.contents result.1))
         console.old.reads console.new.reads) }
     ensures quiet { IsQuiet (how.now.is_explained || how.now.stops) console.old.tells console.new.tells }
 {
@@ -95,6 +97,25 @@ fn answer_lines<R: Read, W: Write, V: Write + Drop, E: Write>(
     }
 }
 
+/// Tells people that the file of a history did not get all of it: the exit status.
+fn tell_loss<E: Write>(
+    alloc: Global,
+    errors: &mut E,
+    save: &Option<String>,
+) -> Result<u8, ProgramFault>
+    ensures told { IfOk result (λ status. TellsLoss save.now (E.contents errors.old) (E.contents errors.new) × (status ≡ 1)) }
+    ensures cut { IfErr result (λ fault. IsCutLoss (stream_fault fault) save.now (E.contents errors.old) (E.contents errors.new)) }
+{
+    match save {
+        Some(file) => match tell_unwritten(alloc, errors, file.as_str()) {
+            Ok(()) => Ok(FAILED),
+            Err(fault) => Err(fault),
+        },
+        // Where no file is named nothing is written, so this does not come.
+        None => Err(ProgramFault::Stream(StreamFault::Write)),
+    }
+}
+
 /// Carries out a script whose history goes to a saver. Returns the exit status, and the saver.
 fn save_to<R: Read, W: Write, V: Write + Drop, E: Write>(
     alloc: Global,
@@ -105,7 +126,7 @@ fn save_to<R: Read, W: Write, V: Write + Drop, E: Write>(
     lines: Lines<'_>,
     console: &mut Console<R, W, E>,
 ) -> (Result<u8, ProgramFault>, V)
-    ensures finished { IfOk result.0 (RunsSaved how.now filters.now (text_of lines.entry) (V.contents saver) (V.contents result.1)
+    ensures finished { IfOk result.0 (EndsSaved how.now filters.now (text_of lines.entry) (V.contents saver) (V.contents result.1)
         console.old console.new) }
     ensures stopped { IfErr result.0 (λ fault. StopsSaved (stream_fault fault) how.now filters.now (text_of lines.entry)
         (V.contents saver) (V.contents result.1) console.old console.new) }
@@ -116,7 +137,11 @@ fn save_to<R: Read, W: Write, V: Write + Drop, E: Write>(
             Ok(()) => (Ok(status_of(refused)), saver),
             Err(fault) => (Err(fault), saver),
         },
-        Err(fault) => (Err(ProgramFault::Stream(fault)), saver),
+        Err(SavingFault::Stream(fault)) => (Err(ProgramFault::Stream(fault)), saver),
+        Err(SavingFault::Saver) => match tell_loss(alloc, &mut console.errors, &how.save) {
+            Ok(status) => (Ok(status), saver),
+            Err(fault) => (Err(fault), saver),
+        },
     }
 }
 

@@ -293,7 +293,9 @@ pub fn tell_unwritten<E: Write>(
     errors: &mut E,
     name: &str,
 ) -> Result<(), ProgramFault>
-    ensures { OnOk result (Appends (E.contents errors.old) (E.contents errors.new) (unwritten_line name.now)) }
+    ensures ok { OnOk result (Appends (E.contents errors.old) (E.contents errors.new) (unwritten_line name.now)) }
+    ensures err { IfErr result (λ fault.
+        IsCut (stream_fault fault) (E.contents errors.old) (E.contents errors.new) (unwritten_line name.now)) }
 {
     tell_of(
         alloc,

@@ -1,21 +1,23 @@
 -- How a run ends, and what is saved by then, follows from how each line was answered.
-use Rattle.std.proofs.Common.{◌≡◌, ℕ, Bool, true, false, List, [], ◌∷◌, ◌++◌, Option, Result, IfOk, IfErr}
-use Rattle.std.proofs.Common.{IfSome, refl, sym, ap, subst, ◌∙◌, append_assoc, append-nil, inl, inr}
-use Rattle.std.specs.Prelude.{MatchBool, ⊤}
+use Rattle.std.proofs.Common.{◌≡◌, ℕ, Bool, true, false, List, [], ◌∷◌, ◌++◌, Option, Result, Ok, Err, IfOk, IfErr}
+use Rattle.std.proofs.Common.{refl, sym, ap, subst, ◌∙◌, append_assoc, append-nil, inr}
+use Rattle.std.specs.Prelude.{MatchBool, MatchResult, ⊤}
 use Rattle.std.proofs.KnownBytes.{Appends-nil, Appends-trans}
 use Rattle.std.specs.Io.KnownBytes.{Appends}
-use Rattle.line_protocol.specs.Answers.{Answer, is_end, text_of}
+use Rattle.line_protocol.specs.Answers.{Answer, is_end}
 use Rattle.line_protocol.specs.Lines.{numbered}
 use Rattle.line_protocol.specs.Limits.{input_limit}
 use Rattle.line_protocol.specs.Runs.{Finishes, Reaches, Runs, RunsFront, Stops}
 use Rattle.line_protocol.specs.declared.faults.StreamFault.{StreamFault}
 use Rattle.line_protocol.specs.declared.faults.StreamFault.TheVariants.{Read, Write, Memory, TooLong}
-use Rattle.line_protocol.proofs.Viewed.{if_known}
+use Rattle.operator_cmds.specs.Stages.{StageView, Empty, Setting, Open}
+use Rattle.script_runs.specs.Faults.{stream_of}
 use Rattle.script_runs.specs.Naming.{PreparedView, fresh_with}
-use Rattle.script_runs.specs.News.{IsToldOf}
+use Rattle.script_runs.specs.News.{closing}
 use Rattle.script_runs.specs.Running.{IsSaved, IsSavedInPart, IsSavedUntil}
-use Rattle.script_runs.specs.Saved.{AnswersSaved, SavedView, SavesMore, saved_text}
+use Rattle.script_runs.specs.Saved.{AnswersSaved, SavedView, SavesMore, saved_text, whole_text}
 use Rattle.script_runs.specs.Stopping.{AnswersStopping}
+use Rattle.script_runs.specs.declared.fault.SavingFault.{SavingFault}
 use Rattle.script_runs.specs.declared.naming.NamedFilter.{NamedFilter}
 
 either : (b : Bool) {P Q R : Type 0} → (P → R) → (Q → R) → MatchBool b P Q → R
@@ -72,10 +74,18 @@ all_saved : (filters : List NamedFilter) (s after : SavedView) → s.script ≡ 
 all_saved filters s after e (more, text, p) =
     subst (Appends s.holds after.holds) (sym (text ∙ ap (λ (v : PreparedView). saved_text v.script.stage ++ more) e)) p
 
-pub ends : (filters : List NamedFilter) (s after : SavedView) (input : List ℕ) (left held holds : Option (List ℕ)) (n : ℕ)
-    → s.script ≡ fresh_with filters → Finishes AnswersSaved input_limit s after input left held holds n
-    → IsSaved s.stops filters input left held holds n s.holds after.holds after.script.unfit
-ends filters s after input left held holds n e f =
+-- the whole text is what was saved line by line, and what the end adds
+whole_is : (stage : StageView) → whole_text stage ≡ saved_text stage ++ closing stage
+whole_is Empty = refl
+whole_is (Setting opening limit) = refl
+whole_is (Open journal) = sym (append-nil (saved_text (Open journal)))
+
+pub ends : (filters : List NamedFilter) (s after : SavedView) (input : List ℕ) (left held holds keeps : Option (List ℕ)) (n : ℕ)
+    → s.script ≡ fresh_with filters → Appends after.holds keeps (closing after.script.script.stage)
+    → Finishes AnswersSaved input_limit s after input left held holds n
+    → IsSaved s.stops filters input left held holds n s.holds keeps after.script.unfit
+ends filters s after input left held holds keeps n e closed f =
+    let stage = after.script.script.stage in
     let seen : Finishes (AnswersStopping s.stops) input_limit s.script after.script input left held holds n =
     record {
       given = f.given;
@@ -90,8 +100,39 @@ ends filters s after input left held holds n e f =
     record {
       after = after.script;
       finishes = subst (λ (v : PreparedView). Finishes (AnswersStopping s.stops) input_limit v after.script input left held holds n) e seen;
-      saved = all_saved filters s after e (saves s (numbered input) f.given after f.run);
+      saved = subst (Appends s.holds keeps) (sym (whole_is stage))
+          (Appends-trans _ _ _ (saved_text stage) (closing stage) (all_saved filters s after e (saves s (numbered input) f.given after f.run)) closed);
       unfit_is = refl;
+    }
+
+-- lines that are all answered are lines of which the first are
+as_front : (stops : Bool) (s : PreparedView) (lines : List (ℕ × List ℕ)) (given : List Answer) (after : PreparedView)
+    → Runs (AnswersStopping stops) s lines given after → RunsFront (AnswersStopping stops) s lines given after
+as_front stops s [] [] after h = h
+as_front stops s [] (a ∷ more) after h = absurd h
+as_front stops s (l ∷ ls) [] after h = absurd h
+as_front stops s (l ∷ ls) (a ∷ more) after (mid, told, rest) =
+    (mid, told, both (is_end a.reply) _ _ _ _ (λ p. p) (λ q. as_front stops mid ls more after q) rest)
+
+-- every line is answered, and what the end adds was not saved
+pub cut_end : (filters : List NamedFilter) (s after : SavedView) (input : List ℕ) (left held holds keeps : Option (List ℕ)) (n : ℕ)
+    → s.script ≡ fresh_with filters → Finishes AnswersSaved input_limit s after input left held holds n
+    → IsSavedInPart Memory s.stops filters input left held holds s.holds keeps
+cut_end filters s after input left held holds keeps n e f =
+    let seen : Stops (AnswersStopping s.stops) (λ _ _. ⊤) input_limit Memory s.script after.script input left held holds =
+    record {
+      given = f.given;
+      after = after.script;
+      run = as_front s.stops s.script (numbered input) f.given after.script (whole s (numbered input) f.given after f.run);
+      written = f.written;
+      read = f.read;
+      consumed = f.consumed;
+      reach = inr tt;
+    } in
+    record {
+      after = after.script;
+      broken_off = subst (λ (v : PreparedView). Stops (AnswersStopping s.stops) (λ _ _. ⊤) input_limit Memory v after.script input left held holds) e seen;
+      saved = tt;
     }
 
 reaches : (fault : StreamFault) (s now : SavedView) (read : List ℕ) (given : List Answer) (after : SavedView)
@@ -132,38 +173,12 @@ breaks fault filters s now input left held holds e f =
       saved = until fault filters s now f.read f.given f.after e f.reach;
     }
 
--- where memory was refused the writer got whole answers, as it may where a write failed
-failed_write : (stops : Bool) (filters : List NamedFilter) (input : List ℕ) (left held holds kept keeps : Option (List ℕ))
-    → IsSavedInPart Memory stops filters input left held holds kept keeps → IsSavedInPart Write stops filters input left held holds kept keeps
-failed_write stops filters input left held holds kept keeps h =
-    let f = h.broken_off in
-    let text = text_of f.given in
-    record {
-      after = h.after;
-      broken_off = record {
-        given = f.given;
-        after = f.after;
-        run = f.run;
-        written = (text, [], sym (append-nil text), f.written);
-        read = f.read;
-        consumed = f.consumed;
-        reach = inr tt;
-      };
-      saved = tt;
-    }
+pub ok_at : (P : ℕ → Type 0) (ended : Result ℕ StreamFault) (n : ℕ) → ended ≡ Ok n → IfOk ended P → P n
+ok_at P ended n same h = subst (λ (r : Result ℕ StreamFault). IfOk r P) same h
 
-pub told_ok : (P : ℕ → Type 0) (ended told : Result ℕ StreamFault) → IsToldOf ended told → IfOk ended P → IfOk told P
-told_ok P ended told (inl same) h = subst (λ (r : Result ℕ StreamFault). IfOk r P) (sym same) h
-told_ok P ended told (inr (memory, write)) h = subst (λ (r : Result ℕ StreamFault). IfOk r P) (sym write) tt
-
-pub told_err : (stops : Bool) (filters : List NamedFilter) (known left held holds kept keeps : Option (List ℕ)) (ended told : Result ℕ StreamFault) → IsToldOf ended told
-    → IfErr ended (λ fault. IfSome known (λ input. IsSavedInPart fault stops filters input left held holds kept keeps))
-    → IfErr told (λ fault. IfSome known (λ input. IsSavedInPart fault stops filters input left held holds kept keeps))
-told_err stops filters known left held holds kept keeps ended told (inl same) h =
-    subst (λ (r : Result ℕ StreamFault). IfErr r (λ fault. IfSome known (λ input. IsSavedInPart fault stops filters input left held holds kept keeps)))
-    (sym same) h
-told_err stops filters known left held holds kept keeps ended told (inr (memory, write)) h =
-    let P : Result ℕ StreamFault → Type 0 =
-    λ r. IfErr r (λ fault. IfSome known (λ input. IsSavedInPart fault stops filters input left held holds kept keeps)) in
-    subst P (sym write)
-    (if_known known (λ input p. failed_write stops filters input left held holds kept keeps p) (subst P memory h))
+-- The fault that is told is the one that ended the lines, or it came when these had ended.
+pub by_end : (Q : StreamFault → Type 0) (Same : Type 0) (ended : Result ℕ StreamFault) (fault : SavingFault)
+    → MatchResult ended (λ n. stream_of fault ≡ Memory) (λ first. (stream_of fault ≡ first) × Same)
+    → IfOk ended (λ n. Q Memory) → (Same → IfErr ended Q) → Q (stream_of fault)
+by_end Q Same (Ok n) fault h at_end in_lines = subst Q (sym h) at_end
+by_end Q Same (Err first) fault h at_end in_lines = subst Q (sym h.0) (in_lines h.1)

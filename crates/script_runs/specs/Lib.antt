@@ -1,4 +1,5 @@
 -- What callers cite.
+pub mod Faults
 pub mod Naming
 pub mod Stopping
 pub mod Saved

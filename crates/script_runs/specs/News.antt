@@ -1,13 +1,11 @@
--- What a line added to the text of a history, and what is told of its end.
-use Rattle.std.specs.Prelude.{◌≡◌, ◌⊎◌, ℕ, List, [], ◌∷◌, ◌++◌, length, Option, Some, None, Result, Err, slice_get, take}
+-- What a line and the end of a script add to the text of a history.
+use Rattle.std.specs.Prelude.{◌≡◌, ℕ, List, [], ◌∷◌, ◌++◌, length, Option, Some, None, slice_get, take}
 use Rattle.filter_source.specs.declared.failure.Failure.{Failure}
 use Rattle.filter_source.specs.declared.failure.Failure.TheVariants as failure
 use Rattle.history_file.specs.Text.{entry_line, opening_line}
 use Rattle.history_file.specs.Views.{entry_view}
 use Rattle.line_protocol.specs.declared.answers.LineReply.{LineReply}
 use Rattle.line_protocol.specs.declared.answers.LineReply.TheVariants.{Ended}
-use Rattle.line_protocol.specs.declared.faults.StreamFault.{StreamFault}
-use Rattle.line_protocol.specs.declared.faults.StreamFault.TheVariants.{Write, Memory}
 use Rattle.operator_cmds.specs.Stages.{StageView, Empty, Setting, Open}
 use Rattle.route_history.specs.JournalView.{JournalView}
 use Rattle.route_history.specs.declared.entry.Entry.{Entry}
@@ -35,9 +33,11 @@ news saved Empty = []
 news saved (Setting opening limit) = []
 news saved (Open journal) = next_lines saved journal
 
--- what is told of the end of a run: a saver that failed is a failed write
-abbrev pub IsToldOf : Result ℕ StreamFault → Result ℕ StreamFault → Type 0
-IsToldOf ended told = (told ≡ ended) ⊎ ((ended ≡ Err Memory) × (told ≡ Err Write))
+-- what the end of a script adds: the opening's line, where a domain is set up and no event opened the journal
+abbrev pub closing : StageView → List ℕ
+closing Empty = []
+closing (Setting opening limit) = opening_line opening limit ++ 10 ∷ []
+closing (Open journal) = []
 
 -- what becomes of an answer that was written behind the first `begun` bytes: where a filter is refused it is taken back, and the script ends
 abbrev pub Tells : Option Unfit → ℕ → LineReply → List ℕ → List ℕ → LineReply → Type 0

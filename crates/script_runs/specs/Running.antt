@@ -6,20 +6,21 @@ use Rattle.line_protocol.specs.Runs.{Finishes, Stops}
 use Rattle.line_protocol.specs.declared.faults.StreamFault.{StreamFault}
 use Rattle.line_protocol.specs.declared.faults.StreamFault.TheVariants.{Read, Write, Memory, TooLong}
 use Rattle.script_runs.specs.Naming.{PreparedView, fresh_with}
-use Rattle.script_runs.specs.Saved.{saved_text}
+use Rattle.script_runs.specs.Saved.{saved_text, whole_text}
 use Rattle.script_runs.specs.Stopping.{AnswersStopping}
 use Rattle.script_runs.specs.declared.naming.NamedFilter.{NamedFilter}
 use Rattle.script_runs.specs.declared.naming.Unfit.{Unfit}
 
 -- A script that was started with filters was answered to its end, or to the refused line that ended it, or to the line that set up a domain
--- for which one of the filters is refused; `unfit` is that filter. What its saver got is the text of the whole history.
+-- for which one of the filters is refused; `unfit` is that filter. What its saver got is the text of the whole history, which has an opening once a
+-- domain is set up.
 -- `input` is all that the reader had, `left` what it has now; `held` and `holds` are what the writer held before and holds now, `kept`
 -- and `keeps` the same of the saver; `refused` is the number that was returned.
 pub record IsSaved (stops : Bool) (filters : List NamedFilter) (input : List ℕ) (left held holds : Option (List ℕ)) (refused : ℕ)
     (kept keeps : Option (List ℕ)) (unfit : Option Unfit) : Type 0 where
   pub after : PreparedView
   pub finishes : Finishes (AnswersStopping stops) input_limit (fresh_with filters) after input left held holds refused
-  pub saved : Appends kept keeps (saved_text after.script.stage)
+  pub saved : Appends kept keeps (whole_text after.script.stage)
   pub unfit_is : after.unfit ≡ unfit
 
 -- What a saver got of a text where a fault ended the script: all of it where the input could not be read or is too long. Of what it
@@ -30,7 +31,7 @@ IsSavedUntil TooLong kept keeps text = Appends kept keeps text
 IsSavedUntil Write kept keeps text = ⊤
 IsSavedUntil Memory kept keeps text = ⊤
 
--- A fault ended a script: its first lines are answered, and the history that they made is saved. The names are those of `IsSaved`.
+-- A fault ended a script: its first lines are answered, and the history that their events made is saved. The names are those of `IsSaved`.
 pub record IsSavedInPart (fault : StreamFault) (stops : Bool) (filters : List NamedFilter) (input : List ℕ)
     (left held holds kept keeps : Option (List ℕ)) : Type 0 where
   pub after : PreparedView

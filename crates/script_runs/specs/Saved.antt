@@ -4,7 +4,7 @@ use Rattle.std.specs.Io.KnownBytes.{Appends}
 use Rattle.history_file.specs.Text.{history_text}
 use Rattle.history_file.specs.Views.{HistoryView, entry_view}
 use Rattle.line_protocol.specs.Answers.{Answer}
-use Rattle.operator_cmds.specs.Stages.{StageView, Empty, Setting, Open}
+use Rattle.operator_cmds.specs.Stages.{StageView, Empty, Setting, Open, new_journal}
 use Rattle.route_history.specs.JournalView.{JournalView}
 use Rattle.script_runs.specs.Naming.{PreparedView}
 use Rattle.script_runs.specs.Stopping.{AnswersStopping}
@@ -13,11 +13,17 @@ use Rattle.script_runs.specs.Stopping.{AnswersStopping}
 abbrev pub history_of : JournalView → HistoryView
 history_of j = record { opening = j.opening; limit = j.limit; entries = map entry_view j.entries }
 
--- the text of a script's history: nothing before the first event, then the opening and each entry so far
+-- the text of a script's history between two lines: nothing before the first event, then the opening and each entry so far
 abbrev pub saved_text : StageView → List ℕ
 saved_text Empty = []
 saved_text (Setting opening limit) = []
 saved_text (Open journal) = history_text (history_of journal)
+
+-- the text of the history of a script that came to its end: where no event opened its journal, that of one without entries
+abbrev pub whole_text : StageView → List ℕ
+whole_text Empty = []
+whole_text (Setting opening limit) = history_text (history_of (new_journal opening limit))
+whole_text (Open journal) = history_text (history_of journal)
 
 -- a script, what its saver holds where that is known, and whether it ends at its first refused line
 pub record SavedView : Type 0 where

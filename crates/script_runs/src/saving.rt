@@ -1,16 +1,20 @@
 //! A script whose history is saved as it is made.
-ghost use Rattle.std.specs.Prelude.{◌≡◌, ◌++◌, IfErr, IfOk, IfSome, OnErr, OnOk};
+ghost use Rattle.std.specs.Prelude.{◌≡◌, ◌++◌, ◌∷◌, [], Ok, IfErr, IfOk, IfSome, MatchResult, OnErr, OnOk};
 ghost use Rattle.std.specs.Io.{StartsWith};
 ghost use Rattle.std.specs.Io.KnownBytes.{Appends};
+ghost use Rattle.history_file.specs.Text.{opening_line};
 ghost use Rattle.router_script.specs.State.{script_of};
+ghost use Rattle.script_runs.specs.Faults.{stream_of};
 ghost use Rattle.script_runs.specs.News as spec;
 ghost use Rattle.script_runs.specs.Running.{IsSaved, IsSavedInPart};
 ghost use Rattle.script_runs.specs.State.{prepared_of};
 ghost use Rattle.script_runs.specs.Stopping as stopping;
 
+use crate::fault::SavingFault;
 use crate::naming::{NamedFilter, Prepared, Unfit};
 use history_file::{write_entry, write_opening};
 use line_protocol::{LineReply, Service, StreamFault, answer_lines, write_text};
+use netchange_core::Opening;
 use operator_cmds::Watch;
 use route_history::{Journal, LARGEST_LIMIT};
 use router_script::{Script, ScriptFault};
@@ -34,6 +38,22 @@ fn push_entry_at(
     }
 }
 
+/// Adds the line of a history's opening.
+fn push_opening(
+    alloc: Global,
+    out: &mut Vec<u8>,
+    opening: &Opening,
+    limit: u32,
+) -> Result<(), AllocError>
+    ensures { OnOk result (out.new.items ≡ out.old.items ++ opening_line opening.now limit ++ 10 ∷ []) }
+{
+    // No script opens a journal with another limit.
+    if limit == 0 || limit > LARGEST_LIMIT {
+        return Err(AllocError);
+    }
+    write_opening(alloc, out, opening, limit)
+}
+
 /// Adds the next line of a journal of which so many entries are saved, and the opening's line before it where nothing is.
 fn push_next(
     alloc: Global,
@@ -46,12 +66,7 @@ fn push_next(
     match saved {
         Some(count) => push_entry_at(alloc, out, journal, count),
         None => {
-            let limit = journal.limit();
-            // No script opens a journal with another limit.
-            if limit == 0 || limit > LARGEST_LIMIT {
-                return Err(AllocError);
-            }
-            write_opening(alloc, out, journal.opening(), limit)?;
+            push_opening(alloc, out, journal.opening(), journal.limit())?;
             push_entry_at(alloc, out, journal, 0)
         }
     }
@@ -76,6 +91,31 @@ fn unsaved(alloc: Global, script: &Script, saved: Option<usize>) -> Result<Vec<u
         push_next(alloc, &mut text, journal, saved)?;
     }
     Ok(text)
+}
+
+/// What the end of a script adds to the text of its history.
+fn closing(alloc: Global, script: &Script) -> Result<Vec<u8>, AllocError>
+    ensures { IfOk result (λ text. text.items ≡ spec.closing (script_of script.now).stage) }
+{
+    let mut text = Vec::new(alloc);
+    if let Some((opening, limit)) = script.setting() {
+        push_opening(alloc, &mut text, opening, limit)?;
+    }
+    Ok(text)
+}
+
+/// Saves what the end of a script adds to its history.
+fn save_closing<V: Write>(alloc: Global, script: &Script, saver: &mut V) -> Result<(), SavingFault>
+    ensures ok { OnOk result (Appends (V.contents saver.old) (V.contents saver.new) (spec.closing (script_of script.now).stage)) }
+    ensures err { IfErr result (λ fault. stream_of fault ≡ StreamFault.Memory) }
+{
+    let Ok(text) = closing(alloc, script) else {
+        return Err(SavingFault::Stream(StreamFault::Memory));
+    };
+    match write_text(saver, text.as_slice()) {
+        Ok(()) => Ok(()),
+        Err(_) => Err(SavingFault::Saver),
+    }
 }
 
 /// A script, where its history is saved, and who watches it.
@@ -159,10 +199,17 @@ impl<'a, V: Write + Drop, S: Watch + Drop> Saving<'a, V, S> {
         }
     }
 
-    /// What is told of the end of the run, the saver, and the filter that was refused.
-    fn finish(self, ended: Result<u32, ScriptFault>) -> (Result<u32, ScriptFault>, V, Option<Unfit>)
-        ensures told { spec.IsToldOf ended result.0 }
-        ensures saver { result.1 ≡ self.entry.saver }
+    /// Saves what the end of the run adds to the history, where no fault ended it. Gives what is told of the end, the saver, and the filter
+    /// that was refused.
+    fn finish(
+        self,
+        alloc: Global,
+        ended: Result<u32, ScriptFault>,
+    ) -> (Result<u32, SavingFault>, V, Option<Unfit>)
+        ensures finished { IfOk result.0 (λ refused. (ended ≡ Ok refused)
+            × Appends (V.contents self.entry.saver) (V.contents result.1) (spec.closing (script_of self.entry.prepared.script).stage)) }
+        ensures broken_off { IfErr result.0 (λ fault. MatchResult ended (λ _. stream_of fault ≡ StreamFault.Memory)
+            (λ first. (stream_of fault ≡ first) × (result.1 ≡ self.entry.saver))) }
         ensures unfit { result.2 ≡ (prepared_of self.entry.prepared).unfit }
     {
         let Saving {
@@ -172,29 +219,38 @@ impl<'a, V: Write + Drop, S: Watch + Drop> Saving<'a, V, S> {
             watcher: _watcher,
             stops: _stops,
         } = self;
-        (told_end(ended, is_broken), saver, prepared.unfit)
+        let mut saver = saver;
+        let told = match ended {
+            Ok(refused) => match save_closing(alloc, &prepared.script, &mut saver) {
+                Ok(()) => Ok(refused),
+                Err(fault) => Err(fault),
+            },
+            Err(fault) => Err(told_fault(fault, is_broken)),
+        };
+        (told, saver, prepared.unfit)
     }
 }
 
-/// What is told of the end of a run: where the saver failed, that a write failed.
-fn told_end(ended: Result<u32, ScriptFault>, is_broken: bool) -> Result<u32, ScriptFault>
-    ensures { spec.IsToldOf ended result }
+/// What is told of a fault that ended the lines of a run. A line for which the saver failed was given up as one is for which memory is refused.
+fn told_fault(fault: ScriptFault, is_broken: bool) -> SavingFault
+    ensures { stream_of result ≡ fault }
 {
-    match ended {
-        Err(StreamFault::Memory) if is_broken => Err(StreamFault::Write),
-        _ => ended,
+    match fault {
+        StreamFault::Memory if is_broken => SavingFault::Saver,
+        _ => SavingFault::Stream(fault),
     }
 }
 
 /// Does what `run_script` does, shows each line that is refused to who watches, and saves the script's history as it is made: the
 /// opening's line when the first event opens the journal, then the line of each entry, written and flushed before the answer to its line
-/// is written. Where `stops` says so, the script ends at its first refused line: that line is answered, and none that follows. Gives
-/// the saver back.
+/// is written. Where a domain is set up and no event came, the opening's line is saved at the end, unless a fault ended the script.
+///
+/// Where `stops` says so, the script ends at its first refused line: that line is answered, and none that follows. Gives the saver back.
 ///
 /// The line that sets the domain up also verifies each of `filters` for domains of that size, in order, and gives it its name, as `load`
 /// does. At the first of them that is refused the script ends, and that line is not answered; that filter is returned.
 ///
-/// A write to the saver that fails is E2, and the line whose entry it was is not answered.
+/// Where a write to the saver fails the fault is `Saver`, and the line whose entry it was is not answered.
 pub fn run_saved_script<R: Read, W: Write, V: Write + Drop, S: Watch + Drop>(
     alloc: Global,
     reader: &mut R,
@@ -203,13 +259,13 @@ pub fn run_saved_script<R: Read, W: Write, V: Write + Drop, S: Watch + Drop>(
     watcher: S,
     filters: &[NamedFilter],
     stops: bool,
-) -> (Result<u32, ScriptFault>, V, Option<Unfit>)
+) -> (Result<u32, SavingFault>, V, Option<Unfit>)
     // The answers are those of `run_script`, up to the one that ends it, and what was saved is the text of the whole history.
     ensures finished { IfOk result.0 (λ refused. IfSome (R.remaining reader.old) (λ input.
         IsSaved stops filters.now input (R.remaining reader.new) (W.contents writer.old) (W.contents writer.new) refused
         (V.contents saver) (V.contents result.1) result.2)) }
     ensures broken_off { IfErr result.0 (λ fault. IfSome (R.remaining reader.old) (λ input.
-        IsSavedInPart fault stops filters.now input (R.remaining reader.new) (W.contents writer.old) (W.contents writer.new)
+        IsSavedInPart (stream_of fault) stops filters.now input (R.remaining reader.new) (W.contents writer.old) (W.contents writer.new)
         (V.contents saver) (V.contents result.1))) }
 {
     let mut service = Saving {
@@ -220,5 +276,5 @@ pub fn run_saved_script<R: Read, W: Write, V: Write + Drop, S: Watch + Drop>(
         stops,
     };
     let ended = answer_lines(alloc, reader, writer, &mut service);
-    service.finish(ended)
+    service.finish(alloc, ended)
 }

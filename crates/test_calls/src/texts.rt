@@ -20,6 +20,7 @@ use netchange_core::{Event, EventRefusal};
 use prefix_patterns::{Ip, Prefix, SetFault};
 use route_history::{CallFault, Journal};
 use route_session::RunFault;
+use script_runs::SavingFault;
 use slot_lock::{LockFault, TryFault};
 
 /// What is shown.
@@ -39,6 +40,7 @@ enum Shown {
     Call(CallFault),
     Lock(LockFault),
     Sessions(RunFault),
+    Saving(SavingFault),
     End(StreamEnd),
     Address(u32),
     /// The prefix of an address and a length.
@@ -62,6 +64,7 @@ fn must_show<R: Host>(rt: &R, shown: &Shown, wanted: &str) {
         Shown::Call(why) => must_read(rt, why, wanted),
         Shown::Lock(why) => must_read(rt, why, wanted),
         Shown::Sessions(why) => must_read(rt, why, wanted),
+        Shown::Saving(why) => must_read(rt, why, wanted),
         Shown::End(why) => must_read(rt, why, wanted),
         Shown::Address(address) => must_read(rt, &Ip(*address), wanted),
         Shown::Prefix(address, len) => {
@@ -72,7 +75,7 @@ fn must_show<R: Host>(rt: &R, shown: &Shown, wanted: &str) {
 }
 
 /// Each fault, some addresses and prefixes, and what is shown of them.
-const SHOWN: [(Shown, &str); 119] = [
+const SHOWN: [(Shown, &str); 121] = [
     (
         Shown::Token(TokenFault::BadCharacter(1)),
         "unexpected character at byte 1",
@@ -461,6 +464,14 @@ const SHOWN: [(Shown, &str); 119] = [
     (
         Shown::Sessions(RunFault::NotStarted),
         "a thread was not started",
+    ),
+    (
+        Shown::Saving(SavingFault::Stream(StreamFault::Write)),
+        "the output could not be written",
+    ),
+    (
+        Shown::Saving(SavingFault::Saver),
+        "the history could not be written",
     ),
     (Shown::End(StreamEnd::Ended), "the stream ended"),
     (

@@ -1,7 +1,8 @@
 -- A text was answered, and nothing was read of standard input.
 use Rattle.std.proofs.Common.{ℕ, List, Option, Some}
-use Rattle.line_protocol.specs.declared.faults.StreamFault.{StreamFault}
+use Rattle.script_runs.specs.Faults.{stream_of}
 use Rattle.script_runs.specs.Running.{IsSaved, IsSavedInPart}
+use Rattle.script_runs.specs.declared.fault.SavingFault.{SavingFault}
 use Rattle.ncroute.proofs.Taken.{answered, left_off}
 use Rattle.ncroute.proofs.guided.answer_lines.Goals as goal
 
@@ -23,6 +24,6 @@ returns-in-Text-clause-left_off g c =
     let kept = g.V.Write.contents c.args.saver in
     let keeps = g.V.Write.contents c.answer-in-Text.result.1 in
     rw (c.in-Text.is, ← c.console.view_is)
-    (left_off (λ (fault : StreamFault) (input : List ℕ) (left : Option (List ℕ)). IsSavedInPart fault c.args.how.now.stops c.args.filters.now
+    (left_off (λ (fault : SavingFault) (input : List ℕ) (left : Option (List ℕ)). IsSavedInPart (stream_of fault) c.args.how.now.stops c.args.filters.now
     input left held holds kept keeps) c.in-Text.text.now (Some c.answer-in-Text.new.reader.now)
     (g.R.Read.remaining c.console.inside.reader) c.answer-in-Text.result.0 c.answer-in-Text.ensures.left_off)
