@@ -4,6 +4,7 @@ mod Gathering
 mod Halves
 mod Planning
 mod Reading
+mod Rows
 mod Told
 mod Turning
 mod Writing
