@@ -1,7 +1,6 @@
 -- The answer to what a line asks for is the answer to the line.
 use Rattle.std.proofs.Common.{◌≡◌, ℕ, Bool, true, false, List, Result, Ok, Err, IfOk, refl, sym, subst, ◌∙◌}
 use Rattle.std.specs.Prelude.{MatchBool}
-use Rattle.line_protocol.specs.Answers.{Answer}
 use Rattle.line_protocol.specs.declared.answers.LineReply.{LineReply}
 use Rattle.operator_cmds.specs.CommandView.{CommandView}
 use Rattle.operator_cmds.specs.Commands.{Read, command_in}

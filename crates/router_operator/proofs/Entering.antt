@@ -13,7 +13,7 @@ use Rattle.operator_cmds.specs.Script.{told_of}
 use Rattle.operator_cmds.proofs.Entering.{last_reply}
 use Rattle.route_history.specs.Beginning.{Begins}
 use Rattle.route_history.specs.Calls.{entry}
-use Rattle.route_history.specs.History.{IsLegal, IsLegalFrom, world_after}
+use Rattle.route_history.specs.History.{IsLegal, IsLegalFrom}
 use Rattle.route_history.specs.declared.entry.Entry.{Entry}
 use Rattle.route_history.specs.declared.fault.CallFault.{CallFault}
 use Rattle.route_history.specs.declared.fault.CallFault.TheVariants as call_fault
