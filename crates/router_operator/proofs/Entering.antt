@@ -22,7 +22,7 @@ use Rattle.slot_lock.specs.Passes.{PassView, RouterView}
 use Rattle.slot_lock.specs.declared.answer.Answer.{Answer as CallAnswer}
 use Rattle.router_operator.specs.Looking.{AnswersCall}
 use Rattle.router_operator.specs.OperatorView.{IsAt, Names, OperatorView, journal_with}
-use Rattle.router_operator.specs.Operators.{AnswersEvent, BreaksOff, Enters}
+use Rattle.router_operator.specs.Operators.{AnswersEvent, BreaksOff, Enters, OnlyPass}
 
 -- what stands before the last entry of a legal history is legal
 legal_front : (w : World) (es more : List Entry) → IsLegalFrom w (es ++ more) → IsLegalFrom w es
@@ -42,8 +42,13 @@ begins_same xs ys e = record { rest = []; is = e ∙ sym (append-nil xs) }
 pub begins_then : {A : Type 0} (xs ys zs : List A) → Begins xs ys → Begins ys zs → Begins xs zs
 begins_then xs ys zs b c = begins_more xs ys c.rest zs b c.is
 
+-- the pass alone is another, and has as many shares
+pub keeps_shares : (before : OperatorView) (pass : PassView) → pass.fragment.shares ≡ before.pass.fragment.shares
+    → OnlyPass before (record before { pass = pass })
+keeps_shares before pass e = record { rest = refl; shares = e }
+
 module _ (before : OperatorView) (happened : Event) (a : CallAnswer) (pass : PassView)
-    (h : Answered before.router before.pass happened a pass) where
+    (shares : pass.fragment.shares ≡ before.pass.fragment.shares) (h : Answered before.router before.pass happened a pass) where
   legal : IsLegal before.router.opening (h.log ++ entry happened a.reply ∷ [])
   legal = subst (λ (es : List Entry). IsLegal before.router.opening es) h.seen h.legal
 
@@ -64,34 +69,35 @@ module _ (before : OperatorView) (happened : Event) (a : CallAnswer) (pass : Pas
     log = h.log;
     found = record { begins = h.begins; legal = legal_front (opened before.router.opening) h.log (entry happened a.reply ∷ []) legal };
     does = inl (enters answer e);
-    only = refl;
+    only = keeps_shares before pass shares;
   }
 
   pub entered_breaks : BreaksOff before (record before { pass = pass })
   entered_breaks = record {
-    only = refl;
+    only = keeps_shares before pass shares;
     begins = begins_more before.pass.fragment.seen h.log (entry happened a.reply ∷ []) pass.fragment.seen h.begins h.seen;
     mine = inr (a.at, h.mine);
   }
 
-module _ (before : OperatorView) (happened : Event) (pass : PassView) (h : IsAtLimit before.router before.pass pass) where
+module _ (before : OperatorView) (happened : Event) (pass : PassView) (shares : pass.fragment.shares ≡ before.pass.fragment.shares)
+    (h : IsAtLimit before.router before.pass pass) where
   pub full_event : (answer : Answer) → answer ≡ refused (codes "J1") before.router.limit
       → AnswersEvent before happened answer (record before { pass = pass })
   full_event answer e = record {
     log = pass.fragment.seen;
     found = record { begins = h.begins; legal = h.legal };
     does = inr (record { full = h.full; answers = e; seen = refl; mine = h.mine });
-    only = refl;
+    only = keeps_shares before pass shares;
   }
 
   pub full_breaks : BreaksOff before (record before { pass = pass })
-  full_breaks = record { only = refl; begins = h.begins; mine = inl h.mine }
+  full_breaks = record { only = keeps_shares before pass shares; begins = h.begins; mine = inl h.mine }
 
 -- a call that was refused memory
 pub failed_tries_break : (before : OperatorView) (pass : PassView) (n : ℕ) → pass ≡ pass_with_failed_tries n before.pass
     → BreaksOff before (record before { pass = pass })
 failed_tries_break before pass n e = record {
-  only = refl;
+  only = keeps_shares before pass (ap (λ (p : PassView). p.fragment.shares) e);
   begins = begins_same before.pass.fragment.seen pass.fragment.seen (ap (λ (p : PassView). p.fragment.seen) e);
   mine = inl (ap (λ (p : PassView). p.fragment.mine) e);
 }
@@ -100,35 +106,39 @@ failed_tries_break before pass n e = record {
 pub same_breaks : (before after : OperatorView) → after ≡ before → BreaksOff before after
 same_breaks before after e =
     subst (λ (o : OperatorView). BreaksOff before o) (sym e)
-    (record { only = refl; begins = begins_same before.pass.fragment.seen before.pass.fragment.seen refl; mine = inl refl })
+    (record {
+      only = keeps_shares before before.pass refl;
+      begins = begins_same before.pass.fragment.seen before.pass.fragment.seen refl;
+      mine = inl refl;
+    })
 
 -- what became of a call, and the answer to it
-module _ (before : OperatorView) (happened : Event) (pass : PassView) where
+module _ (before : OperatorView) (happened : Event) (pass : PassView) (shares : pass.fragment.shares ≡ before.pass.fragment.shares) where
   by_call : (r : Result CallAnswer CallFault) → IfOk r (λ a. Answered before.router before.pass happened a pass)
       → IfErr r (λ f. Refused f before.router before.pass pass) → (answer : Answer) → AnswersCall before.router.limit r answer
       → AnswersEvent before happened answer (record before { pass = pass })
-  by_call (Ok a) good bad answer h = entered_event before happened a pass good answer h
-  by_call (Err call_fault.Full) good bad answer h = full_event before happened pass bad answer h
+  by_call (Ok a) good bad answer h = entered_event before happened a pass shares good answer h
+  by_call (Err call_fault.Full) good bad answer h = full_event before happened pass shares bad answer h
   by_call (Err call_fault.Memory) good bad answer h = absurd h
 
   breaks_call : (r : Result CallAnswer CallFault) → IfOk r (λ a. Answered before.router before.pass happened a pass)
       → IfErr r (λ f. Refused f before.router before.pass pass) → BreaksOff before (record before { pass = pass })
-  breaks_call (Ok a) good bad = entered_breaks before happened a pass good
-  breaks_call (Err call_fault.Full) good bad = full_breaks before happened pass bad
+  breaks_call (Ok a) good bad = entered_breaks before happened a pass shares good
+  breaks_call (Err call_fault.Full) good bad = full_breaks before happened pass shares bad
   breaks_call (Err call_fault.Memory) good bad = failed_tries_break before pass bad.0 bad.1
 
 -- the same of an operator whose fields are these; `old` is how they were
 module _ (old : OperatorView) (router : RouterView) (was pass : PassView) (names : Names) (links : List ℕ) (quit : Bool) (size limit : ℕ)
     (is : record { router = router; pass = was; names = names; links = links; has_quit = quit } ≡ old) (at : IsAt router was size limit)
-    (happened : Event) (r : Result CallAnswer CallFault) (good : IfOk r (λ a. Answered router was happened a pass))
-    (bad : IfErr r (λ f. Refused f router was pass)) where
+    (happened : Event) (r : Result CallAnswer CallFault) (shares : pass.fragment.shares ≡ was.fragment.shares)
+    (good : IfOk r (λ a. Answered router was happened a pass)) (bad : IfErr r (λ f. Refused f router was pass)) where
   abbrev start : OperatorView
   start = record { router = router; pass = was; names = names; links = links; has_quit = quit }
 
   pub call_answers : (answer : Answer) → AnswersCall limit r answer → AnswersEvent old happened answer (record start { pass = pass })
   call_answers answer h =
       subst (λ (o : OperatorView). AnswersEvent o happened answer (record start { pass = pass })) is
-      (by_call start happened pass r good bad answer (subst (λ (n : ℕ). AnswersCall n r answer) at.room h))
+      (by_call start happened pass shares r good bad answer (subst (λ (n : ℕ). AnswersCall n r answer) at.room h))
 
   pub call_breaks : BreaksOff old (record start { pass = pass })
-  call_breaks = subst (λ (o : OperatorView). BreaksOff o (record start { pass = pass })) is (breaks_call start happened pass r good bad)
+  call_breaks = subst (λ (o : OperatorView). BreaksOff o (record start { pass = pass })) is (breaks_call start happened pass shares r good bad)

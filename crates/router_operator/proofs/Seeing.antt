@@ -1,5 +1,5 @@
 -- A look, and an event after it.
-use Rattle.std.proofs.Common.{◌≡◌, ℕ, Option, List, Result, IfOk, refl, subst, ap, ◌∙◌, inl}
+use Rattle.std.proofs.Common.{◌≡◌, ℕ, Option, List, Result, IfOk, subst, ap, ◌∙◌, inl}
 use Rattle.line_protocol.specs.Answers.{Answer}
 use Rattle.line_protocol.specs.declared.answers.LineReply.{LineReply}
 use Rattle.netchange_core.specs.declared.event.Event.TheVariants as event
@@ -11,15 +11,20 @@ use Rattle.slot_lock.specs.Passes.{PassView}
 use Rattle.router_operator.specs.OperatorView.{OperatorView, journal_seen}
 use Rattle.router_operator.specs.Operators.{AnswersDown, AnswersEvent, AnswersLook, BreaksOff, GrowsByOne, Looks}
 use Rattle.operator_cmds.proofs.Answering.{added}
-use Rattle.router_operator.proofs.Entering.{begins_then}
+use Rattle.router_operator.proofs.Entering.{begins_then, keeps_shares}
 
 module _ {Seer : Type 0} (sees : Seer → JournalView → Seer → Type 0) (before : OperatorView) (pass : PassView) (old new : Seer)
-    (h : Observed sees before.router before.pass old new pass) where
+    (shares : pass.fragment.shares ≡ before.pass.fragment.shares) (h : Observed sees before.router before.pass old new pass) where
   pub seen : Looks before (record before { pass = pass })
-  seen = record { found = record { begins = h.begins; legal = h.legal }; room = h.room; mine = h.mine; only = refl }
+  seen = record {
+    found = record { begins = h.begins; legal = h.legal };
+    room = h.room;
+    mine = h.mine;
+    only = keeps_shares before pass shares;
+  }
 
   pub seen_breaks : BreaksOff before (record before { pass = pass })
-  seen_breaks = record { only = refl; begins = h.begins; mine = inl h.mine }
+  seen_breaks = record { only = keeps_shares before pass shares; begins = h.begins; mine = inl h.mine }
 
 -- the answer to a look was added, unless memory was refused
 pub looked : {E : Type 0} (look : JournalView → Answer) (before after : OperatorView) (r : Result LineReply E) (old new : List ℕ)
@@ -38,7 +43,10 @@ downs node session before mid after answer looks is h =
 -- what broke off after a look
 pub breaks_after : (before mid after : OperatorView) → Looks before mid → BreaksOff mid after → BreaksOff before after
 breaks_after before mid after looks breaks = record {
-  only = breaks.only ∙ ap (λ (o : OperatorView). record o { pass = after.pass }) looks.only;
+  only = record {
+    rest = breaks.only.rest ∙ ap (λ (o : OperatorView). record o { pass = after.pass }) looks.only.rest;
+    shares = breaks.only.shares ∙ looks.only.shares;
+  };
   begins = begins_then before.pass.fragment.seen mid.pass.fragment.seen after.pass.fragment.seen looks.found.begins breaks.begins;
   mine = subst (λ (xs : List ℕ). GrowsByOne xs after.pass.fragment.mine) looks.mine breaks.mine;
 }

@@ -26,13 +26,15 @@ by_same : (before after : OperatorView) → after ≡ before → Stays before af
 by_same before after e = record {
   router = ap (λ (o : OperatorView). o.router) e;
   links = ap (λ (o : OperatorView). o.links) e;
+  shares = ap (λ (o : OperatorView). o.pass.fragment.shares) e;
   begins = begins_same before.pass.fragment.seen after.pass.fragment.seen (ap (λ (o : OperatorView). o.pass.fragment.seen) e);
 }
 
 by_pass : (before after : OperatorView) → OnlyPass before after → Begins before.pass.fragment.seen after.pass.fragment.seen → Stays before after
 by_pass before after only begins = record {
-  router = ap (λ (o : OperatorView). o.router) only;
-  links = ap (λ (o : OperatorView). o.links) only;
+  router = ap (λ (o : OperatorView). o.router) only.rest;
+  links = ap (λ (o : OperatorView). o.links) only.rest;
+  shares = only.shares;
   begins = begins;
 }
 
@@ -40,6 +42,7 @@ pub stays_then : (a b c : OperatorView) → Stays a b → Stays b c → Stays a 
 stays_then a b c p q = record {
   router = q.router ∙ p.router;
   links = q.links ∙ p.links;
+  shares = q.shares ∙ p.shares;
   begins = begins_then a.pass.fragment.seen b.pass.fragment.seen c.pass.fragment.seen p.begins q.begins;
 }
 
@@ -61,6 +64,7 @@ by_script : (before : OperatorView) (number : ℕ) (command : CommandView) (answ
 by_script before number command answer after h = record {
   router = ap (λ (o : OperatorView). o.router) h.names;
   links = ap (λ (o : OperatorView). o.links) h.names;
+  shares = ap (λ (o : OperatorView). o.pass.fragment.shares) h.names;
   begins = begins_same before.pass.fragment.seen after.pass.fragment.seen (ap (λ (o : OperatorView). o.pass.fragment.seen) h.names);
 }
 
@@ -102,6 +106,7 @@ by_quit : (before : OperatorView) (answer : Answer) (after : OperatorView) → Q
 by_quit before answer after h = record {
   router = ap (λ (o : OperatorView). o.router) h.1;
   links = ap (λ (o : OperatorView). o.links) h.1;
+  shares = ap (λ (o : OperatorView). o.pass.fragment.shares) h.1;
   begins = begins_same before.pass.fragment.seen after.pass.fragment.seen (ap (λ (o : OperatorView). o.pass.fragment.seen) h.1);
 }
 

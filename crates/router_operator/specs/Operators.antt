@@ -45,10 +45,13 @@ has_link links node = list_any (λ linked. linked == node) links
 
 -- ---- what changes
 
--- nothing but what the pass knows; nothing but the filters of names
-abbrev pub OnlyPass : OperatorView → OperatorView → Type 0
-OnlyPass before after = after ≡ record before { pass = after.pass }
+-- Nothing but what the pass knows. It has as many shares as before, so all that was split off it came back: a call that such a part made
+-- is one of the pass's own.
+pub record OnlyPass (before after : OperatorView) : Type 0 where
+  pub rest : after ≡ record before { pass = after.pass }
+  pub shares : after.pass.fragment.shares ≡ before.pass.fragment.shares
 
+-- nothing but the filters of names
 abbrev pub OnlyNames : OperatorView → OperatorView → Type 0
 OnlyNames before after = after ≡ record before { names = after.names }
 

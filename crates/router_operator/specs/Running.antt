@@ -10,10 +10,11 @@ use Rattle.router_operator.specs.Operators.{AnswersLine, BreaksOff}
 abbrev pub input_limit : ℕ
 input_limit = 4294967200
 
--- the operator is at the same router, with the same links, and what they had seen begins what they have seen now
+-- the operator is at the same router, with the same links and as many shares, and what they had seen begins what they have seen now
 pub record Stays (before after : OperatorView) : Type 0 where
   pub router : after.router ≡ before.router
   pub links : after.links ≡ before.links
+  pub shares : after.pass.fragment.shares ≡ before.pass.fragment.shares
   pub begins : Begins before.pass.fragment.seen after.pass.fragment.seen
 
 -- The operator's lines were answered to their end, or to `quit`. `input` is all that the reader had, `left` what it has now; `held`

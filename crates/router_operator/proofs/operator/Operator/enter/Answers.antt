@@ -8,5 +8,6 @@ returns-clause-ok g c =
     let i = c.self.inside in
     answers c.answer_call.result _ _ c.args.out.now.items c.answer_call.new.out.items
     (call_answers c.args.self.now i.router.now i.pass c.call-called.new.pass i.filters.entries i.links.now i.has_quit i.size i.limit
-    c.self.view_is c.self.invariant.0 c.args.event c.call-called.result c.call-called.ensures.answered c.call-called.ensures.refused)
+    c.self.view_is c.self.invariant.0 c.args.event c.call-called.result c.call-called.ensures.pass.1 c.call-called.ensures.answered
+    c.call-called.ensures.refused)
     c.answer_call.ensures.ok
