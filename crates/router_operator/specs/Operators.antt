@@ -168,7 +168,8 @@ AnswersLine before number line answer after = MatchBool (is_quit line)
 abbrev pub GrowsByOne : List ℕ → List ℕ → Type 0
 GrowsByOne old new = (new ≡ old) ⊎ ((last : ℕ) × (new ≡ old ++ last ∷ []))
 
--- a line that was refused memory may have entered its event, and changed no name
+-- A line that was refused memory may have entered an event, and no more than one; that it is the line's own is not said here. No name was
+-- changed.
 pub record BreaksOff (before after : OperatorView) : Type 0 where
   pub only : OnlyPass before after
   pub begins : Begins before.pass.fragment.seen after.pass.fragment.seen
