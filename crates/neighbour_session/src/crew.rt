@@ -39,17 +39,24 @@ pub trait Crew: Gate {
 }
 
 /// Who starts a writer for each session of a link.
+///
+/// A contract sees what a starter says of its answers. A starter that says nothing may give any.
 pub trait Starter<O: Write> {
-    ghost use Rattle.slot_lock.specs.Passes.{IsPassOf, RouterView};
+    ghost use Rattle.std.specs.Prelude.{◌≡◌, ℕ, Option, [], ⊤};
+    ghost use Rattle.slot_lock.specs.Passes.{IsPassOf, PassView, RouterView};
 
     // The router whose sessions these are.
     ghost serves: { Self → RouterView };
 
+    // What it may become, and what it may answer, when a session begins whose writer has this pass: who serves the session.
+    ghost may_begin: { Self → Self → ℕ → PassView → Option Self.Crew → Type 0 } = { λ _ _ _ _ _. ⊤ };
+
     /// Who serves the session.
     type Crew: Crew + Drop;
 
-    /// A session began, with this answer to its Up. Who writes to the neighbour begins, with the pass. None where a session is there
-    /// already, the router is being closed, or nobody can be started: then the session is over, and nobody has entered its Down.
+    /// A session began, with this answer to its Up. Who writes to the neighbour begins, with the pass, by which nothing was called. None
+    /// where a session is there already, the router is being closed, or nobody can be started: then the session is over, and nobody has
+    /// entered its Down.
     fn begin<R: Wait + Clock>(
         &mut self,
         rt: &R,
@@ -58,5 +65,7 @@ pub trait Starter<O: Write> {
         output: MessageWriter<O>,
         pass: Pass,
     ) -> Option<Self::Crew>
-        requires { IsPassOf (serves self.old) pass };
+        requires of { IsPassOf (serves self.old) pass }
+        requires fresh { pass.fragment.mine ≡ [] }
+        ensures { may_begin self.old self.new session pass result };
 }

@@ -31,7 +31,8 @@ fn serve_neighbour<R: Wait + Clock, I: Read + Drop, O: Write + Drop, S: Starter<
     requires serves { S.serves starter.old ≡ router.now }
     requires shares { 1 < pass.old.fragment.shares }
     ensures pass { StaysSound router.now pass.old pass.new }
-    ensures served { spec.IsServed S.Crew.may_be_present S.Crew.may_be_first router.now neighbour input pass.old result pass.new }
+    ensures served { spec.IsServed (S.may_begin starter.old starter.new) S.Crew.may_be_present S.Crew.may_be_first router.now
+        neighbour input pass.old result pass.new }
 {
     let (session, answer) = match enter_up(rt, router, pass, neighbour) {
         Ok(opened) => opened,
@@ -63,7 +64,8 @@ pub fn keep_session<R: Wait + Clock, I: Read + Drop, O: Write + Drop, S: Starter
     requires serves { S.serves starter.old ≡ router.now }
     ensures pass { StaysSound router.now pass.old pass.new }
     ensures greeted { (pass.new ≡ pass.old → ⊥) → spec.WasGreeted domain neighbour input output }
-    ensures keeps { spec.Keeps S.Crew.may_be_present S.Crew.may_be_first router.now domain neighbour input output pass.old result pass.new }
+    ensures keeps { spec.Keeps (S.may_begin starter.old starter.new) S.Crew.may_be_present S.Crew.may_be_first router.now
+        domain neighbour input output pass.old result pass.new }
 {
     if pass.shares() < 2 {
         return SessionEnd::NotStarted;

@@ -1,5 +1,5 @@
 -- What becomes of a link. (This project's own choice.)
-use Rattle.std.specs.Prelude.{◌≡◌, ◌⊎◌, ℕ, Bool, true, false, List, None, string_bytes, ⊤}
+use Rattle.std.specs.Prelude.{◌≡◌, ◌⊎◌, ℕ, ◌≤◌, Bool, true, false, List, None, string_bytes, ⊤}
 use Rattle.message_streams.specs.Views.{ReaderView, WriterView}
 use Rattle.neighbour_session.specs.Ending.{GoesDown}
 use Rattle.neighbour_session.specs.Greeting.{Greets}
@@ -18,11 +18,12 @@ abbrev pub IsOver : RouterView → ℕ → ReaderView → PassView → SessionEn
 IsOver r session input old why new = GoesDown r session end.NotStarted old why new ⊎ Hears (λ _. ⊤) (λ _. ⊤) r session old input why new
 
 -- A neighbour that greeted as it has to was served, by anybody: its Up was entered, what it said, and its Down. The pass of who wrote came
--- back.
+-- back, and with it the share that it had. So none is missing: no part of the pass was split off, used and let go.
 pub record ServesNeighbour (r : RouterView) (neighbour : ℕ) (input : ReaderView) (old : PassView) (why : SessionEnd) (new : PassView) : Type 0 where
   pub mid : PassView
-  pub served : IsServed {Crew = Unit {0}} (λ _ _. ⊤) (λ _ _. ⊤) r neighbour input old why mid
+  pub served : IsServed {Crew = Unit {0}} (λ _ _ _. ⊤) (λ _ _. ⊤) (λ _ _. ⊤) r neighbour input old why mid
   pub back : TakesBack mid new
+  pub shares : old.fragment.shares ≤ new.fragment.shares
 
 -- they greeted one another, and then it was served
 pub record Meets (r : RouterView) (d : Domain) (neighbour : ℕ) (input : ReaderView) (output : WriterView) (old : PassView) (why : SessionEnd)

@@ -7,7 +7,7 @@ ghost use Rattle.neighbour_session.specs.Reading.{Hears};
 use crate::closing::stay;
 use crate::crew::LinkCrew;
 use crate::folder::LinkFolder;
-use crate::naming::Ticket;
+use crate::naming::{FreshTicket, Ticket};
 use crate::room::{Order, Room};
 use crate::settling::settle;
 use crate::shared::Shared;
@@ -154,6 +154,7 @@ fn serve_begun<R: Wait + Clock, I: Read + Drop, O: Write + Drop, J: Naming, E: W
 ) -> (SessionEnd, Ticket<J>)
     requires { IsPassOf J.router pass.old }
     ensures of { IsPassOf J.router pass.new }
+    ensures shares { pass.new.fragment.shares ≡ pass.old.fragment.shares }
     ensures hears { Hears (λ _. ⊤) (λ _. ⊤) J.router order.session pass.old input result.0 pass.new }
 {
     let (node, session) = (link.files.node, order.session);
@@ -182,6 +183,7 @@ fn serve_opened<R: Wait + Clock, I: Read + Drop, O: Write + Drop, J: Naming, E: 
 ) -> (SessionEnd, Ticket<J>)
     requires { IsPassOf J.router pass.old }
     ensures of { IsPassOf J.router pass.new }
+    ensures shares { pass.new.fragment.shares ≡ pass.old.fragment.shares }
     ensures over { IsOver J.router order.session input pass.old result.0 pass.new }
 {
     if shared.signals.begin(rt, link.index, order.session, answer) {
@@ -197,7 +199,7 @@ fn serve_opened<R: Wait + Clock, I: Read + Drop, O: Write + Drop, J: Naming, E: 
         shared.signals.owe(rt, link.index, session);
     }
     shared.signals.settle(rt, link.index);
-    (why, ticket)
+    (why, Ticket::new(ticket.pass()))
 }
 
 /// Serves a neighbour whose greeting was accepted: enters its Up, has the session written, enters what it says, and enters Down when it
@@ -231,7 +233,7 @@ fn serve_neighbour<R: Wait + Clock, I: Read + Drop, O: Write + Drop, J: Naming, 
     let order = Order {
         session,
         output,
-        ticket: Ticket::new(shared.router.split(pass, 1)),
+        ticket: FreshTicket::new(shared.router.split(pass, 1)),
     };
     let (why, ticket) = serve_opened(rt, alloc, shared, room, link, input, order, &answer, pass);
     shared.router.merge(pass, ticket.pass());

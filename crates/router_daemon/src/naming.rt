@@ -1,5 +1,5 @@
 //! Passes of the one router that all threads of a program call.
-ghost use Rattle.std.specs.Prelude.{◌≡◌};
+ghost use Rattle.std.specs.Prelude.{◌≡◌, ◌≤◌, []};
 ghost use Rattle.slot_lock.specs.Passes.{IsPassOf};
 ghost use Rattle.router_daemon.specs.Passes.{IsLegalPass};
 ghost use Rattle.router_daemon.specs.Sets.{IsPassOf-prop};
@@ -28,12 +28,56 @@ impl<J: Naming> Ticket<J> {
         }
     }
 
-    /// The pass that was handed on.
+    /// The pass that was handed on. It has a share, as each pass has.
     pub(crate) fn pass(self) -> Pass
         ensures of { IsPassOf J.router result }
+        ensures some_shares { 1 ≤ result.fragment.shares }
         ensures same { result ≡ self.pass }
     {
         let Ticket { pass, .. } = self;
+        let _ = pass.shares();
+        pass
+    }
+}
+
+/// A pass of the router by which nothing was called, as threads hand it on. A contract sees it as its pass.
+#[derive(Drop)]
+pub(crate) struct FreshTicket<J: Naming> {
+    pass: Pass,
+    of: PhantomData<J>,
+}
+
+impl<J: Naming> Model for FreshTicket<J> {
+    ghost use Rattle.slot_lock.specs.Passes.{PassView};
+    ghost use Rattle.router_daemon.specs.Passes.{IsFreshPass};
+
+    ghost Value = { PassView };
+
+    ghost view = { λ t. t.pass };
+
+    ghost invariant = { λ t. IsFreshPass J.router t.pass };
+}
+
+impl<J: Naming> FreshTicket<J> {
+    /// A pass, to be handed on.
+    pub(crate) fn new(pass: Pass) -> FreshTicket<J>
+        requires of { IsPassOf J.router pass }
+        requires no_calls { pass.fragment.mine ≡ [] }
+        ensures { result ≡ pass }
+    {
+        FreshTicket {
+            pass,
+            of: PhantomData,
+        }
+    }
+
+    /// The pass that was handed on.
+    pub(crate) fn pass(self) -> Pass
+        ensures of { IsPassOf J.router result }
+        ensures no_calls { result.fragment.mine ≡ [] }
+        ensures same { result ≡ self }
+    {
+        let FreshTicket { pass, .. } = self;
         pass
     }
 }

@@ -1,18 +1,18 @@
 //! Where who reads a link and who writes to it meet.
 ghost use Rattle.std.specs.Prelude.{◌≡◌};
 
-use crate::naming::Ticket;
+use crate::naming::{FreshTicket, Ticket};
 use message_streams::MessageWriter;
 use router_operator::Naming;
 use std::io::Write;
 use std::sync::{Condvar, Mutex, Wait};
 
-/// A session whose writer is to begin: its number, the stream that is written to, and the writer's pass.
+/// A session whose writer is to begin: its number, the stream that is written to, and the writer's pass, by which nothing was called.
 #[derive(Drop)]
 pub(crate) struct Order<O: Write, J: Naming> {
     pub(crate) session: u32,
     pub(crate) output: MessageWriter<O>,
-    pub(crate) ticket: Ticket<J>,
+    pub(crate) ticket: FreshTicket<J>,
 }
 
 /// What lies there for the other one.

@@ -31,7 +31,7 @@ fn write_session<R: Wait + Clock, O: Write + Drop, J: Naming, E: Write>(
     crew: &LinkCrew<'_>,
     order: Order<O, J>,
 ) -> (Done<J>, MessageWriter<O>)
-    ensures { Serves (λ _. ⊤) (λ _. ⊤) J.router order.session order.ticket.pass order.output result.0.why result.0.ticket.pass result.1 }
+    ensures { Serves (λ _. ⊤) (λ _. ⊤) J.router order.session order.ticket order.output result.0.why result.0.ticket.pass result.1 }
 {
     let Order {
         session,
