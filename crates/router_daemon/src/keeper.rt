@@ -230,10 +230,11 @@ fn serve_neighbour<R: Wait + Clock, I: Read + Drop, O: Write + Drop, J: Naming, 
             return why;
         }
     };
+    let writing = shared.router.split(pass, 1);
     let order = Order {
         session,
         output,
-        ticket: FreshTicket::new(shared.router.split(pass, 1)),
+        ticket: FreshTicket::new(writing),
     };
     let (why, ticket) = serve_opened(rt, alloc, shared, room, link, input, order, &answer, pass);
     shared.router.merge(pass, ticket.pass());
