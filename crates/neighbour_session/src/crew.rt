@@ -13,6 +13,12 @@ pub const READER: u32 = 0;
 /// The number of the job that writes.
 pub const WRITER: u32 = 1;
 
+/// One of a crew who said that its session is over, and serves it no more.
+pub trait Leaver {
+    /// Down was entered, with this answer.
+    fn ended<R: Wait + Clock>(&mut self, rt: &R, answer: &Answer);
+}
+
 /// Who serves one session of a link: who reads it and who writes it agree whether it is there, and on who ends it. Its gate lets the
 /// writer sleep while nothing waits for the neighbour, and lets nobody go once the session is over.
 ///
@@ -26,16 +32,16 @@ pub trait Crew: Gate {
     // And when somebody ends the session: whether they are the first.
     ghost may_be_first: { Self → Bool → Type 0 } = { λ _ _. ⊤ };
 
+    /// What it is once it said that the session is over.
+    type Leaver: Leaver + Drop;
+
     /// Whether the session is there still.
     fn is_present<R: Wait + Clock>(&self, rt: &R) -> bool
         ensures { may_be_present self.now result };
 
-    /// The session is over. True for the first who says so, who enters Down.
-    fn end<R: Wait + Clock>(&self, rt: &R) -> bool
-        ensures { may_be_first self.now result };
-
-    /// Down was entered, with this answer.
-    fn ended<R: Wait + Clock>(&self, rt: &R, answer: &Answer);
+    /// The session is over. True for the first who says so, who enters Down. Nobody says so twice, nor serves the session after it.
+    fn end<R: Wait + Clock>(self, rt: &R) -> (bool, Self::Leaver)
+        ensures { may_be_first self result.0 };
 }
 
 /// Who starts a writer for each session of a link.

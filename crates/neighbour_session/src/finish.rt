@@ -5,35 +5,36 @@ ghost use Rattle.route_session.specs.Calls.{StaysSound};
 ghost use Rattle.slot_lock.specs.Passes.{IsPassOf};
 
 use crate::calls::enter_down;
-use crate::crew::Crew;
+use crate::crew::{Crew, Leaver};
 use crate::ends::SessionEnd;
 use slot_lock::{Pass, Router};
 use std::rt::Clock;
 use std::sync::Wait;
 
-/// Ends a session for a reason: enters Down, if nobody ended it before. Why it is over.
+/// Ends a session for a reason: enters Down, if nobody ended it before. Why it is over, and what is left of who served it.
 pub(crate) fn end_session<R: Wait + Clock, C: Crew>(
     rt: &R,
     router: &Router,
     pass: &mut Pass,
     session: u32,
-    crew: &C,
+    crew: C,
     why: SessionEnd,
-) -> SessionEnd
+) -> (SessionEnd, C::Leaver)
     requires { IsPassOf router.now pass.old }
     ensures pass { StaysSound router.now pass.old pass.new }
     ensures shares { pass.new.fragment.shares ≡ pass.old.fragment.shares }
-    ensures ends { Ends (C.may_be_first crew.now) router.now session why pass.old result pass.new }
+    ensures ends { Ends (C.may_be_first crew) router.now session why pass.old result.0 pass.new }
 {
-    if !crew.end(rt) {
-        return why;
+    let (is_first, mut leaver) = crew.end(rt);
+    if !is_first {
+        return (why, leaver);
     }
     match enter_down(rt, router, pass, session) {
         Ok(answer) => {
-            crew.ended(rt, &answer);
-            why
+            leaver.ended(rt, &answer);
+            (why, leaver)
         }
-        Err(fault) => fault,
+        Err(fault) => (fault, leaver),
     }
 }
 

@@ -40,7 +40,7 @@ fn serve_neighbour<R: Wait + Clock, I: Read + Drop, O: Write + Drop, S: Starter<
     };
     let writing = router.split(pass, 1);
     match starter.begin(rt, session, &answer, output, writing) {
-        Some(crew) => serve_reader::<R, I, S::Crew>(rt, router, pass, session, input, &crew),
+        Some(crew) => serve_reader::<R, I, S::Crew>(rt, router, pass, session, input, crew).0,
         None => abandon_session(rt, router, pass, session),
     }
 }

@@ -12,7 +12,7 @@ mod read;
 mod write;
 
 pub use calls::{enter_down, enter_up};
-pub use crew::{Crew, READER, Starter, WRITER};
+pub use crew::{Crew, Leaver, READER, Starter, WRITER};
 pub use ends::SessionEnd;
 pub use finish::abandon_session;
 pub use greeting::{Domain, greet};

@@ -78,20 +78,20 @@ fn read_all<S: GivenReader, R: Wait + Clock, I: Read + Drop, C: Crew>(
     unreachable!()
 }
 
-/// Reads a session until it is over, and enters Down if nobody ended it before. Why it is over.
+/// Reads a session until it is over, and enters Down if nobody ended it before. Why it is over, and what is left of who read it.
 pub fn serve_reader<R: Wait + Clock, I: Read + Drop, C: Crew>(
     rt: &R,
     router: &Router,
     pass: &mut Pass,
     session: u32,
     input: MessageReader<I>,
-    crew: &C,
-) -> SessionEnd
+    crew: C,
+) -> (SessionEnd, C::Leaver)
     requires { IsPassOf router.now pass.old }
     ensures pass { StaysSound router.now pass.old pass.new }
     ensures shares { pass.new.fragment.shares ≡ pass.old.fragment.shares }
-    ensures hears { spec.Hears (C.may_be_present crew.now) (C.may_be_first crew.now) router.now session pass.old input result pass.new }
+    ensures hears { spec.Hears (C.may_be_present crew) (C.may_be_first crew) router.now session pass.old input result.0 pass.new }
 {
-    let why = read_all::<Brand, R, I, C>(rt, router, pass, session, input, crew);
+    let why = read_all::<Brand, R, I, C>(rt, router, pass, session, input, &crew);
     end_session(rt, router, pass, session, crew, why)
 }

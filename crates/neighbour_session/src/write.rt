@@ -68,7 +68,7 @@ fn write_all<T: Target, R: Wait + Clock, O: Write + Drop, C: Crew>(
 }
 
 /// Gives a neighbour what the router queued for it, until the session is over, and enters Down if nobody ended it before. Says why it
-/// is over, and hands the stream back, which is closed by letting it go.
+/// is over, and hands back the stream, which is closed by letting it go, and what is left of who wrote.
 pub fn serve_writer<R: Wait + Clock, O: Write + Drop, C: Crew>(
     rt: &R,
     alloc: Global,
@@ -76,15 +76,16 @@ pub fn serve_writer<R: Wait + Clock, O: Write + Drop, C: Crew>(
     pass: &mut Pass,
     session: u32,
     output: MessageWriter<O>,
-    crew: &C,
-) -> (SessionEnd, MessageWriter<O>)
+    crew: C,
+) -> (SessionEnd, MessageWriter<O>, C::Leaver)
     requires { IsPassOf router.now pass.old }
     ensures pass { StaysSound router.now pass.old pass.new }
     ensures shares { pass.new.fragment.shares ≡ pass.old.fragment.shares }
-    ensures serves { spec.Serves (C.may_be_present crew.now) (C.may_be_first crew.now) router.now session pass.old output result.0 pass.new result.1 }
+    ensures serves { spec.Serves (C.may_be_present crew) (C.may_be_first crew) router.now session pass.old output result.0 pass.new result.1 }
 {
     let (why, written) = write_all::<Brand, R, O, C>(
-        rt, alloc, router, pass, session, output, crew,
+        rt, alloc, router, pass, session, output, &crew,
     );
-    (end_session(rt, router, pass, session, crew, why), written)
+    let (why, leaver) = end_session(rt, router, pass, session, crew, why);
+    (why, written, leaver)
 }

@@ -1,11 +1,10 @@
 //! Those who serve one session of a link.
 
 use crate::signals::Signals;
-use neighbour_session::{Crew, READER};
+use neighbour_session::{Crew, Leaver, READER};
 use netchange_core::Reply;
 use route_session::{Gate, MOST_TAKEN};
 use slot_lock::Answer;
-use std::cell::Cell;
 use std::rt::Clock;
 use std::sync::Wait;
 
@@ -17,10 +16,6 @@ pub(crate) struct LinkCrew<'a> {
     link: usize,
     /// The session.
     session: u32,
-    /// Whether this one ended the session, and nobody else did before.
-    ended_it: Cell<bool>,
-    /// Whether this one is to enter its Down.
-    owes_down: Cell<bool>,
 }
 
 impl<'a> LinkCrew<'a> {
@@ -30,19 +25,33 @@ impl<'a> LinkCrew<'a> {
             signals,
             link,
             session,
-            ended_it: Cell::new(false),
-            owes_down: Cell::new(false),
         }
     }
+}
 
+/// One of those who served a session of a link, once it is over for this one.
+#[derive(Drop)]
+pub(crate) struct LinkLeaver<'a> {
+    signals: &'a Signals,
+    /// The link's number.
+    link: usize,
+    /// The session.
+    session: u32,
+    /// Whether this one ended the session, and nobody else did before.
+    is_first: bool,
+    /// Whether this one is to enter its Down.
+    owes_down: bool,
+}
+
+impl<'a> LinkLeaver<'a> {
     /// Whether this one ended the session, and nobody else did before: then this one tells people why.
     pub(crate) fn ended_it(&self) -> bool {
-        self.ended_it.get()
+        self.is_first
     }
 
     /// Notes, when this one is done, whether the Down that it was to enter was refused.
     pub(crate) fn note_owed<R: Wait>(&self, rt: &R) {
-        if self.owes_down.get() {
+        if self.owes_down {
             self.signals.owe(rt, self.link, self.session);
             self.signals.settle(rt, self.link);
         }
@@ -88,21 +97,35 @@ impl<'a> Gate for LinkCrew<'a> {
     }
 }
 
+impl<'a> Leaver for LinkLeaver<'a> {
+    fn ended<R: Wait + Clock>(&mut self, rt: &R, answer: &Answer) {
+        self.owes_down = false;
+        self.signals.note(rt, answer);
+        self.signals.settle(rt, self.link);
+    }
+}
+
 impl<'a> Crew for LinkCrew<'a> {
+    type Leaver = LinkLeaver<'a>;
+
     fn is_present<R: Wait + Clock>(&self, rt: &R) -> bool {
         self.signals.session(rt, self.link) == Some(self.session)
     }
 
-    fn end<R: Wait + Clock>(&self, rt: &R) -> bool {
-        let is_first = self.signals.end(rt, self.link, self.session);
-        self.ended_it.set(is_first);
-        self.owes_down.set(is_first);
-        is_first
-    }
-
-    fn ended<R: Wait + Clock>(&self, rt: &R, answer: &Answer) {
-        self.owes_down.set(false);
-        self.signals.note(rt, answer);
-        self.signals.settle(rt, self.link);
+    fn end<R: Wait + Clock>(self, rt: &R) -> (bool, LinkLeaver<'a>) {
+        let LinkCrew {
+            signals,
+            link,
+            session,
+        } = self;
+        let is_first = signals.end(rt, link, session);
+        let leaver = LinkLeaver {
+            signals,
+            link,
+            session,
+            is_first,
+            owes_down: is_first,
+        };
+        (is_first, leaver)
     }
 }

@@ -160,9 +160,9 @@ fn serve_begun<R: Wait + Clock, I: Read + Drop, O: Write + Drop, J: Naming, E: W
     let (node, session) = (link.files.node, order.session);
     room.put_order(rt, order);
     let crew = LinkCrew::new(&shared.signals, link.index, session);
-    let why = serve_reader(rt, &shared.router, pass, session, input, &crew);
-    crew.note_owed(rt);
-    if crew.ended_it() {
+    let (why, leaver) = serve_reader(rt, &shared.router, pass, session, input, crew);
+    leaver.note_owed(rt);
+    if leaver.ended_it() {
         tell_unless_closed(rt, alloc, shared, node, why);
     }
     (why, room.await_done(rt))

@@ -2,7 +2,7 @@
 ghost use Rattle.neighbour_session.specs.Writing.{Serves};
 ghost use Rattle.std.specs.Prelude.{⊤};
 
-use crate::crew::LinkCrew;
+use crate::crew::{LinkCrew, LinkLeaver};
 use crate::keeper::tell_unless_closed;
 use crate::naming::Ticket;
 use crate::room::{Order, Room};
@@ -16,21 +16,22 @@ use std::io::Write;
 use std::rt::Clock;
 use std::sync::{Arc, Wait};
 
-/// A session that was written: why it is over, and the writer's pass.
+/// A session that was written: why it is over, what is left of who wrote it, and the writer's pass.
 #[derive(Drop)]
-struct Done<J: Naming> {
+struct Done<'a, J: Naming> {
     why: SessionEnd,
+    leaver: LinkLeaver<'a>,
     ticket: Ticket<J>,
 }
 
 /// Writes one session, until it is over, and hands its stream back.
-fn write_session<R: Wait + Clock, O: Write + Drop, J: Naming, E: Write>(
+fn write_session<'a, R: Wait + Clock, O: Write + Drop, J: Naming, E: Write>(
     rt: &R,
     alloc: Global,
     shared: &Shared<J, E>,
-    crew: &LinkCrew<'_>,
+    crew: LinkCrew<'a>,
     order: Order<O, J>,
-) -> (Done<J>, MessageWriter<O>)
+) -> (Done<'a, J>, MessageWriter<O>)
     ensures { Serves (λ _. ⊤) (λ _. ⊤) J.router order.session order.ticket order.output result.0.why result.0.ticket.pass result.1 }
 {
     let Order {
@@ -39,9 +40,22 @@ fn write_session<R: Wait + Clock, O: Write + Drop, J: Naming, E: Write>(
         ticket,
     } = order;
     let mut pass = ticket.pass();
-    let (why, written) = serve_writer(rt, alloc, &shared.router, &mut pass, session, output, crew);
+    let (why, written, leaver) = serve_writer(
+        rt,
+        alloc,
+        &shared.router,
+        &mut pass,
+        session,
+        output,
+        crew,
+    );
     let ticket = Ticket::new(pass);
-    (Done { why, ticket }, written)
+    let done = Done {
+        why,
+        leaver,
+        ticket,
+    };
+    (done, written)
 }
 
 /// Writes the sessions of a link to a node, one after another, as they are ordered. The stream of each is closed before people are told why
@@ -57,13 +71,18 @@ pub(crate) fn write_link<R: Wait + Clock + Drop, O: Write + Drop, J: Naming, E: 
     for _ in rt.forever() {
         let order = room.await_order(&rt);
         let crew = LinkCrew::new(&shared.signals, link, order.session);
-        let (done, written) = write_session(&rt, alloc, &shared, &crew, order);
-        crew.note_owed(&rt);
+        let (done, written) = write_session(&rt, alloc, &shared, crew, order);
+        let Done {
+            why,
+            leaver,
+            ticket,
+        } = done;
+        leaver.note_owed(&rt);
         drop(written);
-        if crew.ended_it() {
-            tell_unless_closed(&rt, alloc, &shared, node, done.why);
+        if leaver.ended_it() {
+            tell_unless_closed(&rt, alloc, &shared, node, why);
         }
-        let mut pass = done.ticket.pass();
+        let mut pass = ticket.pass();
         settle(&rt, &shared, &mut pass, link);
         room.put_done(&rt, Ticket::new(pass));
     }
