@@ -48,7 +48,7 @@ further text at from len to parts within fits cut =
 -- the next token: space and comments before it, and the tokens behind it
 pub record IsNextToken (text : List ℕ) (at : ℕ) (token : Token) (tokens : List Token) (from to : ℕ) : Type 0 where
   pub between : IsGapBetween text (at + from) (at + token.from)
-  pub is : IsToken (drop (at + token.from) text) token.kind (token.to - token.from)
+  pub is : IsToken (drop (at + token.from) text) token.word (token.to - token.from)
   pub later : AreTokensIn text at tokens token.to to
 
 -- space or a comment before others
@@ -80,7 +80,7 @@ next_token_among text at token tokens from to (part.Gap len ∷ parts) cut same 
 next_token_among text at token tokens from to (part.Token kind len ∷ parts) cut same within =
     let bounds = part-bounds (drop (at + from) text) (part.Token kind len) cut.0 in
     let there = moved text (drop to text) at from len parts cut.1 in
-    let this : Token = record { kind = kind; from = from; to = from + len } in
+    let this : Token = record { word = kind; from = from; to = from + len } in
     let first : token ≡ this = cc in
     let others : tokens ≡ tokens_among parts (from + len) = cc in
     let bytes : from + len - from ≡ len = omega arith in

@@ -94,7 +94,7 @@ word_of text tokens words name k t alike is spelled =
     let same = alike.0 in
     let at = there words k (omega (arith, below, same)) in
     let word = alike.1 k t at.0 is at.1 in
-    let named = name_of _ name t.kind spelled in
+    let named = name_of _ name t.word spelled in
     (ap kind_of_word at.1 ∙ word.alike ∙ ap kind_of named.0, ap bytes_of_word at.1 ∙ word.bytes ∙ named.1)
 
 -- a filter that was written for words has its variables among them

@@ -45,19 +45,19 @@ add_made text kind behind from to words word made has gap stands =
 
 -- a token is added
 pub add_token : (text : List ℕ) (at from behind to : ℕ) (words : List Word) (word : Word) (token : Token) (tokens : List Token)
-    → behind ≡ at + from → IsMade text (kind_of token.kind) behind (at + token.from) (at + token.to) word
+    → behind ≡ at + from → IsMade text (kind_of token.word) behind (at + token.from) (at + token.to) word
     → AreTokensIn text at (token ∷ tokens) from to → HasWords text 0 words behind
     → HasWords text 0 (words ++ word ∷ []) (at + token.to) × AreTokensIn text at tokens token.to to
 add_token text at from behind to words word token tokens begin made here has =
     let next = next_token text at token tokens from to here in
-    let len = made_length text (kind_of token.kind) behind (at + token.from) (at + token.to) word made in
+    let len = made_length text (kind_of token.word) behind (at + token.from) (at + token.to) word made in
     let same : token.to - token.from ≡ length word.bytes.now = omega (arith, len) in
-    let there : IsToken (drop word.at text) token.kind (length word.bytes.now) =
-    subst (λ n. IsToken (drop n text) token.kind (length word.bytes.now)) (sym made.at)
-    (subst (λ n. IsToken (drop (at + token.from) text) token.kind n) same next.is) in
+    let there : IsToken (drop word.at text) token.word (length word.bytes.now) =
+    subst (λ n. IsToken (drop n text) token.word (length word.bytes.now)) (sym made.at)
+    (subst (λ n. IsToken (drop (at + token.from) text) token.word n) same next.is) in
     let between : IsGapBetween text behind (at + token.from) =
     subst (λ n. IsGapBetween text n (at + token.from)) (sym begin) next.between in (
-      add_made text (kind_of token.kind) behind (at + token.from) (at + token.to) words word made has between
-          (inl (token.kind, made.of_kind, there)),
+      add_made text (kind_of token.word) behind (at + token.from) (at + token.to) words word made has between
+          (inl (token.word, made.of_kind, there)),
       next.later,
     )

@@ -26,7 +26,7 @@ pub record LiesIn (length : ℕ) (token : Token) : Type 0 where
 
 -- a token of a text is a word: it is of the word's kind, and has its bytes
 pub record IsSpelled (text : List ℕ) (token : Token) (word : Word) : Type 0 where
-  pub alike : word.kind ≡ kind_of token.kind
+  pub alike : word.kind ≡ kind_of token.word
   pub bytes : word.bytes.now ≡ covered text token
 
 -- A text is written for some words: it spells a filter, and its tokens are these words, one by one.

@@ -149,7 +149,7 @@ fn push_tokens<'a>(
     let mut behind = at;
     for token in tokens {
         let to = at + token.to;
-        words.push(word_between(text, WordKind::of(token.kind), behind, at + token.from, to))?;
+        words.push(word_between(text, WordKind::of(token.word), behind, at + token.from, to))?;
         behind = to;
     }
     Ok(behind)

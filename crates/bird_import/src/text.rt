@@ -10,7 +10,7 @@ ghost use Rattle.bird_import.specs.Texts.{Fated};
 
 use crate::unset::first_unset;
 use crate::word::{Word, WordKind, is_named_at};
-use filter_parser::{ParseFault, Unparsed, parse};
+use filter_parser::{ParseFault, Unparsed, parse_told};
 use filter_tokens::Token;
 use std::alloc::{AllocError, Global};
 
@@ -106,7 +106,7 @@ fn is_word(text: &[u8], token: &Token, word: &Word<'_>) -> bool
     requires { LiesIn (length text.now) token.now }
     ensures { IsTrue result ↔ IsSpelled text.now token.now word.now }
 {
-    word.kind == WordKind::of(token.kind) && word.bytes == &text[token.from..token.to]
+    word.kind == WordKind::of(token.word) && word.bytes == &text[token.from..token.to]
 }
 
 /// Whether the tokens of a text are these words.
@@ -164,7 +164,7 @@ fn index_of_name(tokens: &[Token], words: &[Word<'_>], name: &[u8], byte: usize)
 fn judge(alloc: Global, text: &[u8], words: &[Word<'_>]) -> Result<Fate, AllocError>
     ensures { IfOk result (Fated words.now text.now) }
 {
-    let filter = match parse(alloc, text) {
+    let filter = match parse_told(alloc, text) {
         Ok(filter) => filter,
         Err(why) => return fate_of(why),
     };

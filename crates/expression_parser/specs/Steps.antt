@@ -105,7 +105,7 @@ unexpected_token _ at wanted = fault.Unexpected at wanted
 -- what is wrong at the first of the tokens that are left
 abbrev pub unexpected_of : ParseFault → List Token → Expected → ParseFault
 unexpected_of none [] wanted = none
-unexpected_of none (token ∷ tokens) wanted = unexpected_token token.kind token.from wanted
+unexpected_of none (token ∷ tokens) wanted = unexpected_token token.word token.from wanted
 
 abbrev pub unexpected : Input → Expected → ParseFault
 unexpected i wanted = unexpected_of (end_fault_of (length i.source.now.text.now) i.source.now.end) i.tokens.now wanted

@@ -30,7 +30,7 @@ fn parse_attribute<'a>(input: Input<'a>) -> Result<(Attribute, Input<'a>), Parse
     let Some((first, rest)) = input.next() else {
         return Err(input.unexpected(Expected::Attribute));
     };
-    let TokenKind::Symbol(symbol) = first.kind else {
+    let TokenKind::Symbol(symbol) = first.word else {
         return Err(input.unexpected(Expected::Attribute));
     };
     match attribute_of(symbol) {
@@ -71,7 +71,7 @@ fn parse_single<'a>(alloc: Global, input: Input<'a>) -> Result<(Expr, Input<'a>)
         return Err(input.unexpected(Expected::Operand));
     };
     let at = first.from;
-    match &first.kind {
+    match &first.word {
         TokenKind::Number(n) => Ok((Expr::Number(at, *n), rest)),
         TokenKind::Address(ip) => Ok((Expr::Address(at, *ip), rest)),
         TokenKind::Prefix { prefix, .. } => Ok((Expr::Prefix(at, *prefix), rest)),

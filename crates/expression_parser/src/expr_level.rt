@@ -119,7 +119,7 @@ pub fn eat_operator<'a>(level: Level, input: Input<'a>) -> Option<(Op, Input<'a>
     ensures within { IfSome result (λ x. Follows input.entry x.1) }
 {
     let (first, rest) = input.next()?;
-    match &first.kind {
+    match &first.word {
         TokenKind::Symbol(symbol) => match op_of(level, *symbol) {
             Some(op) => Some((op, rest)),
             None => None,
@@ -134,7 +134,7 @@ fn first_level(input: Input) -> Option<Level>
     ensures { (level : Level) → result ≢ Some level → spec.an_operator level (remaining input.entry) ≡ None }
 {
     let (first, _) = input.next()?;
-    match &first.kind {
+    match &first.word {
         TokenKind::Symbol(symbol) => match operator_of(*symbol) {
             Some(op) => Some(level_of(op)),
             None => None,

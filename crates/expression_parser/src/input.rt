@@ -34,7 +34,7 @@ pub struct Input<'a> {
 fn is_symbol(token: &Token, text: &[u8], symbol: Symbol) -> bool
     ensures { result ≡ readers.is_symbol symbol (lexemes.lexeme text.now token.now) }
 {
-    match &token.kind {
+    match &token.word {
         TokenKind::Symbol(found) => symbol == *found,
         _ => false,
     }
@@ -91,7 +91,7 @@ impl<'a> Input<'a> {
     {
         match self.tokens.first() {
             None => self.end_fault(),
-            Some(token) => match &token.kind {
+            Some(token) => match &token.word {
                 TokenKind::Text => ParseFault::TextElsewhere(token.from),
                 _ => ParseFault::Unexpected(token.from, expected),
             },
@@ -135,7 +135,7 @@ impl<'a> Input<'a> {
         ensures within { IfSome result (Follows self.entry) }
     {
         let (first, rest) = self.next()?;
-        match &first.kind {
+        match &first.word {
             TokenKind::Text => Some(rest),
             _ => None,
         }
@@ -149,7 +149,7 @@ impl<'a> Input<'a> {
         ensures within { IfSome result (Follows self.entry) }
     {
         let (first, rest) = self.next()?;
-        match &first.kind {
+        match &first.word {
             TokenKind::Name => if self.covered(first) == word {
                 Some(rest)
             } else {
@@ -167,7 +167,7 @@ impl<'a> Input<'a> {
         ensures within { IfSome result (λ x. Follows self.entry x.1) }
     {
         let (first, rest) = self.next()?;
-        match &first.kind {
+        match &first.word {
             TokenKind::Number(n) => Some((*n, rest)),
             _ => None,
         }
@@ -184,7 +184,7 @@ impl<'a> Input<'a> {
         let Some((first, rest)) = self.next() else {
             return Err(self.unexpected(Expected::Number));
         };
-        match &first.kind {
+        match &first.word {
             TokenKind::Number(n) => Ok((*n, rest)),
             _ => Err(self.unexpected(Expected::Number)),
         }
@@ -202,7 +202,7 @@ impl<'a> Input<'a> {
         let Some((first, rest)) = self.next() else {
             return Err(self.unexpected(Expected::Prefix));
         };
-        match &first.kind {
+        match &first.word {
             TokenKind::Prefix { prefix, .. } => Ok((*prefix, rest)),
             _ => Err(self.unexpected(Expected::Prefix)),
         }

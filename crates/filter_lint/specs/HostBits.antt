@@ -14,7 +14,7 @@ of_kind token (kind.Prefix true prefix) = Some (record { token = token; prefix =
 of_kind token other = None
 
 abbrev pub host_bits_of : Token → Option HostBits
-host_bits_of token = of_kind token token.kind
+host_bits_of token = of_kind token token.word
 
 -- these among the tokens, in order
 abbrev pub among : List Token → List HostBits

@@ -30,7 +30,7 @@ pub(crate) fn bytes_of<'a>(text: &'a [u8], token: &Token) -> &'a [u8]
 fn host_bits_of(token: &Token) -> Option<HostBits>
     ensures { result ≡ spec.host_bits_of token.now }
 {
-    match token.kind {
+    match token.word {
         TokenKind::Prefix {
             has_host_bits: true,
             prefix,

@@ -15,9 +15,9 @@ use Rattle.filter_parser.specs.SyntaxText.{FilterView, IsText}
 -- the tokens of `filter a{accept;}`
 abbrev tokens : List Token
 tokens =
-    record { kind = kind.Symbol symbol.Filter; from = 0; to = 6 } ∷ record { kind = kind.Name; from = 7; to = 8 }
-    ∷ record { kind = kind.Symbol symbol.LeftBrace; from = 8; to = 9 } ∷ record { kind = kind.Symbol symbol.Accept; from = 9; to = 15 }
-    ∷ record { kind = kind.Symbol symbol.Semicolon; from = 15; to = 16 } ∷ record { kind = kind.Symbol symbol.RightBrace; from = 16; to = 17 } ∷ []
+    record { word = kind.Symbol symbol.Filter; from = 0; to = 6 } ∷ record { word = kind.Name; from = 7; to = 8 }
+    ∷ record { word = kind.Symbol symbol.LeftBrace; from = 8; to = 9 } ∷ record { word = kind.Symbol symbol.Accept; from = 9; to = 15 }
+    ∷ record { word = kind.Symbol symbol.Semicolon; from = 15; to = 16 } ∷ record { word = kind.Symbol symbol.RightBrace; from = 16; to = 17 } ∷ []
 
 cut : IsTokenization tokens 0 (codes "filter a{accept;}")
 unfolding part_in gap_len token_in longest_shape punctuator_shape punctuator_in word_in keyword_in is_left_out

@@ -23,7 +23,7 @@ named other token = None
 -- where the last of the tokens begins that end at a byte or before it, if it is a name; where there are none, what was found before
 abbrev pub name_before : ℕ → Option ℕ → List Token → Option ℕ
 name_before at found [] = found
-name_before at found (token ∷ tokens) = name_before at (if nat_le token.to at then named token.kind token else found) tokens
+name_before at found (token ∷ tokens) = name_before at (if nat_le token.to at then named token.word token else found) tokens
 
 -- a missing `=` at a byte, by the name before it
 abbrev pub missing_at : ℕ → Option ℕ → ParseFault

@@ -53,7 +53,7 @@ with_name names place =
 abbrev pub names_from : Names → Bool → List Token → Names
 names_from names after [] = names
 names_from names after (token ∷ tokens) =
-    names_from (if after && is_name token.kind then with_name names token.from else names) (is_kind token.kind) tokens
+    names_from (if after && is_name token.word then with_name names token.from else names) (is_kind token.word) tokens
 
 abbrev pub names_in : List Token → Names
 names_in tokens = names_from no_names false tokens

@@ -160,7 +160,7 @@ fn begins_command(input: Input) -> bool
     let Some((first, _)) = input.next() else {
         return false;
     };
-    match &first.kind {
+    match &first.word {
         TokenKind::Name => true,
         TokenKind::Symbol(symbol) => symbol_begins(*symbol),
         _ => false,
@@ -360,7 +360,7 @@ pub fn parse_command<'a>(
     let Some((first, rest)) = input.next() else {
         return Err(other);
     };
-    match &first.kind {
+    match &first.word {
         TokenKind::Name => parse_variable_assignment(alloc, depth, input, first, rest),
         TokenKind::Symbol(symbol) => parse_command_by(
             alloc, depth, *symbol, first.from, other, rest,

@@ -33,7 +33,7 @@ fn eat_kind<'a>(input: Input<'a>) -> Option<(Kind, Input<'a>)>
     ensures within { IfSome result (λ x. Follows input.entry x.1) }
 {
     let (first, rest) = input.next()?;
-    let TokenKind::Symbol(symbol) = first.kind else {
+    let TokenKind::Symbol(symbol) = first.word else {
         return None;
     };
     match kind_of(symbol) {
@@ -55,7 +55,7 @@ pub fn parse_name<'a>(
     let Some((first, rest)) = input.next() else {
         return Err(input.unexpected(Expected::Name));
     };
-    match &first.kind {
+    match &first.word {
         TokenKind::Name => Ok((first.from, input.bytes(alloc, first)?, rest)),
         _ => Err(input.unexpected(Expected::Name)),
     }

@@ -7,9 +7,9 @@ use filter_tokens::{Token, TokenKind};
 
 /// Where a token begins, if it is a name.
 fn named(token: &Token) -> Option<usize>
-    ensures { result ≡ named token.now.kind token.now }
+    ensures { result ≡ named token.now.word token.now }
 {
-    match token.kind {
+    match token.word {
         TokenKind::Name => Some(token.from),
         _ => None,
     }

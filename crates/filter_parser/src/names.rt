@@ -69,10 +69,10 @@ pub(crate) fn names_in(tokens: &[Token]) -> Names
     let mut names = Names::none();
     let mut is_declared = false;
     for token in tokens {
-        if is_declared && is_name(token.kind) {
+        if is_declared && is_name(token.word) {
             names.push(token.from);
         }
-        is_declared = is_kind(token.kind);
+        is_declared = is_kind(token.word);
     }
     names
 }

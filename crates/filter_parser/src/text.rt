@@ -66,11 +66,8 @@ fn filter_of_tokens(
     }
 }
 
-/// The filter that a text spells.
-///
-/// A text that spells none is refused with its first fault. Each token has the place of its first byte and the place after
-/// its last one, and the tokens are in order.
-pub fn parse(alloc: Global, text: &[u8]) -> Result<Filter, Unparsed>
+/// The filter that a text spells, or its first fault and what stands round the place: what [`parse`] answers, with more to tell people.
+pub fn parse_told(alloc: Global, text: &[u8]) -> Result<Filter, Unparsed>
     // The text spells the filter that is answered.
     ensures found { IfOk result (λ f. IsText text.now (view_filter f)) }
     // It spells no other.
@@ -98,4 +95,31 @@ pub fn parse(alloc: Global, text: &[u8]) -> Result<Filter, Unparsed>
     }
     let Lexed { tokens, fault } = lex(alloc, text)?;
     filter_of_tokens(alloc, text, tokens, fault)
+}
+
+/// The filter that a text spells.
+///
+/// A text that spells none is refused with its first fault. Each token has the place of its first byte and the place after
+/// its last one, and the tokens are in order.
+pub fn parse(alloc: Global, text: &[u8]) -> Result<Filter, ParseFault>
+    // The text spells the filter that is answered.
+    ensures found { IfOk result (λ f. IsText text.now (view_filter f)) }
+    // It spells no other.
+    ensures unique { IfOk result (λ f. (t : FilterView) → IsText text.now t → t ≡ view_filter f) }
+    // A text that is refused spells no filter, unless memory ran out.
+    ensures refused { IfErr result (λ e. e ≢ Memory → (t : FilterView) → IsText text.now t → ⊥) }
+    // The tokens are in the order of the text.
+    ensures spans { IfOk result (λ f. AreInOrder 0 (view_filter f).tokens (length text.now)) }
+    // Each part of the tree has the place of its own token.
+    ensures placed { IfOk result (λ f. IsPlaced text.now f) }
+    // A fault is at a byte of the text, or at its end.
+    ensures within { IfErr result (λ e. LiesWithin (length text.now) e) }
+    // P7 is the answer if and only if the text is over the limit.
+    ensures long { text_limit < length text.now → IsErrOf result TooLong }
+    ensures short { length text.now ≤ text_limit → IfErr result (λ e. e ≢ TooLong) }
+{
+    match parse_told(alloc, text) {
+        Ok(filter) => Ok(filter),
+        Err(unparsed) => Err(unparsed.fault),
+    }
 }

@@ -86,6 +86,6 @@ lexemes_small whole [] at text cut = tt
 lexemes_small whole (part.Gap len ∷ parts) at text cut = lexemes_small whole parts (at + len) (drop len text) cut.1
 lexemes_small whole (part.Token kind len ∷ parts) at text cut =
     let is = cut.0 in (
-      lexeme_small is.shape (take len text) (covered whole (record { kind = kind; from = at; to = at + len })) kind is.means,
+      lexeme_small is.shape (take len text) (covered whole (record { word = kind; from = at; to = at + len })) kind is.means,
       lexemes_small whole parts (at + len) (drop len text) cut.1,
     )

@@ -18,7 +18,7 @@ pub(crate) fn is_kind(kind: TokenKind) -> bool {
 /// Whether a token is a name.
 pub(crate) fn is_name(token: Option<Token>) -> bool {
     match token {
-        Some(token) => token.kind == TokenKind::Name,
+        Some(token) => token.word == TokenKind::Name,
         None => false,
     }
 }
@@ -31,7 +31,7 @@ pub(crate) fn is_number(kind: TokenKind) -> bool {
 /// Whether a token is this keyword or punctuator.
 pub(crate) fn is_symbol(token: Option<Token>, symbol: Symbol) -> bool {
     match token {
-        Some(token) => token.kind == TokenKind::Symbol(symbol),
+        Some(token) => token.word == TokenKind::Symbol(symbol),
         None => false,
     }
 }
@@ -59,7 +59,7 @@ pub(crate) fn character_at(text: &[u8], at: usize) -> Option<&str> {
 /// The name that a token of a text is, if it is one.
 pub(crate) fn name_of(text: &[u8], token: Option<Token>) -> Option<&str> {
     match token {
-        Some(token) if token.kind == TokenKind::Name => quoted(text, token.from, token.to),
+        Some(token) if token.word == TokenKind::Name => quoted(text, token.from, token.to),
         _ => None,
     }
 }

@@ -48,7 +48,7 @@ pub(crate) fn in_place_of_character(rest: &[u8]) -> Option<&'static str> {
 /// Whether a token is the name of a kind.
 fn begins_declaration(token: Option<Token>) -> bool {
     match token {
-        Some(token) => is_kind(token.kind),
+        Some(token) => is_kind(token.word),
         None => false,
     }
 }

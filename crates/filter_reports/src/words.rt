@@ -159,7 +159,7 @@ fn found_words(alloc: Global, text: &[u8], found: Option<Token>) -> Result<Strin
         return Ok(String::new(alloc));
     };
     match quoted(text, token.from, token.to) {
-        Some(spelled) => piece_words(alloc, token.kind, spelled),
+        Some(spelled) => piece_words(alloc, token.word, spelled),
         None => Ok(String::new(alloc)),
     }
 }
@@ -220,7 +220,7 @@ fn is_short_member(text: &[u8], expected: Expected, last: Option<Token>) -> bool
     match last {
         Some(token) => {
             expected == Expected::CommaOrBracket
-                && is_number(token.kind)
+                && is_number(token.word)
                 && is_short_prefix(text, token.from)
         }
         None => false,
@@ -252,7 +252,7 @@ fn is_in_capitals(alloc: Global, name: &str, variables: &[&str]) -> Result<bool,
     let lower = name.to_ascii_lowercase(alloc)?;
     let lexed = lex(alloc, lower.as_bytes())?;
     match lexed.tokens.first() {
-        Some(token) => Ok(token.kind != TokenKind::Name),
+        Some(token) => Ok(token.word != TokenKind::Name),
         None => Ok(false),
     }
 }

@@ -21,9 +21,9 @@ use crate::refusal::Refusal;
 use code_file::{read_code, write_code, write_old};
 use filter_code::Code;
 use filter_compiler::{MappedCode, compile_mapped};
-use filter_parser::parse;
+use filter_parser::parse_told;
 use filter_tokens::Token;
-use filter_types::check;
+use filter_types::check_told;
 use filter_verifier::{Range, Unverified, Verified, VerifyFault, verify_or_tell};
 use std::alloc::Global;
 
@@ -61,8 +61,8 @@ pub fn compile_text_mapped(alloc: Global, text: &[u8]) -> Result<CompiledSource,
     ensures refused { IfErr result (OnRefusal (spec.IsRefusedText text.now)) }
     ensures told { IfErr result (OnDiagnosis (TellsOfText text.now)) }
 {
-    let filter = parse(alloc, text)?;
-    let typed = check(alloc, filter)?;
+    let filter = parse_told(alloc, text)?;
+    let typed = check_told(alloc, filter)?;
     let MappedCode { code, places } = compile_mapped(alloc, &typed)?;
     let filter = typed.into_filter();
     Ok(CompiledSource {

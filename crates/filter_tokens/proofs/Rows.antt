@@ -31,16 +31,16 @@ none_cut : (text : List ℕ) → part_in text ≡ None → 0 < length text → (
 none_cut text e some tokens cuts = lexes-stopped text [] 0 text (lexes-start text) e some tokens cuts
 
 -- `!=` is one punctuator
-not_equal : IsTokenization (record { kind = kind.Name; from = 0; to = 1 } ∷ record { kind = kind.Symbol symbol.NotEqual; from = 1; to = 3 }
-    ∷ record { kind = kind.Name; from = 3; to = 4 } ∷ []) 0 (codes "a!=b")
+not_equal : IsTokenization (record { word = kind.Name; from = 0; to = 1 } ∷ record { word = kind.Symbol symbol.NotEqual; from = 1; to = 3 }
+    ∷ record { word = kind.Name; from = 3; to = 4 } ∷ []) 0 (codes "a!=b")
 unfolding part_in gap_len token_in longest_shape punctuator_shape punctuator_in word_in keyword_in is_left_out
 not_equal =
     let parts = part.Token kind.Name 1 ∷ part.Token (kind.Symbol symbol.NotEqual) 2 ∷ part.Token kind.Name 1 ∷ [] in
     record { parts = parts; cut = are_parts parts (codes "a!=b") (refl, (refl, (refl, refl))); among = refl }
 
 -- a dot between numbers parts them, and a hexadecimal number goes on as far as its digits do
-dot_between : IsTokenization (record { kind = kind.Number 1; from = 0; to = 1 } ∷ record { kind = kind.Symbol symbol.Dot; from = 1; to = 2 }
-    ∷ record { kind = kind.Number 255; from = 2; to = 6 } ∷ []) 0 (codes "1.0xfF")
+dot_between : IsTokenization (record { word = kind.Number 1; from = 0; to = 1 } ∷ record { word = kind.Symbol symbol.Dot; from = 1; to = 2 }
+    ∷ record { word = kind.Number 255; from = 2; to = 6 } ∷ []) 0 (codes "1.0xfF")
 unfolding part_in gap_len token_in longest_shape digits_shape after_prefix after_address after_digits after_hexadecimal punctuator_shape
     punctuator_in number_in decimal_value hexadecimal_in hexadecimal_from
 dot_between =
@@ -48,9 +48,9 @@ dot_between =
     record { parts = parts; cut = are_parts parts (codes "1.0xfF") (refl, (refl, (refl, refl))); among = refl }
 
 -- a range of numbers, its colon and the keyword of cases
-range_label : IsTokenization (record { kind = kind.Symbol symbol.Case; from = 0; to = 4 } ∷ record { kind = kind.Number 1; from = 5; to = 6 }
-    ∷ record { kind = kind.Symbol symbol.DotDot; from = 6; to = 8 } ∷ record { kind = kind.Number 3; from = 8; to = 9 }
-    ∷ record { kind = kind.Symbol symbol.Colon; from = 9; to = 10 } ∷ []) 0 (codes "case 1..3:")
+range_label : IsTokenization (record { word = kind.Symbol symbol.Case; from = 0; to = 4 } ∷ record { word = kind.Number 1; from = 5; to = 6 }
+    ∷ record { word = kind.Symbol symbol.DotDot; from = 6; to = 8 } ∷ record { word = kind.Number 3; from = 8; to = 9 }
+    ∷ record { word = kind.Symbol symbol.Colon; from = 9; to = 10 } ∷ []) 0 (codes "case 1..3:")
 unfolding part_in gap_len token_in longest_shape digits_shape after_prefix after_address after_digits after_hexadecimal punctuator_shape
     punctuator_in number_in decimal_value word_in keyword_in
 range_label =
@@ -64,7 +64,7 @@ abbrev ten : List Bool
 ten = false ∷ false ∷ false ∷ false ∷ true ∷ false ∷ true ∷ false ∷ []
 
 -- an address with a length is one token
-ten_net : IsTokenization (record { kind = kind.Prefix false ten; from = 0; to = 10 } ∷ []) 0
+ten_net : IsTokenization (record { word = kind.Prefix false ten; from = 0; to = 10 } ∷ []) 0
     (codes "10.0.0.0/8")
 unfolding part_in gap_len token_in longest_shape digits_shape after_prefix after_address after_digits written_in address_in
     groups_in parts_at number_in decimal_value bits number
@@ -73,7 +73,7 @@ ten_net =
     record { parts = parts; cut = are_parts parts (codes "10.0.0.0/8") (refl, refl); among = refl }
 
 -- a comment does not nest
-comment : IsTokenization (record { kind = kind.Symbol symbol.If; from = 9; to = 11 } ∷ []) 0 (codes "/* /* */ if # else")
+comment : IsTokenization (record { word = kind.Symbol symbol.If; from = 9; to = 11 } ∷ []) 0 (codes "/* /* */ if # else")
 unfolding part_in gap_len closing_len token_in longest_shape word_in keyword_in
 comment =
     let parts = part.Gap 8 ∷ part.Gap 1 ∷ part.Token (kind.Symbol symbol.If) 2 ∷ part.Gap 1 ∷ part.Gap 6 ∷ [] in

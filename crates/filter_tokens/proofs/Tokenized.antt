@@ -39,7 +39,7 @@ lexes-start text = record {
 -- what a part adds to the tokens
 abbrev pub tokens_of : Part → ℕ → List Token
 tokens_of (part.Gap len) at = []
-tokens_of (part.Token kind len) at = record { kind = kind; from = at; to = at + len } ∷ []
+tokens_of (part.Token kind len) at = record { word = kind; from = at; to = at + len } ∷ []
 
 among_step : (one : Part) (parts : List Part) (at : ℕ)
     → tokens_among (one ∷ parts) at ≡ tokens_of one at ++ tokens_among parts (at + part_len one)
@@ -55,7 +55,7 @@ among_more (part.Gap len ∷ parts) one from =
     among_more parts one (from + len)
     ∙ ap (λ n. tokens_among parts (from + len) ++ tokens_of one n) (omega arith)
 among_more (part.Token kind len ∷ parts) one from =
-    ap (λ ts. record { kind = kind; from = from; to = from + len } ∷ ts)
+    ap (λ ts. record { word = kind; from = from; to = from + len } ∷ ts)
     (among_more parts one (from + len) ∙ ap (λ n. tokens_among parts (from + len) ++ tokens_of one n) (omega arith))
 
 len_more : (parts : List Part) (one : Part) → parts_len (parts ++ one ∷ []) ≡ parts_len parts + part_len one
@@ -203,17 +203,17 @@ step-gap text so_far at len e lexes =
 
 pub step-token : (text : List ℕ) (so_far more : List Token) (at : ℕ) (kind : TokenKind) (len : ℕ)
     → part_in (take (length text - at) (drop at text)) ≡ Some (part.Token kind len)
-    → more ≡ so_far ++ record { kind = kind; from = at; to = at + len } ∷ [] → Lexes text so_far at (drop at text)
+    → more ≡ so_far ++ record { word = kind; from = at; to = at + len } ∷ [] → Lexes text so_far at (drop at text)
     → Lexes text more (at + len) (drop (at + len) text)
 step-token text so_far more at kind len e pushed lexes =
     subst (λ ts. Lexes text ts (at + len) (drop (at + len) text)) (sym pushed) (step text so_far at (part.Token kind len) e lexes)
 
 pub step-order : (tokens more : List Token) (at : ℕ) (kind : TokenKind) (len : ℕ)
-    → more ≡ tokens ++ record { kind = kind; from = at; to = at + len } ∷ [] → 0 < len
+    → more ≡ tokens ++ record { word = kind; from = at; to = at + len } ∷ [] → 0 < len
     → AreInOrder 0 tokens at → AreInOrder 0 more (at + len)
 step-order tokens more at kind len pushed some order =
     subst (λ ts. AreInOrder 0 ts (at + len)) (sym pushed)
-    (ordered-push 0 tokens at (record { kind = kind; from = at; to = at + len }) order (omega arith) (omega arith))
+    (ordered-push 0 tokens at (record { word = kind; from = at; to = at + len }) order (omega arith) (omega arith))
 
 pub step-stopped : (text : List ℕ) (so_far : List Token) (at : ℕ) → at < length text
     → part_in (take (length text - at) (drop at text)) ≡ None → Lexes text so_far at (drop at text)

@@ -29,7 +29,7 @@ lexeme_of bytes (kind.Symbol m) = symbol m
 
 -- what a token of the text is to the grammar
 abbrev pub lexeme : List ℕ → Token → Lexeme
-lexeme text token = lexeme_of (covered text token) token.kind
+lexeme text token = lexeme_of (covered text token) token.word
 
 -- the lexemes of a text that is cut into these tokens
 abbrev pub lexemes : List ℕ → List Token → List Lexeme

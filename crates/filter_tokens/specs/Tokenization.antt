@@ -83,7 +83,7 @@ AreParts (part ∷ parts) text = IsPart text part × AreParts parts (drop (part_
 abbrev pub tokens_among : List Part → ℕ → List Token
 tokens_among [] at = []
 tokens_among (part.Gap len ∷ parts) at = tokens_among parts (at + len)
-tokens_among (part.Token kind len ∷ parts) at = record { kind = kind; from = at; to = at + len } ∷ tokens_among parts (at + len)
+tokens_among (part.Token kind len ∷ parts) at = record { word = kind; from = at; to = at + len } ∷ tokens_among parts (at + len)
 
 -- the text, which begins at a place, is cut into these tokens, with nothing but space and comments between them
 pub record IsTokenization (tokens : List Token) (at : ℕ) (text : List ℕ) : Type 0 where

@@ -47,9 +47,9 @@ pub fn lex(alloc: Global, text: &[u8]) -> Result<Lexed, AllocError>
     while at < text.len() {
         match next_part(&text[at..], at) {
             Ok(Part::Gap(len)) => at += len,
-            Ok(Part::Token(kind, len)) => {
+            Ok(Part::Token(word, len)) => {
                 tokens.push(Token {
-                    kind,
+                    word,
                     from: at,
                     to: at + len,
                 })?;

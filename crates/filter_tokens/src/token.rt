@@ -4,7 +4,7 @@ use crate::token_kind::TokenKind;
 #[derive(Clone, Copy, PartialEq, Eq)]
 pub struct Token {
     /// What it is.
-    pub kind: TokenKind,
+    pub word: TokenKind,
     /// The place of its first byte.
     pub from: usize,
     /// The place after its last byte.

@@ -92,10 +92,8 @@ fn judge(alloc: Global, filter: &Filter) -> Result<(), TypeFault>
     Ok(())
 }
 
-/// A filter, if its names and kinds fit. A refused filter is dropped.
-///
-/// A fault is the first one in the order of the text, operands before their operator.
-pub fn check(alloc: Global, filter: Filter) -> Result<Typed, Untyped>
+/// A filter, if its names and kinds fit, or its first fault and what stands round the place: what [`check`] answers, with more to tell people.
+pub fn check_told(alloc: Global, filter: Filter) -> Result<Typed, Untyped>
     ensures same { IfOk result (λ typed. typed ≡ filter) }
     ensures typed { IfOk result (λ _. IsTyped (view_filter filter)) }
     ensures refused { IfErr result (λ why. why.fault ≢ fault.Memory → IsTyped (view_filter filter) → ⊥) }
@@ -111,5 +109,22 @@ pub fn check(alloc: Global, filter: Filter) -> Result<Typed, Untyped>
             fault,
             around: Around::of(filter.tokens(), fault.at()),
         }),
+    }
+}
+
+/// A filter, if its names and kinds fit. A refused filter is dropped.
+///
+/// A fault is the first one in the order of the text, operands before their operator.
+pub fn check(alloc: Global, filter: Filter) -> Result<Typed, TypeFault>
+    ensures same { IfOk result (λ typed. typed ≡ filter) }
+    ensures typed { IfOk result (λ _. IsTyped (view_filter filter)) }
+    ensures refused { IfErr result (λ why. why ≢ fault.Memory → IsTyped (view_filter filter) → ⊥) }
+    // A fault is one that a part of the filter has, at the place that is said.
+    ensures fault { IfErr result (λ why. why ≢ fault.Memory → IsFaultOf filter why) }
+    ensures placed { IfErr result (λ why. why ≢ fault.Memory → KeepsPlace filter (fault_place why)) }
+{
+    match check_told(alloc, filter) {
+        Ok(typed) => Ok(typed),
+        Err(untyped) => Err(untyped.fault),
     }
 }

@@ -9,6 +9,7 @@ pub mod InStates
 pub mod Join
 pub mod Numbers
 pub mod OutStateView
+pub mod PairwiseJoin
 pub mod Ranges
 pub mod Safe
 pub mod Surveys
@@ -16,5 +17,3 @@ pub mod Sweep
 pub mod Transfer
 pub mod Verdicts
 pub mod VerifiedView
--- What only bodies are proved against.
-pub mod PairwiseJoin

@@ -21,7 +21,7 @@ pub loop-at-preserved : goal.loop-at-preserved
 loop-at-preserved c =
     let text = c.args.text.now in
     let at = c.loop-at.at in
-    let kind = c.in-Ok-Token.kind in
+    let kind = c.in-Ok-Token.word in
     let len = c.in-Ok-Token.len in
     let read = rw c.in-Ok-Token.field-0-is at c.in-Ok-Token.ensures.is in
     let bounds = step-bounds text at (part.Token kind len) c.loop-at.invariant.within read in
