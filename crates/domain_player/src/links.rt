@@ -32,7 +32,7 @@ fn enter_up(router: &mut Tables, node: u16) -> Result<(), LinkFault>
 fn enter_down(router: &mut Tables, node: u16) -> Result<(), AllocError>
     ensures { OnOk result (router.new ≡ in_session router.old (session_of router.old node) (λ s. event.Down s)) }
 {
-    if let Some(session) = router.session(node) {
+    if let Some(session) = router.present_session(node) {
         router.apply(&Event::Down(session))?;
     }
     Ok(())

@@ -16,7 +16,7 @@ fn receive(router: &mut Tables, sent: Sent) -> Result<(), AllocError>
     ensures { OnOk result (router.new ≡ in_session router.old (session_of router.old sent.from)
         (λ s. event.Receive s sent.message.dest sent.message.dist)) }
 {
-    if let Some(session) = router.session(sent.from) {
+    if let Some(session) = router.present_session(sent.from) {
         let message = sent.message;
         router.apply(&Event::Receive(session, message.dest, message.dist))?;
     }

@@ -68,7 +68,7 @@ impl Routers {
         requires { u < length self.now }
         ensures { result ≡ are_linked (domain self.now) u w }
     {
-        self.tables[usize::from(u)].session(w).is_some()
+        self.tables[usize::from(u)].present_session(w).is_some()
     }
 
     /// Two nodes are neighbours from now on: the first enters that the channel to the second is there, then the second that the

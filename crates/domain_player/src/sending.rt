@@ -19,7 +19,7 @@ fn waiting(tables: &[Tables], from: u16, to: u16) -> usize
     ensures { result ≡ length (neighbour_at (router_at tables.now from).neighbours to).queue }
 {
     let router = &tables[usize::from(from)];
-    match router.session(to) {
+    match router.present_session(to) {
         Some(session) => router.queued(session),
         None => 0,
     }
@@ -40,7 +40,7 @@ fn send_some(
     ensures between { OnOk result (All (IsBetween (length tables.old)) sents.old.items → All (IsBetween (length tables.old)) sents.new.items) }
 {
     let router = &mut tables[usize::from(from)];
-    let Some(session) = router.session(to) else {
+    let Some(session) = router.present_session(to) else {
         unreachable!()
     };
     let Reply::Messages(messages) = router.apply(&Event::Take(session, u16::MAX))? else {

@@ -1,6 +1,6 @@
 //! The tables of a router.
 
-ghost use Rattle.std.specs.Prelude.{◌≡◌, ◌<◌, ◌≤◌, IfOk, IfSome, OnErr, OnSome, length, slice_index};
+ghost use Rattle.std.specs.Prelude.{◌≡◌, ◌<◌, ◌≤◌, IfOk, IfSome, None, OnErr, OnSome, length, slice_index};
 ghost use Rattle.netchange_core.specs.Best.{best, neighbour_distance};
 ghost use Rattle.netchange_core.specs.Calls.{MayNeedMemory, carried, opened, queued_of, room_of, session_of};
 ghost use Rattle.netchange_core.specs.Next.{answered, next};
@@ -77,13 +77,24 @@ impl Tables {
     }
 
     /// The present session of a node, if it is an up neighbour.
-    pub fn session(&self, node: u16) -> Option<u32>
+    pub fn present_session(&self, node: u16) -> Option<u32>
         ensures value { result ≡ session_of self.now node }
         // Only a node of the domain is up.
         ensures within { OnSome result (node < self.now.opening.size) }
         ensures numbered { IfSome result (λ session. 0 < session) }
     {
         self.state.neighbours.get(usize::from(node))?.session
+    }
+
+    /// The number of the present session of a node, 1 or more; 0 where the node is no up neighbour.
+    pub fn session(&self, node: u16) -> u32
+        ensures up { IfSome (session_of self.now node) (λ session. result ≡ session) }
+        ensures down { session_of self.now node ≡ None → result ≡ 0 }
+    {
+        match self.present_session(node) {
+            Some(session) => session,
+            None => 0,
+        }
     }
 
     /// The best route to a node.

@@ -63,7 +63,7 @@ fn push_node(out: &mut Vec<u8>, tables: &Tables, look: Look, node: u16) -> Resul
 {
     match look {
         Look::Routes => push_route(out, node, tables.route(node)),
-        Look::Neighbours => push_session(out, node, tables.session(node)),
+        Look::Neighbours => push_session(out, node, tables.present_session(node)),
         Look::Told(from) => push_told(
             out,
             node,
@@ -104,7 +104,7 @@ fn can_look(tables: &Tables, look: Look) -> bool
 {
     match look {
         Look::Routes | Look::Neighbours => true,
-        Look::Told(from) => tables.session(from).is_some(),
+        Look::Told(from) => tables.present_session(from).is_some(),
     }
 }
 

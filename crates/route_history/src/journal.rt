@@ -1,6 +1,6 @@
 //! The journal of a router.
 
-ghost use Rattle.std.specs.Prelude.{◌≡◌, ℕ, ◌≤◌, [], IfErr, IfOk, length};
+ghost use Rattle.std.specs.Prelude.{◌≡◌, ℕ, ◌≤◌, [], IfErr, IfOk, IfSome, None, length};
 ghost use Rattle.netchange_core.specs.Calls.{carried, room_of, session_of};
 ghost use Rattle.route_history.specs.Calls.{IsEntered, IsRefused};
 ghost use Rattle.route_history.specs.History.{IsLegal, world_of};
@@ -99,8 +99,16 @@ impl Journal {
     }
 
     /// The present session of a node, if it is an up neighbour.
-    pub fn session(&self, node: u16) -> Option<u32>
+    pub fn present_session(&self, node: u16) -> Option<u32>
         ensures { result ≡ session_of (world_of self.now.opening self.now.entries) node }
+    {
+        self.tables.present_session(node)
+    }
+
+    /// The number of the present session of a node, 1 or more; 0 where the node is no up neighbour.
+    pub fn session(&self, node: u16) -> u32
+        ensures up { IfSome (session_of (world_of self.now.opening self.now.entries) node) (λ session. result ≡ session) }
+        ensures down { session_of (world_of self.now.opening self.now.entries) node ≡ None → result ≡ 0 }
     {
         self.tables.session(node)
     }

@@ -15,6 +15,6 @@ pub fn merge_passes<L: Drop>(router: &Router, pass: &mut Pass, finished: Vec<Fin
     ensures merged { Gathered pass.old.fragment finished.items pass.new.fragment }
 {
     for job in finished {
-        router.merge(pass, job.pass);
+        router.join(pass, job.pass);
     }
 }

@@ -237,7 +237,7 @@ fn serve_neighbour<R: Wait + Clock, I: Read + Drop, O: Write + Drop, J: Naming, 
         ticket: FreshTicket::new(writing),
     };
     let (why, ticket) = serve_opened(rt, alloc, shared, room, link, input, order, &answer, pass);
-    shared.router.merge(pass, ticket.pass());
+    shared.router.join(pass, ticket.pass());
     why
 }
 

@@ -56,7 +56,7 @@ impl<V: Write + Drop, J: Naming> Saved<V, J> {
         if let Some(fault) = saver.fault() {
             return Err(fault);
         }
-        shared.router.merge(&mut pass, other.pass());
+        shared.router.join(&mut pass, other.pass());
         match saver.save(rt, alloc, &shared.router, &mut pass) {
             Ok(_) => Ok(saver),
             Err(fault) => {

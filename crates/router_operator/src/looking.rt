@@ -71,6 +71,6 @@ impl Observer for FindingSession {
     ghost sees = { Finds };
 
     fn see(&mut self, journal: &Journal) {
-        self.session = journal.session(self.node);
+        self.session = journal.present_session(self.node);
     }
 }

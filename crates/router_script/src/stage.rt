@@ -84,7 +84,7 @@ impl Stage {
         ensures { result ≡ session_in (stage_of self.now) node }
     {
         match self {
-            Stage::Open(journal) => journal.session(node),
+            Stage::Open(journal) => journal.present_session(node),
             _ => None,
         }
     }

@@ -115,8 +115,8 @@ impl Router {
         Pass { seat, shares }
     }
 
-    /// Merges two passes into one.
-    pub fn merge(&self, pass: &mut Pass, other: Pass)
+    /// Joins two passes into one.
+    pub fn join(&self, pass: &mut Pass, other: Pass)
         requires { IsPassOf self.now pass.old × IsPassOf self.now other }
         ensures of { IsPassOf self.now pass.new }
         ensures own { IsOwn pass.new.fragment }

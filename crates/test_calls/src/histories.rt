@@ -9,7 +9,7 @@ use slot_lock::Answer;
 pub fn must_replay<R: Host>(rt: &R, journal: &Journal) {
     let tables = done(rt, replay(rt.alloc(), journal.opening(), journal.entries()));
     for node in 0..4 {
-        let is_same = tables.session(node) == journal.session(node);
+        let is_same = tables.present_session(node) == journal.present_session(node);
         must(rt, is_same, "a journal replays");
     }
 }

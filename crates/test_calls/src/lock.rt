@@ -18,7 +18,7 @@ fn passes_keep_their_shares(rt: HostRuntime) {
     let _looked = done(&rt, router.call(&rt, &mut second, Event::Show(0)));
     let second = router.meet(&mut first, second);
     let are_kept = first.shares() == 45_536 && second.shares() == 20_000;
-    router.merge(&mut first, second);
+    router.join(&mut first, second);
     let is_whole = first.shares() == 65_536;
     let journal = close(&rt, router, first);
     must(&rt, are_kept && is_whole, "passes keep their shares");

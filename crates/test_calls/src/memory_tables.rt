@@ -122,7 +122,7 @@ pub fn replayed<R: Host>(rt: &R) -> Answered {
         let _entered = done(rt, journal.apply(event(at)));
     }
     match replay(rt.alloc(), journal.opening(), journal.entries()) {
-        Ok(tables) => Ok(tables.session(1) == Some(1)),
+        Ok(tables) => Ok(tables.present_session(1) == Some(1)),
         Err(ReplayFault::Memory) => Err("Memory"),
         Err(_) => Ok(false),
     }

@@ -14,7 +14,7 @@ unreachable-requires c =
     let x = c.index-tables-from.result in
     let linked = up_in (neighbour (domain_of ws c.args.sents.now.items) c.args.from c.args.to) c.requires.linked in
     c.in_default.not-Some linked.0
-    (c.session.ensures.value
+    (c.present_session.ensures.value
     ∙ ap (λ y. session_of y c.args.to) (router_place ws c.from.result c.args.from x c.from.ensures c.requires.from)
     ∙ linked.1)
 
@@ -25,7 +25,7 @@ unreachable-requires-in_default-2 c =
     (take_answers d c.args.from c.args.to 65535 c.in-Some.session _ c.apply.new.self c.in_ok-messages.field-0 c.requires.order
     c.requires.from c.requires.to
     (router_place c.args.tables.now c.from.result c.args.from c.index-tables-from.result c.from.ensures c.requires.from)
-    (sym c.session.ensures.value ∙ c.in-Some.is) c.in_ok-messages.ensures.done)
+    (sym c.present_session.ensures.value ∙ c.in-Some.is) c.in_ok-messages.ensures.done)
 
 pub returns-clause-sent : goal.returns-clause-sent
 returns-clause-sent c =
@@ -38,7 +38,7 @@ returns-clause-sent c =
     ∙ sym (ap carried c.in-Messages.is)))
     ∙ sent_by_both ws c.args.sents.now.items c.args.from c.args.to c.from.result c.in-Some.session c.index-tables-from.result
     c.apply.new.self c.in_ok-messages.field-0 c.requires.from c.requires.to c.requires.order c.from.ensures
-    (sym c.session.ensures.value ∙ c.in-Some.is) c.in_ok-messages.ensures.done
+    (sym c.present_session.ensures.value ∙ c.in-Some.is) c.in_ok-messages.ensures.done
 
 pub returns-clause-between : goal.returns-clause-between
 returns-clause-between c = λ before.

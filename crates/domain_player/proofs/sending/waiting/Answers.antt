@@ -14,7 +14,7 @@ returns-in-Some c =
     c.queued.ensures
     ∙ ap (λ y. queued_of y s) is
     ∙ queued_all (length ws) (router_at ws c.args.from) c.args.to s c.requires.sound
-    (ap (λ y. session_of y c.args.to) (sym is) ∙ sym c.session.ensures.value ∙ c.in-Some.is)
+    (ap (λ y. session_of y c.args.to) (sym is) ∙ sym c.present_session.ensures.value ∙ c.in-Some.is)
 
 pub returns-in-None : goal.returns-in-None
 returns-in-None c =
@@ -22,4 +22,4 @@ returns-in-None c =
     let x = c.index-tables-from.result in
     let is = router_read ws c.from.result c.args.from x c.from.ensures c.requires.from c.index-tables-from.is in
     none_queued (length ws) (router_at ws c.args.from) c.args.to c.requires.sound c.requires.to
-    (ap (λ y. session_of y c.args.to) (sym is) ∙ sym c.session.ensures.value ∙ c.in-None.is)
+    (ap (λ y. session_of y c.args.to) (sym is) ∙ sym c.present_session.ensures.value ∙ c.in-None.is)

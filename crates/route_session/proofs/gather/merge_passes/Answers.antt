@@ -9,8 +9,8 @@ use Rattle.route_session.proofs.gather.merge_passes.Goals as goal
 pub loop-job-init : goal.loop-job-init
 loop-job-init g c = record { of = c.requires.of.0; own = λ x. x; merged = gathered_none c.args.pass.now.fragment }
 
-pub merge-requires : goal.merge-requires
-merge-requires g c =
+pub join-requires : goal.join-requires
+join-requires g c =
     let turn = YieldsList-turn (YieldsList-from_vec {s = c.into_iter-job-iterator.result} c.args.finished.items (search rules) (search rules))
     c.loop-job.yielded c.loop-job.job-iterator c.loop-job.yielded_by c.next.result c.next.new.self c.in-Some.job c.in-Some.is c.next.ensures.steps in (
       c.loop-job.invariant.of,
@@ -19,10 +19,10 @@ merge-requires g c =
 
 pub loop-job-preserved : goal.loop-job-preserved
 loop-job-preserved g c = record {
-  of = c.merge.ensures.of;
-  own = λ x. c.merge.ensures.own;
+  of = c.join.ensures.of;
+  own = λ x. c.join.ensures.own;
   merged = gathered_one c.args.pass.now.fragment c.loop-job.pass.fragment c.loop-job.yielded c.in-Some.job c.merge.new.pass.fragment
-      c.loop-job.invariant.merged c.merge.ensures.merged;
+      c.loop-job.invariant.merged c.join.ensures.merged;
 }
 
 pub returns-clause-merged : goal.returns-clause-merged

@@ -1,5 +1,5 @@
 use Rattle.slot_lock.proofs.SoundMerged.{sound_merged}
-use Rattle.slot_lock.proofs.router.Router.merge.Goals as goal
+use Rattle.slot_lock.proofs.router.Router.join.Goals as goal
 
 pub invariant_of-pass : goal.invariant_of-pass
 invariant_of-pass c =
