@@ -136,9 +136,9 @@ pub(crate) fn in_place_of_found(expected: Expected, around: Around) -> Option<&'
         Expected::Operand | Expected::OperandOrSet => in_place_of_operand(around),
         Expected::End => in_place_of_end(around),
         Expected::Assign => in_place_of_assign(around),
-        Expected::Member => in_place_of_member(around.found?.kind),
-        Expected::Prefix => in_place_of_prefix(around.found?.kind),
-        Expected::Number => in_place_of_number(around.found?.kind),
+        Expected::Member => in_place_of_member(around.found?.word),
+        Expected::Prefix => in_place_of_prefix(around.found?.word),
+        Expected::Number => in_place_of_number(around.found?.word),
         Expected::CommandOrEnd if begins_declaration(around.found) => {
             Some("declare variables before the first command")
         }

@@ -72,6 +72,8 @@ mod stream_tests;
 #[cfg(test)]
 mod streams;
 #[cfg(test)]
+mod surface_tests;
+#[cfg(test)]
 mod texts;
 #[cfg(test)]
 mod tools;

@@ -19,7 +19,7 @@ const CASE: &[u8] = b"filter c { case rip_metric { 1, 3..5: accept; else: reject
 pub fn parsed(alloc: Global) -> Answered {
     match parse(alloc, TEXT) {
         Ok(filter) => Ok(filter.tokens().len() == 38),
-        Err(why) => Err(why.fault.code()),
+        Err(why) => Err(why.code()),
     }
 }
 
@@ -27,7 +27,7 @@ pub fn parsed(alloc: Global) -> Answered {
 pub fn judged<R: Host>(rt: &R) -> Answered {
     match check(rt.alloc(), done(rt, parse(rt.alloc(), CASE))) {
         Ok(typed) => Ok(typed.number_of(b"c") == 0),
-        Err(why) => Err(why.fault.code()),
+        Err(why) => Err(why.code()),
     }
 }
 
@@ -35,7 +35,7 @@ pub fn judged<R: Host>(rt: &R) -> Answered {
 pub fn judged_plainly<R: Host>(rt: &R) -> Answered {
     match check(rt.alloc(), done(rt, parse(rt.alloc(), TEXT))) {
         Ok(typed) => Ok(typed.number_of(b"a") == 0 && typed.number_of(b"other") == 1),
-        Err(why) => Err(why.fault.code()),
+        Err(why) => Err(why.code()),
     }
 }
 

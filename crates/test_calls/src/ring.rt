@@ -40,7 +40,11 @@ fn must_hear<R: RouterHost>(
     };
     let is_near = done(rt, tables.apply(&Event::Show(neighbour))).is_same(&route);
     must(rt, is_near, "a node has its neighbours");
-    let hearing = some(rt, here.present_session(neighbour), "a session with a neighbour");
+    let hearing = some(
+        rt,
+        here.present_session(neighbour),
+        "a session with a neighbour",
+    );
     let sending = some(rt, there.present_session(me), "a neighbour's session");
     let came = said(rt, here, hearing).entered;
     let went = said(rt, there, sending).taken;
