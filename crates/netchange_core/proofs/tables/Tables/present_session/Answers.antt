@@ -3,7 +3,7 @@ use Rattle.netchange_core.specs.declared.neighbour.Neighbour.{Neighbour}
 use Rattle.netchange_core.specs.Kept.{view_of}
 use Rattle.netchange_core.proofs.Presence.{session_numbered}
 use Rattle.netchange_core.proofs.Views.{view_at}
-use Rattle.netchange_core.proofs.tables.Tables.session.Goals as goal
+use Rattle.netchange_core.proofs.tables.Tables.present_session.Goals as goal
 
 pub returns-clause-numbered : goal.returns-clause-numbered
 returns-clause-numbered c =
