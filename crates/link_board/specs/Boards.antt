@@ -2,7 +2,7 @@
 use Rattle.std.specs.Prelude.{◌≡◌, ◌==◌, ℕ, ◌+◌, ◌&&◌, ◌||◌, max, nat_lt, nat_le, not, Bool, true, false, if◌then◌else◌}
 use Rattle.std.specs.Prelude.{List, map, position, Option, Some, None, slice_get, slice_set}
 use Rattle.std.specs.List.{list_any}
-use Rattle.link_board.specs.Steps.{Begins, Ends, Wakes, link_to, queued_at, taken_at, waits}
+use Rattle.link_board.specs.Steps.{Begins, Ends, Wakes, changing_less, changing_more, link_to, queued_at, taken_at, waits}
 use Rattle.link_board.specs.declared.link.Link.{Link}
 
 -- the links in order; the least number of entries that the history is known to have, and how many it had with the last one that is known
@@ -32,18 +32,18 @@ ByFunction f index (Some l) old new = new ≡ record old { links = slice_set old
 -- the Up of a session of a link is about to be entered, unless the router is being closed
 abbrev pub OpensIf : Bool → ℕ → BoardView → Bool → BoardView → Type 0
 OpensIf true index old opens new = (opens ≡ false) × (new ≡ old)
-OpensIf false index old opens new = (opens ≡ true) × ByFunction (λ l. record l { is_changing = true }) index (slice_get old.links index) old new
+OpensIf false index old opens new = (opens ≡ true) × ByFunction changing_more index (slice_get old.links index) old new
 
 abbrev pub OpensAt : ℕ → BoardView → Bool → BoardView → Type 0
 OpensAt index old opens new = OpensIf old.closing index old opens new
 
 -- it is entered, or was refused; or the Down of a session is
 abbrev pub SettlesAt : ℕ → BoardView → BoardView → Type 0
-SettlesAt index old new = ByFunction (λ l. record l { is_changing = false }) index (slice_get old.links index) old new
+SettlesAt index old new = ByFunction changing_less index (slice_get old.links index) old new
 
--- the Up or the Down of a session is being entered
+-- an Up or a Down of some link is being entered
 abbrev pub is_changing : List Link → Bool
-is_changing links = list_any (λ l. l.is_changing) links
+is_changing links = list_any (λ l. nat_lt 0 l.changing) links
 
 -- a session of a link begins, unless the router is being closed
 abbrev pub BeginsIf : Bool → ℕ → ℕ → ℕ → BoardView → Bool → BoardView → Type 0

@@ -1,5 +1,5 @@
 -- What is noted of a link. (This project's own choice.)
-use Rattle.std.specs.Prelude.{◌≡◌, ◌≢◌, ℕ, ◌+◌, ◌&&◌, ◌||◌, ◌⊎◌, max, nat_lt, Bool, true, false, if◌then◌else◌, Option, Some, None, MatchBool}
+use Rattle.std.specs.Prelude.{◌≡◌, ◌≢◌, ℕ, ◌+◌, ◌-◌, ◌^◌, ◌&&◌, ◌||◌, ◌⊎◌, min, max, nat_lt, Bool, true, false, if◌then◌else◌, Option, Some, None, MatchBool}
 use Rattle.link_board.specs.declared.link.Link.{Link}
 use Rattle.link_board.specs.declared.waiting.Waiting.{Waiting}
 
@@ -18,19 +18,27 @@ taken_at at taken most w = if nat_lt taken most then record w { emptied = max w.
 
 -- a link to a node, without a session
 abbrev pub link_to : ℕ → Link
-link_to node = record { node = node; session = None; waiting = record { queued = 0; emptied = 0 }; is_asleep = false; is_changing = false }
+link_to node = record { node = node; session = None; waiting = record { queued = 0; emptied = 0 }; is_asleep = false; changing = 0 }
+
+-- One more Up or Down of a link is being entered, and one is entered or was refused. So many are on their way at once, and none is
+-- overlooked while another one settles.
+abbrev pub changing_more : Link → Link
+changing_more l = record l { changing = min (l.changing + 1) (2 ^ 32 - 1) }
+
+abbrev pub changing_less : Link → Link
+changing_less l = record l { changing = l.changing - 1 }
 
 -- A session begins, whose Up is entered and stands at a position: its first messages wait. Where one is there already nothing is done, so
 -- there are never two.
 abbrev pub Begins : ℕ → ℕ → Link → Bool → Link → Type 0
 Begins session at old began new = MatchBool began
-    ((old.session ≡ None) × (new ≡ record old { session = Some session; waiting = queued_at at old.waiting; is_changing = false }))
+    ((old.session ≡ None) × (new ≡ record old { session = Some session; waiting = queued_at at old.waiting; changing = old.changing - 1 }))
     ((old.session ≢ None) × (new ≡ old))
 
 -- a session ends, if it is the one that is there: so it ends once, and its Down is to be entered
 abbrev pub Ends : ℕ → Link → Bool → Link → Type 0
 Ends session old ended new = MatchBool ended
-    ((old.session ≡ Some session) × (new ≡ record old { session = None; is_changing = true }))
+    ((old.session ≡ Some session) × (new ≡ changing_more (record old { session = None })))
     ((old.session ≢ Some session) × (new ≡ old))
 
 abbrev pub has_session : Option ℕ → Bool

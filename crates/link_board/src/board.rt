@@ -54,25 +54,25 @@ impl Board {
             return false;
         }
         if let Some(link) = self.links.get_mut(index) {
-            link.is_changing = true;
+            link.note_changing();
         }
         true
     }
 
-    /// The Up or the Down of a session of a link that was being entered is entered, or was refused.
+    /// An Up or a Down of a link that was being entered is entered, or was refused.
     pub fn settle(&mut self, index: usize)
         ensures { spec.SettlesAt index self.old self.new }
     {
         if let Some(link) = self.links.get_mut(index) {
-            link.is_changing = false;
+            link.note_settled();
         }
     }
 
-    /// Whether the Up or the Down of a session is being entered.
+    /// Whether any Up or Down is being entered.
     pub fn is_changing(&self) -> bool
         ensures { result ≡ spec.is_changing self.now.links }
     {
-        self.links.iter().any(|link| link.is_changing)
+        self.links.iter().any(|link| link.changing > 0)
     }
 
     /// Begins a session of a link, whose Up was entered and has this position. False, and nothing is done, where a session is there

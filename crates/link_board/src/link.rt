@@ -15,8 +15,8 @@ pub struct Link {
     pub waiting: Waiting,
     /// Its writer sleeps until something waits.
     pub is_asleep: bool,
-    /// The Up or the Down of one of its sessions is being entered.
-    pub is_changing: bool,
+    /// How many Ups and Downs of its sessions are being entered. One session's Down and its successor's Up may be on their way at once.
+    pub changing: u32,
 }
 
 impl Link {
@@ -29,8 +29,22 @@ impl Link {
             session: None,
             waiting: Waiting::new(),
             is_asleep: false,
-            is_changing: false,
+            changing: 0,
         }
+    }
+
+    /// One more Up or Down is about to be entered.
+    pub fn note_changing(&mut self)
+        ensures { self.new ≡ spec.changing_more self.old }
+    {
+        self.changing = self.changing.saturating_add(1);
+    }
+
+    /// One that was being entered is entered, or was refused.
+    pub fn note_settled(&mut self)
+        ensures { self.new ≡ spec.changing_less self.old }
+    {
+        self.changing = self.changing.saturating_sub(1);
     }
 
     /// Begins a session, whose Up was entered and has this position. False, and nothing is done, where a session is there already.
@@ -42,7 +56,7 @@ impl Link {
         }
         self.session = Some(session);
         self.waiting.note_queued(at);
-        self.is_changing = false;
+        self.note_settled();
         true
     }
 
@@ -54,7 +68,7 @@ impl Link {
             return false;
         }
         self.session = None;
-        self.is_changing = true;
+        self.note_changing();
         true
     }
 
