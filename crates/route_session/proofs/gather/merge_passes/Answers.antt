@@ -21,7 +21,7 @@ pub loop-job-preserved : goal.loop-job-preserved
 loop-job-preserved g c = record {
   of = c.join.ensures.of;
   own = λ x. c.join.ensures.own;
-  merged = gathered_one c.args.pass.now.fragment c.loop-job.pass.fragment c.loop-job.yielded c.in-Some.job c.merge.new.pass.fragment
+  merged = gathered_one c.args.pass.now.fragment c.loop-job.pass.fragment c.loop-job.yielded c.in-Some.job c.join.new.pass.fragment
       c.loop-job.invariant.merged c.join.ensures.merged;
 }
 
