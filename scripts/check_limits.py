@@ -604,6 +604,19 @@ def hundred_files(ncroute):
         return differs(run(ncroute, "check --size 250 --explain never " + " ".join(names), b""), wanted)
 
 
+def full_router(ncroute):
+    """A router of the largest domain, whose operator types events about its last node, up to the last entry and one beyond: 200,000 sessions. All of
+    it is saved, and replays."""
+    turns, last = ENTRIES // 5, NODES - 1
+    lines = b"load f " + FILTER + b"\n" + b"up %d\nimport %d f\nexport %d f\nshow %d\ndown %d\n".replace(b"%d", b"%d" % last) * turns + b"show 0\n"
+    turn = f"opened {{}}\ndone 0\ndone 0\nroute {NODES} none\ndone 0\n"
+    wanted = VERIFIED + "".join(map(turn.format, range(1, turns + 1))).encode() + b"refused J1 %d\n" % ENTRIES
+    with tempfile.TemporaryDirectory() as folder:
+        kept = os.path.join(folder, "history")
+        wrong = differs(run(ncroute, f"router --size {NODES} --node 0 --save {kept}", lines), (wanted, 0))
+        return wrong or differs(run(ncroute, f"replay {kept}", b""), (b"replay ok %d\n" % ENTRIES, 0))
+
+
 def domains_of_each_size(ncroute):
     """A domain of each size is set up, and its router has a neighbour."""
     for size in range(2, NODES + 1):
@@ -648,6 +661,7 @@ def main(wanted):
             ("diff, filters at all limits", compared_filters),
             ("diff and lint, masks that are compared", undecided_filters),
             ("filter, a million routes", million_routes),
+            ("router, a full history", full_router),
             ("run, domains of each size", domains_of_each_size),
         ]
     ]

@@ -4,40 +4,27 @@
 usage: scripts/check_router.py [ROW..]        (NCROUTE=PATH: the program, without which nothing is run)
 
 Most rows start node 0 of a domain of 8 nodes with links to node 1, which does what the row says, and to node 2, which is as a neighbour should be.
-They compare what standard error says, look that node 2 is served all the while, have the router quit, and replay the history that was saved.
+They compare what standard error says, look that node 2 is served all the while, have the router quit, and replay the history that was saved. The
+rows of `router_sizes.py` run with them.
 """
 import contextlib
-import fcntl
 import os
 import re
 import resource
-import select
-import shutil
 import signal
 import subprocess
 import sys
-import tempfile
 import time
 
 sys.dont_write_bytecode = True
 from program import built, finish  # noqa: E402
-
-SIZE = 8
-PATIENCE = 10.0
-
-# Seconds: no row takes so long. A FIFO that nobody opens at the other end, or an answer that does not come, would keep a row for ever.
-LONGEST = 120
+from router_runs import PATIENCE, SIZE, Run  # noqa: E402
+from router_sizes import SizeRows  # noqa: E402
 
 GIGABYTE = 1 << 30
 
-# How often a router is ended while its neighbours greet it.
-GREETED_QUITS = 20
-
 # What a line without an end may cost: the bytes that are taken of it beyond those that a FIFO holds, and kilobytes of memory.
 MOST_TAKEN, MOST_MEMORY = 1 << 16, 4096
-
-# What Linux calls the question how many bytes a FIFO holds: 65,536 where a page has 4,096 bytes, and more where pages are larger.
-F_GETPIPE_SZ = 1032
 
 # The bytes of a thread's stack where nothing else is said, and what a router has beside its threads, for the row in which these find no room.
 STACK, BESIDE = 8 << 20, 4 << 20
@@ -92,178 +79,8 @@ WRONG_OPTIONS = [
 ]
 
 
-class Neighbour:
-    """The other end of a link."""
-
-    def __init__(self, folder, node):
-        self.node, self.told = node, b""
-        self.there, self.back = (os.path.join(folder, f"{node}.{end}") for end in ("in", "out"))
-        self.writes = self.reads = None
-        for path in (self.there, self.back):
-            os.mkfifo(path)
-
-    def open(self):
-        # The router has the lower number, so it opens its output first.
-        self.reads = os.open(self.back, os.O_RDONLY)
-        self.writes = os.open(self.there, os.O_WRONLY)
-
-    def open_early(self):
-        """Opens what the router reads before anybody reads it."""
-        self.writes = os.open(self.there, os.O_RDWR)
-
-    def greet(self, size=SIZE, node=None):
-        self.say(b"netchange 1 %d %d\n" % (size, self.node if node is None else node))
-
-    def say(self, text):
-        while text:
-            text = text[os.write(self.writes, text):]
-
-    def say_without_end(self, count):
-        """Says so many bytes without a line feed, or as many as are taken: how many were."""
-        taken, some = 0, b"x" * (1 << 16)
-        try:
-            while taken < count:
-                taken += os.write(self.writes, some[:count - taken])
-        except BrokenPipeError:
-            pass
-        return taken
-
-    def holds(self):
-        """How many bytes the FIFO that the router reads holds."""
-        return fcntl.fcntl(self.writes, F_GETPIPE_SZ)
-
-    def hear(self, enough, patience=PATIENCE):
-        """Reads until what came contains these bytes: whether it does."""
-        until = time.monotonic() + patience
-        while enough not in self.told and time.monotonic() < until:
-            if select.select([self.reads], [], [], 0.05)[0]:
-                came = os.read(self.reads, 65536)
-                if not came:
-                    break
-                self.told += came
-        return enough in self.told
-
-    def close(self):
-        for name in ("writes", "reads"):
-            self.close_one(name)
-
-    def close_one(self, name):
-        if getattr(self, name) is not None:
-            os.close(getattr(self, name))
-            setattr(self, name, None)
-
-
-class Run:
-    """One router and its neighbours."""
-
-    def __init__(self, program, nodes=(1, 2), more=(), size=SIZE, prepare=None, saves=True, node=0, early=()):
-        self.program, self.folder = program, tempfile.mkdtemp(prefix="router.")
-        self.neighbours = {node: Neighbour(self.folder, node) for node in nodes}
-        self.history = os.path.join(self.folder, "history")
-        self.errors = os.path.join(self.folder, "errors")
-        words = [program, "router", "--size", str(size), "--node", str(node), *more]
-        if saves:
-            words += ["--save", self.history]
-        for other, neighbour in self.neighbours.items():
-            words += ["--link", f"{other}={neighbour.there},{neighbour.back}"]
-        for other in early:
-            self.neighbours[other].open_early()
-        with open(self.errors, "wb") as errors:
-            self.process = subprocess.Popen(words, stdin=subprocess.PIPE, stdout=subprocess.PIPE, stderr=errors, preexec_fn=prepare)
-
-    def ask(self, line):
-        self.process.stdin.write(line.encode() + b"\n")
-        self.process.stdin.flush()
-        return self.process.stdout.readline().decode().rstrip("\n")
-
-    def asks_until(self, line, wanted):
-        """Asks until an answer has this pattern: the last answer."""
-        until = time.monotonic() + PATIENCE
-        while True:
-            answer = self.ask(line)
-            if re.search(wanted, answer) or time.monotonic() > until:
-                return answer
-            time.sleep(0.01)
-
-    def said(self, wanted, patience=PATIENCE):
-        """What standard error says, when it has this or patience is over."""
-        until = time.monotonic() + patience
-        while True:
-            with open(self.errors) as it:
-                text = it.read()
-            if wanted in text or time.monotonic() > until:
-                return text
-            time.sleep(0.01)
-
-    def told_closed(self, node, times):
-        """Waits until standard error has said so many times that the link to a node was closed: then its IN is read no more."""
-        until = time.monotonic() + PATIENCE
-        while self.said("", patience=0).count(f"link {node}: ") < times and time.monotonic() < until:
-            time.sleep(0.01)
-
-    def rests(self):
-        """The history, once it is the same twice."""
-        before = None
-        found = self.ask("history 0")
-        until = time.monotonic() + PATIENCE
-        while before != found and time.monotonic() < until:
-            time.sleep(0.2)
-            before, found = found, self.ask("history 0")
-        return found
-
-    def status(self, name):
-        """What the system says of the process."""
-        with open(f"/proc/{self.process.pid}/status") as it:
-            return re.search(name + r":\s*(.*)", it.read())[1]
-
-    def memory(self):
-        """The most kilobytes that it had at a time."""
-        return int(self.status("VmHWM").split()[0])
-
-    def quit(self):
-        answer = self.ask("quit")
-        self.process.stdin.close()
-        return answer, self.process.wait(timeout=PATIENCE)
-
-    def replays(self):
-        return subprocess.run([self.program, "replay", self.history], capture_output=True, check=False).stdout.decode().strip()
-
-    def close(self):
-        if self.process.poll() is None:
-            self.process.kill()
-            self.process.wait()
-        for neighbour in self.neighbours.values():
-            neighbour.close()
-        shutil.rmtree(self.folder)
-
-
-class Rows:
-    """What neighbours do, and what is to come of it. Each method whose name begins with `row_` is a row."""
-
-    def __init__(self, program):
-        self.program, self.passed, self.failed, self.name = program, 0, 0, ""
-
-    def judge(self, what, holds, told=""):
-        if holds:
-            self.passed += 1
-        else:
-            self.failed += 1
-            print(f"{self.name}: {what}: failed: {told!r}", file=sys.stderr)
-
-    def serve_two(self, run):
-        """Node 2 is served: it comes up, says that it is there, and hears of itself."""
-        good = run.neighbours[2]
-        good.open()
-        good.greet()
-        good.say(b"2 0\n")
-        self.judge("2 is served", run.asks_until("show 2", "via 2") == "route 1 via 2")
-        self.judge("2 hears", good.hear(b"2 1\n"), good.told)
-
-    def end(self, run):
-        answer = run.quit()
-        self.judge("quit", answer == ("ok", 0), answer)
-        said = run.replays()
-        self.judge("replay", said.startswith("replay ok "), said)
+class Rows(SizeRows):
+    """What neighbours do, and what is to come of it."""
 
     def with_one(self, behave, says, more=(), history=None):
         """Node 1 behaves so while node 2 is served; standard error says that."""
@@ -405,7 +222,7 @@ class Rows:
             run.close()
 
     def row_never_read(self):
-        """Node 1 hears nothing while node 2 changes its mind 40,000 times."""
+        """Node 1 hears nothing while node 2 changes its mind 70,000 times."""
         run = Run(self.program)
         try:
             one, two = run.neighbours[1], run.neighbours[2]
@@ -414,15 +231,15 @@ class Rows:
             self.judge("1 is up", "1:" in run.asks_until("neighbours", " 1:"))
             self.serve_two(run)
             begun = time.monotonic()
-            two.say(b"3 0\n3 1\n" * 20000)
+            two.say(b"3 0\n3 1\n" * 35000)
             two.say(b"4 0\n")
-            run.asks_until("show 4", "via 2")
+            self.judge("2 is served at its last line", run.routes_until(4, "1:2"))
             took = time.monotonic() - begun
-            print(f"never read: {40000 / took:.0f} messages a second were entered", file=sys.stderr)
+            print(f"never read: {70000 / took:.0f} messages a second were entered", file=sys.stderr)
             self.judge("2 is served", run.ask("show 3") == "route 2 via 2", run.ask("show 3"))
             self.end(run)
             said = run.replays()
-            self.judge("each was entered", int(said.split()[-1]) > 40000, said)
+            self.judge("each was entered", int(said.split()[-1]) > 70000, said)
         finally:
             run.close()
 
@@ -481,9 +298,9 @@ class Rows:
                 one.open()
                 one.greet()
                 one.say(b"1 0\n")
-                self.judge("1 is up", run.asks_until("show 1", "via 1") == "route 1 via 1")
+                self.judge("1 is up", run.routes_until(1, "1:1"))
                 one.close()
-                self.judge("1 is down", run.asks_until("show 1", "none") == "route 8 none")
+                self.judge("1 is down", run.routes_until(1, "8"))
                 # The session is over before its files are closed. Until then its reader could take the next greeting, or break the pipe.
                 run.told_closed(1, times)
             found = run.ask("history 0")
@@ -501,12 +318,12 @@ class Rows:
             one.open()
             one.greet()
             one.say(b"1 0\n")
-            self.judge("1 is up", run.asks_until("show 1", "via 1") == "route 1 via 1")
+            self.judge("1 is up", run.routes_until(1, "1:1"))
             run.rests()
             one.close()
-            self.judge("1 is down", run.asks_until("show 1", "none") == "route 8 none")
+            self.judge("1 is down", run.routes_until(1, "8"))
             run.neighbours[2].say(b"3 0\n3 1\n" * 20)
-            found = run.rests()
+            found = "\n".join(run.rests())
             session = re.search(r"up 1 opened (\d+)", found)[1]
             later = found.split(f" down {session} ")[-1]
             self.judge("one down", found.count(f" down {session} ") == 1, found)
@@ -616,8 +433,7 @@ class Rows:
             self.judge("stays", run.process.poll() is None)
             text = run.said("", patience=0)
             self.judge("says nothing", text == "", text)
-            run.process.send_signal(signal.SIGKILL)
-            run.process.wait()
+            run.kill()
             said = run.replays()
             self.judge("replay", said.startswith("replay ok ") and int(said.split()[-1]) >= 3, said)
         finally:
@@ -656,7 +472,7 @@ class Rows:
 
     def row_memory_is_refused(self):
         """Memory is refused while node 1 floods the link, and is there again later: no session stays that nobody serves."""
-        run = Run(self.program, more=("--retry", "1"), prepare=lambda: os.environ.update(MALLOC_ARENA_MAX="1"))
+        run = Run(self.program, more=("--retry", "1"), environment={"MALLOC_ARENA_MAX": "1"})
         try:
             one, two = run.neighbours[1], run.neighbours[2]
             for each in (one, two):
@@ -679,62 +495,6 @@ class Rows:
             one.greet()
             answer = run.asks_until("neighbours", " 1:")
             self.judge("1 comes again", " 1:" in answer, answer)
-            self.end(run)
-        finally:
-            run.close()
-
-    def row_quits_while_neighbours_greet(self):
-        """`quit` comes while sessions begin: the history that is saved has the Down of each of them."""
-        for turn in range(GREETED_QUITS):
-            run = Run(self.program, nodes=range(1, 61), size=80)
-            try:
-                neighbours = list(run.neighbours.values())
-                for neighbour in neighbours:
-                    neighbour.open()
-                self.quit_behind(run, neighbours, 3 * turn)
-                with open(run.history) as it:
-                    text = it.read()
-                opened, closed = (sorted(re.findall(pattern, text, re.MULTILINE)) for pattern in (r" up \d+ opened (\d+)$", r" down (\d+) done \d+$"))
-                self.judge("each session has its Down", opened == closed, (turn, len(opened), len(closed)))
-            finally:
-                run.close()
-
-    def quit_behind(self, run, neighbours, count):
-        """Neighbours greet, and behind so many of them comes `quit`."""
-        for neighbour in neighbours[:count]:
-            neighbour.greet(size=80)
-        run.process.stdin.write(b"quit\n")
-        run.process.stdin.close()
-        with contextlib.suppress(BrokenPipeError):
-            for neighbour in neighbours[count:]:
-                neighbour.greet(size=80)
-        self.judge("ends", run.process.wait(timeout=PATIENCE) == 0)
-
-    def row_twenty_links(self):
-        self.serve_many(20)
-
-    def row_hundred_links(self):
-        self.serve_many(100)
-
-    def serve_many(self, count):
-        """Each of so many neighbours comes up, says that it is there, and is heard of by the last one."""
-        nodes, size = range(1, count + 1), count + 20
-        run = Run(self.program, nodes=nodes, size=size)
-        try:
-            for neighbour in run.neighbours.values():
-                neighbour.open()
-                neighbour.greet(size=size)
-            up = run.asks_until("neighbours", f" {count}:")
-            deadline = time.monotonic() + PATIENCE
-            while up.count(":") < count and time.monotonic() < deadline:
-                up = run.ask("neighbours")
-            self.judge("all are up", up.count(":") == count, up)
-            for node, neighbour in run.neighbours.items():
-                neighbour.say(b"%d 0\n" % node)
-            last = run.neighbours[count]
-            for node in nodes:
-                self.judge(f"{count} hears of {node}", last.hear(b"\n%d 1\n" % node))
-            print(f"{count} links: {run.status('VmRSS')}, {run.status('Threads')} threads", file=sys.stderr)
             self.end(run)
         finally:
             run.close()
@@ -792,32 +552,11 @@ class Rows:
         said = run.replays()
         found.append(("replay", said.startswith("replay ok "), said))
 
-    def run(self, chosen):
-        for name in [name for name in dir(self) if name.startswith("row_")]:
-            if chosen and name[4:] not in chosen:
-                continue
-            self.name = name[4:]
-            begun = time.monotonic()
-            signal.alarm(LONGEST)
-            try:
-                getattr(self, name)()
-            except (OSError, subprocess.TimeoutExpired, ValueError) as why:
-                self.judge("runs", False, str(why))
-            finally:
-                signal.alarm(0)
-            print(f"{name[4:]}: {time.monotonic() - begun:.2f} s", file=sys.stderr)
-
-
-def take_too_long(*_):
-    """Ends a row that waits for what does not come."""
-    raise TimeoutError(f"not at its end after {LONGEST} seconds")
-
 
 def main(words):
     program = built()
     soft, hard = resource.getrlimit(resource.RLIMIT_NOFILE)
     resource.setrlimit(resource.RLIMIT_NOFILE, (max(soft, min(2048, hard)), hard))
-    signal.signal(signal.SIGALRM, take_too_long)
     rows = Rows(program)
     rows.run(words)
     finish(rows.passed, rows.failed)

@@ -11,7 +11,8 @@ direction, so that a link can be cut by ending both. For each topology the lab
   2. looks at the idle routers for 2 seconds, or for as long as `--idle` says: no entry is made, and no processor time is used;
   3. cuts a link, and compares again; mends it, and compares again;
   4. replaces the import filter of a node by one that counts one link more, and compares again;
-  5. kills a router (SIGKILL), compares the others, starts it again, and compares again;
+  5. kills a router (SIGKILL), of which all that it answered of its history a second before has to be saved, compares the others, starts it again,
+     and compares again;
   6. has all routers quit, and replays each history that was saved.
 
 The last line is 'N passed, M failed'. With --keep the folder with the FIFOs and histories stays, and standard error says where it is.
@@ -27,15 +28,16 @@ import subprocess
 import sys
 import tempfile
 import time
+import traceback
 
 sys.dont_write_bytecode = True
-from program import TOP, built, finish  # noqa: E402
+from program import TOP, built, entries_of, finish  # noqa: E402
 TOPOLOGIES = ("examples/ring_of_five.domain", "examples/grid_of_sixteen.domain")
 SETUP = ("domain", "prefix", "load", "link", "import", "export")
 
 # Seconds: what is quiet makes no entry for so long; nothing takes longer than that to be quiet; how long idle routers are looked at, if no
-# option says otherwise.
-QUIET, PATIENCE, IDLE = 0.5, 30.0, 2.0
+# option says otherwise; what was answered so long ago is saved.
+QUIET, PATIENCE, IDLE, SAVED = 0.5, 30.0, 2.0, 1.0
 
 
 class Topology:
@@ -244,8 +246,13 @@ class Lab:
         self.judge("import", self.routers[u].ask(f"import {w} farther").startswith("done "))
         self.compare("filtered", more)
         victim = self.routers[w]
+        answered = entries_of(victim.ask)
+        time.sleep(SAVED)
         victim.kill()
         self.replay(victim, may_be_cut=True)
+        with open(victim.history()) as it:
+            saved = it.read().split("\n")[1:-1]
+        self.judge("killed: all is saved", saved[:len(answered)] == answered, f"{len(saved)} entries of {len(answered)}")
         mine = [tuple(sorted((w, other))) for other in self.topology.neighbours(w)]
         for one in mine:
             self.cut(one)
@@ -292,7 +299,8 @@ def main(words):
         begun = time.monotonic()
         try:
             lab.run()
-        except (OSError, subprocess.TimeoutExpired, ValueError) as why:
+        except Exception as why:
+            traceback.print_exc()
             lab.judge("runs", False, str(why))
         finally:
             lab.close(asked.keep)

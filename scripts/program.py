@@ -133,6 +133,16 @@ def built():
     return finish(0, 1)
 
 
+def entries_of(ask):
+    """All entries of the history of a router that is asked, in the words that its file has for them. To ask makes no entry."""
+    found = []
+    while (answer := ask(f"history {len(found)}")).startswith("history "):
+        found += answer[len("history "):].split(" | ")
+    if answer != "history":
+        raise ValueError(f"`history {len(found)}` is answered {answer!r}")
+    return found
+
+
 def finish(passed, failed):
     """Ends a script with its count. Where nothing was checked, it has not passed."""
     print(f"{passed} passed, {failed} failed")

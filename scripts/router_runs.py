@@ -1,0 +1,291 @@
+"""Runs of `ncroute router` with neighbours that are no routers, and the rows that look at such runs."""
+import concurrent.futures
+import errno
+import fcntl
+import os
+import re
+import select
+import shutil
+import signal
+import subprocess
+import sys
+import tempfile
+import time
+import traceback
+
+sys.dont_write_bytecode = True
+from program import TOP, entries_of  # noqa: E402
+
+SIZE = 8
+PATIENCE = 10.0
+
+# Seconds: no row takes so long. An answer that does not come would keep a row for ever.
+LONGEST = 120
+
+# What Linux calls the question how many bytes a FIFO holds: 65,536 where a page has 4,096 bytes, and more where pages are larger.
+F_GETPIPE_SZ = 1032
+
+
+class Neighbour:
+    """The other end of a link."""
+
+    def __init__(self, folder, node):
+        self.node, self.told = node, b""
+        self.there, self.back = (os.path.join(folder, f"{node}.{end}") for end in ("in", "out"))
+        self.writes = self.reads = None
+        for path in (self.there, self.back):
+            os.mkfifo(path)
+
+    def is_opened(self):
+        """Opens both files, the second one once the router has opened it: whether it has. It has the lower number, so it opens its output first."""
+        if self.reads is None:
+            self.reads = os.open(self.back, os.O_RDONLY | os.O_NONBLOCK)
+        try:
+            self.writes = os.open(self.there, os.O_WRONLY | os.O_NONBLOCK)
+        except OSError as why:
+            if why.errno != errno.ENXIO:
+                raise
+            return False
+        os.set_blocking(self.writes, True)
+        return True
+
+    def open(self):
+        """Opens both files, as the router does."""
+        until = time.monotonic() + PATIENCE
+        while not self.is_opened():
+            if time.monotonic() > until:
+                raise TimeoutError(f"the router does not open its link to {self.node}")
+            time.sleep(0.001)
+
+    def open_early(self):
+        """Opens what the router reads before anybody reads it."""
+        self.writes = os.open(self.there, os.O_RDWR)
+
+    def greet(self, size=SIZE, node=None):
+        self.say(b"netchange 1 %d %d\n" % (size, self.node if node is None else node))
+
+    def say(self, text):
+        while text:
+            text = text[os.write(self.writes, text):]
+
+    def say_without_end(self, count):
+        """Says so many bytes without a line feed, or as many as are taken: how many were."""
+        taken, some = 0, b"x" * (1 << 16)
+        try:
+            while taken < count:
+                taken += os.write(self.writes, some[:count - taken])
+        except BrokenPipeError:
+            pass
+        return taken
+
+    def holds(self):
+        """How many bytes the FIFO that the router reads holds."""
+        return fcntl.fcntl(self.writes, F_GETPIPE_SZ)
+
+    def listen(self, is_enough, patience=PATIENCE):
+        """Reads until what came is enough: whether it is."""
+        until = time.monotonic() + patience
+        # `select` takes no file above 1,023.
+        asked = select.poll()
+        asked.register(self.reads, select.POLLIN)
+        while not is_enough() and asked.poll(max(0, until - time.monotonic()) * 1000):
+            came = os.read(self.reads, 65536)
+            if not came:
+                break
+            self.told += came
+        return is_enough()
+
+    def hear(self, enough, patience=PATIENCE):
+        """Reads until what came contains these bytes: whether it does."""
+        return self.listen(lambda: enough in self.told, patience)
+
+    def distances(self):
+        """The distance to each node that it was told last, behind the greeting."""
+        lines = self.told[:self.told.rfind(b"\n") + 1].decode().splitlines()
+        return dict(map(int, line.split()) for line in lines if not line.startswith("netchange "))
+
+    def hear_distances(self, wanted, patience=PATIENCE):
+        """Reads until it was told these distances: whether it was."""
+        return self.listen(lambda: self.distances() == wanted, patience)
+
+    def close(self):
+        for name in ("writes", "reads"):
+            self.close_one(name)
+
+    def close_one(self, name):
+        if getattr(self, name) is not None:
+            os.close(getattr(self, name))
+            setattr(self, name, None)
+
+
+class Run:
+    """One router and its neighbours."""
+
+    def __init__(self, program, nodes=(1, 2), more=(), size=SIZE, prepare=None, saves=True, node=0, early=(), quicker=None, environment=None):
+        self.program, self.folder = program, tempfile.mkdtemp(prefix="router.")
+        environment = {**os.environ, **(environment or {}), **(self.sleeps(quicker) if quicker else {})}
+        self.neighbours = {node: Neighbour(self.folder, node) for node in nodes}
+        self.history = os.path.join(self.folder, "history")
+        self.errors = os.path.join(self.folder, "errors")
+        words = [program, "router", "--size", str(size), "--node", str(node), *more]
+        if saves:
+            words += ["--save", self.history]
+        for other, neighbour in self.neighbours.items():
+            words += ["--link", f"{other}={neighbour.there},{neighbour.back}"]
+        for other in early:
+            self.neighbours[other].open_early()
+        with open(self.errors, "wb") as errors:
+            self.process = subprocess.Popen(words, stdin=subprocess.PIPE, stdout=subprocess.PIPE, stderr=errors, preexec_fn=prepare, env=environment)
+
+    def sleeps(self, quicker):
+        """What has a program sleep so many times less long, by a small library that is loaded before the C library."""
+        library = os.path.join(self.folder, "sleep.so")
+        source = os.path.join(TOP, "scripts", "quick_sleep.c")
+        subprocess.run(["cc", "-shared", "-fPIC", "-O1", "-o", library, source, "-ldl"], check=True)
+        return {"LD_PRELOAD": library, "QUICKER": str(quicker)}
+
+    def ask(self, line):
+        self.process.stdin.write(line.encode() + b"\n")
+        self.process.stdin.flush()
+        return self.process.stdout.readline().decode().rstrip("\n")
+
+    def asks_until(self, line, wanted):
+        """Asks until an answer has this pattern: the last answer."""
+        until = time.monotonic() + PATIENCE
+        while True:
+            answer = self.ask(line)
+            if re.search(wanted, answer) or time.monotonic() > until:
+                return answer
+            time.sleep(0.01)
+
+    def said(self, wanted, patience=PATIENCE):
+        """What standard error says, when it has this or patience is over."""
+        until = time.monotonic() + patience
+        while True:
+            with open(self.errors) as it:
+                text = it.read()
+            if wanted in text or time.monotonic() > until:
+                return text
+            time.sleep(0.01)
+
+    def told_closed(self, node, times):
+        """Waits until standard error has said so many times that the link to a node was closed: then its IN is read no more."""
+        until = time.monotonic() + PATIENCE
+        while self.said("", patience=0).count(f"link {node}: ") < times and time.monotonic() < until:
+            time.sleep(0.01)
+
+    def routes_until(self, node, wanted):
+        """Asks for the routes, which makes no entry, until that of a node is the wanted one: whether it is."""
+        has_it = rf" {node}:{wanted}( |$)"
+        return bool(re.search(has_it, self.asks_until("routes", has_it)))
+
+    def rests(self):
+        """The entries of the history, once they are the same twice."""
+        before = None
+        found = entries_of(self.ask)
+        until = time.monotonic() + PATIENCE
+        while before != found and time.monotonic() < until:
+            time.sleep(0.2)
+            before, found = found, entries_of(self.ask)
+        return found
+
+    def saved(self):
+        """The entries in the file of the history, as far as their lines are whole."""
+        with open(self.history) as it:
+            return it.read().split("\n")[1:-1]
+
+    def status(self, name):
+        """What the system says of the process."""
+        with open(f"/proc/{self.process.pid}/status") as it:
+            return re.search(name + r":\s*(.*)", it.read())[1]
+
+    def memory(self):
+        """The most kilobytes that it had at a time."""
+        return int(self.status("VmHWM").split()[0])
+
+    def quit(self):
+        answer = self.ask("quit")
+        self.process.stdin.close()
+        return answer, self.process.wait(timeout=PATIENCE)
+
+    def kill(self):
+        self.process.send_signal(signal.SIGKILL)
+        self.process.wait()
+
+    def replays(self):
+        return subprocess.run([self.program, "replay", self.history], capture_output=True, check=False).stdout.decode().strip()
+
+    def close(self):
+        if self.process.poll() is None:
+            self.kill()
+        for neighbour in self.neighbours.values():
+            neighbour.close()
+        shutil.rmtree(self.folder)
+
+
+class RunRows:
+    """Rows about such runs: each method whose name begins with `row_` is one."""
+
+    # Rows that mostly wait, and run beside the others.
+    WAITING = ()
+
+    def __init__(self, program):
+        self.program, self.passed, self.failed, self.name = program, 0, 0, ""
+
+    def judge(self, what, holds, told=""):
+        if holds:
+            self.passed += 1
+        else:
+            self.failed += 1
+            print(f"{self.name}: {what}: failed: {told!r}", file=sys.stderr)
+
+    def serve_two(self, run):
+        """Node 2 is served: it comes up, says that it is there, and hears of itself."""
+        good = run.neighbours[2]
+        good.open()
+        good.greet()
+        good.say(b"2 0\n")
+        self.judge("2 is served", run.routes_until(2, "1:2"))
+        self.judge("2 hears", good.hear(b"2 1\n"), good.told)
+
+    def end(self, run):
+        answer = run.quit()
+        self.judge("quit", answer == ("ok", 0), answer)
+        said = run.replays()
+        self.judge("replay", said.startswith("replay ok "), said)
+
+    def run_row(self, name):
+        """Runs a row. One that breaks has failed, and the others run."""
+        self.name = name[4:]
+        begun = time.monotonic()
+        signal.signal(signal.SIGALRM, take_too_long)
+        signal.alarm(LONGEST)
+        try:
+            getattr(self, name)()
+        except Exception as why:
+            traceback.print_exc()
+            self.judge("runs", False, str(why))
+        finally:
+            signal.alarm(0)
+        print(f"{name[4:]}: {time.monotonic() - begun:.2f} s", file=sys.stderr)
+
+    def run(self, chosen):
+        names = [name for name in dir(self) if name.startswith("row_") and (not chosen or name[4:] in chosen)]
+        with concurrent.futures.ProcessPoolExecutor(len(self.WAITING)) as pool:
+            beside = [pool.submit(counts_of, type(self)(self.program), name) for name in names if name[4:] in self.WAITING]
+            for name in names:
+                if name[4:] not in self.WAITING:
+                    self.run_row(name)
+            for passed, failed in (each.result() for each in beside):
+                self.passed, self.failed = self.passed + passed, self.failed + failed
+
+
+def counts_of(rows, name):
+    """Runs a row: how many of its judgements passed, and how many failed."""
+    rows.run_row(name)
+    return rows.passed, rows.failed
+
+
+def take_too_long(*_):
+    """Ends a row that waits for what does not come."""
+    raise TimeoutError(f"not at its end after {LONGEST} seconds")

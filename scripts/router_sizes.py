@@ -1,0 +1,234 @@
+"""What `ncroute router` does at real sizes and times: many entries, sessions and links, kills, filters that are set while it runs, and waits."""
+import contextlib
+import re
+import sys
+import time
+
+sys.dont_write_bytecode = True
+from router_runs import PATIENCE, SIZE, Run, RunRows  # noqa: E402
+
+# The largest domain, in which a router has a link to each other node.
+NODES = 250
+
+# Seconds: what was answered so long ago is saved, and what is to be told is told.
+PROMPT = 1.0
+
+# How often a neighbour comes and goes, and how many times less long a router sleeps meanwhile: a second then takes 20 milliseconds.
+SESSIONS, QUICKER = 200, 50
+
+# Seconds, for `--retry`, and how much later than that a link may be opened again.
+RETRIES, LATE = (1, 2, 3), 1.0
+
+# How often a router is ended while its neighbours greet it, and how many they are.
+GREETED_QUITS, GREETING = 20, 70
+
+FAR = "load far filter far { rip_metric = rip_metric + 2; accept; }"
+
+# How many entries a router has at least, when it is killed, and in how many parts they come.
+MANY, PARTS = 12_000, 4
+
+
+def say_much(run):
+    """Node 2 says many messages, in parts between which the history rests and is saved; behind them comes one entry more."""
+    for part in range(PARTS):
+        run.neighbours[2].say(b"3 0\n3 1\n" * (MANY // PARTS // 2) + b"4 %d\n" % part)
+        run.routes_until(4, f"{part + 1}:2")
+        run.rests()
+    run.ask("show 2")
+
+
+# What a router enters at last before it is killed. Node 1 and node 2 are up.
+LAST_ENTRIES = {
+    "many messages": say_much,
+    "a message that changes nothing": lambda run: run.neighbours[2].say(b"3 9\n"),
+    "the end of a session": lambda run: run.neighbours[1].close(),
+    "a route that is asked for": lambda run: run.ask("show 2"),
+    "a neighbour without a link": lambda run: run.ask("up 5"),
+    "an import filter": lambda run: run.ask("import 5 far"),
+    "an export filter": lambda run: run.ask("export 5 far"),
+}
+
+
+class SizeRows(RunRows):
+    """Rows of sizes and times."""
+
+    WAITING = ("comes_two_hundred_times", "killed", "retries")
+
+    def row_killed(self):
+        """A router is killed a second after its last entry, whichever that is: its file has all that it answered of its history."""
+        runs = {what: Run(self.program) for what in LAST_ENTRIES}
+        try:
+            answered = {}
+            for what, run in runs.items():
+                self.bring_up(run)
+                run.ask(FAR)
+                run.rests()
+                LAST_ENTRIES[what](run)
+                answered[what] = run.rests()
+            self.judge("there are many", max(map(len, answered.values())) > MANY)
+            time.sleep(PROMPT)
+            for what, run in runs.items():
+                run.kill()
+                saved, wanted = run.saved(), answered[what]
+                self.judge(f"{what}: is saved", saved[:len(wanted)] == wanted, (len(saved), len(wanted), wanted[-1]))
+                said = run.replays()
+                self.judge(f"{what}: replay", said == f"replay ok {len(saved)}", said)
+        finally:
+            for run in runs.values():
+                run.close()
+
+    def bring_up(self, run, size=SIZE):
+        """All neighbours come up: each is told that the last node of the domain cannot be reached."""
+        for neighbour in run.neighbours.values():
+            neighbour.open()
+            neighbour.greet(size=size)
+            self.judge(f"{neighbour.node} is up", neighbour.hear(b"\n%d %d\n" % (size - 1, size)), neighbour.told)
+
+    def row_comes_two_hundred_times(self):
+        """Node 1 comes and goes, 200 times: each session begins and ends, with its routes."""
+        run = Run(self.program, more=("--retry", "1"), quicker=QUICKER)
+        try:
+            self.serve_two(run)
+            one = run.neighbours[1]
+            for times in range(1, SESSIONS + 1):
+                one.open()
+                one.greet()
+                one.say(b"1 0\n")
+                came = run.routes_until(1, "1:1")
+                one.close()
+                run.told_closed(1, times)
+                went = run.routes_until(1, str(SIZE))
+                if not (came and went):
+                    break
+            self.judge("comes and goes each time", (came, went, times) == (True, True, SESSIONS), (came, went, times))
+            self.judge("2 is served", run.routes_until(2, "1:2"))
+            self.end(run)
+            self.judge_sessions(run, {1: SESSIONS, 2: 1})
+        finally:
+            run.close()
+
+    def judge_sessions(self, run, wanted):
+        """The history that was saved has so many sessions of each node, each of them after the one before, and the Down of each."""
+        begun, sessions, faults = {}, dict.fromkeys(wanted, 0), []
+        for entry in run.saved():
+            if up := re.search(r"^\d+ up (\d+) opened (\d+)$", entry):
+                node = int(up[1])
+                if node in begun.values() or node not in sessions:
+                    faults.append(entry)
+                else:
+                    begun[up[2]] = node
+                    sessions[node] += 1
+            elif (down := re.search(r"^\d+ down (\d+) done \d+$", entry)) and begun.pop(down[1], None) is None:
+                faults.append(entry)
+        self.judge("each session ends, once", not faults and not begun, (faults[:3], len(begun)))
+        self.judge("sessions", sessions == wanted, sessions)
+
+    def row_retries(self):
+        """A link that was closed is opened again after as many seconds as `--retry` says: not before, and not much later."""
+        runs = {seconds: Run(self.program, nodes=(1,), more=("--retry", str(seconds)), saves=False) for seconds in RETRIES}
+        try:
+            closed, took = {}, {}
+            for seconds, run in runs.items():
+                self.bring_up(run)
+                closed[seconds] = time.monotonic()
+                run.neighbours[1].close()
+                run.told_closed(1, 1)
+            until = time.monotonic() + max(RETRIES) + PATIENCE
+            while len(took) < len(runs) and time.monotonic() < until:
+                for seconds, run in runs.items():
+                    if seconds not in took and run.neighbours[1].is_opened():
+                        took[seconds] = time.monotonic() - closed[seconds]
+                time.sleep(0.005)
+            for seconds in RETRIES:
+                waited = took.get(seconds)
+                self.judge(f"--retry {seconds}", waited is not None and seconds <= waited <= seconds + LATE, waited)
+        finally:
+            for run in runs.values():
+                run.close()
+
+    def row_exports(self):
+        """An export filter that the operator sets while the router runs: its neighbour hears the new distances at once, and no other does."""
+        run = Run(self.program, nodes=(1, 2, 3, 4))
+        try:
+            self.bring_up(run)
+            run.ask(FAR)
+            farther = {node: min(distance + 2, SIZE) for node, distance in run.neighbours[1].distances().items()}
+            for node in (1, 4, 2):
+                answer = run.ask(f"export {node} far")
+                self.judge(f"export {node}", answer == "done 0", answer)
+                neighbour = run.neighbours[node]
+                self.judge(f"{node} hears", neighbour.hear_distances(farther, PROMPT), neighbour.told)
+            last = run.neighbours[3]
+            self.judge("3 hears nothing", not last.listen(lambda: last.distances() == farther, 0.1), last.told)
+            self.end(run)
+        finally:
+            run.close()
+
+    def row_twenty_links(self):
+        self.serve_many(20, 40)
+
+    def row_most_links(self):
+        """A router has a link to each other node of the largest domain."""
+        self.serve_many(NODES - 1, NODES)
+
+    def serve_many(self, count, size):
+        """Each of so many neighbours comes up, says that it is there, and hears of all. One that is far behind goes, the last one is told other
+        distances, and at the end each session has its Down."""
+        nodes = range(1, count + 1)
+        run = Run(self.program, nodes=nodes, size=size)
+        try:
+            self.bring_up(run, size)
+            self.judge("all are up", run.ask("neighbours").count(":") == count)
+            for node, neighbour in run.neighbours.items():
+                neighbour.say(b"%d 0\n" % node)
+            distances = {node: 0 if node == 0 else 1 if node in nodes else size for node in range(size)}
+            self.judge_heard(run, distances)
+            print(f"{count} links: {run.status('VmRSS')}, {run.status('Threads')} threads", file=sys.stderr)
+            gone = count * 4 // 5
+            run.neighbours[gone].close()
+            wanted = f"link {gone}: the neighbour ended its stream: closed\n"
+            text = run.said(wanted)
+            self.judge("says", text == wanted, text)
+            self.judge_heard(run, {**distances, gone: size}, gone)
+            run.ask(FAR)
+            answer = run.ask(f"export {count} far")
+            self.judge(f"export {count}", answer == "done 0", answer)
+            farther = {node: min(distance + 2, size) for node, distance in distances.items()}
+            self.judge(f"{count} hears", run.neighbours[count].hear_distances({**farther, gone: size}), run.neighbours[count].told)
+            self.end(run)
+            self.judge_sessions(run, dict.fromkeys(nodes, 1))
+        finally:
+            run.close()
+
+    def judge_heard(self, run, distances, gone=None):
+        """Each neighbour but one that is gone has heard these distances."""
+        until = time.monotonic() + PATIENCE
+        deaf = [node for node, neighbour in run.neighbours.items()
+                if node != gone and not neighbour.hear_distances(distances, max(0, until - time.monotonic()))]
+        self.judge("each hears of all", not deaf, deaf)
+
+    def row_quits_while_neighbours_greet(self):
+        """`quit` comes while sessions begin: the history that is saved has the Down of each of them."""
+        for turn in range(GREETED_QUITS):
+            run = Run(self.program, nodes=range(1, GREETING + 1), size=80)
+            try:
+                neighbours = list(run.neighbours.values())
+                for neighbour in neighbours:
+                    neighbour.open()
+                self.quit_behind(run, neighbours, turn * GREETING // (GREETED_QUITS - 1))
+                text = "\n".join(run.saved())
+                opened, closed = (sorted(re.findall(pattern, text, re.MULTILINE)) for pattern in (r" up \d+ opened (\d+)$", r" down (\d+) done \d+$"))
+                self.judge("each session has its Down", opened == closed, (turn, len(opened), len(closed)))
+            finally:
+                run.close()
+
+    def quit_behind(self, run, neighbours, count):
+        """Neighbours greet, and behind so many of them comes `quit`."""
+        for neighbour in neighbours[:count]:
+            neighbour.greet(size=80)
+        run.process.stdin.write(b"quit\n")
+        run.process.stdin.close()
+        with contextlib.suppress(BrokenPipeError):
+            for neighbour in neighbours[count:]:
+                neighbour.greet(size=80)
+        self.judge("ends", run.process.wait(timeout=PATIENCE) == 0)
