@@ -211,12 +211,19 @@ def answers(text):
     return ["verified" if line.startswith("verified ") else line for line in text.decode().split("\n")]
 
 
+def row_of(nodes):
+    """Nodes in a row, which take as many rounds to come to rest, and its last link cut, which takes as many again."""
+    links = "".join(f"link {node} {node + 1}\n" for node in range(nodes - 1))
+    return f"domain {nodes}\n{links}settle\ncut 0 1\nsettle\n".encode()
+
+
 def main(words):
     if len(words) > 2:
         sys.exit(__doc__)
     count, seed = (int(word) for word in (words + ["100", "1"][len(words):]))
     numbers = Numbers(seed)
     scripts = [("\n".join(Lines(numbers, numbers.within(2, 9)).script()) + "\n").encode() for _ in range(count)]
+    scripts.append(row_of(56))
     asked = program.Program()
     said = asked.runs([("ncroute domain", script) for script in scripts])
     asked.close()

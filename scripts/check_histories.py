@@ -1,7 +1,7 @@
 #!/usr/bin/env python3
 """Kills `ncroute run --save` 200 times at random moments, and sees what is left: each line of the file but the last is whole, each event that
-was answered is there, and `ncroute replay` finds all replies right up to the last whole line. Prints a line for each run where this does
-not hold, and at last 'N passed, M failed'.
+was answered is there, and `ncroute replay` finds all replies right up to the last whole line. Two more runs come to
+their end, with as many entries as events. Prints a line for each run where this does not hold, and at last 'N passed, M failed'.
 
 usage: NCROUTE=PATH scripts/check_histories.py [RUNS [SEED]]     (PATH: the program; 200 runs, of seed 1)
 """
@@ -22,13 +22,34 @@ LINES = 20_000
 
 
 def seconds_of(program, script, kept):
-    """How long the program takes to its end, and its exit status."""
+    """How long the program takes to its end."""
     begun = time.monotonic()
-    status = subprocess.run([program, "run", "--save", kept, script], stdout=subprocess.DEVNULL).returncode
+    subprocess.run([program, "run", "--save", kept, script], stdout=subprocess.DEVNULL)
     took = time.monotonic() - begun
     if os.path.exists(kept):
         os.remove(kept)
-    return took, status
+    return took
+
+
+def fault_at_end(program, script, kept):
+    """What is wrong with a run to its end, if anything is: each line is answered and each event saved, the status says whether a line was
+    refused, and no fault is told."""
+    ran = subprocess.run([program, "run", "--save", kept, script], capture_output=True)
+    with open(script, "rb") as it:
+        lines = it.read().count(b"\n")
+    answers = ran.stdout.splitlines()
+    if len(answers) != lines:
+        return f"of {lines} lines {len(answers)} are answered, and told is {ran.stderr[-100:]!r}"
+    status = int(any(answer.startswith(b"refused ") for answer in answers))
+    if ran.returncode != status:
+        return f"the status is {ran.returncode} in place of {status}"
+    with open(kept, "rb") as it:
+        saved = it.read()
+    os.remove(kept)
+    events, entries = sum(answer.startswith(REPLIES) for answer in answers), saved.count(b"\n") - 1
+    if entries != events:
+        return f"{events} events are answered, and {entries} are saved"
+    return fault_in(program, ran.stdout, saved)
 
 
 def written_by(program, script, kept, seconds):
@@ -76,18 +97,19 @@ def main(runs=200, seed=1):
     failed = 0
     with tempfile.TemporaryDirectory() as folder:
         script = os.path.join(folder, "script")
-        with open(script, "wb") as it:
-            made = [sys.executable, "-B", os.path.join(TOP, "bench", "script.py"), "mixed", "16", str(LINES)]
-            subprocess.run(made, stdout=it, check=True)
-        _, status = seconds_of(program, script, os.path.join(folder, "all"))
-        if status not in (0, 1):
-            failed += 1
-            print(f"the run to its end has status {status}")
+        # The first of them refuses no line, so that its status is 0. The last is the one that is killed.
+        for kind in ("messages", "mixed"):
+            with open(script, "wb") as it:
+                made = [sys.executable, "-B", os.path.join(TOP, "bench", "script.py"), kind, "16", str(LINES)]
+                subprocess.run(made, stdout=it, check=True)
+            if fault := fault_at_end(program, script, os.path.join(folder, "all")):
+                failed += 1
+                print(f"{kind}, to its end: {fault}")
         cut = 0
         for run in range(runs):
             # A machine that has more to do than before takes longer, and would be killed before the first entry each time.
             if run % 20 == 0:
-                longest, _ = seconds_of(program, script, os.path.join(folder, "all"))
+                longest = seconds_of(program, script, os.path.join(folder, "all"))
             kept = os.path.join(folder, str(run))
             answered, saved = written_by(program, script, kept, chosen.uniform(0, longest))
             cut += bool(saved)
@@ -99,7 +121,7 @@ def main(runs=200, seed=1):
         if cut < runs // 4:
             failed += 1
             print(f"only {cut} of {runs} runs had saved something")
-    finish(runs + 2 - failed, failed)
+    finish(runs + 3 - failed, failed)
 
 
 if __name__ == "__main__":
