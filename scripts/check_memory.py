@@ -14,7 +14,7 @@ Anything else is a fault: a wrong answer (a failed assertion, or an expectation,
 end within a minute.
 
 A run of the program that meets one ends with status 1 and the code of what was refused, and has written the first lines of its whole answer,
-each whole; or it did without, and ended as ever.
+each whole; or it did without, and ended as ever. `net` meets a refusal also where its threads have ended and it replays what came of them.
 """
 import collections
 import concurrent.futures
@@ -44,6 +44,10 @@ Tables::apply Journal::open Journal::apply replay answer_lines run_script Router
 MEMORY = {b"ncroute: E3\n"}
 MEMORY_OF_NETWORK = {b"ncroute: %s\n" % code for code in (b"E3", b"J2", b"L3", b"X1", b"X2")}
 
+# How often `net` asks for memory at least, once its threads have ended: 48 to 55 times were seen, 16 and more for the replay of each of its three
+# histories.
+LEAST_OF_REPLAYS = 45
+
 
 class Sweep:
     """Runs commands without their Nth allocation, by a small library that is loaded before the C library."""
@@ -54,10 +58,10 @@ class Sweep:
         source = os.path.join(program.TOP, "scripts", "fail_nth_allocation.c")
         subprocess.run(["cc", "-shared", "-fPIC", "-O1", "-o", self.library, source, "-ldl"], check=True)
 
-    def without(self, nth, words, given=b""):
+    def without(self, nth, words, given=b"", **more):
         """How the command ends without its Nth allocation: status, output and errors; `None` where it asks less often. A minute is its limit."""
         mark = os.path.join(self.folder, f"refused.{next(self.marks)}")
-        told = {**os.environ, "NTH_ALLOCATION": str(nth), "REFUSED_FILE": mark, "LD_PRELOAD": self.library}
+        told = {**os.environ, "NTH_ALLOCATION": str(nth), "REFUSED_FILE": mark, "LD_PRELOAD": self.library, **more}
         try:
             ran = subprocess.run(words, input=given, capture_output=True, env=told, timeout=60)
             ended = ran.returncode, ran.stdout, ran.stderr
@@ -175,6 +179,16 @@ def sweep_runs(sweep, pool):
     return passed, failed
 
 
+def refuse_replays(sweep, pool):
+    """`net` replays three histories once its threads have ended: it asks for memory then, and each refusal ends it."""
+    words = [os.environ.get("NCROUTE") or os.path.join(program.TOP, "crates", "ncroute", "out", "ncroute"), "net"]
+    ended = list(pool.map(lambda nth: sweep.without(nth, words, BEHIND_THREADS="1"), range(1, LEAST_OF_REPLAYS + 1)))
+    wrong = [(nth, end) for nth, end in enumerate(ended, 1) if end not in [(1, b"", errors) for errors in MEMORY]]
+    if wrong:
+        print(f"net, behind its threads: without allocation {wrong[0][0]} of {LEAST_OF_REPLAYS}: {wrong[0][1]}")
+    return int(not wrong), int(bool(wrong))
+
+
 def main():
     names = sys.argv[1:] or ["calls", "runs"]
     if not set(names) <= {"calls", "runs"}:
@@ -186,7 +200,7 @@ def main():
         sweep = Sweep(folder)
         for name in names:
             if name == "runs":
-                counts = [sweep_runs(sweep, pool)]
+                counts = [sweep_runs(sweep, pool), refuse_replays(sweep, pool)]
             else:
                 well, ill, answers = sweep_tests(sweep, pool)
                 counts = [(well, ill), count_calls(answers)]

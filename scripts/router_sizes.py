@@ -124,8 +124,9 @@ class SizeRows(RunRows):
         self.judge("sessions", sessions == wanted, sessions)
 
     def row_retries(self):
-        """A link that was closed is opened again after as many seconds as `--retry` says: not before, and not much later."""
+        """A link that was closed is opened again after as many seconds as `--retry` says: not before, and not much later. Without it, it is not."""
         runs = {seconds: Run(self.program, nodes=(1,), more=("--retry", str(seconds)), saves=False) for seconds in RETRIES}
+        runs[None] = Run(self.program, nodes=(1,), saves=False)
         try:
             closed, took = {}, {}
             for seconds, run in runs.items():
@@ -134,7 +135,7 @@ class SizeRows(RunRows):
                 run.neighbours[1].close()
                 run.told_closed(1, 1)
             until = time.monotonic() + max(RETRIES) + PATIENCE
-            while len(took) < len(runs) and time.monotonic() < until:
+            while not took.keys() >= set(RETRIES) and time.monotonic() < until:
                 for seconds, run in runs.items():
                     if seconds not in took and run.neighbours[1].is_opened():
                         took[seconds] = time.monotonic() - closed[seconds]
@@ -142,6 +143,7 @@ class SizeRows(RunRows):
             for seconds in RETRIES:
                 waited = took.get(seconds)
                 self.judge(f"--retry {seconds}", waited is not None and seconds <= waited <= seconds + LATE, waited)
+            self.judge("no --retry", None not in took, took.get(None))
         finally:
             for run in runs.values():
                 run.close()
