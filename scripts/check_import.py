@@ -1,6 +1,6 @@
 #!/usr/bin/env python3
-"""Tries `ncroute import`: each rewrite, what is left out and at which place, names that would steer a terminal, and random configurations that
-are made of the filters in `tests/bird/`, whose import must have the tokens of the filter itself. Where BIRD takes a filter that is refused here,
+"""Tries `ncroute import`: each rewrite, what is left out and at which place, both at many sizes, names that would steer a terminal, and random
+configurations that are made of the filters in `tests/bird/`, whose import must have the tokens of the filter itself. Where BIRD takes a filter that is refused here,
 what is imported must answer as BIRD did. Prints what fails, and at last 'N passed, M failed'.
 
 usage: NCROUTE=PATH [SEED=N] scripts/check_import.py     (PATH: the program as it is built; N: the seed of the random configurations, 1)
@@ -407,6 +407,108 @@ def full(trial):
     trial.check("a file that is not written to its end", told and is_next and ran.returncode == 1 and len(held) == 200, f"{ran} {held}")
 
 
+def place(text, part, number=0):
+    """The line and the column at which a part of a configuration begins, of several the one of this number."""
+    at = -1
+    for _ in range(number + 1):
+        at = text.index(part, at + 1)
+    return f"{text.count(chr(10), 0, at) + 1}:{at - text.rfind(chr(10), 0, at)}"
+
+
+def variables(trial):
+    """Filters of up to 16 variables: all assigned, one that is not, and one that is on a condition only, each of them read."""
+    for count in range(1, 17):
+        names = [f"v{n}" for n in range(count)]
+        head = "".join(f" int {name};" for name in names)
+        reads = " + ".join(names)
+        for unset in sorted({0, count // 2, count - 1}):
+            name = names[unset]
+            others = "".join(f" {other} = 1;" for other in names if other != name)
+            told = f"f: `{name}` may be read before it is assigned"
+            each = f"filter f{head} {{{others} if net.len > 8 then {name} = 1; else {{ {name} = 2; }} if net.len > {reads} then accept; reject; }}"
+            trial.taken(f"{count} variables, of which both ways assign {unset}", each, {"f": each[len("filter f"):]})
+            none = f"filter f{head} {{{others} if net.len > {reads} then accept; reject; }}"
+            trial.left_out(f"{count} variables without {unset}", none, place(none, name, 1), told)
+            for way, one in [("an if", f"if net.len > 8 then {name} = 1;"), ("the other way of an if", f"if net.len > 8 then ; else {name} = 1;"),
+                             ("a part of a case", f"case net.len {{ 8: {name} = 1; 9: {name} = 2; }}"),
+                             ("each part of a case but one", f"case net.len {{ 8: {name} = 1; 9: ; else: {name} = 2; }}")]:
+                some = f"filter f{head} {{{others} {one} if net.len > {reads} then accept; reject; }}"
+                trial.left_out(f"{count} variables, of which {way} assigns {unset}", some, place(some, name, 1 + one.count(name)), told)
+    for count in (1, 10, 100):
+        filler = "if net.len = 9 then reject;\n" * count
+        late = f"filter f int a; int k;\n{{ a = 1;\n{filler}if net.len > k then reject;\n{filler}k = 2; if net.len > k then accept; a = k;\n{filler}reject; }}"
+        trial.left_out(f"the place of a variable between {2 * count} commands", late, place(late, "k", 1), "f: `k` may be read before it is assigned")
+        two = f"filter f int a; int b;\n{{ {filler}if net.len > b then reject;\nif net.len > a then reject;\n{filler}accept; }}"
+        trial.left_out(f"the first of two variables behind {count} commands", two, place(two, "b then"), "f: `b` may be read")
+
+
+def lengths(trial):
+    """Definitions, names, labels and filters of many lengths."""
+    for count in range(1, 33):
+        value = " + ".join(["1"] * count)
+        written = value if count == 1 else f"( {value} )"
+        trial.taken(f"a definition of {2 * count - 1} words beside an operator", f"define A = {value};\nfilter f {{ if rip_metric * A > 9 then accept; reject; }}",
+                    {"f": f"{{ if rip_metric * {written} > 9 then accept; reject; }}"})
+        members = ", ".join(f"10.{n}.0.0/16" for n in range(count))
+        trial.taken(f"a set of {count}", f"define A = [ {members} ];\nfilter f {{ if net ~ A then accept; reject; }}", {"f": f"{{ if net ~ [ {members} ] then accept; reject; }}"})
+    for count in range(1, 65):
+        name = "n" * count
+        twice = f"define {name} = 8;\ndefine other = 7;\ndefine {name} = 9;\nfilter f {{ if net.len = {name} then accept; reject; }}"
+        trial.left_out(f"two definitions of a name of {count} letters", twice, "4:25", f"f: `{name}` has two definitions")
+    for count in (0, 1, 2, 5, 10, 20):
+        labels = [f"10.1.{n}.0" for n in range(count)]
+        parts = " ".join(f"{label}: rip_metric = 3;" for label in labels)
+        for last in ("10.9.9.9", "10.9.0.0..10.9.9.9", "10.9.9.9..10.9.10.0", "10.8.0.0, 10.9.9.9", "10.9.9.0..10.9.10.0"):
+            shared = f"filter f {{ case net.ip {{ 10.9.9.9: accept; {parts} {last}: reject; }} reject; }}"
+            trial.left_out(f"a label that shares an address with {last} behind {count} parts", shared, "1:12", "f: the labels")
+        first = f"filter f {{ case net.ip {{ 10.9.9.9: accept; 10.9.9.8..10.9.9.10: reject; {parts} }} reject; }}"
+        trial.left_out(f"labels that share an address before {count} parts", first, "1:12", "f: the labels")
+        apart = f"filter f {{ case net.ip {{ 10.9.9.9: accept; {parts} 10.9.9.0..10.9.9.8: reject; }} reject; }}"
+        tests = "".join(f"else if net.ip = {label} then {{ rip_metric = 3; }} " for label in labels)
+        trial.taken(f"labels that share no address, with {count} parts between", apart,
+                    {"f": f"{{ if net.ip = 10.9.9.9 then {{ accept; }} {tests}else if ( net.ip >= 10.9.9.0 && net.ip <= 10.9.9.8 ) then {{ reject; }} reject; }}"})
+    for count in (1, 5, 30, 60, 100, 150):
+        filler = "if net.len = 9 then reject; " * count
+        words = 8 * count
+        trial.taken(f"mixed operators behind {words} words", f"filter f {{ {filler}if true || true && false then accept; reject; }}",
+                    {"f": f"{{ {filler}if ( true || true ) && false then accept; reject; }}"})
+        trial.taken(f"mixed operators before {words} words", f"filter f {{ if true || true && false then accept; {filler}reject; }}",
+                    {"f": f"{{ if ( true || true ) && false then accept; {filler}reject; }}"})
+        trial.taken(f"a missing semicolon behind {words} words", f"filter f {{ {filler}if net.len > 8 then rip_metric = 4 else reject }}",
+                    {"f": f"{{ {filler}if net.len > 8 then rip_metric = 4; else reject; }}"})
+        for part, wanted in [("net.ip.mask(FAR) = 10.0.0.0", "FAR"), ("net.len ~ [ FAR ]", "FAR"), ("net ~ [ 10.0.0.0/8{FAR,24} ]", "FAR")]:
+            masked = f"define FAR = 2 + 3;\nfilter f {{ {filler}if {part} then accept; reject; }}"
+            trial.left_out(f"{part} behind {words} words", masked, place(masked, wanted, 1), "f: `FAR` is defined by more than one word")
+        masked = f"define FAR = 8;\nfilter f {{ {filler}if net.ip.mask(FAR) = 10.0.0.0 then accept; reject; }}"
+        trial.taken(f"a mask by a name behind {words} words", masked, {"f": f"{{ {filler}if net.ip.mask(8) = 10.0.0.0 then accept; reject; }}"})
+
+
+def counts(trial):
+    """Configurations of each number of filters and functions up to 100: each filter is told at its place, and the places that its words come
+    from stand above it."""
+    for count in range(1, 101):
+        lines, wanted, heads = ["define FAR = 20 + 4;"], [], {}
+        for n in range(count):
+            line, indent = len(lines) + 1, n % 7
+            if n % 5 == 1:
+                lines.append(" " * indent + f"function g{n}() {{ if net.len = {n % 33} then reject; }}")
+                called = (f"g{n}", f"bird.conf:{line}:{lines[-1].index('if') + 1}")
+            elif n % 5 == 3:
+                lines.append(" " * indent + f"protocol rip p{n} {{ import filter {{ if net.len > FAR then reject; accept; }}; }}")
+                wanted.append(f"bird.conf:{line}:{lines[-1].index('import') + 1} filter p{n}_import -> ")
+                heads[f"p{n}_import"] = [f"# From {wanted[-1].split()[0]}", "# and bird.conf:1:14"]
+            else:
+                call = f" {called[0]}();" if n > 1 else ""
+                lines.append(" " * indent + f"filter f{n} {{{call} if net.len > FAR then reject; accept; }}")
+                wanted.append(f"bird.conf:{line}:{indent + 1} filter f{n} -> ")
+                heads[f"f{n}"] = [f"# From bird.conf:{line}:{indent + 1}"] + ([f"# and {called[1]}"] if n > 1 else []) + ["# and bird.conf:1:14"]
+        said, status, written = trial.run("\n".join(lines))
+        told = said.splitlines()
+        is_told = status == 0 and len(told) == len(wanted) and all(line.startswith(it) for line, it in zip(told, wanted))
+        got = {name: [line for line in text.splitlines() if line.startswith("#")] for name, text in written.items()}
+        trial.check(f"{count} filters and functions", is_told and got == heads, f"status {status}\n{said}{got}")
+
+
 def constants(text, dice):
     """A configuration with definitions for some constants of a filter."""
     defined, written = [], []
@@ -467,6 +569,9 @@ def main():
         includes(trial)
         comments(trial)
         full(trial)
+        variables(trial)
+        lengths(trial)
+        counts(trial)
         randoms(trial, seed, 300)
         verdicts(trial)
     finish(trial.passed, trial.failed)
