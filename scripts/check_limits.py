@@ -469,6 +469,18 @@ def longer_plan():
     return lines + b"m", answers, 3, b"ncroute: E4\n"
 
 
+def tests_of(count):
+    """A test file of so many tests, all of which hold, and what is written of it."""
+    line = "every 10.0.0.0/8+ -> reject"
+    told = "".join(f"ok {number} - {line}\n" for number in range(1, count + 1))
+    return written(["filter examples/no_bogons.filter", "size 16"] + [line] * count), f"TAP version 13\n{told}1..{count}\n".encode(), 0
+
+
+def hundred_tests():
+    """`test` of a hundred tests in one file."""
+    return tests_of(100)
+
+
 ROWS = [
     ("run, a full history", "run", full_history),
     ("run, a history to its last entry", "run", shown_routes),
@@ -501,6 +513,7 @@ ROWS = [
     ("check, a code file with a byte more", "check --size 250 --code", checked_longer_code),
     ("eval, a code file at all limits", "eval", evaluated_code),
     ("check, the longest labels", "check --size 250", longest_labels),
+    ("test, a hundred tests", "test", hundred_tests),
     ("check, too many ranges", "check --size 250", too_many_ranges),
     ("replay, a full history", "replay", saved_history),
     ("replay, an entry over the limit", "replay", longer_history),
@@ -580,6 +593,16 @@ def compared_filters(ncroute):
     return None
 
 
+def variables_of_each_number(ncroute):
+    """`check` of filters with each number of variables that a filter may have: each is an INT and a STORE."""
+    for count in range(17):
+        text = "filter f " + "".join(f"int {name}; " for name in "abcdefghijklmnop"[:count]) + "{ accept; }"
+        output, shown, status = run(ncroute, "check --size 16", text.encode())
+        if (output.partition(b"\n")[2], shown, status) != (b"verified %d %d\n" % (2 * count + 1, count > 0), b"", 0):
+            return f"{count} variables: wrote {output[-40:]!r}, and ended with {status}"
+    return None
+
+
 def undecided_filters(ncroute):
     """Two masks that are compared differ on more prefixes than are tried: `diff` and `lint` try as many as they are told to, and say that."""
     masks = b"filter f { if net.ip.mask(24) = net.ip then reject; accept; }"
@@ -591,6 +614,49 @@ def undecided_filters(ncroute):
     never = b"filter f { if net.ip.mask(24) = net.ip && net.len > 32 then reject; accept; }"
     wanted = b"0.filter: undecided: not all routes were tried, so W1, W2 and W8 were not looked for\n"
     return differs(on_filters(ncroute, "lint --size 250 --limit 50000", [never]), (wanted, 0))
+
+
+def padded_tests(ncroute):
+    """`test` of files of each number of bytes from 4,990 to 5,010."""
+    given, *wanted = tests_of(3)
+    for length in range(4990, 5011):
+        if said := differs(run(ncroute, "test", given + b"#" * (length - len(given))), wanted):
+            return f"{length} bytes: {said}"
+    return None
+
+
+def filter_of(instructions, end=b"accept;"):
+    """A filter of so many instructions: four for each assignment, one for each end, and the REJECT behind them."""
+    assignments, others = divmod(instructions - 2, 4)
+    return b"filter f { " + b"rip_metric = rip_metric; " * assignments + b"accept; " * others + end + b" }"
+
+
+def filters_of_each_length(ncroute):
+    """`diff` of filters of 300 to 350 instructions."""
+    for count in range(300, 351):
+        output, _, status = run(ncroute, "list", filter_of(count))
+        if (output.count(b"\n"), status) != (count, 0):
+            return f"{count} instructions: wrote {output[-40:]!r}, and ended with {status}"
+        if said := differs(on_filters(ncroute, "diff", [filter_of(count), filter_of(count)]), (b"same on all routes\n", 0)):
+            return f"{count} instructions: {said}"
+    return None
+
+
+# The number of classes that `diff` tries of two examples, by the size of the domain: with so many and ten more it decides, with ten less it does not.
+CLASSES = {2: 1277, 16: 3265, 250: 36493}
+
+
+def decided_filters(ncroute):
+    """The limit at which a comparison of two examples decides, for domains of three sizes."""
+    for size, count in CLASSES.items():
+        words = "diff --size {} --limit {} examples/floor_per_region.filter examples/by_distance.filter"
+        output, _, status = run(ncroute, words.format(size, count + 10), b"")
+        if b"undecided" in output or status != 1:
+            return f"{size} nodes: wrote {output[-60:]!r}, and ended with {status}"
+        output, _, _ = run(ncroute, words.format(size, count - 10), b"")
+        if b"undecided" not in output:
+            return f"{size} nodes, a lower limit: wrote {output[-60:]!r}"
+    return None
 
 
 def hundred_files(ncroute):
@@ -658,8 +724,12 @@ def main(wanted):
         for name, row in [
             ("check, a hundred files", hundred_files),
             ("check, a filter at all limits", full_filters),
+            ("check, each number of variables", variables_of_each_number),
             ("diff, filters at all limits", compared_filters),
             ("diff and lint, masks that are compared", undecided_filters),
+            ("diff, the limit that decides", decided_filters),
+            ("diff, filters of each length", filters_of_each_length),
+            ("test, files of 5,000 bytes", padded_tests),
             ("filter, a million routes", million_routes),
             ("router, a full history", full_router),
             ("run, domains of each size", domains_of_each_size),
