@@ -16,6 +16,9 @@ PROMPT = 1.0
 # How often a neighbour comes and goes, and how many times less long a router sleeps meanwhile: a second then takes 20 milliseconds.
 SESSIONS, QUICKER = 200, 50
 
+# How many lines a link carries in each direction.
+LINES = 70_000
+
 # Seconds, for `--retry`, and how much later than that a link may be opened again.
 RETRIES, LATE = (1, 2, 3), 1.0
 
@@ -101,7 +104,10 @@ class SizeRows(RunRows):
                 if not (came and went):
                     break
             self.judge("comes and goes each time", (came, went, times) == (True, True, SESSIONS), (came, went, times))
-            self.judge("2 is served", run.routes_until(2, "1:2"))
+            # Node 2 is told of node 1 once in the beginning, and whenever it comes or goes.
+            two = run.neighbours[2]
+            self.judge("2 hears each time", two.listen(lambda: two.told.count(b"\n1 ") == 1 + 2 * SESSIONS), two.told[-100:])
+            self.judge("2 hears at last", two.distances() == {node: {0: 0, 2: 1}.get(node, SIZE) for node in range(SIZE)}, two.distances())
             self.end(run)
             self.judge_sessions(run, {1: SESSIONS, 2: 1})
         finally:
@@ -122,6 +128,23 @@ class SizeRows(RunRows):
                 faults.append(entry)
         self.judge("each session ends, once", not faults and not begun, (faults[:3], len(begun)))
         self.judge("sessions", sessions == wanted, sessions)
+
+    def row_long_links(self):
+        """Node 1 changes its mind 70,000 times: each line is entered, and node 2 is told of each change."""
+        run = Run(self.program)
+        try:
+            self.bring_up(run)
+            one, two = run.neighbours.values()
+            one.say(b"3 0\n3 1\n" * (LINES // 2) + b"4 0\n")
+            self.judge("the last line is entered", run.routes_until(4, "1:1"))
+            # Each node is told of once in the beginning.
+            self.judge("2 hears each time", two.listen(lambda: two.told.count(b"\n3 ") == 1 + LINES and two.told.endswith(b"\n4 1\n")), two.told[-100:])
+            self.judge("both are up", run.ask("neighbours") == "neighbours 1:1 2:2")
+            self.end(run)
+            received = sum(" recv 1 3 " in entry for entry in run.saved())
+            self.judge("each is saved", received == LINES, received)
+        finally:
+            run.close()
 
     def row_retries(self):
         """A link that was closed is opened again after as many seconds as `--retry` says: not before, and not much later. Without it, it is not."""
