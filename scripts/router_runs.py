@@ -37,9 +37,17 @@ class Neighbour:
             os.mkfifo(path)
 
     def is_opened(self):
-        """Opens both files, the second one once the router has opened it: whether it has. It has the lower number, so it opens its output first."""
+        """Opens both files, each once the router has opened it: whether it has. It has the lower number, so it opens its output first."""
         if self.reads is None:
             self.reads = os.open(self.back, os.O_RDONLY | os.O_NONBLOCK)
+        try:
+            # Where nobody has it open, nothing comes.
+            came = os.read(self.reads, 65536)
+            if not came:
+                return False
+            self.told += came
+        except BlockingIOError:
+            pass
         try:
             self.writes = os.open(self.there, os.O_WRONLY | os.O_NONBLOCK)
         except OSError as why:
