@@ -297,7 +297,7 @@ fn lines_and_scripts(rt: HostRuntime) {
     let mut out = Vec::new(rt.alloc());
     let mut text: &[u8] = TEXT;
     let refused: Result<u32, ProgramFault> = check_text(rt.alloc(), &mut text, &mut out, 16, false);
-    let wanted = b"code 4e434632000000000200007071\nverified 1 0\n";
+    let wanted = b"code 4e43463200000000027071\nverified 1 0\n";
     must(
         &rt,
         matches!(refused, Ok(0)) && out.len() == wanted.len(),
