@@ -25,26 +25,26 @@ use Rattle.routing_domain.proofs.Occurring.{first_is_next, receive_receives, tak
 use Rattle.routing_domain.proofs.Order.{receiving_keeps_order}
 use Rattle.routing_domain.proofs.Quiet.{quiet_rests}
 use Rattle.routing_domain.proofs.Sends.{sending_keeps_order}
-use Rattle.routing_domain.proofs.Topologies.{receives_same_topology, sends_same_topology}
+use Rattle.routing_domain.proofs.Topologies.{kept_itself, kept_on, kept_topology, receives_kept, sends_kept}
 use Rattle.domain_player.specs.declared.sent.Sent.{Sent}
 use Rattle.domain_player.specs.Play.{AreSent, IsBetween, IsPlayed, domain, domain_of, router_at, under_way}
 use Rattle.domain_player.proofs.Domains.{receives_as, router_place}
 use Rattle.domain_player.proofs.Ways.{under_way_first}
 
 pub nothing_played : (d : Domain) → IsInOrder d → IsPlayed d d 0
-nothing_played d o = record { in_order = o; topology = λ v. refl; lighter = omega arith }
+nothing_played d o = record { in_order = o; kept = kept_itself d; lighter = omega arith }
 
 pub played_on : (d e f : Domain) (j k : ℕ) → IsPlayed d e j → IsPlayed e f k → IsPlayed d f (j + k)
 played_on d e f j k before after = record {
   in_order = after.in_order;
-  topology = λ v. after.topology v ∙ before.topology v;
+  kept = kept_on d e f before.kept after.kept;
   lighter = omega (arith, before.lighter, after.lighter);
 }
 
 pub receives_played : (d : Domain) (u w : ℕ) (m : Message) (rest : List Message) → IsInOrder d → IsNext d u w m rest → IsPlayed d (receives d u w m rest) 1
 receives_played d u w m rest o n = record {
   in_order = receiving_keeps_order d u w m rest o n;
-  topology = receives_same_topology d u w m rest;
+  kept = receives_kept d u w m rest;
   lighter = omega (arith, receiving_is_lighter d u w m rest o n);
 }
 
@@ -81,7 +81,7 @@ pub sends_sent : (d : Domain) (u w max : ℕ) → IsInOrder d → u < d.size →
 sends_sent d u w max o from to some = record {
   played = record {
     in_order = sending_keeps_order d u w max o from to;
-    topology = sends_same_topology d u w max;
+    kept = sends_kept d u w max;
     lighter = omega (arith, sending_is_lighter d u w max o from to some);
   };
   still_empty = λ a b empty.
@@ -180,5 +180,5 @@ last_sent d e f m before sent =
 pub settled_rest : (was new : List World) (n : ℕ) → IsPlayed (domain was) (domain new) n → IsQuiet (domain new) → length new ≡ length was →
     (v : ℕ) → v < length was → IsRest (topology (domain was) v) v (λ u. distance (router_at new u) v)
 settled_rest was new n played quiet same v below =
-    subst (λ m. IsRest m v (λ u. distance (router_at new u) v)) (played.topology v)
+    subst (λ m. IsRest m v (λ u. distance (router_at new u) v)) (kept_topology (domain was) (domain new) v played.kept)
     (quiet_rests (domain new) played.in_order quiet v (omega (arith, below, same)))

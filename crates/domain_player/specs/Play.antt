@@ -6,7 +6,7 @@ use Rattle.netchange_core.specs.Calls.{opened}
 use Rattle.netchange_core.specs.OpeningView.{OpeningView}
 use Rattle.netchange_core.specs.World.{World}
 use Rattle.routing_domain.specs.Changes.{is_pair}
-use Rattle.routing_domain.specs.Domain.{Domain, IsInOrder, neighbour, topology}
+use Rattle.routing_domain.specs.Domain.{Domain, IsInOrder, KeepsLinksAndFilters, neighbour}
 use Rattle.routing_domain.specs.Weight.{weight}
 use Rattle.domain_player.specs.declared.sent.Sent.{Sent}
 
@@ -57,7 +57,7 @@ pub record IsBetween (size : ℕ) (s : Sent) : Type 0 where
 -- they were, and each message received makes it lighter.
 pub record IsPlayed (d e : Domain) (received : ℕ) : Type 0 where
   pub in_order : IsInOrder e
-  pub topology : (v : ℕ) → topology e v ≡ topology d v
+  pub kept : KeepsLinksAndFilters d e
   pub lighter : weight e + received ≤ weight d
 
 -- what a domain becomes by sending alone: where nothing waited nothing waits

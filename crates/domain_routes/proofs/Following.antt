@@ -5,7 +5,7 @@ use Rattle.netchange_core.specs.Calls.{newcomer, opened}
 use Rattle.netchange_core.specs.OpeningView.{OpeningView}
 use Rattle.netchange_core.specs.World.{World, is_up, neighbour_at, nobody}
 use Rattle.routing_domain.specs.Changes.{is_pair}
-use Rattle.routing_domain.specs.Domain.{AreOpenings, Domain, IsInOrder, are_linked, neighbour, opened_domain}
+use Rattle.routing_domain.specs.Domain.{AreOpenings, Domain, IsInOrder, KeepsLinksAndFilters, are_linked, neighbour, opened_domain}
 use Rattle.routing_domain.specs.Events.{CanLink, cuts, links}
 use Rattle.routing_domain.specs.Rest.{Topology}
 use Rattle.routing_domain.proofs.Cuts.{cut_one, cut_other, cut_third, leaver, unlike}
@@ -18,6 +18,17 @@ use Rattle.domain_routes.specs.PlanView.{IsPlan, PeerView, PlanView}
 use Rattle.domain_routes.proofs.Linking.{IsLink, linking_keeps}
 use Rattle.domain_routes.proofs.Unlinked.{strange}
 use Rattle.domain_routes.proofs.Values.{link_value}
+
+-- a domain with the links and filters of another has its plan
+pub kept_follows : (d e : Domain) (p : PlanView) → KeepsLinksAndFilters d e → IsPlanOf d p → IsPlanOf e p
+kept_follows d e p kept s = record {
+  size = kept.size ∙ s.size;
+  sizes = λ x short. ap (λ o. o.size) (kept.openings x) ∙ s.sizes x short;
+  prefixes = λ x short. ap (λ o. o.prefixes) (kept.openings x) ∙ s.prefixes x short;
+  linked = λ x y short near. kept.linked x y ∙ s.linked x y short near;
+  imports = λ x y short near. kept.imports x y ∙ s.imports x y short near;
+  exports = λ x y short near. kept.exports x y ∙ s.exports x y short near;
+}
 
 -- what a link that comes or goes leaves of a domain: openings and filters
 record LeavesFilters (d e : Domain) : Type 0 where

@@ -12,10 +12,13 @@ ghost use Rattle.std.proofs.Common.{Global};
 ghost use Rattle.std.specs.declared.sync.Arc.{Arc};
 ghost use Rattle.filter_verifier.specs.VerifiedView.{VerifiedView};
 ghost use Rattle.netchange_core.specs.declared.event.Event.TheVariants as event;
+ghost use Rattle.netchange_core.specs.declared.message.Message.{Message};
 ghost use Rattle.netchange_core.specs.OpeningView.{OpeningView};
 ghost use Rattle.routing_domain.specs.Domain.{AreOpenings, Domain, IsInOrder, IsQuiet, are_linked, opened_domain, topology as domain_topology};
 ghost use Rattle.routing_domain.specs.Events.{CanLink, cuts, enters, links};
 ghost use Rattle.routing_domain.specs.Rest.{IsRest};
+ghost use Rattle.routing_domain.specs.Runs.{Runs};
+ghost use Rattle.routing_domain.specs.Steps.{receives, sends};
 
 /// What one node has for another is changed for these two alone, and a link in both directions.
 pub fn edits_change_one_place()
@@ -33,7 +36,8 @@ pub fn rest_is_of_the_domain()
 {}
 
 /// Routers that were just opened have the links and filters of a plan without any. They have those of a plan after an edit of it when
-/// they did the same: a link that comes up at both ends, or goes down, and a new filter.
+/// they did the same: a link that comes up at both ends, or goes down, and a new filter. Messages change nothing of that, so after any
+/// run they still have them.
 pub fn domains_follow_plans()
     ensures opened { (prefixes : List (List Bool)) → (openings : ℕ → OpeningView) → AreOpenings (length prefixes) openings →
         ((u : ℕ) → u < length prefixes → (openings u).prefixes ≡ prefixes) → IsPlanOf (opened_domain (length prefixes) openings) (unlinked prefixes) }
@@ -45,6 +49,9 @@ pub fn domains_follow_plans()
         u ≢ w → f.value.size ≡ d.size → IsPlanOf (enters d u (event.SetImport w f)) (importing f.value u w p) }
     ensures export { (d : Domain) → (p : PlanView) → (u w : ℕ) → (f : Arc VerifiedView Global) → IsInOrder d → IsPlanOf d p → IsPlan p → u < d.size → w < d.size →
         u ≢ w → f.value.size ≡ d.size → IsPlanOf (enters d u (event.SetExport w f)) (exporting f.value u w p) }
+    ensures sends { (d : Domain) → (p : PlanView) → (u w max : ℕ) → IsPlanOf d p → IsPlanOf (sends d u w max) p }
+    ensures receives { (d : Domain) → (p : PlanView) → (u w : ℕ) → (m : Message) → (rest : List Message) → IsPlanOf d p → IsPlanOf (receives d u w m rest) p }
+    ensures runs { (k : ℕ) → (d e : Domain) → (p : PlanView) → IsPlanOf d p → Runs k d e → IsPlanOf e p }
 {}
 
 /// A plan has just one list of routes to a node.

@@ -1,7 +1,7 @@
 -- Where a run ends quiet, it ends in the one rest of the topology that it began in.
 use Rattle.std.proofs.Common.{◌≡◌, ◌⊎◌, ⊎_elim, ℕ, ◌<◌, zero, suc, sym, ap, subst, ◌∙◌, arith}
 use Rattle.netchange_core.specs.Best.{best, distance}
-use Rattle.routing_domain.specs.Domain.{Domain, IsInOrder, IsQuiet, topology}
+use Rattle.routing_domain.specs.Domain.{Domain, IsInOrder, IsQuiet, KeepsLinksAndFilters, topology}
 use Rattle.routing_domain.specs.Rest.{IsRest, Topology}
 use Rattle.routing_domain.specs.Runs.{ReceivesOne, Runs, SendsSome}
 use Rattle.routing_domain.specs.Ways.{GoesVia}
@@ -10,18 +10,21 @@ use Rattle.routing_domain.proofs.Forwarding.{Hops, forwards}
 use Rattle.routing_domain.proofs.Increasing.{never_nearer}
 use Rattle.routing_domain.proofs.Quiet.{quiet_goes, quiet_rests}
 use Rattle.routing_domain.proofs.Running.{run_is_short}
-use Rattle.routing_domain.proofs.Topologies.{receives_same_topology, sends_same_topology}
+use Rattle.routing_domain.proofs.Topologies.{kept_itself, kept_on, kept_topology, receives_kept, sends_kept}
 
-step_topology : (d e : Domain) (v : ℕ) → (ReceivesOne d e) ⊎ (SendsSome d e) → topology e v ≡ topology d v
-step_topology d e v step =
+step_keeps : (d e : Domain) → (ReceivesOne d e) ⊎ (SendsSome d e) → KeepsLinksAndFilters d e
+step_keeps d e step =
     ⊎_elim
-    (λ (h : ReceivesOne d e). ap (λ x. topology x v) h.after ∙ receives_same_topology d h.from h.to h.message h.rest v)
-    (λ (s : SendsSome d e). ap (λ x. topology x v) s.after ∙ sends_same_topology d s.from s.to s.max v)
+    (λ (h : ReceivesOne d e). subst (KeepsLinksAndFilters d) (sym h.after) (receives_kept d h.from h.to h.message h.rest))
+    (λ (s : SendsSome d e). subst (KeepsLinksAndFilters d) (sym s.after) (sends_kept d s.from s.to s.max))
     step
 
+pub run_keeps : (k : ℕ) (d e : Domain) → Runs k d e → KeepsLinksAndFilters d e
+run_keeps zero d e run = subst (KeepsLinksAndFilters d) run (kept_itself d)
+run_keeps (suc k) d e run = kept_on d run.0 e (step_keeps d run.0 run.1) (run_keeps k run.0 e run.2)
+
 pub run_topology : (k : ℕ) (d e : Domain) (v : ℕ) → Runs k d e → topology e v ≡ topology d v
-run_topology zero d e v run = ap (λ x. topology x v) (sym run)
-run_topology (suc k) d e v run = run_topology k run.0 e v run.2 ∙ step_topology d run.0 v run.1
+run_topology k d e v run = kept_topology d e v (run_keeps k d e run)
 
 -- the end of a run, and what is known of it
 pub record IsEnd (d e : Domain) (v : ℕ) : Type 0 where

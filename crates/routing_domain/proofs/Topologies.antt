@@ -16,7 +16,7 @@ use Rattle.netchange_core.specs.World.{World, changed, is_up, neighbour_at}
 use Rattle.netchange_core.proofs.Change.{changed_at}
 use Rattle.netchange_core.proofs.Goes.{export_goes, import_goes}
 use Rattle.routing_domain.specs.Changes.{is_between, is_pair, with_link, with_toll, without_link}
-use Rattle.routing_domain.specs.Domain.{Domain, IsInOrder, IsMember, are_linked, exported, imported, topology}
+use Rattle.routing_domain.specs.Domain.{Domain, IsInOrder, IsMember, KeepsLinksAndFilters, are_linked, exported, imported, topology}
 use Rattle.routing_domain.specs.Events.{CanLink, cuts, enters, links}
 use Rattle.routing_domain.specs.Rest.{Topology}
 use Rattle.routing_domain.specs.Steps.{receives, sends, with_router}
@@ -125,30 +125,51 @@ record SeesAs (r s : World) : Type 0 where
 sees_itself : (r : World) → SeesAs r r
 sees_itself r = record { opening = refl; up = λ b. refl; imports = λ b. refl; exports = λ b. refl }
 
--- one router that sees the same
-seen_topology : (d : Domain) (u v : ℕ) (s : World) → SeesAs (d.router u) s → topology (with_router d u s) v ≡ topology d v
-seen_topology d u v s sees = λ i. record {
-  size = d.size;
-  linked = λ a b. one_read (λ r. is_up (neighbour_at r.neighbours b)) d u s a (λ _. sees.up b) i;
-  toll = λ a b x. toll_as (d.router a) (e.router a) (d.router b) (e.router b) a b v x
-      (one_read (λ r. r.opening) d u s a (λ _. sees.opening)) (one_read (λ r. (neighbour_at r.neighbours b).imports) d u s a (λ _. sees.imports b))
-      (one_read (λ r. r.opening) d u s b (λ _. sees.opening)) (one_read (λ r. (neighbour_at r.neighbours a).exports) d u s b (λ _. sees.exports a)) i;
+-- the topology is of links and filters
+pub kept_topology : (d e : Domain) (v : ℕ) → KeepsLinksAndFilters d e → topology e v ≡ topology d v
+kept_topology d e v k = λ i. record {
+  size = k.size i;
+  linked = λ a b. k.linked a b i;
+  toll = λ a b x. toll_as (d.router a) (e.router a) (d.router b) (e.router b) a b v x (k.openings a) (k.imports a b) (k.openings b) (k.exports b a) i;
+}
+
+pub kept_itself : (d : Domain) → KeepsLinksAndFilters d d
+kept_itself d = record { size = refl; openings = λ u. refl; linked = λ u w. refl; imports = λ u w. refl; exports = λ u w. refl }
+
+pub kept_on : (d e f : Domain) → KeepsLinksAndFilters d e → KeepsLinksAndFilters e f → KeepsLinksAndFilters d f
+kept_on d e f one next = record {
+  size = next.size ∙ one.size;
+  openings = λ u. next.openings u ∙ one.openings u;
+  linked = λ u w. next.linked u w ∙ one.linked u w;
+  imports = λ u w. next.imports u w ∙ one.imports u w;
+  exports = λ u w. next.exports u w ∙ one.exports u w;
+}
+
+-- one router that sees the same keeps them
+seen_kept : (d e : Domain) (u : ℕ) (s : World) → e.size ≡ d.size → ((x : ℕ) → e.router x ≡ (with_router d u s).router x) → SeesAs (d.router u) s →
+    KeepsLinksAndFilters d e
+seen_kept d e u s size routers sees = record {
+  size = size;
+  openings = λ a. read (λ r. r.opening) a sees.opening;
+  linked = λ a b. read (λ r. is_up (neighbour_at r.neighbours b)) a (sees.up b);
+  imports = λ a b. read (λ r. (neighbour_at r.neighbours b).imports) a (sees.imports b);
+  exports = λ a b. read (λ r. (neighbour_at r.neighbours b).exports) a (sees.exports b);
 }
   where
-    e : Domain
-    e = with_router d u s
+    read : {A : Type 0} (g : World → A) (a : ℕ) → g s ≡ g (d.router u) → g (e.router a) ≡ g (d.router a)
+    read g a same = ap g (routers a) ∙ one_read g d u s a (λ _. same)
 
-pub sends_same_topology : (d : Domain) (u w max v : ℕ) → topology (sends d u w max) v ≡ topology d v
-sends_same_topology d u w max v =
-    seen_topology d u v (changed (d.router u) w (dequeued max)) (record {
+pub sends_kept : (d : Domain) (u w max : ℕ) → KeepsLinksAndFilters d (sends d u w max)
+sends_kept d u w max =
+    seen_kept d (sends d u w max) u (changed (d.router u) w (dequeued max)) refl (λ x. refl) (record {
       opening = refl;
       up = λ b. changed_seen is_up (d.router u) w (dequeued max) b refl;
       imports = λ b. changed_seen (λ n. n.imports) (d.router u) w (dequeued max) b refl;
       exports = λ b. changed_seen (λ n. n.exports) (d.router u) w (dequeued max) b refl;
     })
 
-pub receives_same_topology : (d : Domain) (u w : ℕ) (m : Message) (rest : List Message) (v : ℕ) → topology (receives d u w m rest) v ≡ topology d v
-receives_same_topology d u w m rest v = seen_topology d w v (receive r (Some u) m.dest m.dist).world sees
+pub receives_kept : (d : Domain) (u w : ℕ) (m : Message) (rest : List Message) → KeepsLinksAndFilters d (receives d u w m rest)
+receives_kept d u w m rest = seen_kept d (receives d u w m rest) w (receive r (Some u) m.dest m.dist).world refl (λ x. refl) sees
   where
     r : World
     r = d.router w

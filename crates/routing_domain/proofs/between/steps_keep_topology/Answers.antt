@@ -1,5 +1,11 @@
-use Rattle.routing_domain.proofs.Topologies.{receives_same_topology, sends_same_topology}
+use Rattle.routing_domain.proofs.Ending.{run_keeps}
+use Rattle.routing_domain.proofs.Topologies.{kept_topology, receives_kept, sends_kept}
 use Rattle.routing_domain.proofs.between.steps_keep_topology.Goals as goal
 
 pub returns : goal.returns
-returns c = record { receives = λ d u w m rest v. receives_same_topology d u w m rest v; sends = λ d u w max v. sends_same_topology d u w max v }
+returns c = record {
+  receives = λ d u w m rest. receives_kept d u w m rest;
+  sends = λ d u w max. sends_kept d u w max;
+  runs = λ k d e run. run_keeps k d e run;
+  topology = λ d e kept v. kept_topology d e v kept;
+}

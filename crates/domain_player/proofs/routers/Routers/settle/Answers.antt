@@ -1,19 +1,20 @@
 use Rattle.std.proofs.Common.{◌≡◌, ◌<◌, ◌++◌, drop, length, take, subst, sym, ap, ◌∙◌, arith}
 use Rattle.netchange_core.specs.Best.{distance}
-use Rattle.routing_domain.specs.Domain.{topology}
+use Rattle.routing_domain.specs.Domain.{KeepsLinksAndFilters, topology}
 use Rattle.routing_domain.specs.Rest.{IsRest}
 use Rattle.domain_player.specs.Play.{domain, router_at}
 use Rattle.domain_player.proofs.Domains.{whole_of}
 use Rattle.domain_player.proofs.Played.{settled_rest}
 use Rattle.domain_player.proofs.routers.Routers.settle.Goals as goal
 
-pub returns-in-Ok-clause-topology : goal.returns-in-Ok-clause-topology
-returns-in-Ok-clause-topology c = λ v.
-    ap (λ ws. topology (domain ws) v)
-    (whole_of c.self.inside.tables.len c.play.new.tables c.deref_mut.result.now c.self.inside.tables.items c.deref_mut.ensures.value
-    c.deref_mut.ensures.len c.play.auto.tables)
-    ∙ c.in-Ok.ensures.played.topology v
-    ∙ ap (λ ws. topology (domain ws) v) (c.deref_mut.ensures.value ∙ c.self.view_is)
+pub returns-in-Ok-clause-kept : goal.returns-in-Ok-clause-kept
+returns-in-Ok-clause-kept c =
+    subst (λ ws. KeepsLinksAndFilters (domain ws) (domain (take c.self.inside.tables.len (c.play.new.tables ++ drop (length c.play.new.tables) c.self.inside.tables.items))))
+    (c.deref_mut.ensures.value ∙ c.self.view_is)
+    (subst (λ ws. KeepsLinksAndFilters (domain c.deref_mut.result.now) (domain ws))
+    (sym (whole_of c.self.inside.tables.len c.play.new.tables c.deref_mut.result.now c.self.inside.tables.items c.deref_mut.ensures.value
+    c.deref_mut.ensures.len c.play.auto.tables))
+    c.in-Ok.ensures.played.kept)
 
 pub returns-in-Ok-clause-rest : goal.returns-in-Ok-clause-rest
 returns-in-Ok-clause-rest c = λ v below.
