@@ -3,6 +3,8 @@ use Rattle.std.specs.Prelude.{◌≡◌, ◌==◌, ℕ, ◌+◌, ◌&&◌, ◌||
 use Rattle.std.specs.Prelude.{List, map, position, Option, Some, None, slice_get, slice_set}
 use Rattle.std.specs.List.{list_any}
 use Rattle.link_board.specs.Steps.{Begins, Ends, Wakes, changing_less, changing_more, link_to, queued_at, taken_at, waits}
+use Rattle.netchange_core.specs.declared.reply.Reply.{Reply}
+use Rattle.link_board.specs.Noting.{tells_all}
 use Rattle.link_board.specs.declared.link.Link.{Link}
 
 -- the links in order; the least number of entries that the history is known to have, and how many it had with the last one that is known
@@ -82,6 +84,10 @@ QueuesAt index at old new = ByFunction (λ l. record l { waiting = queued_at at 
 -- the entry at a position changed a distance
 abbrev pub with_change : ℕ → BoardView → BoardView
 with_change at b = record b { entries = max b.entries (at + 1); changed = max b.changed (at + 1) }
+
+-- an entry is noted by its reply: as one that changed a distance, if it did
+abbrev pub noted : ℕ → Reply → BoardView → BoardView
+noted at r b = if tells_all r then with_change at b else with_entry at b
 
 -- the session of a link, and whether something waits there
 abbrev pub session_in : Option Link → Option ℕ

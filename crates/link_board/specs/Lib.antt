@@ -1,3 +1,4 @@
 -- What callers cite.
 pub mod Steps
 pub mod Boards
+pub mod Noting

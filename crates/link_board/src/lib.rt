@@ -3,9 +3,11 @@
 #![tactic(auto)]
 
 mod board;
+mod laws;
 mod link;
 mod waiting;
 
 pub use board::Board;
+pub use laws::{no_queue_is_overlooked, notes_add_up};
 pub use link::Link;
 pub use waiting::Waiting;
