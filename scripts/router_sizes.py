@@ -138,7 +138,8 @@ class SizeRows(RunRows):
             one.say(b"3 0\n3 1\n" * (LINES // 2) + b"4 0\n")
             self.judge("the last line is entered", run.routes_until(4, "1:1"))
             # Each node is told of once in the beginning.
-            self.judge("2 hears each time", two.listen(lambda: two.told.count(b"\n3 ") == 1 + LINES and two.told.endswith(b"\n4 1\n")), two.told[-100:])
+            is_told = two.listen(lambda: two.told.count(b"\n3 ") == 1 + LINES and two.told.endswith(b"\n4 1\n"))
+            self.judge("2 hears each time", is_told, two.told[-100:])
             self.judge("both are up", run.ask("neighbours") == "neighbours 1:1 2:2")
             self.end(run)
             received = sum(" recv 1 3 " in entry for entry in run.saved())
