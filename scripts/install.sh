@@ -1,18 +1,28 @@
 #!/usr/bin/env bash
 # Proves, builds and installs `ncroute` with its man pages, its completions for bash, zsh and fish, and the syntax files of `editors/`.
 #
-# usage: scripts/install.sh [PREFIX]      (PREFIX: /usr/local)
-#   NCROUTE=PATH   a program that is built already: then none is proved and built here
+# usage: scripts/install.sh [--unproved] [PREFIX]      (PREFIX: /usr/local; --unproved: builds without proving anything, as scripts/build.sh does)
+#   NCROUTE=PATH   a program that is built already: then none is built here
 set -eu
 top="$(cd "$(dirname "$0")/.." && pwd)"
+how=()
+if [ "${1:-}" = --unproved ]; then
+    how=(--unproved)
+    shift
+fi
+if [ $# -gt 1 ] || [[ "${1:-}" = -* ]]; then
+    echo "usage: scripts/install.sh [--unproved] [PREFIX]" >&2
+    exit 2
+fi
 prefix="${1:-/usr/local}"
 # The files for Visual Studio Code are installed from another folder.
 mkdir -p "$prefix"
 prefix="$(cd "$prefix" && pwd)"
 if [ -z "${NCROUTE:-}" ]; then
-    echo "proving and building ncroute, which takes an hour or more from nothing" >&2
-    (cd "$top/crates/ncroute" && rt run -- --version >&2)
-    NCROUTE="$top/crates/ncroute/out/ncroute"
+    built="$(mktemp -d)"
+    trap 'rm -rf "$built"' EXIT
+    NCROUTE="$built/ncroute"
+    "$top/scripts/build.sh" "${how[@]}" "$NCROUTE"
 fi
 install -D -m 755 "$NCROUTE" "$prefix/bin/ncroute"
 "$top/scripts/make_manual.py" "$prefix/bin/ncroute" "$prefix"

@@ -1,0 +1,23 @@
+#!/usr/bin/env bash
+# Proves and builds `ncroute`, and writes the program to OUT.
+#
+# usage: scripts/build.sh [--unproved] OUT
+#        --unproved: builds the optimised program of the sources as they are, in minutes, and proves nothing
+set -eu
+top="$(cd "$(dirname "$0")/.." && pwd)"
+build=proved
+if [ "${1:-}" = --unproved ]; then
+    build=unproved
+    shift
+fi
+if [ $# != 1 ] || [ -z "$1" ] || [ "${1#-}" != "$1" ]; then
+    echo "usage: scripts/build.sh [--unproved] OUT" >&2
+    exit 2
+fi
+mkdir -p "$(dirname "$1")"
+if [ $build = unproved ]; then
+    exec "$top/scripts/build_unproved.py" "$1"
+fi
+echo "proving and building ncroute, which takes an hour or more from nothing" >&2
+(cd "$top/crates/ncroute" && rt run -- --version >&2)
+install -m 755 "$top/crates/ncroute/out/ncroute" "$1"
