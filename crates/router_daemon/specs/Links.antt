@@ -1,6 +1,7 @@
 -- What becomes of a link. (This project's own choice.)
 use Rattle.std.specs.Prelude.{◌≡◌, ◌⊎◌, ℕ, ◌≤◌, Bool, true, false, List, None, string_bytes, ⊤}
 use Rattle.message_streams.specs.Views.{ReaderView, WriterView}
+use Rattle.neighbour_session.specs.Calls.{Closes}
 use Rattle.neighbour_session.specs.Ending.{GoesDown}
 use Rattle.neighbour_session.specs.Greeting.{Greets}
 use Rattle.neighbour_session.specs.Keeping.{IsServed, IsTurnedAway, LacksShares}
@@ -9,8 +10,11 @@ use Rattle.neighbour_session.specs.Words.{can_be_opened_again}
 use Rattle.neighbour_session.specs.declared.ends.SessionEnd.{SessionEnd}
 use Rattle.neighbour_session.specs.declared.ends.SessionEnd.TheVariants as end
 use Rattle.neighbour_session.specs.declared.greeting.Domain.{Domain}
+use Rattle.route_history.specs.declared.fault.CallFault.TheVariants as fault
 use Rattle.router_options.specs.declared.parts.LinkFiles.{LinkFiles}
+use Rattle.slot_lock.specs.Calls.{Refused}
 use Rattle.slot_lock.specs.Passes.{PassView, RouterView}
+use Rattle.slot_lock.specs.declared.answer.Answer.{Answer}
 use Rattle.router_daemon.specs.Passes.{TakesBack}
 
 -- A session whose Up was entered is over: it went down with nobody to serve it; or anybody entered what the neighbour said, and its Down.
@@ -37,6 +41,10 @@ pub record Meets (r : RouterView) (d : Domain) (neighbour : ℕ) (input : Reader
 abbrev pub Serves : RouterView → Domain → ℕ → ReaderView → WriterView → PassView → SessionEnd → PassView → Type 0
 Serves r d neighbour input output old why new = LacksShares old why new ⊎ (IsTurnedAway d neighbour input output old why new
     ⊎ Meets r d neighbour input output old why new)
+
+-- the Down of a session was entered, or the history is full, and takes none any more
+abbrev pub IsSettled : RouterView → ℕ → PassView → PassView → Type 0
+IsSettled r session old new = ((a : Answer) × Closes r session old a new) ⊎ Refused fault.Full r old new
 
 -- streams that nobody used
 pub record AreFresh (input : ReaderView) (output : WriterView) : Type 0 where

@@ -1,8 +1,8 @@
 //! How the threads of a router wake one another.
 ghost use Rattle.std.specs.Prelude.{◌≡◌, IfOk};
+ghost use Rattle.link_board.specs.Boards.{AllAwake};
 
-use link_board::Board;
-use netchange_core::Reply;
+use link_board::{Board, Ending};
 use router_operator::Listener;
 use slot_lock::Answer;
 use std::alloc::{AllocError, Global};
@@ -49,14 +49,23 @@ fn ring_saver(board: &mut Board, saver_bell: &Condvar) {
     }
 }
 
-/// Wakes whom the board says.
-fn ring(board: &mut Board, bells: &[Condvar], saver_bell: &Condvar) {
-    for index in 0..bells.len() {
-        if board.wakes(index) {
-            bells[index].notify_one();
+/// Rings the bell of a link, if it is to be.
+fn ring_bell(bells: &[Condvar], index: usize, rings: bool) {
+    if rings {
+        if let Some(bell) = bells.get(index) {
+            bell.notify_one();
         }
     }
-    ring_saver(board, saver_bell);
+}
+
+/// Wakes the writers that the board says: none that is to be woken is left out.
+fn ring_writers(board: &mut Board, bells: &[Condvar])
+    ensures { AllAwake board.new }
+{
+    for index in 0..board.len() {
+        let rings = board.wakes(index);
+        ring_bell(bells, index, rings);
+    }
 }
 
 impl Signals {
@@ -73,7 +82,8 @@ impl Signals {
 
     /// Wakes whom the board says, and lets go of it.
     pub(crate) fn wake(&self, mut board: MutexGuard<'_, Board>) {
-        ring(&mut board, self.bells.as_slice(), &self.saver_bell);
+        ring_writers(&mut board, self.bells.as_slice());
+        ring_saver(&mut board, &self.saver_bell);
     }
 
     /// Wakes who saves the history, if the board says so, and lets go of it. That is enough where nothing came into a queue and no session
@@ -82,19 +92,27 @@ impl Signals {
         ring_saver(&mut board, &self.saver_bell);
     }
 
+    /// Wakes whom the board says, once an entry is noted by which something came into queues or not, and lets go of it.
+    fn wake_after(&self, board: MutexGuard<'_, Board>, has_changed: bool) {
+        if has_changed {
+            self.wake(board);
+        } else {
+            self.wake_saver(board);
+        }
+    }
+
     /// Notes the answer to a call: where it changed a distance, something waits for each neighbour.
     pub(crate) fn note<R: Wait>(&self, rt: &R, answer: &Answer) {
         let mut board = self.board.lock(rt);
-        match answer.reply {
-            Reply::Done { changed } if changed > 0 => {
-                board.note_changed(answer.at);
-                self.wake(board);
-            }
-            _ => {
-                board.note_entry(answer.at);
-                self.wake_saver(board);
-            }
-        }
+        let has_changed = board.note(answer.at, &answer.reply);
+        self.wake_after(board, has_changed);
+    }
+
+    /// Notes the answer to a call of those who serve a session of a link.
+    pub(crate) fn note_served<R: Wait>(&self, rt: &R, link: usize, answer: &Answer) {
+        let mut board = self.board.lock(rt);
+        let has_changed = board.note_served(link, answer.at, &answer.reply);
+        self.wake_after(board, has_changed);
     }
 
     /// The session of a link, if one is there.
@@ -144,18 +162,19 @@ impl Signals {
         answer: &Answer,
     ) -> bool {
         let mut board = self.board.lock(rt);
-        board.note_entry(answer.at);
         let begins = board.begin(link, session, answer.at);
         self.wake(board);
         begins
     }
 
-    /// Ends a session of a link: true for the first who does, who is to enter its Down, and to say when that is settled.
-    pub(crate) fn end<R: Wait>(&self, rt: &R, link: usize, session: u32) -> bool {
+    /// Ends a session of a link: the answer says who is the first who does, who is to enter its Down, and to say when that is settled.
+    pub(crate) fn end<R: Wait>(&self, rt: &R, link: usize, session: u32) -> Ending
+        ensures { (result.link ≡ link) × (result.session ≡ session) }
+    {
         let mut board = self.board.lock(rt);
-        let is_first = board.end(link, session);
+        let ending = board.end(link, session);
         self.wake(board);
-        is_first
+        ending
     }
 
     /// Notes a session of a link that is over, but whose Down is not entered.
@@ -178,13 +197,7 @@ impl Listener for Signals {
 
     fn exported<R: Wait + Clock>(&self, rt: &R, node: u16, answer: &Answer) {
         let mut board = self.board.lock(rt);
-        match answer.reply {
-            Reply::Done { .. } => match board.link_to(node) {
-                Some(index) => board.note_queued(index, answer.at),
-                None => board.note_entry(answer.at),
-            },
-            _ => board.note_entry(answer.at),
-        }
+        board.note_exported(node, answer.at, &answer.reply);
         self.wake(board);
     }
 }
