@@ -130,13 +130,21 @@ def explained(ncroute, tell):
 
 
 def played(ncroute, tell):
-    """Plays what the documents show of several terminals. One that needs a command that is not there is left out."""
+    """Plays what the documents show of several terminals. Returns how many blocks need a command that is not there, and were not played."""
+    skipped = 0
     if not os.environ.get("NCROUTE"):
-        return
+        return skipped
     for name in documents_here():
-        blocks = [block for block in terminals.blocks(read(name)) if all(shutil.which(needed) for needed in needs(block))]
+        blocks = []
+        for block in terminals.blocks(read(name)):
+            if lacking := sorted(needed for needed in needs(block) if not shutil.which(needed)):
+                print(f"{name}: {' '.join(block[-1])}: not run: there is no `{'`, `'.join(lacking)}` here")
+                skipped += 1
+            else:
+                blocks.append(block)
         if blocks:
             tell(name, "blocks of terminals", [(" ".join(block[-1]), terminals.play(block, ncroute.environment())) for block in blocks])
+    return skipped
 
 
 def without_code(text):
@@ -221,9 +229,9 @@ def main():
         if rows:
             tell(name, "links", rows)
     explained(ncroute, tell)
-    played(ncroute, tell)
+    skipped = played(ncroute, tell)
     ncroute.close()
-    program.finish(passed, failed)
+    program.finish(passed, failed, skipped)
 
 
 if __name__ == "__main__":

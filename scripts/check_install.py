@@ -1,7 +1,7 @@
 #!/usr/bin/env python3
 """Installs the program in a temporary folder, and looks at what came there: its man pages, its completions, and the syntax files, by which each token of
 the filters in `examples/` is read. Prints what is wrong, and at last 'N passed, M failed'. What needs a program that is not there (`groff`, `vim`,
-`zsh`, `fish`) is left out, and named.
+`zsh`, `fish`) is not run: a line says so, and it counts as skipped.
 
 usage: NCROUTE=PATH scripts/check_install.py     (PATH: the program as it is built)
 """
@@ -186,19 +186,20 @@ CHECKS = (
 def main():
     # `install.sh` reads it too.
     os.environ["NCROUTE"] = program.built()
-    passed = failed = 0
+    passed = failed = skipped = 0
     with tempfile.TemporaryDirectory() as prefix:
         subprocess.run([INSTALL, prefix], check=True, capture_output=True)
         for name, needed, differs in CHECKS:
             if needed and not shutil.which(needed):
-                print(f"{name}: left out, for there is no {needed}")
+                print(f"{name}: not run: there is no `{needed}` here")
+                skipped += 1
                 continue
             if why := differs(prefix):
                 print(f"{name}: {why}")
                 failed += 1
             else:
                 passed += 1
-    program.finish(passed, failed)
+    program.finish(passed, failed, skipped)
 
 
 if __name__ == "__main__":
