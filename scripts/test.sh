@@ -1,7 +1,7 @@
 #!/usr/bin/env bash
 # The test command: proves every crate from nothing, tries the must-fail edits, runs all tests and the program, and then the linters of the
-# scripts, the examples of the documents, the rows of tests/rows/, random inputs, runs with their exit status, random domains, runs at the
-# program's limits, refused allocations, the filters that BIRD answered, configurations that are imported, killed runs, routers that talk, broken
+# scripts, the examples of the documents, the rows of tests/rows/, random inputs, runs with their exit status, random domains, phases, runs at
+# the program's limits, refused allocations, the filters that BIRD answered, configurations that are imported, killed runs, routers that talk, broken
 # filters and what is installed. The last line is 'N passed, M failed', the sum of all, and ', K skipped' behind it where something could not be
 # run: a line says 'not run: WHY' of each. With CI=true in the environment it has failed.
 #
@@ -10,7 +10,7 @@
 #        scripts/test.sh PART..       proves nothing: runs the parts named on the program NCROUTE=PATH, or else on one that is built without proofs
 set -u
 cd "$(dirname "$0")/.." || exit
-all_parts="scripts documents rows random program_runs domains limits memory bird import histories router lab broken_filters install"
+all_parts="scripts documents rows random program_runs domains phases limits memory bird import histories router lab broken_filters install"
 parts="$all_parts"
 is_proved=yes
 

@@ -1,5 +1,6 @@
 -- What sending and receiving leave, one after another.
-use Rattle.std.proofs.Common.{◌≡◌, ⊎_elim, ℕ, ◌+◌, ◌<◌, zero, suc, nat_eq, Option, Some, All, List, [], ◌∷◌}
+use mathlib.Core.Logic.{inl, inr}
+use Rattle.std.proofs.Common.{◌≡◌, ⊎_elim, ℕ, ◌+◌, ◌<◌, ◌≤◌, zero, suc, nat_eq, Option, Some, All, List, [], ◌∷◌}
 use Rattle.std.proofs.Common.{length, drop, get_or, slice_set, take, refl, sym, ap, subst, ◌∙◌, arith}
 use Rattle.std.proofs.lemmas.Bool.{cases_eq, cond_both, eqb-true}
 use Rattle.std.proofs.lemmas.List.{drop_more}
@@ -16,8 +17,12 @@ use Rattle.netchange_core.proofs.Change.{changed_at}
 use Rattle.netchange_core.proofs.Holders.{up_in}
 use Rattle.routing_domain.specs.Domain.{Domain, IsInOrder, IsQuiet, neighbour, topology}
 use Rattle.routing_domain.specs.Events.{in_session}
+use Rattle.routing_domain.specs.Phases.{AreWithin, Phases}
 use Rattle.routing_domain.specs.Rest.{IsRest}
 use Rattle.routing_domain.specs.Steps.{IsNext, receives, sends}
+use Rattle.routing_domain.proofs.Emptied.{quiet_after, quiet_soon, stays_quiet}
+use Rattle.routing_domain.proofs.Ending.{run_size, run_topology}
+use Rattle.routing_domain.proofs.Joined.{IsJoined, phases_more, round_is_phase, runs_join}
 use Rattle.routing_domain.proofs.Recomputed.{changed_other}
 use Rattle.routing_domain.proofs.Receiving.{receiving_is_lighter}
 use Rattle.routing_domain.proofs.Lighter.{sending_is_lighter}
@@ -25,26 +30,29 @@ use Rattle.routing_domain.proofs.Occurring.{first_is_next, receive_receives, tak
 use Rattle.routing_domain.proofs.Order.{receiving_keeps_order}
 use Rattle.routing_domain.proofs.Quiet.{quiet_rests}
 use Rattle.routing_domain.proofs.Sends.{sending_keeps_order}
-use Rattle.routing_domain.proofs.Topologies.{kept_itself, kept_on, kept_topology, receives_kept, sends_kept}
 use Rattle.domain_player.specs.declared.sent.Sent.{Sent}
 use Rattle.domain_player.specs.Play.{AreSent, IsBetween, IsPlayed, domain, domain_of, router_at, under_way}
 use Rattle.domain_player.proofs.Domains.{receives_as, router_place}
 use Rattle.domain_player.proofs.Ways.{under_way_first}
 
 pub nothing_played : (d : Domain) → IsInOrder d → IsPlayed d d 0
-nothing_played d o = record { in_order = o; kept = kept_itself d; lighter = omega arith }
+nothing_played d o = record { steps = 0; run = refl; in_order = o; lighter = omega arith }
 
 pub played_on : (d e f : Domain) (j k : ℕ) → IsPlayed d e j → IsPlayed e f k → IsPlayed d f (j + k)
-played_on d e f j k before after = record {
-  in_order = after.in_order;
-  kept = kept_on d e f before.kept after.kept;
-  lighter = omega (arith, before.lighter, after.lighter);
-}
+played_on d e f j k before after =
+    let both : IsJoined before.steps after.steps d e f before.run after.run = runs_join before.steps after.steps d e f before.run after.run in
+    record {
+      steps = both.steps;
+      run = both.run;
+      in_order = after.in_order;
+      lighter = omega (arith, before.lighter, after.lighter);
+    }
 
 pub receives_played : (d : Domain) (u w : ℕ) (m : Message) (rest : List Message) → IsInOrder d → IsNext d u w m rest → IsPlayed d (receives d u w m rest) 1
 receives_played d u w m rest o n = record {
+  steps = suc zero;
+  run = (receives d u w m rest, inl (record { from = u; to = w; message = m; rest = rest; is_next = n; after = refl }), refl);
   in_order = receiving_keeps_order d u w m rest o n;
-  kept = receives_kept d u w m rest;
   lighter = omega (arith, receiving_is_lighter d u w m rest o n);
 }
 
@@ -80,8 +88,13 @@ pub sends_sent : (d : Domain) (u w max : ℕ) → IsInOrder d → u < d.size →
     0 < length (take max (neighbour d u w).queue) → AreSent d (sends d u w max)
 sends_sent d u w max o from to some = record {
   played = record {
+    steps = suc zero;
+    run = (
+      sends d u w max,
+      inr (inl (record { from = u; to = w; max = max; member = from; member_there = to; some = some; after = refl })),
+      refl,
+    );
     in_order = sending_keeps_order d u w max o from to;
-    kept = sends_kept d u w max;
     lighter = omega (arith, sending_is_lighter d u w max o from to some);
   };
   still_empty = λ a b empty.
@@ -176,9 +189,48 @@ pub last_sent : (d e f : Domain) (m : ℕ) → IsPlayed d e m → AreSent e f �
 last_sent d e f m before sent =
     subst (IsPlayed d f) (let sum : m + 0 ≡ m = omega arith in sum) (played_on d e f m 0 before sent.played)
 
+-- one round more is one phase more
+pub rounds_more : (j : ℕ) (d e f g : Domain) (h : ℕ) → IsInOrder d → IsInOrder e → Phases j d e → AreSent e f → IsPlayed f g h →
+    ((u w : ℕ) → u < e.size → w < e.size → (neighbour f u w).queue ≡ []) → ((u w : ℕ) → u < e.size → w < e.size → g.flight u w ≡ []) →
+    Phases (j + 1) d g
+rounds_more j d e f g h begin order phases sent received none gone =
+    subst (λ n. Phases n d g) (let more : suc j ≡ j + 1 = omega arith in more)
+    (phases_more j d e g begin phases (round_is_phase sent.played.steps received.steps e f g order sent.played.run received.run none gone))
+
+-- in a quiet domain nothing is sent
+nothing_under_way : (ws : List World) (ss : List Sent) → All (IsBetween (length ws)) ss → IsQuiet (domain_of ws ss) → 0 < length ss → ⊥
+nothing_under_way ws [] between q some = omega (arith, some)
+nothing_under_way ws (s ∷ ss) between q some =
+    let at : IsBetween (length ws) s = between 0 s (omega arith) in
+    let none : s.message ∷ under_way ss s.from s.to ≡ [] = sym (under_way_first s ss) ∙ q.flights s.from s.to at.from at.to in cc
+
+something_sent : (e : Domain) (ws : List World) (ss : List Sent) → AreSent e (domain_of ws ss) → All (IsBetween e.size) ss → 0 < length ss → IsQuiet e → ⊥
+something_sent e ws ss sent between some quiet =
+    nothing_under_way ws ss (subst (λ n. All (IsBetween n) ss) (sym (run_size sent.played.steps e (domain_of ws ss) sent.played.run)) between)
+    (stays_quiet sent.played.steps e (domain_of ws ss) sent.played.run quiet) some
+
+-- so while something is sent there were fewer rounds than nodes, and no more than the longest distance at rest
+pub few_rounds : (j : ℕ) (d e : Domain) (ws : List World) (ss : List Sent) → IsInOrder d → Phases j d e → AreSent e (domain_of ws ss) →
+    All (IsBetween e.size) ss → 0 < length ss → j ≤ d.size → j + 1 ≤ d.size
+few_rounds j d e ws ss o phases sent between some few =
+    ⊎_elim
+    (λ (full : j ≡ d.size). absurd (something_sent e ws ss sent between some (quiet_after d e o (subst (λ n. Phases n d e) full phases))))
+    (λ (other : j ≡ d.size → ⊥). omega (arith, few, other))
+    (cases_eq j d.size)
+
+pub soon_rounds : (j : ℕ) (d e : Domain) (ws : List World) (ss : List Sent) → IsInOrder d → Phases j d e → AreSent e (domain_of ws ss) →
+    All (IsBetween e.size) ss → 0 < length ss → ((k : ℕ) → AreWithin k d → j ≤ k + 1) → (k : ℕ) → AreWithin k d → j + 1 ≤ k + 1
+soon_rounds j d e ws ss o phases sent between some soon k within =
+    ⊎_elim
+    (λ (full : j ≡ k + 1).
+    absurd (something_sent e ws ss sent between some
+    (quiet_soon k d e o within (subst (λ n. Phases n d e) (let same : j ≡ suc k = omega (arith, full) in same) phases))))
+    (λ (other : j ≡ k + 1 → ⊥). omega (arith, soon k within, other))
+    (cases_eq j (k + 1))
+
 -- routers that are quiet after they were played are at rest
 pub settled_rest : (was new : List World) (n : ℕ) → IsPlayed (domain was) (domain new) n → IsQuiet (domain new) → length new ≡ length was →
     (v : ℕ) → v < length was → IsRest (topology (domain was) v) v (λ u. distance (router_at new u) v)
 settled_rest was new n played quiet same v below =
-    subst (λ m. IsRest m v (λ u. distance (router_at new u) v)) (kept_topology (domain was) (domain new) v played.kept)
+    subst (λ m. IsRest m v (λ u. distance (router_at new u) v)) (run_topology played.steps (domain was) (domain new) v played.run)
     (quiet_rests (domain new) played.in_order quiet v (omega (arith, below, same)))

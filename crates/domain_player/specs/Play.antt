@@ -6,7 +6,8 @@ use Rattle.netchange_core.specs.Calls.{opened}
 use Rattle.netchange_core.specs.OpeningView.{OpeningView}
 use Rattle.netchange_core.specs.World.{World}
 use Rattle.routing_domain.specs.Changes.{is_pair}
-use Rattle.routing_domain.specs.Domain.{Domain, IsInOrder, KeepsLinksAndFilters, neighbour}
+use Rattle.routing_domain.specs.Domain.{Domain, IsInOrder, neighbour}
+use Rattle.routing_domain.specs.Runs.{Runs}
 use Rattle.routing_domain.specs.Weight.{weight}
 use Rattle.domain_player.specs.declared.sent.Sent.{Sent}
 
@@ -53,11 +54,11 @@ pub record IsBetween (size : ℕ) (s : Sent) : Type 0 where
   pub from : s.from < size
   pub to : s.to < size
 
--- What a domain becomes by sending and receiving, where so many messages were received: it stays in order, links and filters are what
--- they were, and each message received makes it lighter.
+-- What a domain becomes by a run in which so many messages were received: it stays in order, and each of them makes it lighter.
 pub record IsPlayed (d e : Domain) (received : ℕ) : Type 0 where
+  pub steps : ℕ
+  pub run : Runs steps d e
   pub in_order : IsInOrder e
-  pub kept : KeepsLinksAndFilters d e
   pub lighter : weight e + received ≤ weight d
 
 -- what a domain becomes by sending alone: where nothing waited nothing waits

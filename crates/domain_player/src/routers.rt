@@ -1,12 +1,13 @@
 //! The routers of a domain.
 
-ghost use Rattle.std.specs.Prelude.{◌≡◌, ◌≢◌, ℕ, ◌<◌, ◌≤◌, ◌^◌, ◌⊎◌, false, true, IfOk, OnErr, OnOk, [], length};
+ghost use Rattle.std.specs.Prelude.{◌≡◌, ◌≢◌, ℕ, ◌+◌, ◌<◌, ◌≤◌, ◌^◌, ◌⊎◌, false, true, IfOk, OnErr, OnOk, [], length};
 ghost use Rattle.filter_code.specs.Limits.{smallest_size, largest_size};
 ghost use Rattle.netchange_core.specs.Best.{best, distance, route_of};
 ghost use Rattle.netchange_core.specs.Next.{last_session};
 ghost use Rattle.netchange_core.specs.declared.event.Event.TheVariants as event;
 ghost use Rattle.routing_domain.specs.Domain.{IsQuiet, IsSame, KeepsLinksAndFilters, are_linked, opened_domain, topology};
 ghost use Rattle.routing_domain.specs.Events.{cuts, enters, links};
+ghost use Rattle.routing_domain.specs.Phases.{AreWithin};
 ghost use Rattle.routing_domain.specs.Rest.{IsRest};
 ghost use Rattle.routing_domain.specs.Weight.{weight};
 ghost use Rattle.domain_player.specs.Play.{domain, opening_of, router_at};
@@ -138,11 +139,14 @@ impl Routers {
 
     /// Plays the routers until no message waits, round by round: in a round each node sends all that waits for its neighbours, and
     /// then what was sent is received, both in the order of the senders and, of one sender, of the receivers. So each link and each
-    /// filter is what it was, and each router's distances are those of rest. After a fault the routers are closed.
+    /// filter is what it was, and each router's distances are those of rest. There are at most as many rounds as nodes, and at most one
+    /// more than the longest distance at rest. After a fault the routers are closed.
     pub fn settle(&mut self) -> Result<Settled, SettleFault>
         ensures quiet { OnOk result (IsQuiet (domain self.new)) }
         ensures kept { OnOk result (KeepsLinksAndFilters (domain self.old) (domain self.new)) }
         ensures rest { OnOk result ((v : ℕ) → v < length self.old → IsRest (topology (domain self.old) v) v (λ u. distance (router_at self.new u) v)) }
+        ensures rounds { IfOk result (λ s. s.rounds ≤ length self.old) }
+        ensures soon { IfOk result (λ s. (j : ℕ) → AreWithin j (domain self.old) → s.rounds ≤ j + 1) }
         ensures messages { IfOk result (λ s. (s.rounds ≤ s.messages) × (s.messages ≤ weight (domain self.old))) }
         ensures many { result ≡ Err SettleFault.TooManyMessages → 2 ^ 64 ≤ weight (domain self.old) }
         ensures closed { OnErr result (self.new ≡ []) }

@@ -1,23 +1,23 @@
 -- Where a run ends quiet, it ends in the one rest of the topology that it began in.
-use Rattle.std.proofs.Common.{◌≡◌, ◌⊎◌, ⊎_elim, ℕ, ◌<◌, zero, suc, sym, ap, subst, ◌∙◌, arith}
+use mathlib.Core.Logic.{inl, inr}
+use Rattle.std.proofs.Common.{◌≡◌, ℕ, ◌<◌, zero, suc, sym, ap, subst, ◌∙◌, arith}
 use Rattle.netchange_core.specs.Best.{best, distance}
 use Rattle.routing_domain.specs.Domain.{Domain, IsInOrder, IsQuiet, KeepsLinksAndFilters, topology}
 use Rattle.routing_domain.specs.Rest.{IsRest, Topology}
-use Rattle.routing_domain.specs.Runs.{ReceivesOne, Runs, SendsSome}
+use Rattle.routing_domain.specs.Runs.{IsStep, Runs}
 use Rattle.routing_domain.specs.Ways.{GoesVia}
 use Rattle.routing_domain.proofs.Alone.{alone}
+use Rattle.routing_domain.proofs.Dropping.{drop_keeps}
 use Rattle.routing_domain.proofs.Forwarding.{Hops, forwards}
 use Rattle.routing_domain.proofs.Increasing.{never_nearer}
 use Rattle.routing_domain.proofs.Quiet.{quiet_goes, quiet_rests}
 use Rattle.routing_domain.proofs.Running.{run_is_short}
 use Rattle.routing_domain.proofs.Topologies.{kept_itself, kept_on, kept_topology, receives_kept, sends_kept}
 
-step_keeps : (d e : Domain) → (ReceivesOne d e) ⊎ (SendsSome d e) → KeepsLinksAndFilters d e
-step_keeps d e step =
-    ⊎_elim
-    (λ (h : ReceivesOne d e). subst (KeepsLinksAndFilters d) (sym h.after) (receives_kept d h.from h.to h.message h.rest))
-    (λ (s : SendsSome d e). subst (KeepsLinksAndFilters d) (sym s.after) (sends_kept d s.from s.to s.max))
-    step
+pub step_keeps : (d e : Domain) → IsStep d e → KeepsLinksAndFilters d e
+step_keeps d e (inl h) = subst (KeepsLinksAndFilters d) (sym h.after) (receives_kept d h.from h.to h.message h.rest)
+step_keeps d e (inr (inl s)) = subst (KeepsLinksAndFilters d) (sym s.after) (sends_kept d s.from s.to s.max)
+step_keeps d e (inr (inr x)) = drop_keeps d e x
 
 pub run_keeps : (k : ℕ) (d e : Domain) → Runs k d e → KeepsLinksAndFilters d e
 run_keeps zero d e run = subst (KeepsLinksAndFilters d) run (kept_itself d)
@@ -25,6 +25,9 @@ run_keeps (suc k) d e run = kept_on d run.0 e (step_keeps d run.0 run.1) (run_ke
 
 pub run_topology : (k : ℕ) (d e : Domain) (v : ℕ) → Runs k d e → topology e v ≡ topology d v
 run_topology k d e v run = kept_topology d e v (run_keeps k d e run)
+
+pub run_size : (k : ℕ) (d e : Domain) → Runs k d e → e.size ≡ d.size
+run_size k d e run = (run_keeps k d e run).size
 
 -- the end of a run, and what is known of it
 pub record IsEnd (d e : Domain) (v : ℕ) : Type 0 where

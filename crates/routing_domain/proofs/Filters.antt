@@ -92,7 +92,7 @@ importing_keeps_order d u w f o short =
 abbrev pub exporter : World → ℕ → VerifiedView → World
 exporter r k f = changed r k (exporting r.opening (distance r) f)
 
-exporter_distance : (r : World) (k : ℕ) (f : VerifiedView) (v : ℕ) → distance (exporter r k f) v ≡ distance r v
+pub exporter_distance : (r : World) (k : ℕ) (f : VerifiedView) (v : ℕ) → distance (exporter r k f) v ≡ distance r v
 exporter_distance r k f v =
     ap (λ ds. (best_by r.opening v ds).dist) (map_change_same (neighbour_distance r.opening v) k (exporting r.opening (distance r) f) r.neighbours refl)
 

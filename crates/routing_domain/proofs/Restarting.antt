@@ -16,7 +16,7 @@ use Rattle.routing_domain.proofs.Keeping.{KeepsLink, keeps_itself}
 use Rattle.routing_domain.proofs.OneEnd.{kept_direction}
 use Rattle.routing_domain.proofs.Starting.{down_at, idle_at, queued_at, tables_of}
 
-opened_member : (n u : ℕ) (o : OpeningView) → o.size ≡ n → o.me ≡ u → IsMember n u (opened o)
+pub opened_member : (n u : ℕ) (o : OpeningView) → o.size ≡ n → o.me ≡ u → IsMember n u (opened o)
 opened_member n u o size me = record {
   size = size;
   me = me;

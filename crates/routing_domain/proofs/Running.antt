@@ -1,11 +1,13 @@
 -- Every run of a domain in order ends, in whatever order its steps are taken; and there is one that ends quiet.
-use Rattle.std.proofs.Common.{◌≡◌, ◌⊎◌, ⊎_elim, inl, inr, ℕ, ◌+◌, ◌<◌, ◌≤◌, zero, suc, List, [], ◌∷◌, length, take, refl, sym, ap, subst, arith}
+use mathlib.Core.Logic.{inl, inr}
+use Rattle.std.proofs.Common.{◌≡◌, ◌⊎◌, ⊎_elim, ℕ, ◌+◌, ◌<◌, ◌≤◌, zero, suc, List, [], ◌∷◌, length, take, refl, sym, ap, subst, arith}
 use Rattle.std.proofs.lemmas.Bool.{cases_eq}
 use Rattle.netchange_core.specs.declared.message.Message.{Message}
 use Rattle.routing_domain.specs.Domain.{Domain, IsInOrder, IsQuiet, neighbour}
-use Rattle.routing_domain.specs.Runs.{ReceivesOne, Runs, SendsSome}
+use Rattle.routing_domain.specs.Runs.{DropsOne, IsStep, ReceivesOne, Runs, SendsSome}
 use Rattle.routing_domain.specs.Steps.{receives, sends}
 use Rattle.routing_domain.specs.Weight.{weight}
+use Rattle.routing_domain.proofs.Dropping.{drop_is_lighter, drop_keeps_order}
 use Rattle.routing_domain.proofs.Receiving.{receiving_is_lighter}
 use Rattle.routing_domain.proofs.Lighter.{sending_is_lighter}
 use Rattle.routing_domain.proofs.Occurring.{first_is_next}
@@ -13,22 +15,23 @@ use Rattle.routing_domain.proofs.Order.{receiving_keeps_order}
 use Rattle.routing_domain.proofs.Sends.{sending_keeps_order}
 
 -- a step keeps order and makes the domain lighter
-record IsLighter (d e : Domain) : Type 0 where
+pub record IsLighter (d e : Domain) : Type 0 where
   pub order : IsInOrder e
   pub lighter : weight e < weight d
 
-step_is_lighter : (d e : Domain) → IsInOrder d → (ReceivesOne d e) ⊎ (SendsSome d e) → IsLighter d e
-step_is_lighter d e o step =
-    ⊎_elim
-    (λ (h : ReceivesOne d e). subst (IsLighter d) (sym h.after) (record {
-      order = receiving_keeps_order d h.from h.to h.message h.rest o h.is_next;
-      lighter = receiving_is_lighter d h.from h.to h.message h.rest o h.is_next;
-    }))
-    (λ (s : SendsSome d e). subst (IsLighter d) (sym s.after) (record {
-      order = sending_keeps_order d s.from s.to s.max o s.member s.member_there;
-      lighter = sending_is_lighter d s.from s.to s.max o s.member s.member_there s.some;
-    }))
-    step
+step_is_lighter : (d e : Domain) → IsInOrder d → IsStep d e → IsLighter d e
+step_is_lighter d e o (inl h) = subst (IsLighter d) (sym h.after) (record {
+  order = receiving_keeps_order d h.from h.to h.message h.rest o h.is_next;
+  lighter = receiving_is_lighter d h.from h.to h.message h.rest o h.is_next;
+})
+step_is_lighter d e o (inr (inl s)) = subst (IsLighter d) (sym s.after) (record {
+  order = sending_keeps_order d s.from s.to s.max o s.member s.member_there;
+  lighter = sending_is_lighter d s.from s.to s.max o s.member s.member_there s.some;
+})
+step_is_lighter d e o (inr (inr x)) = record { order = drop_keeps_order d e o x; lighter = drop_is_lighter d e x }
+
+pub step_keeps_order : (d e : Domain) → IsInOrder d → IsStep d e → IsInOrder e
+step_keeps_order d e o step = (step_is_lighter d e o step).order
 
 -- no run has more steps than the domain weighs
 pub run_is_short : (k : ℕ) (d e : Domain) → IsInOrder d → Runs k d e → (IsInOrder e) × (k + weight e ≤ weight d)
@@ -52,7 +55,7 @@ search_below (suc n) P Q each =
     (λ q. inr q)
     (search_below n P Q (λ u below. each u (omega (arith, below))))
 
--- a step that can be taken
+-- a message that can be received, or sent
 abbrev pub HasStep : Domain → Type 0
 HasStep d = (e : Domain) × ((ReceivesOne d e) ⊎ (SendsSome d e))
 
@@ -116,10 +119,14 @@ comes_within (suc n) d o h =
     ⊎_elim
     (λ (q : IsQuiet d). record { steps = 0; end = d; runs = refl; order = o; quiet = q })
     (λ (s : HasStep d).
-    let l : IsLighter d s.0 = step_is_lighter d s.0 o s.1 in
+    let step : IsStep d s.0 = ⊎_elim (λ (h : ReceivesOne d s.0). inl h) (λ (t : SendsSome d s.0). inr (inl t)) s.1 in
+    let l : IsLighter d s.0 = step_is_lighter d s.0 o step in
     let rest : ComesToRest s.0 = comes_within n s.0 l.order (omega (arith, h, l.lighter)) in
-    record { steps = suc rest.steps; end = rest.end; runs = (s.0, s.1, rest.runs); order = rest.order; quiet = rest.quiet })
+    record { steps = suc rest.steps; end = rest.end; runs = (s.0, step, rest.runs); order = rest.order; quiet = rest.quiet })
     (quiet_or_step d o)
 
 pub comes_to_rest : (d : Domain) → IsInOrder d → ComesToRest d
 comes_to_rest d o = comes_within (suc (weight d)) d o (omega arith)
+
+pub run_order : (n : ℕ) (d e : Domain) → IsInOrder d → Runs n d e → IsInOrder e
+run_order n d e o run = (run_is_short n d e o run).0

@@ -10,14 +10,15 @@ ghost use Rattle.netchange_core.specs.FilteredDistance.{filtered_distance};
 ghost use Rattle.routing_domain.specs.Changes.{with_link, with_toll, without_link};
 ghost use Rattle.routing_domain.specs.Domain.{Domain, IsInOrder, KeepsLinksAndFilters, are_linked, exported, imported, topology};
 ghost use Rattle.routing_domain.specs.Events.{CanLink, cuts, enters, links};
-ghost use Rattle.routing_domain.specs.Runs.{Runs};
+ghost use Rattle.routing_domain.specs.Runs.{DropsOne, Runs};
 ghost use Rattle.routing_domain.specs.Steps.{receives, sends};
 
-/// Sending and receiving change nothing between nodes: no link, and neither the import filter nor the export filter of any; nor do runs
-/// of both. So the topology stays that to each destination.
+/// Sending and receiving change nothing between nodes: no link, and neither the import filter nor the export filter of any; nor does a
+/// message that is left out, nor a run of all that. So the topology stays, to each destination.
 pub fn steps_keep_topology()
     ensures receives { (d : Domain) → (u w : ℕ) → (m : Message) → (rest : List Message) → KeepsLinksAndFilters d (receives d u w m rest) }
     ensures sends { (d : Domain) → (u w max : ℕ) → KeepsLinksAndFilters d (sends d u w max) }
+    ensures drops { (d e : Domain) → DropsOne d e → KeepsLinksAndFilters d e }
     ensures runs { (k : ℕ) → (d e : Domain) → Runs k d e → KeepsLinksAndFilters d e }
     ensures topology { (d e : Domain) → KeepsLinksAndFilters d e → (v : ℕ) → topology e v ≡ topology d v }
 {}

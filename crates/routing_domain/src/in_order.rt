@@ -9,6 +9,7 @@ ghost use Rattle.netchange_core.specs.declared.message.Message.{Message};
 ghost use Rattle.netchange_core.specs.OpeningView.{OpeningView};
 ghost use Rattle.routing_domain.specs.Domain.{AreOpenings, Domain, IsInOrder, IsSame, are_linked, opened_domain};
 ghost use Rattle.routing_domain.specs.Events.{CanLink, cuts, enters, links};
+ghost use Rattle.routing_domain.specs.Runs.{DropsOne};
 ghost use Rattle.routing_domain.specs.Steps.{IsNext, receives, sends};
 
 /// A domain of routers that were just opened, without links, is in order.
@@ -21,10 +22,11 @@ pub fn same_domain_is_in_order()
     ensures order { (d e : Domain) → IsSame d e → IsInOrder d → IsInOrder e }
 {}
 
-/// Sending and receiving keep a domain in order.
+/// Sending and receiving keep a domain in order, and so does a link that leaves out a message that a later one about the same node follows.
 pub fn steps_keep_order()
     ensures receives { (d : Domain) → (u w : ℕ) → (m : Message) → (rest : List Message) → IsInOrder d → IsNext d u w m rest → IsInOrder (receives d u w m rest) }
     ensures sends { (d : Domain) → (u w max : ℕ) → IsInOrder d → u < d.size → w < d.size → IsInOrder (sends d u w max) }
+    ensures drops { (d e : Domain) → IsInOrder d → DropsOne d e → IsInOrder e }
 {}
 
 /// A link that comes up at both ends keeps a domain in order.

@@ -5,18 +5,19 @@ ghost use Rattle.netchange_core.specs.Best.{best, distance};
 ghost use Rattle.netchange_core.specs.declared.message.Message.{Message};
 ghost use Rattle.routing_domain.specs.Domain.{Domain, IsInOrder, IsQuiet, IsSame, neighbour, topology};
 ghost use Rattle.routing_domain.specs.Rest.{IsRest};
-ghost use Rattle.routing_domain.specs.Runs.{ReceivesOne, Runs, SendsSome};
+ghost use Rattle.routing_domain.specs.Runs.{DropsOne, ReceivesOne, Runs, SendsSome};
 ghost use Rattle.routing_domain.specs.Steps.{IsNext, receives, sends};
 ghost use Rattle.routing_domain.specs.Ways.{Forwards, GoesVia};
 ghost use Rattle.routing_domain.specs.Weight.{weight};
 
-/// Each sending of a message and each receiving of one makes a domain lighter, so they cannot go on for ever, in whatever order they
-/// happen and whatever the filters are.
+/// Each sending of a message and each receiving of one makes a domain lighter, and so does a link that leaves one out. So they cannot go
+/// on for ever, in whatever order they happen and whatever the filters are.
 pub fn steps_come_to_an_end()
     ensures receives { (d : Domain) → (u w : ℕ) → (m : Message) → (rest : List Message) → IsInOrder d → IsNext d u w m rest →
         weight (receives d u w m rest) < weight d }
     ensures sends { (d : Domain) → (u w max : ℕ) → IsInOrder d → u < d.size → w < d.size →
         0 < length (take max (neighbour d u w).queue) → weight (sends d u w max) < weight d }
+    ensures drops { (d e : Domain) → DropsOne d e → weight e < weight d }
 {}
 
 /// No run of a domain in order has more steps than the domain weighs, whatever steps are taken, and the domain stays in order. While
