@@ -1,7 +1,7 @@
 #!/usr/bin/env python3
 """Runs the gate, `rt ci`, from nothing, and prints how much processor time each crate took, in seconds.
 
-usage: scripts/time_gate.py > TABLE       (the gate's own output goes to standard error)
+usage: bench/time_gate.py > TABLE       (the gate's own output goes to standard error)
 
 It looks at the gate's processes every second. What ended since the last look is not seen: the last row has it, from the system's own sum.
 It needs Linux.
