@@ -1,8 +1,10 @@
 //! The calls by which a program of one's own reads, verifies and runs filters, keeps tables and a history, shares a router among threads, and answers
 //! lines: each is made once, and its arguments and answers have the types that are written here. A call that changes does not compile here any more.
 
-use crate::asserts::{done, must, some};
-use crate::callers::opening;
+ghost use Rattle.std.specs.Prelude.{◌≤◌};
+
+use crate::asserts::{Host, done, must, some};
+use crate::callers::{open, opening};
 use crate::gates::OpenGate;
 use code_file::{FileFault, read_code, write_code};
 use filter_code::{Code, Outcome, Route, run_checked};
@@ -21,12 +23,12 @@ use ring_network::{NetworkFault, net_lines};
 use route_answers::eval_lines;
 use route_history::{CallFault, Journal, ReplayFault, replay};
 use route_session::{
-    Cause, ChannelLink, Ending, Finished, Got, Job, Link, LinkFault, ReadEnd, Role, RunFault,
-    WriteEnd, read_session, run_sessions, write_session,
+    Cause, ChannelLink, Got, Link, LinkFault, ReadEnd, WriteEnd, read_session, write_session,
 };
 use router_script::{ScriptFault, run_script};
 use slot_lock::{Answer, LockFault, Pass, Router, TryFault};
 use std::alloc::AllocError;
+use std::panic::Expect;
 
 /// A filter of one token more than a name needs: what `accept` is.
 const TEXT: &[u8] = b"filter q { accept; }";
@@ -88,6 +90,24 @@ fn filters_to_code(rt: HostRuntime) {
     must(&rt, done(&rt, read).instrs().len() == 2, "a code file");
 }
 
+/// Verified code has its bounds, and takes a route.
+fn must_run<R: Host>(rt: &R, verified: &Verified, net: &Prefix)
+    requires { 3 ≤ verified.now.size }
+{
+    let bounds: (u32, u32, u32) = (verified.budget(), verified.depth(), verified.size());
+    must(
+        rt,
+        bounds == (1, 0, 16) && verified.code().instrs().len() == 1,
+        "bounds",
+    );
+    let ran: Ran = run(verified, net, 3);
+    must(
+        rt,
+        ran.verdict == Verdict::Accept(3) && ran.steps == 1,
+        "the machine of verified code",
+    );
+}
+
 #[test]
 fn code_is_verified_and_run(rt: HostRuntime) {
     let code: Option<Code> = Code::new(
@@ -108,20 +128,13 @@ fn code_is_verified_and_run(rt: HostRuntime) {
         matches!(outcome, Outcome::Accept(3)),
         "the checked machine",
     );
-    let verified: Result<Verified, (Code, VerifyFault)> = verify(rt.alloc(), code, 16);
-    let verified = some(&rt, verified.ok(), "verified code");
-    let bounds: (u32, u32, u32) = (verified.budget(), verified.depth(), verified.size());
-    must(
-        &rt,
-        bounds == (1, 0, 16) && verified.code().instrs().len() == 1,
-        "bounds",
-    );
-    let ran: Ran = run(&verified, &net, 3);
-    must(
-        &rt,
-        ran.verdict == Verdict::Accept(3) && ran.steps == 1,
-        "the machine of verified code",
-    );
+    match verify(rt.alloc(), code, 16) {
+        Ok(verified) => must_run(&rt, &verified, &net),
+        Err((code, fault)) => {
+            let refused: (Code, VerifyFault) = (code, fault);
+            must(&rt, refused.0.instrs().is_empty(), refused.1.code());
+        }
+    }
     let words = Words {
         stack: arrayvec::ArrayVec::new(),
         locals: [0; 16],
@@ -183,21 +196,21 @@ fn tables_and_a_history(rt: HostRuntime) {
 
 #[test]
 fn a_router_and_its_passes(rt: HostRuntime) {
-    let journal = done(&rt, Journal::open(rt.alloc(), opening(&rt, 4), 9));
+    let journal = Journal::open(rt.alloc(), opening(&rt, 4), 9).expect(&rt, "a history");
     let router: Result<(Router, Pass), LockFault> = Router::open(rt.alloc(), journal);
-    let (router, mut pass) = done(&rt, router);
+    let (router, mut pass) = router.expect(&rt, "a router");
+    let shares: u32 = pass.shares();
+    let other: Pass = router.split(&mut pass, 2);
+    let mut other: Pass = router.meet(&mut pass, other);
     let tried: Result<Answer, TryFault> = router.try_call(&mut pass, Event::Up(1));
     must(&rt, done(&rt, tried).at == 0, "a try");
-    let called: Result<Answer, CallFault> = router.call(&rt, &mut pass, Event::Show(0));
+    let called: Result<Answer, CallFault> = router.call(&rt, &mut other, Event::Show(0));
     let Answer { at, reply } = done(&rt, called);
     must(
         &rt,
         at == 1 && matches!(reply, Reply::Route { dist: 0, .. }),
         "a call",
     );
-    let shares: u32 = pass.shares();
-    let other: Pass = router.split(&mut pass, 2);
-    let other: Pass = router.meet(&mut pass, other);
     router.join(&mut pass, other);
     must(&rt, shares == 65_536 && pass.shares() == shares, "passes");
     let closed: Result<Journal, LockFault> = router.close(pass);
@@ -210,8 +223,7 @@ fn a_router_and_its_passes(rt: HostRuntime) {
 
 #[test]
 fn sessions_over_a_channel(rt: HostRuntime) {
-    let journal = done(&rt, Journal::open(rt.alloc(), opening(&rt, 4), 90));
-    let (router, mut pass) = done(&rt, Router::open(rt.alloc(), journal));
+    let (router, mut pass) = open(&rt, 4, 90);
     let _opened = done(&rt, router.call(&rt, &mut pass, Event::Up(1)));
     let pair: Result<(ChannelLink, ChannelLink), AllocError> = ChannelLink::pair(rt.alloc());
     let (mut near, mut far) = done(&rt, pair);
@@ -240,30 +252,6 @@ fn sessions_over_a_channel(rt: HostRuntime) {
     let read: ReadEnd = read_session(&rt, &router, &mut pass, 1, &mut far, &OpenGate, 0, 9);
     let is_read = read.cause == Cause::LinkEnded && read.entered == 3 && read.lost.is_none();
     must(&rt, is_read, "a reader");
-    let job = Job {
-        role: Role::Reader,
-        session: 1,
-        link: far,
-        pass: router.split(&mut pass, 1),
-    };
-    let jobs = done(&rt, Vec::from_array(rt.alloc(), [job]));
-    let finished: Result<Vec<Finished<ChannelLink>>, RunFault> = run_sessions(
-        &rt,
-        rt.alloc(),
-        &router,
-        jobs,
-        &OpenGate,
-        2,
-    );
-    let finished = done(&rt, finished);
-    let is_finished = finished.first().is_some_and(
-        |one| matches!(&one.ending, Ending::Read(end) if end.cause == Cause::LinkEnded),
-    );
-    must(
-        &rt,
-        is_finished && finished.len() == 1,
-        "sessions that are run",
-    );
 }
 
 #[test]
