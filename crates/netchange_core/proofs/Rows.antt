@@ -1,5 +1,8 @@
 -- Worked rows: the definitions compute the worlds and replies that are wanted of them.
 use Rattle.std.proofs.Common.{◌≡◌, ℕ, List, [], ◌∷◌, replicate, refl}
+use Rattle.filter_code.specs.declared.instruction.Instr.TheVariants as instr
+use Rattle.filter_code.specs.Machine.{after}
+use Rattle.filter_verifier.specs.VerifiedView.{VerifiedView}
 use Rattle.netchange_core.specs.declared.event.Event.{Event}
 use Rattle.netchange_core.specs.declared.event.Event.TheVariants as event
 use Rattle.netchange_core.specs.declared.message.Message.{Message}
@@ -9,7 +12,7 @@ use Rattle.netchange_core.specs.declared.reply.Reply.TheVariants as reply
 use Rattle.netchange_core.specs.declared.reply.Via.TheVariants.{Local, Node, Nowhere}
 use Rattle.netchange_core.specs.Best.{best_by}
 use Rattle.netchange_core.specs.Calls.{opened}
-use Rattle.netchange_core.specs.Next.{next}
+use Rattle.netchange_core.specs.Next.{next, set_import}
 use Rattle.netchange_core.specs.OpeningView.{OpeningView}
 use Rattle.netchange_core.specs.FilteredDistance.{filtered_distance}
 use Rattle.netchange_core.specs.World.{World}
@@ -70,3 +73,25 @@ pub shows : replies (event.Up 1 ∷ (event.Show 0 ∷ (event.Show 1 ∷ (event.S
     ≡ reply.Opened 1 ∷ (reply.Route 0 Local ∷ (reply.Route 4 Nowhere ∷ (reply.Refused refusal.BadDest ∷ [])))
 unfolding best_by filtered_distance
 shows = refl
+
+-- The last session that there can be is opened, and none behind it. A neighbour that is up, and a number of no neighbour, are refused as such even then.
+pub last_session_opens : replies_from (record (opened node_0) { sessions = 4294967294 })
+    (event.Up 1 ∷ (event.Up 2 ∷ (event.Up 1 ∷ (event.Up 0 ∷ (event.Take 4294967295 1 ∷ [])))))
+    ≡ reply.Opened 4294967295 ∷ (reply.Refused refusal.NoSession ∷ (reply.Refused refusal.AlreadyUp
+    ∷ (reply.Refused refusal.NoNode ∷ (reply.Messages (told 0 0 ∷ []) ∷ []))))
+unfolding best_by filtered_distance
+last_session_opens = refl
+
+-- a filter that rejects each route
+abbrev none_passes : VerifiedView
+none_passes = record { program = record { locals = 0; sets = []; int_sets = []; instrs = instr.Reject ∷ [] }; size = 4 }
+
+-- A neighbour told a distance. A filter of what it tells is set: it rejects what was told before, which is told on, and what is told later.
+abbrev filtered : World
+filtered = (set_import (next (next (opened node_0) (event.Up 1)).world (event.Receive 1 2 1)).world 1 none_passes).world
+
+pub filter_rejects : replies_from filtered (event.Show 2 ∷ (event.Receive 1 3 1 ∷ (event.Show 3 ∷ (event.Take 1 9 ∷ []))))
+    ≡ reply.Route 4 Nowhere ∷ (reply.Done 0 ∷ (reply.Route 4 Nowhere
+    ∷ (reply.Messages (told 0 0 ∷ (told 1 4 ∷ (told 2 4 ∷ (told 3 4 ∷ (told 2 2 ∷ (told 2 4 ∷ [])))))) ∷ [])))
+unfolding best_by filtered_distance after
+filter_rejects = refl
