@@ -1,5 +1,5 @@
 -- Jobs: sessions that run at the same time, and what each comes to. (This project's own choice.)
-use Rattle.std.specs.Prelude.{◌≡◌, ℕ, ◌+◌, ◌++◌, All, List, flat_map, sum_by}
+use Rattle.std.specs.Prelude.{◌≡◌, ℕ, ◌+◌, ◌++◌, All, Bool, List, [], ◌∷◌, flat_map, sum_by}
 use Rattle.route_history.specs.Beginning.{Begins}
 use Rattle.route_session.specs.declared.job.Ending.{Ending}
 use Rattle.route_session.specs.declared.job.Ending.TheVariants as ending
@@ -10,6 +10,7 @@ use Rattle.route_session.specs.declared.job.Role.TheVariants as role
 use Rattle.route_session.specs.Calls.{StaysSound}
 use Rattle.route_session.specs.Reads.{IsReadBy}
 use Rattle.route_session.specs.Told.{Told, closed}
+use Rattle.route_session.specs.Turns.{ReadsByTurns, TakesByTurns}
 use Rattle.route_session.specs.Writes.{IsWrittenBy}
 use Rattle.slot_lock.specs.Passes.{Fragment}
 use Rattle.slot_lock.specs.Passes.{IsPassOf, RouterView}
@@ -46,9 +47,24 @@ Did r role.Reader session old t (ending.Read end) new u = IsReadBy r session old
 Did r role.Writer session old t (ending.Write end) new u = IsWrittenBy r session old t end new u
 Did r _ session old t _ new u = ⊥
 
--- a job was done, and its link is closed
-pub record IsFinished {L : Type 0} (told : L → Told) (r : RouterView) (j : Job L) (f : Finished L) : Type 0 where
+-- so its turns were used up; `may` says what the gate may answer at each of them
+abbrev pub UsesTurns : (ℕ → Bool → Type 0) → ℕ → Fragment → Told → Ending → Fragment → Told → Type 0
+UsesTurns may turns old t (ending.Read end) new u = ReadsByTurns may turns end.cause end.entered t u
+UsesTurns may turns old t (ending.Write end) new u = TakesByTurns may turns end.cause old new
+
+-- a job was done, with at most so many turns, and its link is closed
+pub record IsFinished {L : Type 0} (told : L → Told) (may : ℕ → Bool → Type 0) (turns : ℕ) (r : RouterView) (j : Job L) (f : Finished L)
+    : Type 0 where
   pub last : Told
   pub did : Did r j.role j.session j.pass.fragment (told j.link) f.ending f.pass.fragment last
+  pub by_turns : UsesTurns may turns j.pass.fragment (told j.link) f.ending f.pass.fragment last
   pub link : told f.link ≡ closed last
   pub pass : StaysSound r j.pass f.pass
+
+-- Each of these jobs was done. Their numbers, which the gate is told, go up from the first one's.
+abbrev pub AreFinished : {L : Type 0} → (L → Told) → (ℕ → ℕ → Bool → Type 0) → ℕ → RouterView → ℕ → List (Job L) → List (Finished L) → Type 0
+AreFinished told may turns r number [] [] = Unit {0}
+AreFinished told may turns r number (j ∷ jobs) (f ∷ finished) =
+    IsFinished told (may number) turns r j f × AreFinished told may turns r (number + 1) jobs finished
+AreFinished told may turns r number [] (f ∷ finished) = ⊥
+AreFinished told may turns r number (j ∷ jobs) [] = ⊥

@@ -1,5 +1,5 @@
 -- What a link tells of itself. (This project's own choice.)
-use Rattle.std.specs.Prelude.{◌≡◌, ℕ, ◌+◌, ◌<◌, Bool, true, Option, Some, None, List, [], ◌∷◌, ◌++◌}
+use Rattle.std.specs.Prelude.{◌≡◌, ℕ, ◌+◌, ◌-◌, ◌^◌, ◌<◌, Bool, true, Option, Some, None, List, [], ◌∷◌, ◌++◌}
 use Rattle.std.specs.Option.{option_or}
 use Rattle.netchange_core.specs.declared.message.Message.{Message}
 
@@ -40,10 +40,10 @@ abbrev pub ended_now : Option Bool → Option Bool
 ended_now None = None
 ended_now (Some b) = Some true
 
--- a count that is told rose; it may be told no more once it cannot rise
+-- a count that is told rose; it is told no more once it cannot rise, which is at the largest number of 64 bits
 abbrev pub Rose : Option ℕ → Option ℕ → Type 0
 Rose None now = now ≡ None
-Rose (Some before) None = Unit {0}
+Rose (Some before) None = before ≡ 2 ^ 64 - 2
 Rose (Some before) (Some now) = before < now
 
 -- the link that is closed

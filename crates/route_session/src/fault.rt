@@ -38,12 +38,20 @@ impl RunFault {
 }
 
 impl From<AllocError> for RunFault {
+    ghost use Rattle.route_session.specs.declared.fault.RunFault.TheVariants.{Memory};
+
+    ghost from_gives = { λ _ fault. fault ≡ Memory };
+
     fn from(_: AllocError) -> RunFault {
         RunFault::Memory
     }
 }
 
 impl<T: Drop> From<AllocFailed<T>> for RunFault {
+    ghost use Rattle.route_session.specs.declared.fault.RunFault.TheVariants.{Memory};
+
+    ghost from_gives = { λ _ fault. fault ≡ Memory };
+
     fn from(_: AllocFailed<T>) -> RunFault {
         RunFault::Memory
     }

@@ -1,10 +1,9 @@
 //! Many sessions at the same time.
 
 ghost use Rattle.std.specs.Prelude.{◌≡◌, ◌+◌, ◌<◌, ◌≤◌, ◌^◌, IfOk, vec_len};
-ghost use Rattle.std.specs.List.{AllZip};
 ghost use Rattle.std.specs.Thread.{IsSync};
 ghost use denote.Param.Send.{IsSend};
-ghost use Rattle.route_session.specs.Jobs.{AreBack, AreFor, IsFinished};
+ghost use Rattle.route_session.specs.Jobs.{AreBack, AreFinished, AreFor};
 
 use crate::fault::RunFault;
 use crate::gate::Gate;
@@ -34,7 +33,7 @@ pub fn run_sessions<R: Threads + Wait + Clock + Sync, L: Link + Send + Drop, G: 
 ) -> Result<Vec<Finished<L>>, RunFault>
     requires few { vec_len jobs ≤ 65536 }
     requires passes { AreFor router.now jobs.items }
-    ensures finished { IfOk result (λ v. AllZip (IsFinished L.told router.now) jobs.items v.items) }
+    ensures finished { IfOk result (λ v. AreFinished L.told (G.may_answer gate.now) turns router.now 0 jobs.items v.items) }
     ensures passes { IfOk result (λ v. AreBack router.now v.items) }
 {
     run_from(rt, alloc, router, jobs, gate, 0, turns)
@@ -53,7 +52,7 @@ fn run_from<R: Threads + Wait + Clock + Sync, L: Link + Send + Drop, G: Gate + S
 ) -> Result<Vec<Finished<L>>, RunFault>
     requires few { first + vec_len jobs < 2 ^ 32 }
     requires passes { AreFor router.now jobs.items }
-    ensures { IfOk result (λ v. AllZip (IsFinished L.told router.now) jobs.items v.items) }
+    ensures { IfOk result (λ v. AreFinished L.told (G.may_answer gate.now) turns router.now first jobs.items v.items) }
 {
     let count = jobs.len();
     if count < 2 {
@@ -65,6 +64,9 @@ fn run_from<R: Threads + Wait + Clock + Sync, L: Link + Send + Drop, G: Gate + S
     let promise = Done {
         jobs: Snapshot::of(&high),
         router: Snapshot::of(router),
+        gate: Snapshot::of(gate),
+        first: next,
+        turns,
     };
     let done = thread::scope(
         thread::scope_env(),
@@ -73,14 +75,15 @@ fn run_from<R: Threads + Wait + Clock + Sync, L: Link + Send + Drop, G: Gate + S
             requires sync { IsSync R.row × IsSync G.row × IsSend L.row }
             requires high { (next + vec_len high < 2 ^ 32) × AreFor router.now high.items }
             requires low { (first + vec_len jobs < 2 ^ 32) × AreFor router.now jobs.items }
-            requires promise { (promise.jobs.value ≡ high) × (promise.router.value ≡ router.now) }
-            ensures { IfOk result (λ v. AllZip (IsFinished L.told router.entry.now) jobs.items v.0.items
-                × AllZip (IsFinished L.told router.entry.now) high.items v.1.items) }
+            requires promise { (promise.jobs.value ≡ high) × (promise.router.value ≡ router.now) × (promise.gate.value ≡ gate.now)
+                × (promise.first ≡ next) × (promise.turns ≡ turns) }
+            ensures { IfOk result (λ v. AreFinished L.told (G.may_answer gate.entry.now) turns router.entry.now first jobs.items v.0.items
+                × AreFinished L.told (G.may_answer gate.entry.now) turns router.entry.now next high.items v.1.items) }
         {
             let back = move || -> Result<Vec<Finished<L>>, RunFault>
                 requires sync { IsSync R.row × IsSync G.row × IsSend L.row }
                 requires high { (next + vec_len high < 2 ^ 32) × AreFor router.now high.items }
-                ensures { IfOk result (λ v. AllZip (IsFinished L.told router.entry.now) high.items v.items) }
+                ensures { IfOk result (λ v. AreFinished L.told (G.may_answer gate.entry.now) turns router.entry.now next high.items v.items) }
             { run_from(rt, alloc, router, high, gate, next, turns) };
             let Ok(child) = scope.spawn_with(promise, back) else {
                 return Err(RunFault::NotStarted);
@@ -107,7 +110,7 @@ fn run_one<R: Wait + Clock, L: Link + Drop, G: Gate>(
 ) -> Result<Vec<Finished<L>>, RunFault>
     requires one { vec_len jobs < 2 }
     requires passes { AreFor router.now jobs.items }
-    ensures { IfOk result (λ v. AllZip (IsFinished L.told router.now) jobs.items v.items) }
+    ensures { IfOk result (λ v. AreFinished L.told (G.may_answer gate.now) turns router.now number jobs.items v.items) }
 {
     let mut finished = Vec::with_capacity(alloc, jobs.len())?;
     if let Some(job) = jobs.pop() {
