@@ -1,3 +1,4 @@
 -- What callers cite.
 pub mod Network
+pub mod Replays
 pub mod Ring

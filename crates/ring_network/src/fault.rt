@@ -81,12 +81,22 @@ impl From<RunFault> for NetworkFault {
 }
 
 impl From<AllocError> for NetworkFault {
+    ghost use Rattle.line_protocol.specs.declared.faults.StreamFault.TheVariants as stream;
+    ghost use Rattle.ring_network.specs.declared.fault.NetworkFault.TheVariants.{Stream};
+
+    ghost from_gives = { λ _ fault. fault ≡ Stream stream.Memory };
+
     fn from(_: AllocError) -> NetworkFault {
         NetworkFault::MEMORY
     }
 }
 
 impl<T: Drop> From<AllocFailed<T>> for NetworkFault {
+    ghost use Rattle.line_protocol.specs.declared.faults.StreamFault.TheVariants as stream;
+    ghost use Rattle.ring_network.specs.declared.fault.NetworkFault.TheVariants.{Stream};
+
+    ghost from_gives = { λ _ fault. fault ≡ Stream stream.Memory };
+
     fn from(_: AllocFailed<T>) -> NetworkFault {
         NetworkFault::MEMORY
     }

@@ -8,5 +8,6 @@ mod replays;
 mod ring;
 
 pub use fault::NetworkFault;
-pub use net::net_lines;
+pub use net::{net_lines, run_and_replay};
+pub use replays::{Replayed, replay_ring};
 pub use ring::{Ring, run_ring};

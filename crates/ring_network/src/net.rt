@@ -1,11 +1,12 @@
 //! The command `net`.
 
-ghost use Rattle.std.specs.Prelude.{IfErr, OnOk};
+ghost use Rattle.std.specs.Prelude.{IfErr, IfOk, OnOk};
 ghost use Rattle.std.specs.Io.KnownBytes.{Appends};
 ghost use Rattle.ring_network.specs.Network.{LeavesOff, replayed_lines};
+ghost use Rattle.ring_network.specs.Replays.{IsReplayed, IsRing};
 
 use crate::fault::NetworkFault;
-use crate::replays::replay_ring;
+use crate::replays::{Replayed, replay_ring};
 use crate::ring::run_ring;
 use line_protocol::write_text;
 use std::alloc::Global;
@@ -27,7 +28,7 @@ pub fn net_lines<R: Threads + Wait + Clock + Sync, W: Write>(
     ensures ok { OnOk result (Appends (W.contents writer.old) (W.contents writer.new) replayed_lines) }
     ensures err { IfErr result (λ fault. LeavesOff fault (W.contents writer.old) (W.contents writer.new)) }
 {
-    run_and_replay(rt, alloc)?;
+    let _replayed = run_and_replay(rt, alloc)?;
     match write_text(writer, LINES.as_bytes()) {
         Ok(()) => Ok(()),
         Err(fault) => Err(NetworkFault::Stream(fault)),
@@ -35,11 +36,16 @@ pub fn net_lines<R: Threads + Wait + Clock + Sync, W: Write>(
 }
 
 /// Runs the ring, and replays its journals.
-fn run_and_replay<R: Threads + Wait + Clock + Sync>(
+pub fn run_and_replay<R: Threads + Wait + Clock + Sync>(
     rt: &R,
     alloc: Global,
-) -> Result<(), NetworkFault> {
-    // The ring is let go of once, whatever its replay comes to: each further path on which it is would have to be proved.
+) -> Result<Replayed, NetworkFault>
+    ensures ring { IfOk result (λ r. IsRing r.ring) }
+    ensures replayed { IfOk result IsReplayed }
+{
     let ring = run_ring(rt, alloc)?;
-    replay_ring(alloc, &ring)
+    match replay_ring(alloc, ring) {
+        Ok(replayed) => Ok(replayed),
+        Err(error) => Err(NetworkFault::from(error)),
+    }
 }

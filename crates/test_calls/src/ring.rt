@@ -4,7 +4,7 @@ use crate::asserts::{RouterHost, done, must, some};
 use crate::histories::said;
 use line_protocol::StreamFault;
 use netchange_core::{Event, Message, Reply, ReplyRef, Via};
-use ring_network::{NetworkFault, net_lines, run_ring};
+use ring_network::{NetworkFault, net_lines, run_and_replay};
 use route_history::{Journal, replay};
 use std::io;
 use std::rt::Clock;
@@ -59,7 +59,8 @@ fn must_hear<R: RouterHost>(
 /// Each node brought two neighbours up and no more, is at distance 1 of each, and heard from each what that one sent.
 #[test]
 fn each_node_hears_its_neighbours(rt: HostRuntime) {
-    let ring = done(&rt, run_ring(&rt, rt.alloc()));
+    let replayed = done(&rt, run_and_replay(&rt, rt.alloc()));
+    let ring = &replayed.ring;
     let nodes = [(0, &ring.zero), (1, &ring.one), (2, &ring.two)];
     for at in 0..3usize {
         let (next, last) = (nodes[(at + 1) % 3], nodes[(at + 2) % 3]);
