@@ -26,6 +26,8 @@ mod gates;
 #[cfg(test)]
 mod histories;
 #[cfg(test)]
+mod largest;
+#[cfg(test)]
 mod line_tests;
 #[cfg(test)]
 mod lock;

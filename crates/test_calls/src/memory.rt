@@ -7,7 +7,7 @@ use crate::asserts::{RouterHost, must};
 use crate::callers::Way;
 use crate::memory_code::{CodeSource, built, read, sourced, verified, verified_source, written};
 use crate::memory_filters::{compiled, judged, judged_plainly, mapped, parsed};
-use crate::memory_lines::{answered, run};
+use crate::memory_lines::{answered, run, saved};
 use crate::memory_routers::{called, started};
 use crate::memory_tables::{Change, applied, entered, kept, opened, replayed};
 
@@ -35,12 +35,13 @@ enum Call {
     Replay,
     Answer,
     Run,
+    Save,
     OpenRouter,
     CallRouter(Way),
 }
 
 /// Each call, its name, and how it tells that memory was refused. Those that need none tell nothing.
-const CALLS: [(Call, &str, &str); 29] = [
+const CALLS: [(Call, &str, &str); 30] = [
     (Call::Build(2), "build", "S2"),
     (Call::Build(20), "build", "S2"),
     (Call::Read, "read_code", "C7"),
@@ -75,6 +76,7 @@ const CALLS: [(Call, &str, &str); 29] = [
     (Call::Replay, "replay", "Memory"),
     (Call::Answer, "answer_lines", "E3"),
     (Call::Run, "run_script", "E3"),
+    (Call::Save, "run_saved_script", "E3"),
     (Call::OpenRouter, "Router::open", "L3"),
     (Call::CallRouter(Way::Try), "try_call", "J2"),
     (Call::CallRouter(Way::Call), "call", "J2"),
@@ -101,6 +103,7 @@ fn made<R: RouterHost>(rt: &R, call: Call) -> Answered {
         Call::Replay => replayed(rt),
         Call::Answer => answered(rt.alloc()),
         Call::Run => run(rt.alloc()),
+        Call::Save => saved(rt.alloc()),
         Call::OpenRouter => started(rt),
         Call::CallRouter(way) => called(rt, way),
     }

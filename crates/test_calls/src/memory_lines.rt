@@ -4,7 +4,9 @@ use crate::line_tests::Echo;
 use crate::memory::Answered;
 use crate::streams::{Pieces, Sink};
 use line_protocol::{StreamFault, answer_lines};
+use operator_cmds::Nobody;
 use router_script::run_script;
+use script_runs::{SavingFault, run_saved_script};
 use std::alloc::Global;
 
 /// What was answered, and whether that is as it is with ample memory. Where memory was refused the answers are some of the first lines of those, each
@@ -49,5 +51,20 @@ pub fn run(alloc: Global) -> Answered {
     let mut reader = Pieces::new(SCRIPT, 5, None);
     let mut out = Sink::new(100, 1000, None);
     let ended = run_script(alloc, &mut reader, &mut out);
+    outcome(ended, 0, out.text(), REPLIES)
+}
+
+/// Runs the commands, and saves their history where nothing fails: what is refused memory is not taken for a saver that failed.
+pub fn saved(alloc: Global) -> Answered {
+    let mut reader = Pieces::new(SCRIPT, 5, None);
+    let mut out = Sink::new(100, 1000, None);
+    let saver = Sink::new(100, 1000, None);
+    let (ended, _saver, _) =
+        run_saved_script(alloc, &mut reader, &mut out, saver, Nobody, &[], false);
+    let ended = match ended {
+        Ok(refused) => Ok(refused),
+        Err(SavingFault::Stream(fault)) => Err(fault),
+        Err(SavingFault::Saver) => return Ok(false),
+    };
     outcome(ended, 0, out.text(), REPLIES)
 }

@@ -288,7 +288,7 @@ fn lines_and_scripts(rt: HostRuntime) {
     let wanted = b"code 4e43463200000000027071\nverified 1 0\n";
     must(
         &rt,
-        matches!(refused, Ok(0)) && out.len() == wanted.len(),
+        matches!(refused, Ok(0)) && out.as_slice() == wanted.as_slice(),
         "a filter that is checked",
     );
     let mut out = Vec::new(rt.alloc());
