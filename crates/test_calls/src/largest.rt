@@ -35,7 +35,7 @@ fn event_of<R: RouterHost>(rt: &R, step: u16, node: u16, session: u32) -> Event 
 /// Enters the events of a node, up in a session: all of them, each by a try or by a call, and none is refused.
 fn enter_each<R: RouterHost>(rt: &R, caller: &mut Caller<'_>, node: u16, session: u32) {
     for step in 0..STEPS {
-        let way = if (u32::from(step) + session) % 2 == 0 {
+        let way = if u32::from(step % 2) == session % 2 {
             Way::Try
         } else {
             Way::Call
@@ -60,7 +60,11 @@ fn routers_take_large_numbers(rt: HostRuntime) {
     }
     drop(caller);
     let journal = close(&rt, router, pass);
-    must(&rt, journal.entries().len() == 3_992, "each event is entered");
+    must(
+        &rt,
+        journal.entries().len() == 3_992,
+        "each event is entered",
+    );
     must_replay(&rt, &journal);
 }
 
@@ -76,6 +80,10 @@ fn long_histories_replay(rt: HostRuntime) {
     }
     drop(caller);
     let journal = close(&rt, router, pass);
-    must(&rt, journal.entries().len() == 110_001, "each event is entered");
+    must(
+        &rt,
+        journal.entries().len() == 110_001,
+        "each event is entered",
+    );
     must_replay(&rt, &journal);
 }

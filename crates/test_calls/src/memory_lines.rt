@@ -59,8 +59,15 @@ pub fn saved(alloc: Global) -> Answered {
     let mut reader = Pieces::new(SCRIPT, 5, None);
     let mut out = Sink::new(100, 1000, None);
     let saver = Sink::new(100, 1000, None);
-    let (ended, _saver, _) =
-        run_saved_script(alloc, &mut reader, &mut out, saver, Nobody, &[], false);
+    let (ended, _saver, _) = run_saved_script(
+        alloc,
+        &mut reader,
+        &mut out,
+        saver,
+        Nobody,
+        &[],
+        false,
+    );
     let ended = match ended {
         Ok(refused) => Ok(refused),
         Err(SavingFault::Stream(fault)) => Err(fault),
