@@ -1,6 +1,6 @@
 -- What parts and tests say of codes they say of the filters that the codes are of.
 use Rattle.std.proofs.Common.{◌≡◌, ◌⊎◌, inl, inr, ℕ, Bool, true, false, List, [], ◌∷◌, All, refl, sym, ◌∙◌, ap, subst, if◌then◌else◌}
-use Rattle.std.specs.Prelude.{◌≢◌}
+use Rattle.std.specs.Prelude.{◌≢◌, Option}
 use Rattle.std.specs.List.{list_any}
 use Rattle.std.proofs.lemmas.List.Elements.{All-weaker}
 use Rattle.std.proofs.lemmas.List.Folds.{Any-from_list_any}
@@ -17,9 +17,13 @@ use Rattle.filter_diff.specs.Parts.{Has, HasRoute, Holds, InOne, IsIn, IsReal, I
 use Rattle.filter_diff.specs.declared.answer.Answer.{Answer}
 use Rattle.filter_diff.specs.declared.route_part.Finding.{Finding}
 use Rattle.filter_diff.specs.declared.route_part.RoutePart.{RoutePart}
-use Rattle.filter_parser.specs.SyntaxText.{FilterView}
+use Rattle.filter_parser.specs.SyntaxText.{FilterView, IsText}
 use Rattle.filter_verifier.specs.Safe.{IsRouteOf}
-use Rattle.filter_checks.specs.Comparing.{AreParts}
+use Rattle.filter_checks.specs.Comparing.{AreParts, ComparesNamed, compared_as}
+use Rattle.filter_checks.specs.declared.comparing.Compared.TheVariants as compared
+use Rattle.filter_reports.proofs.Saying.{says_the_same}
+use Rattle.filter_reports.specs.Naming.{Named}
+use Rattle.filter_reports.specs.VerifiedFilters.{IsFilterOf}
 use Rattle.filter_checks.specs.Filters.{ArePartsOf, HoldsOf}
 use Rattle.filter_diff.specs.Expectations.{IsCovered, IsMet, IsShown, route_of}
 use Rattle.filter_diff.specs.declared.checking.Counterexample.{Counterexample}
@@ -142,3 +146,46 @@ shown_otherwise f program size expected shown says is expected_said =
     is.otherwise
     (one_outcome (meaning f (route_of size shown)) shown.outcome (outcome_at (route_of size shown) expected.ending)
     (shown_verdict f program size expected shown says is) expected_said)
+
+-- what the comparison of two texts comes to
+compared_same : (found : Answer) → compared.Same ≡ compared_as found → found ≡ answer.Same
+compared_same answer.Same e = refl
+compared_same answer.Differ e = let no : ⊥ = cc in absurd no
+compared_same answer.Undecided e = let no : ⊥ = cc in absurd no
+
+compared_differ : (found : Answer) → compared.Differ ≡ compared_as found → found ≡ answer.Differ
+compared_differ answer.Same e = let no : ⊥ = cc in absurd no
+compared_differ answer.Differ e = refl
+compared_differ answer.Undecided e = let no : ⊥ = cc in absurd no
+
+-- the code of a text says what its filter says
+of_text : (text : List ℕ) (size : ℕ) (f : FilterView) (is_f : IsFilterOf text size f) → SaysTheSame f is_f.program size
+of_text text size f is_f = says_the_same f is_f.program size is_f.translates.means is_f.safe
+
+module _ (size : ℕ) (is_explained : Bool) (old new : Named) (held holds tells told : Option (List ℕ)) where
+  parts_of : (f g : FilterView) (is_f : IsFilterOf old.text size f) (is_g : IsFilterOf new.text size g) (parts : List RoutePart)
+      → AreParts is_f.program is_g.program size parts → ArePartsOf f g size parts
+  parts_of f g is_f is_g parts are =
+      of_filters f g is_f.program is_g.program size parts (of_text old.text size f is_f) (of_text new.text size g is_g) are
+
+  pub filters_same : ComparesNamed size is_explained old new held holds tells told compared.Same
+      → (f : FilterView) × (g : FilterView) × IsText old.text f × IsText new.text g
+      × ((route : RouteView) → IsRouteOf size route → meaning f route ≡ meaning g route)
+  filters_same (inl refused) = let is = refused.0 in let no : ⊥ = cc in absurd no
+  filters_same (inr (keeps, f, is_f, g, is_g, writes)) = (
+    f,
+    g,
+    is_f.translates.spelled,
+    is_g.translates.spelled,
+    all_same f g size writes.parts (parts_of f g is_f is_g writes.parts writes.are_parts)
+        (compared_same (answer_of writes.parts) writes.comes_to),
+  )
+
+  pub filters_differ : ComparesNamed size is_explained old new held holds tells told compared.Differ
+      → (f : FilterView) × (g : FilterView) × IsText old.text f × IsText new.text g
+      × (route : RouteView) × IsRouteOf size route × (meaning f route ≢ meaning g route)
+  filters_differ (inl refused) = let is = refused.0 in let no : ⊥ = cc in absurd no
+  filters_differ (inr (keeps, f, is_f, g, is_g, writes)) =
+      let one = one_differs f g size writes.parts (parts_of f g is_f is_g writes.parts writes.are_parts)
+      (compared_differ (answer_of writes.parts) writes.comes_to) in
+      (f, g, is_f.translates.spelled, is_g.translates.spelled, one.0, one.1, one.2)

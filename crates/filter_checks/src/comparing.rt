@@ -53,8 +53,8 @@ fn find_parts(
     requires { size ≤ largest_size }
     ensures { IfOk result (λ parts. spec.AreParts old.now new.now size parts.items) }
 {
-    let found = compare(alloc, old, new, size, limit)?;
-    join_all(alloc, found.parts)
+    let parts = compare(alloc, old, new, size, limit)?;
+    join_all(alloc, parts)
 }
 
 /// What the comparison comes to, by what its parts come to.

@@ -5,7 +5,7 @@ pub returns : goal.returns
 returns c =
     all_joined c.args.old.now c.args.new.now c.args.size _ c.join_all.result c.join_all.ensures
     (record {
-      complete = c.in_ok-found.ensures.complete;
-      sound = c.in_ok-found.ensures.sound;
-      real = c.in_ok-found.ensures.real;
+      complete = c.in_ok-parts.ensures.complete;
+      sound = c.in_ok-parts.ensures.sound;
+      real = c.in_ok-parts.ensures.real;
     })

@@ -17,7 +17,7 @@ returns-clause-found c =
     let source = c.args.source.now in record {
       reach = c.in_ok-reached.reached;
       is_reach = same_reach c.code.result.now source.program c.size.result source.size c.as_slice.result.now (watched_places source)
-          c.in_ok-reached.reached c.code.ensures c.size.ensures (c.as_slice.ensures.value ∙ c.in_ok-watched.ensures) c.in_ok-reached.ensures;
+          c.in_ok-reached.reached c.code.ensures c.size.ensures (c.as_slice.ensures.value ∙ c.in_ok-watched.ensures) c.in_ok-reached.ensures.found;
       found_is = c.in_ok-found.ensures;
       complete_is = refl;
     }
@@ -27,5 +27,5 @@ returns-clause-sound c =
     let source = c.args.source.now in
     said_is_so source c.as_slice.result.now c.in_ok-reached.reached
     (same_reach c.code.result.now source.program c.size.result source.size c.as_slice.result.now c.as_slice.result.now
-    c.in_ok-reached.reached c.code.ensures c.size.ensures refl c.in_ok-reached.ensures)
+    c.in_ok-reached.reached c.code.ensures c.size.ensures refl c.in_ok-reached.ensures.found)
     c.in_ok-found.found.items c.in_ok-found.ensures
