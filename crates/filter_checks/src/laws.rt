@@ -1,25 +1,28 @@
 //! Laws on comparisons and tests, each the contract of a function with an empty body.
-ghost use Rattle.std.specs.Prelude.{◌≡◌, ◌≢◌, ℕ, List};
+ghost use Rattle.std.specs.Prelude.{◌≡◌, ◌≢◌, ℕ, Bool, List, Option};
 ghost use Rattle.filter_code.specs.CodeView.{CodeView};
 ghost use Rattle.filter_code.specs.RouteView.{RouteView};
 ghost use Rattle.filter_reports.specs.Saying.{Says, SaysTheSame};
 ghost use Rattle.filter_compiler.specs.Verdicts.{meaning};
 ghost use Rattle.filter_diff.specs.Answers.{answer_of};
 ghost use Rattle.filter_diff.specs.Endings.{outcome_at};
+ghost use Rattle.filter_diff.specs.Parts.{IsEnough};
 ghost use Rattle.filter_diff.specs.Expectations.{IsCovered, IsMet, IsShown, route_of};
 ghost use Rattle.filter_diff.specs.declared.answer.Answer.TheVariants as answer;
 ghost use Rattle.filter_diff.specs.declared.checking.Counterexample.{Counterexample as TheCounterexample};
 ghost use Rattle.filter_diff.specs.declared.expectation.Expectation.{Expectation as TheExpectation};
 ghost use Rattle.filter_diff.specs.declared.route_part.RoutePart.{RoutePart as RoutePartView};
-ghost use Rattle.filter_parser.specs.SyntaxText.{FilterView};
+ghost use Rattle.filter_parser.specs.SyntaxText.{FilterView, IsText};
+ghost use Rattle.filter_reports.specs.Naming.{Named};
 ghost use Rattle.filter_verifier.specs.Safe.{IsRouteOf};
-ghost use Rattle.filter_checks.specs.Comparing.{AreParts};
+ghost use Rattle.filter_checks.specs.Comparing.{AreParts, ComparesNamed};
+ghost use Rattle.filter_checks.specs.declared.comparing.Compared.TheVariants as compared;
 ghost use Rattle.filter_checks.specs.Filters.{ArePartsOf};
 
 /// What parts say of two codes they say of two filters, where the codes say of each route what the filters say, as verified code does.
 pub fn parts_are_of_filters()
-    ensures { (f g : FilterView) (p q : CodeView) (size : ℕ) (parts : List RoutePartView) → SaysTheSame f p size → SaysTheSame g q size
-        → AreParts p q size parts → ArePartsOf f g size parts }
+    ensures { (f g : FilterView) (p q : CodeView) (size limit : ℕ) (parts : List RoutePartView) → SaysTheSame f p size → SaysTheSame g q size
+        → AreParts p q size limit parts → ArePartsOf f g size parts }
 {}
 
 /// Two filters say the same of every route in a domain of the size if the comparison comes to `Same`, and not of every one if it comes
@@ -49,4 +52,19 @@ pub fn shown_routes_are_of_filters()
     ensures otherwise { (f : FilterView) (program : CodeView) (size : ℕ) (expected : TheExpectation) (shown : TheCounterexample)
         → SaysTheSame f program size → IsShown program size expected shown
         → Says (meaning f (route_of size shown)) (outcome_at (route_of size shown) expected.ending) → ⊥ }
+{}
+
+/// Two texts of which `compare_named` answers `Same` spell filters of one meaning: the two say the same of every route in a domain of the
+/// size. Where it answers `Differ` they do not say the same of every route.
+pub fn compared_filters_mean_the_same()
+    ensures same { (size limit : ℕ) (is_explained : Bool) (old new : Named) (held holds tells told : Option (List ℕ))
+        → ComparesNamed size limit is_explained old new held holds tells told compared.Same
+        → (f : FilterView) × (g : FilterView) × IsText old.text f × IsText new.text g
+        × ((route : RouteView) → IsRouteOf size route → meaning f route ≡ meaning g route) }
+    ensures differ { (size limit : ℕ) (is_explained : Bool) (old new : Named) (held holds tells told : Option (List ℕ))
+        → ComparesNamed size limit is_explained old new held holds tells told compared.Differ
+        → (f : FilterView) × (g : FilterView) × IsText old.text f × IsText new.text g
+        × (route : RouteView) × IsRouteOf size route × (meaning f route ≢ meaning g route) }
+    ensures decided { (size limit : ℕ) (is_explained : Bool) (old new : Named) (held holds tells told : Option (List ℕ)) → IsEnough size limit
+        → ComparesNamed size limit is_explained old new held holds tells told compared.Undecided → ⊥ }
 {}

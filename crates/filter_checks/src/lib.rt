@@ -16,8 +16,8 @@ mod testing;
 pub use comparing::{Compared, compare_named};
 pub use faults::fault_text;
 pub use laws::{
-    comparison_is_of_filters, held_tests_are_of_filters, parts_are_of_filters,
-    shown_routes_are_of_filters,
+    compared_filters_mean_the_same, comparison_is_of_filters, held_tests_are_of_filters,
+    parts_are_of_filters, shown_routes_are_of_filters,
 };
 pub use part_lines::{parts_text, push_outcome};
 pub use place::path_beside;

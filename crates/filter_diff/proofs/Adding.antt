@@ -1,11 +1,11 @@
 -- Parts that stand for others, as they are joined one after another.
 use Rattle.std.proofs.Common.{◌≡◌, ◌⊎◌, inl, inr, ℕ, zero, suc, ◌<◌, List, [], ◌∷◌, ◌++◌, All, length, get_or, refl, sym, subst, arith}
-use Rattle.std.specs.Prelude.{Some, slice_set}
+use Rattle.std.specs.Prelude.{Some, false, slice_set}
 use Rattle.std.proofs.lemmas.List.Elements.{All-get_or, All-pop, All-push, All-set}
 use Rattle.filter_code.specs.CodeView.{CodeView}
 use Rattle.filter_code.specs.RouteView.{RouteView}
 use Rattle.filter_diff.specs.Joins.{Joins, StandFor}
-use Rattle.filter_diff.specs.Parts.{Has, Holds, InOne, IsIn, IsReal, IsTrueOf}
+use Rattle.filter_diff.specs.Parts.{Has, Holds, InOne, IsDecided, IsIn, IsReal, IsTrueOf, is_undecided}
 use Rattle.filter_diff.specs.declared.route_part.Finding.{Finding}
 use Rattle.filter_diff.specs.declared.route_part.RoutePart.{RoutePart}
 use Rattle.filter_diff.proofs.Dealt.{in_kept, in_new}
@@ -74,6 +74,10 @@ add_joined parts others after at other part whole there h j set stand = record {
       let so_far : All (IsReal size) parts = stand.real size split.0 in
       let other_real : IsReal size other = subst (IsReal size) (sym there) (All-get_or (IsReal size) parts at other h so_far) in
       subst (All (IsReal size)) (sym set) (All-set (IsReal size) parts at whole (j.real size other_real split.1) so_far);
+  decided = λ all.
+      let split = All-pop IsDecided (others ++ (part ∷ [])) others (Some part) refl all in
+      let whole_decided : IsDecided whole = subst (λ (f : Finding). is_undecided f ≡ false) j.second_found split.1 in
+      subst (All IsDecided) (sym set) (All-set IsDecided parts at whole whole_decided (stand.decided split.0));
 }
 
 -- a part that joins none of them
@@ -89,6 +93,9 @@ add_pushed parts others after part pushed stand = record {
   real = λ size all.
       let split = All-pop (IsReal size) (others ++ (part ∷ [])) others (Some part) refl all in
       subst (All (IsReal size)) (sym pushed) (All-push (IsReal size) parts part (stand.real size split.0) split.1);
+  decided = λ all.
+      let split = All-pop IsDecided (others ++ (part ∷ [])) others (Some part) refl all in
+      subst (All IsDecided) (sym pushed) (All-push IsDecided parts part (stand.decided split.0) split.1);
 }
 
 -- parts that stand for parts that stand for others
@@ -97,7 +104,8 @@ stand_further xs ys zs f g = record {
   routes = λ route h. f.routes route (g.routes route h);
   true_of = λ old new size h. f.true_of old new size (g.true_of old new size h);
   real = λ size h. f.real size (g.real size h);
+  decided = λ h. f.decided (g.decided h);
 }
 
 pub stand_self : (xs : List RoutePart) → StandFor xs xs
-stand_self xs = record { routes = λ route h. h; true_of = λ old new size h. h; real = λ size h. h }
+stand_self xs = record { routes = λ route h. h; true_of = λ old new size h. h; real = λ size h. h; decided = λ h. h }

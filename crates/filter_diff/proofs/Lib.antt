@@ -15,3 +15,5 @@ pub mod Marking
 pub mod Reached
 pub mod Completed
 pub mod Settled
+pub mod Counted
+pub mod Seen

@@ -10,7 +10,7 @@ use Rattle.filter_code.specs.declared.value.Value.TheVariants as value
 use Rattle.filter_code.specs.CodeView.{CodeView}
 use Rattle.filter_code.specs.RouteView.{RouteView}
 use Rattle.filter_code.specs.Machine.{Config}
-use Rattle.filter_diff.specs.Marking.{AreAllMarked, AreTop, Extend, Extends, IsAdded, IsMarked, IsTop, Shows, joined}
+use Rattle.filter_diff.specs.Marking.{AreAllMarked, AreTop, Extend, Extends, IsAdded, IsMarked, IsTop, Shows, ShowsAt, joined}
 use Rattle.filter_diff.specs.Reaching.{AreOnTop, IsOnTop, has_truth}
 use Rattle.filter_diff.specs.Symbols.{config_at, value_at}
 use Rattle.filter_diff.specs.declared.mark.Mark.{Mark}
@@ -189,4 +189,20 @@ marked_here program route i mark pc stack locals metric before after here shows 
       let max : i ≡ instr.Max = cc in
       top_ints route pc stack locals metric false
       (subst (λ (b : Bool). AreTop b stack) (neither added.had.is_raised mark.is_raised e) (shows.raised max));
+}
+
+pub marked_at : (program : CodeView) (i : Instr) (mark : Mark) (c : Config) (before after : List Mark) → slice_get program.instrs c.pc ≡ Some i →
+    ShowsAt i c mark → IsAdded mark c.pc before after → IsMarked program after c
+marked_at program i mark c before after here shows added = record {
+  mark = joined added.had mark;
+  there = subst (λ (marks : List Mark). slice_get marks c.pc ≡ Some (joined added.had mark)) (sym added.set)
+      (set_there before c.pc added.had (joined added.had mark) added.there);
+  reached = or_second added.had.is_reached mark.is_reached shows.reached;
+  condition = λ is truth e.
+      let jump : i ≡ instr.JumpIfNot is.skipped = cc in
+      let shown = shows.condition is.skipped jump in
+      other_truth shown.0 truth (joined added.had mark) c (truth_second shown.0 added.had mark shown.2) e shown.1;
+  raised = λ is watched e.
+      let max : i ≡ instr.Max = cc in
+      subst (λ (b : Bool). AreOnTop b c) (neither added.had.is_raised mark.is_raised e) (shows.raised max);
 }

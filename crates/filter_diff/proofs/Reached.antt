@@ -39,7 +39,7 @@ abbrev pub ComeMarked : CodeView → Class → List Mark → ℕ → List Symbol
 ComeMarked program class marks pc stack locals metric = Always class (λ (route : RouteView).
     (n : ℕ) × ReachesIn program route n (config_at route pc stack locals metric) × AreMarkedBefore program marks route n)
 
-none_before : (program : CodeView) (marks : List Mark) (route : RouteView) → AreMarkedBefore program marks route 0
+pub none_before : (program : CodeView) (marks : List Mark) (route : RouteView) → AreMarkedBefore program marks route 0
 none_before program marks route k h c going = absurd (omega arith)
 
 -- they begin with nothing
@@ -52,7 +52,7 @@ begin_marked program class marks stack locals none e route of =
 same_going : (state : State) (c d : Config) → state ≡ Going c → state ≡ Going d → c ≡ d
 same_going state c d e f = cc
 
-marked_next : (program : CodeView) (marks : List Mark) (route : RouteView) (n : ℕ) (c : Config) → after program route n ≡ Going c →
+pub marked_next : (program : CodeView) (marks : List Mark) (route : RouteView) (n : ℕ) (c : Config) → after program route n ≡ Going c →
     IsMarked program marks c → AreMarkedBefore program marks route n → AreMarkedBefore program marks route (n + 1)
 marked_next program marks route n c at marked so_far =
     below_more (λ k. (d : Config) → after program route k ≡ Going d → IsMarked program marks d) n so_far
@@ -103,7 +103,7 @@ all_by program marks route n end ended so_far k c going true e = so_far k (grind
 all_by program marks route n end ended so_far k c going false e =
     past_end program route n k end c ended going (grind (arith, nat_tests)) (nat_lt n k) refl
 
-all_marked : (program : CodeView) (marks : List Mark) (route : RouteView) (n : ℕ) (end : Outcome) → after program route n ≡ Ended end →
+pub all_marked : (program : CodeView) (marks : List Mark) (route : RouteView) (n : ℕ) (end : Outcome) → after program route n ≡ Ended end →
     AreMarkedBefore program marks route n → AreAllMarked program marks route
 all_marked program marks route n end ended so_far k c going =
     all_by program marks route n end ended so_far k c going (nat_lt k n) refl
@@ -216,7 +216,7 @@ sound_here program size pc i mark had route stack locals metric sound here shows
       (or_either had.is_raised mark.is_raised e);
 }
 
-sound_at : (program : CodeView) (size pc : ℕ) (mark : Mark) (before after : List Mark) (added : IsAdded mark pc before after) →
+pub sound_at : (program : CodeView) (size pc : ℕ) (mark : Mark) (before after : List Mark) (added : IsAdded mark pc before after) →
     AreSound program size before → IsSound program size pc (joined added.had mark) → (place : ℕ) (now : Mark) →
     ((place ≡ pc) × (now ≡ joined added.had mark)) ⊎ (slice_get before place ≡ Some now) → IsSound program size place now
 sound_at program size pc mark before after added sound here place now (inl e) =

@@ -21,7 +21,12 @@ pub record IsCovered (expected : Expectation) (route : RouteView) : Type 0 where
 abbrev pub IsMetAt : CodeView → Expectation → RouteView → Type 0
 IsMetAt program expected route = IsCovered expected route → outcome_of program route ≡ outcome_at route expected.ending
 
--- so do the runs on all routes of the domain of a size
+-- something is expected of a route, and the run on it ends otherwise
+pub record IsMissedAt (program : CodeView) (expected : Expectation) (route : RouteView) : Type 0 where
+  pub covered : IsCovered expected route
+  pub otherwise : outcome_of program route ≢ outcome_at route expected.ending
+
+-- the run ends so on each route of the domain of a size of which something is expected
 abbrev pub IsMet : CodeView → ℕ → Expectation → Type 0
 IsMet program size expected = (route : RouteView) → IsIn size route → IsMetAt program expected route
 

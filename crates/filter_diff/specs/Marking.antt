@@ -1,7 +1,9 @@
 -- Marks of a search under way.
-use Rattle.std.specs.Prelude.{◌≡◌, ℕ, Bool, true, false, not, ◌||◌, nat_lt, Some, List, length, slice_get, slice_set}
+use Rattle.std.specs.Prelude.{◌≡◌, ◌⊎◌, ℕ, Bool, true, false, not, ◌||◌, nat_lt, Option, Some, List, length, slice_get, slice_set}
 use Rattle.filter_code.specs.declared.instruction.Instr.{Instr}
 use Rattle.filter_code.specs.declared.instruction.Instr.TheVariants as instr
+use Rattle.filter_code.specs.declared.value.Value.{Value}
+use Rattle.filter_code.specs.declared.value.Value.TheVariants as value
 use Rattle.filter_code.specs.CodeView.{CodeView}
 use Rattle.filter_code.specs.Machine.{Config, Going, after}
 use Rattle.filter_code.specs.RouteView.{RouteView}
@@ -61,6 +63,33 @@ pub record Shows (i : Instr) (stack : List Symbol) (mark : Mark) : Type 0 where
   pub raised : i ≡ instr.Max → AreTop mark.is_raised stack
   pub really_raised : mark.is_raised ≡ true → (i ≡ instr.Max) × AreTop true stack
 
+-- the same of the configuration in which a run comes to it
+pub record ShowsAt (i : Instr) (c : Config) (mark : Mark) : Type 0 where
+  pub reached : mark.is_reached ≡ true
+  pub condition : (skipped : ℕ) → i ≡ instr.JumpIfNot skipped → (truth : Bool) × IsOnTop truth c × (has_truth truth mark ≡ true)
+  pub real : (truth : Bool) → has_truth truth mark ≡ true → IsJump i × IsOnTop truth c
+  pub raised : i ≡ instr.Max → AreOnTop mark.is_raised c
+  pub really_raised : mark.is_raised ≡ true → (i ≡ instr.Max) × AreOnTop true c
+
+-- a value is no bool, and two are not both ints
+abbrev pub IsNoBool : Option Value → Type 0
+IsNoBool top = (truth : Bool) → top ≡ Some (value.Bool truth) → ⊥
+
+abbrev pub AreNoInts : Option Value → Option Value → Type 0
+AreNoInts top below = (upper lower : ℕ) → top ≡ Some (value.Int upper) → below ≡ Some (value.Int lower) → ⊥
+
+-- two values are ints, and whether the upper one is greater
+pub record AreInts (top below : Option Value) (raised : Bool) : Type 0 where
+  pub upper : ℕ
+  pub lower : ℕ
+  pub top_is : top ≡ Some (value.Int upper)
+  pub below_is : below ≡ Some (value.Int lower)
+  pub raised_is : raised ≡ nat_lt lower upper
+
+-- a JUMPIFNOT has no bool on top, or a MAX no two ints
+abbrev pub IsUnseen : Instr → Option Value → Option Value → Type 0
+IsUnseen i top below = (IsJump i × IsNoBool top) ⊎ ((i ≡ instr.Max) × AreNoInts top below)
+
 -- all is marked that can be of an instruction, or is asked of it
 pub record IsFull (i : Instr) (mark : Mark) : Type 0 where
   pub reached : mark.is_reached ≡ true
@@ -77,6 +106,11 @@ pub record IsAdded (mark : Mark) (place : ℕ) (before after : List Mark) : Type
 abbrev pub IsNoted : Instr → ℕ → List Symbol → List Symbol → List Mark → List Mark → Bool → Type 0
 IsNoted i place stack same before after true = (mark : Mark) × (same ≡ stack) × Shows i stack mark × IsAdded mark place before after
 IsNoted i place stack same before after false = after ≡ before
+
+-- what a run shows of the instruction that it comes to is added to the mark of its place, or it has not the operands of the instruction
+abbrev pub IsSeen : Instr → Config → List Mark → List Mark → Bool → Type 0
+IsSeen i c before after true = (mark : Mark) × ShowsAt i c mark × IsAdded mark c.pc before after
+IsSeen i c before after false = (after ≡ before) × IsUnseen i (slice_get c.frame.stack 0) (slice_get c.frame.stack 1)
 
 -- a mark has what another has, and as much is asked
 pub record Extends (a b : Mark) : Type 0 where

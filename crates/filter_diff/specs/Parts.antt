@@ -1,7 +1,8 @@
 -- What a comparison finds.
-use Rattle.std.specs.Prelude.{◌≡◌, ◌≢◌, ◌⊎◌, ℕ, ◌≤◌, Bool, true, false, List, [], ◌∷◌, length}
+use Rattle.std.specs.Prelude.{◌≡◌, ◌≢◌, ◌⊎◌, ℕ, ◌+◌, ◌*◌, ◌^◌, ◌≤◌, Bool, true, false, List, [], ◌∷◌, length}
 use Rattle.prefix_patterns.specs.Bits.{address_length}
 use Rattle.prefix_patterns.specs.Matching.{LiesWithin, Matches, PrefixPattern}
+use Rattle.filter_code.specs.Limits.{smallest_size}
 use Rattle.filter_code.specs.RouteView.{RouteView}
 use Rattle.filter_code.specs.CodeView.{CodeView}
 use Rattle.filter_code.specs.Machine.{outcome_of}
@@ -71,6 +72,20 @@ is_difference (finding.Differ before after) = true
 abbrev pub is_undecided : Finding → Bool
 is_undecided finding.Undecided = true
 is_undecided (finding.Differ before after) = false
+
+-- it is decided whether the routes of a part differ
+abbrev pub IsDecided : RoutePart → Type 0
+IsDecided part = is_undecided part.finding ≡ false
+
+-- A class of routes has one length of the prefix, begins with some bits, and has one metric or any. There are fewer than 2^34 lengths with
+-- such bits, so in the domains of a size there are at most so many classes.
+abbrev pub class_limit : ℕ → ℕ
+class_limit size = 2 ^ 34 * (size + 2)
+
+-- a limit that leaves out no class of the routes of a size
+pub record IsEnough (size limit : ℕ) : Type 0 where
+  pub smallest : smallest_size ≤ size
+  pub classes : class_limit size ≤ limit
 
 -- a part's finding holds of each of its routes
 abbrev pub IsTrueOf : CodeView → CodeView → ℕ → RoutePart → Type 0

@@ -3,11 +3,20 @@ use Rattle.std.specs.Prelude.{◌≡◌, ℕ, Bool, true, false, not, nat_lt, So
 use Rattle.filter_code.specs.declared.instruction.Instr.TheVariants as instr
 use Rattle.filter_code.specs.declared.value.Value.TheVariants as value
 use Rattle.filter_code.specs.CodeView.{CodeView}
-use Rattle.filter_code.specs.Machine.{Config, Going, after}
+use Rattle.filter_code.specs.Machine.{Config, Ended, Going, after}
+use Rattle.filter_code.specs.declared.outcome.FaultKind.{FaultKind}
+use Rattle.filter_code.specs.declared.outcome.Outcome.TheVariants as outcome
 use Rattle.filter_code.specs.RouteView.{RouteView}
 use Rattle.filter_diff.specs.Parts.{IsIn}
 use Rattle.filter_diff.specs.declared.mark.Mark.{Mark}
 use Rattle.filter_diff.specs.declared.mark.Reach.{Reach}
+
+-- no step of the run on a route is a fault, and none on any route of the domain of a size
+abbrev pub NeverFaultsOn : CodeView → RouteView → Type 0
+NeverFaultsOn program route = (n : ℕ) (why : FaultKind) (at : ℕ) → after program route n ≡ Ended (outcome.Fault why at) → ⊥
+
+abbrev pub NeverFaults : CodeView → ℕ → Type 0
+NeverFaults program size = (route : RouteView) → IsIn size route → NeverFaultsOn program route
 
 -- the run on a route of the domain of a size comes to a place, with this configuration
 pub record Comes (program : CodeView) (size place : ℕ) (c : Config) : Type 0 where

@@ -1,21 +1,22 @@
 //! The search for a route on which a code does not end as is expected.
-ghost use Rattle.std.specs.Prelude.{◌≡◌, ◌≢◌, ◌+◌, ◌≤◌, ◌⊎◌, All, IfOk, IfSome, IsTrue, None, OnOk, Some, length, true, vec_len};
+ghost use Rattle.std.specs.Prelude.{◌≡◌, ◌≢◌, ◌&&◌, ◌+◌, ◌≤◌, ◌⊎◌, All, IfOk, IfSome, IsTrue, None, OnOk, Some, false, length, nat_le, true, vec_len};
 ghost use Rattle.prefix_patterns.specs.Matching.{matches};
-ghost use Rattle.filter_code.specs.Limits.{largest_size};
+ghost use Rattle.filter_code.specs.Limits.{largest_size, smallest_size};
 ghost use Rattle.filter_code.specs.RouteView.{RouteView};
 ghost use Rattle.filter_diff.specs.Classes.{Always, IsKnown, IsOf, IsOfSize};
 ghost use Rattle.filter_diff.specs.Endings.{outcome_at};
-ghost use Rattle.filter_diff.specs.Expectations.{IsFoundOf, IsMetAt, IsShown};
-ghost use Rattle.filter_diff.specs.Meeting.{EndsAs, SaysMet};
-ghost use Rattle.filter_diff.specs.Parts.{IsIn};
-ghost use Rattle.filter_diff.specs.Searches.{IsLeft};
+ghost use Rattle.filter_diff.specs.Expectations.{IsFoundOf, IsMetAt, IsMissedAt, IsShown};
+ghost use Rattle.filter_diff.specs.Meeting.{EndsAs, SaysMet, Throughout};
+ghost use Rattle.filter_diff.specs.Parts.{IsEnough, IsIn};
+ghost use Rattle.filter_diff.specs.Searches.{IsLeft, IsWhole, is_asking, most_tried, most_tried_of};
+ghost use Rattle.filter_diff.specs.declared.checking.Checked.TheVariants as checked;
 
 use crate::class::Class;
 use crate::comparison::all_classes;
 use crate::ending::Ending;
 use crate::expectation::{Expectation, outcome_of};
 use crate::found::Found;
-use crate::search::{endings, outcomes, push_bits, push_metrics};
+use crate::search::{endings, outcomes, split};
 use crate::trials::trial;
 use crate::turn::Turn;
 use filter_code::{Code, Outcome, Route, run_checked};
@@ -46,7 +47,8 @@ pub enum Checked {
 
 /// Whether the prefixes of a class match a pattern, if they all do or none does.
 fn matched(class: &Class, pattern: &Pattern) -> Option<bool>
-    ensures { IfSome result (λ r. Always class.now (λ route. matches route.net pattern.now ≡ r)) }
+    ensures matched { IfSome result (λ r. Always class.now (λ route. matches route.net pattern.now ≡ r)) }
+    ensures decided { length class.now.known ≡ class.now.len → result ≢ None }
 {
     if class.known.len() == class.len {
         return Some(pattern.matches(&class.known));
@@ -58,7 +60,8 @@ fn matched(class: &Class, pattern: &Pattern) -> Option<bool>
 fn ends_on_route(code: &Code, class: &Class, metric: u32, ending: Ending) -> Found
     requires known { class.now.metric ≡ Some metric }
     requires whole { length class.now.known ≡ class.now.len }
-    ensures { EndsAs code.now class.now ending result }
+    ensures said { EndsAs code.now class.now ending result }
+    ensures decided { smallest_size ≤ class.now.size → class.now.size ≤ largest_size → metric ≤ class.now.size → is_asking result ≡ false }
 {
     match Route::new(class.known, metric, class.size) {
         Some(route) => outcomes(run_checked(code, &route), outcome_of(ending, metric)),
@@ -89,7 +92,10 @@ fn ends_on_class(code: &Code, class: &Class, ending: Ending) -> Found
 
 /// What is found of a class, whether all is known of its routes or not.
 fn ends(code: &Code, class: &Class, ending: Ending) -> Found
-    ensures { EndsAs code.now class.now ending result }
+    requires small { class.now.size ≤ 250 }
+    requires real { IsOfSize class.now.size class.now }
+    ensures said { EndsAs code.now class.now ending result }
+    ensures decided { smallest_size ≤ class.now.size → IsWhole class.now → is_asking result ≡ false }
 {
     match class.metric {
         Some(metric) if class.known.len() == class.len => {
@@ -99,20 +105,44 @@ fn ends(code: &Code, class: &Class, ending: Ending) -> Found
     }
 }
 
-/// What is found of a class whose prefixes match. Of routes with other metrics nothing is expected.
-fn ends_by_metric(code: &Code, class: &Class, expected: &Expectation) -> Found
-    ensures { SaysMet code.now class.now expected.now result }
+/// Whether the metrics of a class are in the range of a test, if they all are or none is.
+fn has_metrics(class: &Class, expected: &Expectation) -> Option<bool>
+    ensures has { IfSome result (λ r. Throughout class.now (λ route.
+        (nat_le expected.now.least route.metric && nat_le route.metric expected.now.greatest) ≡ r)) }
+    ensures decided { IsWhole class.now → result ≢ None }
 {
     match class.metric {
-        Some(metric) if !expected.has_metric(metric) => Found::Same,
-        None if expected.least > 0 || expected.greatest < class.size => Found::AsksMetric,
-        _ => ends(code, class, expected.ending),
+        Some(metric) => Some(expected.has_metric(metric)),
+        None => {
+            if expected.least > 0 || expected.greatest < class.size {
+                return None;
+            }
+            Some(true)
+        }
+    }
+}
+
+/// What is found of a class whose prefixes match. Of routes with other metrics nothing is expected.
+fn ends_by_metric(code: &Code, class: &Class, expected: &Expectation) -> Found
+    requires small { class.now.size ≤ 250 }
+    requires real { IsOfSize class.now.size class.now }
+    requires matched { Always class.now (λ route. matches route.net expected.now.pattern ≡ true) }
+    ensures said { SaysMet code.now class.now expected.now result }
+    ensures decided { smallest_size ≤ class.now.size → IsWhole class.now → is_asking result ≡ false }
+{
+    match has_metrics(class, expected) {
+        Some(true) => ends(code, class, expected.ending),
+        Some(false) => Found::Same,
+        None => Found::AsksMetric,
     }
 }
 
 /// What is found of a class. Of routes whose prefix does not match nothing is expected.
 fn meets(code: &Code, class: &Class, expected: &Expectation) -> Found
-    ensures { SaysMet code.now class.now expected.now result }
+    requires small { class.now.size ≤ 250 }
+    requires real { IsOfSize class.now.size class.now }
+    ensures said { SaysMet code.now class.now expected.now result }
+    ensures decided { smallest_size ≤ class.now.size → IsWhole class.now → is_asking result ≡ false }
 {
     match matched(class, &expected.pattern) {
         Some(false) => Found::Same,
@@ -121,59 +151,30 @@ fn meets(code: &Code, class: &Class, expected: &Expectation) -> Found
     }
 }
 
-/// Splits a class by the metric. Not where that is known.
-pub(crate) fn split_by_metric(class: &Class, todo: &mut Vec<Class>) -> Result<bool, AllocError>
-    requires small { class.now.size ≤ 250 }
-    requires real { IsOfSize class.now.size class.now }
-    ensures kept { OnOk result ((route : RouteView) → IsLeft route todo.old.items → IsLeft route todo.new.items) }
-    ensures real { OnOk result (All (IsOfSize class.now.size) todo.old.items → All (IsOfSize class.now.size) todo.new.items) }
-    ensures split { IfOk result (λ done. IsTrue done → (route : RouteView) → IsIn class.now.size route → IsOf class.now route
-        → IsLeft route todo.new.items) }
-    ensures few { OnOk result (vec_len todo.new ≤ vec_len todo.old + 251) }
-{
-    match class.metric {
-        None => {
-            push_metrics(class, todo)?;
-            Ok(true)
-        }
-        Some(_) => Ok(false),
-    }
-}
-
-/// Splits a class by its next bit, or by the metric where all bits are known. Not where all is known.
-pub(crate) fn split(class: &Class, todo: &mut Vec<Class>) -> Result<bool, AllocError>
-    requires small { class.now.size ≤ 250 }
-    requires real { IsOfSize class.now.size class.now }
-    ensures kept { OnOk result ((route : RouteView) → IsLeft route todo.old.items → IsLeft route todo.new.items) }
-    ensures real { OnOk result (All (IsOfSize class.now.size) todo.old.items → All (IsOfSize class.now.size) todo.new.items) }
-    ensures split { IfOk result (λ done. IsTrue done → (route : RouteView) → IsIn class.now.size route → IsOf class.now route
-        → IsLeft route todo.new.items) }
-    ensures few { OnOk result (vec_len todo.new ≤ vec_len todo.old + 253) }
-{
-    if push_bits(class, todo)? {
-        return Ok(true);
-    }
-    let done = split_by_metric(class, todo)?;
-    Ok(done)
-}
-
 /// Whether a run ends otherwise than is expected.
 fn is_other(outcome: Outcome, expected: Outcome) -> bool
-    ensures { result ≡ true → outcome ≢ expected }
+    ensures other { result ≡ true → outcome ≢ expected }
+    ensures same { result ≡ false → outcome ≡ expected }
 {
     outcome != expected
 }
 
 /// The first route of a class of which this is expected, if the run on it ends otherwise.
 fn shown(code: &Code, class: &Class, expected: &Expectation) -> Option<Counterexample>
-    ensures { IfSome result (IsShown code.now class.now.size expected.now) }
+    requires small { class.now.size ≤ 250 }
+    requires real { IsOfSize class.now.size class.now }
+    ensures shown { IfSome result (IsShown code.now class.now.size expected.now) }
+    ensures some { smallest_size ≤ class.now.size → Throughout class.now (λ route. IsMissedAt code.now expected.now route) → result ≢ None }
 {
     let prefix = Prefix::new(class.known.address(), class.len)?;
     let metric = class.metric.unwrap_or(0);
     let route = Route::new(prefix, metric, class.size)?;
     let outcome = run_checked(code, &route);
     let expected_outcome = outcome_of(expected.ending, metric);
-    if !is_other(outcome, expected_outcome) || !expected.covers(&prefix, metric) {
+    if !is_other(outcome, expected_outcome) {
+        return None;
+    }
+    if !expected.covers(&prefix, metric) {
         return None;
     }
     Some(Counterexample {
@@ -185,7 +186,11 @@ fn shown(code: &Code, class: &Class, expected: &Expectation) -> Option<Counterex
 
 /// What is shown of a class on which the runs do not end as is expected: its first route.
 fn failure(code: &Code, class: &Class, expected: &Expectation) -> Checked
-    ensures { IsFoundOf code.now class.now.size expected.now result }
+    requires small { class.now.size ≤ 250 }
+    requires real { IsOfSize class.now.size class.now }
+    requires missed { Throughout class.now (λ route. IsMissedAt code.now expected.now route) }
+    ensures found { IsFoundOf code.now class.now.size expected.now result }
+    ensures decided { smallest_size ≤ class.now.size → result ≢ checked.Undecided }
 {
     match shown(code, class, expected) {
         Some(route) => Checked::Fails(route),
@@ -193,16 +198,27 @@ fn failure(code: &Code, class: &Class, expected: &Expectation) -> Checked
     }
 }
 
-/// What a split that was not made leaves to say: nothing where it was made.
-fn unless_split(is_split: bool) -> Option<Checked>
-    ensures split { result ≡ None → IsTrue is_split }
-    ensures not_split { IfSome result (λ checked. checked ≡ Checked.Undecided) }
+/// Splits a class of which more has to be known. Where nothing is left to know, this is undecided.
+fn split_further(
+    class: &Class,
+    asks_metric: bool,
+    todo: &mut Vec<Class>,
+) -> Result<Option<Checked>, AllocError>
+    requires small { class.now.size ≤ 250 }
+    requires real { IsOfSize class.now.size class.now }
+    ensures found { IfOk result (λ end. IfSome end (λ found. (found ≡ checked.Undecided) × IsWhole class.now)) }
+    ensures split { IfOk result (λ end. end ≡ None → (route : RouteView) → IsIn class.now.size route → IsOf class.now route
+        → IsLeft route todo.new.items) }
+    ensures kept { OnOk result ((route : RouteView) → IsLeft route todo.old.items → IsLeft route todo.new.items) }
+    ensures real { OnOk result (All (IsOfSize class.now.size) todo.old.items → All (IsOfSize class.now.size) todo.new.items) }
+    ensures few { OnOk result (vec_len todo.new ≤ vec_len todo.old + 253) }
+    ensures tried { IfOk result (λ end. end ≡ None → most_tried_of class.now.size todo.new.items + 1
+        ≤ most_tried_of class.now.size todo.old.items + most_tried class.now.size class.now) }
 {
-    if is_split {
-        None
-    } else {
-        Some(Checked::Undecided)
+    if split(class, asks_metric, todo)? {
+        return Ok(None);
     }
+    Ok(Some(Checked::Undecided))
 }
 
 /// Deals with a class: the runs on its routes end as is expected, or they are in classes that are appended, or this is found.
@@ -220,23 +236,26 @@ fn visit(
     ensures kept { OnOk result ((route : RouteView) → IsLeft route todo.old.items → IsLeft route todo.new.items) }
     ensures real { OnOk result (All (IsOfSize class.now.size) todo.old.items → All (IsOfSize class.now.size) todo.new.items) }
     ensures few { OnOk result (vec_len todo.new ≤ vec_len todo.old + 253) }
+    ensures tried { IfOk result (λ end. end ≡ None → most_tried_of class.now.size todo.new.items + 1
+        ≤ most_tried_of class.now.size todo.old.items + most_tried class.now.size class.now) }
+    ensures decided { IfOk result (λ end. smallest_size ≤ class.now.size → end ≢ Some checked.Undecided) }
 {
     match meets(code, class, expected) {
         Found::Same => Ok(None),
         Found::Differ(_, _) => Ok(Some(failure(code, class, expected))),
         Found::AsksBits => {
-            let is_split = split(class, todo)?;
-            Ok(unless_split(is_split))
+            let end = split_further(class, false, todo)?;
+            Ok(end)
         }
         Found::AsksMetric => {
-            let is_split = split_by_metric(class, todo)?;
-            Ok(unless_split(is_split))
+            let end = split_further(class, true, todo)?;
+            Ok(end)
         }
     }
 }
 
 /// Whether the runs of a code end as is expected, on all routes of the domains of a size of which something is expected. It tries at
-/// most as many classes of routes as the limit says.
+/// most as many classes of routes as the limit says, and is undecided only where these are not all.
 pub fn check_expectation(
     alloc: Global,
     code: &Code,
@@ -245,7 +264,8 @@ pub fn check_expectation(
     limit: u64,
 ) -> Result<Checked, AllocError>
     requires { size ≤ largest_size }
-    ensures { IfOk result (IsFoundOf code.now size expected.now) }
+    ensures found { IfOk result (IsFoundOf code.now size expected.now) }
+    ensures decided { IsEnough size limit → IfOk result (λ found. found ≢ checked.Undecided) }
 {
     let mut todo = all_classes(alloc, size)?;
     let mut left = limit;

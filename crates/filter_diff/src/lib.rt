@@ -26,7 +26,7 @@ mod turn;
 
 pub use answer::{Answer, answer_of, count_undecided, has_difference};
 pub use checking::{Checked, Counterexample, check_expectation};
-pub use comparison::{Comparison, compare};
+pub use comparison::compare;
 pub use ending::Ending;
 pub use expectation::Expectation;
 pub use joining::join_all;

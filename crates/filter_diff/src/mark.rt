@@ -1,9 +1,12 @@
 //! What a search finds of instructions.
-ghost use Rattle.std.specs.Prelude.{◌≡◌, IfSome, IsTrue};
-ghost use Rattle.filter_diff.specs.Marking.{AreTop, IsFull, IsTop, Shows, joined, shown_raise, shown_truth, unmarked};
+ghost use Rattle.std.specs.Prelude.{◌≡◌, IfSome, IsTrue, MatchOption, Some, slice_get};
+ghost use Rattle.filter_code.specs.Machine.{Config};
+ghost use Rattle.filter_code.specs.declared.value.Value.TheVariants as value;
+ghost use Rattle.filter_diff.specs.Marking.{AreInts, AreNoInts, AreTop, IsFull, IsNoBool, IsTop, IsUnseen, Shows, ShowsAt};
+ghost use Rattle.filter_diff.specs.Marking.{joined, shown_raise, shown_truth, unmarked};
 
 use crate::symbol::Symbol;
-use filter_code::{Instr, Stack};
+use filter_code::{Instr, Stack, Value};
 
 /// What was found of an instruction.
 #[derive(Clone, Copy, PartialEq, Eq)]
@@ -138,5 +141,47 @@ pub(crate) fn mark_of(instr: &Instr, stack: &mut Stack<Symbol>) -> Option<Mark>
             None => None,
         },
         _ => Some(of_other(false)),
+    }
+}
+
+/// The bool that a value is, if it is one.
+fn truth_in(top: Option<Value>) -> Option<bool>
+    ensures { MatchOption result (IsNoBool top) (λ truth. top ≡ Some (value.Bool truth)) }
+{
+    match top {
+        Some(Value::Bool(truth)) => Some(truth),
+        _ => None,
+    }
+}
+
+/// Whether the upper one of two ints is greater, if they are ints.
+fn raise_in(top: Option<Value>, below: Option<Value>) -> Option<bool>
+    ensures { MatchOption result (AreNoInts top below) (AreInts top below) }
+{
+    match top {
+        Some(Value::Int(upper)) => match below {
+            Some(Value::Int(lower)) => Some(lower < upper),
+            _ => None,
+        },
+        _ => None,
+    }
+}
+
+/// What a run shows of the instruction that it comes to with these values on top of the stack and below it. None if it is a JUMPIFNOT
+/// without a bool, or a MAX without two ints.
+pub(crate) fn mark_seen(instr: &Instr, top: Option<Value>, below: Option<Value>) -> Option<Mark>
+    ensures { MatchOption result (IsUnseen instr.now top below) (λ mark. (c : Config) → slice_get c.frame.stack 0 ≡ top
+        → slice_get c.frame.stack 1 ≡ below → ShowsAt instr.now c mark) }
+{
+    match instr {
+        Instr::JumpIfNot(_) => match truth_in(top) {
+            Some(is_true) => Some(of_condition(is_true)),
+            None => None,
+        },
+        Instr::Max => match raise_in(top, below) {
+            Some(is_greater) => Some(of_other(is_greater)),
+            None => None,
+        },
+        _other => Some(of_other(false)),
     }
 }

@@ -1,25 +1,26 @@
 //! The search for the instructions that are reached on no route, and for the conditions that are always true or always false.
-ghost use Rattle.std.specs.Prelude.{◌≡◌, ◌+◌, ◌<◌, ◌≤◌, ◌⊎◌, All, IfOk, IsTrue, OnOk, length, map, vec_len};
-ghost use Rattle.filter_code.specs.Limits.{largest_size};
+ghost use Rattle.std.specs.Prelude.{◌≡◌, ◌+◌, ◌<◌, ◌≤◌, ◌⊎◌, All, IfOk, IsTrue, OnOk, Some, length, map, true, vec_len};
+ghost use Rattle.filter_code.specs.Limits.{largest_size, smallest_size};
 ghost use Rattle.filter_code.specs.RouteView.{RouteView};
 ghost use Rattle.filter_diff.specs.Classes.{IsOf, IsOfSize};
-ghost use Rattle.filter_diff.specs.Marking.{AreAllMarked, AreMarked, AreSound, Extend, IsAdded, IsNoted, unmarked};
-ghost use Rattle.filter_diff.specs.Parts.{IsIn};
-ghost use Rattle.filter_diff.specs.Reaching.{IsReach};
-ghost use Rattle.filter_diff.specs.Searches.{IsLeft};
+ghost use Rattle.filter_diff.specs.Marking.{AreAllMarked, AreMarked, AreSound, Extend, IsAdded, IsNoted, IsSeen, unmarked};
+ghost use Rattle.filter_diff.specs.Parts.{IsEnough, IsIn};
+ghost use Rattle.filter_diff.specs.Reaching.{IsReach, NeverFaults, NeverFaultsOn};
+ghost use Rattle.filter_diff.specs.Searches.{IsLeft, IsWhole, most_tried, most_tried_of};
+ghost use Rattle.filter_diff.specs.declared.extent.Extent.TheVariants as extent;
 ghost use Rattle.filter_diff.specs.Settling.{AreSettled};
 
-use crate::checking::{split, split_by_metric};
 use crate::class::Class;
 use crate::comparison::all_classes;
 use crate::extent::{Extent, extent_of};
-use crate::mark::{Mark, Reach, mark_of};
+use crate::mark::{Mark, Reach, mark_of, mark_seen};
+use crate::search::split;
 use crate::settling::{is_settled, settle};
 use crate::slots::Slots;
 use crate::symbol::Symbol;
 use crate::trials::carry_out;
 use crate::turn::Turn;
-use filter_code::{Code, Instr, Stack};
+use filter_code::{Code, Instr, Route, Running, Stack};
 use std::alloc::{AllocError, Global};
 
 /// Adds to the mark of a place.
@@ -81,6 +82,84 @@ fn mark_run(code: &Code, class: &Class, settled: &[bool], marks: &mut [Mark]) ->
     Extent::AsksBits
 }
 
+/// Marks what a run shows of the instruction that it comes to. Whether it has the operands of the instruction.
+fn note_seen(instr: &Instr, running: &Running, marks: &mut [Mark]) -> bool
+    requires { running.now.pc < length marks.old }
+    ensures { IsSeen instr.now running.now marks.old marks.new result }
+{
+    match mark_seen(instr, running.top(), running.below_top()) {
+        Some(mark) => {
+            add(mark, running.place(), marks);
+            true
+        }
+        None => false,
+    }
+}
+
+/// Marks what the run on a route comes to. Whether that was all, as it is where the run does not end with a fault.
+fn mark_route(code: &Code, route: &Route, marks: &mut [Mark]) -> bool
+    requires is_in { IsIn route.now.size route.now }
+    requires long { length marks.old ≡ length code.now.instrs }
+    ensures marked { IsTrue result → AreAllMarked code.now marks.new route.now }
+    ensures more { Extend marks.old marks.new }
+    ensures sound { AreSound code.now route.now.size marks.old → AreSound code.now route.now.size marks.new }
+    ensures decided { NeverFaultsOn code.now route.now → result ≡ true }
+{
+    let instrs = code.instrs();
+    let mut running = Running::new(code, route);
+    while let Some(instr) = instrs.get(running.place()) {
+        if !note_seen(instr, &running, marks) {
+            return false;
+        }
+        match running.step(code, route) {
+            Some(_) => return true,
+            None => {}
+        }
+    }
+    false
+}
+
+/// Marks what the run comes to on the one route whose bits and whose metric are known.
+fn mark_one(code: &Code, class: &Class, metric: u32, marks: &mut [Mark]) -> Extent
+    requires small { class.now.size ≤ 250 }
+    requires real { IsOfSize class.now.size class.now }
+    requires known { class.now.metric ≡ Some metric }
+    requires whole { length class.now.known ≡ class.now.len }
+    requires long { length marks.old ≡ length code.now.instrs }
+    ensures marked { AreMarked code.now class.now marks.new result }
+    ensures more { Extend marks.old marks.new }
+    ensures sound { AreSound code.now class.now.size marks.old → AreSound code.now class.now.size marks.new }
+    ensures decided { smallest_size ≤ class.now.size → NeverFaults code.now class.now.size → result ≡ extent.Whole }
+{
+    match Route::new(class.known, metric, class.size) {
+        Some(route) => {
+            if mark_route(code, &route, marks) {
+                Extent::Whole
+            } else {
+                Extent::AsksBits
+            }
+        }
+        None => Extent::AsksBits,
+    }
+}
+
+/// Marks what the runs on all routes of a class come to, whether all is known of its routes or not.
+fn mark_class(code: &Code, class: &Class, settled: &[bool], marks: &mut [Mark]) -> Extent
+    requires small { class.now.size ≤ 250 }
+    requires real { IsOfSize class.now.size class.now }
+    requires long { length marks.old ≡ length code.now.instrs }
+    requires settled { AreSettled code.now marks.old settled.now }
+    ensures marked { AreMarked code.now class.now marks.new result }
+    ensures more { Extend marks.old marks.new }
+    ensures sound { AreSound code.now class.now.size marks.old → AreSound code.now class.now.size marks.new }
+    ensures decided { smallest_size ≤ class.now.size → NeverFaults code.now class.now.size → IsWhole class.now → result ≡ extent.Whole }
+{
+    match class.metric {
+        Some(metric) if class.known.len() == class.len => mark_one(code, class, metric, marks),
+        _ => mark_run(code, class, settled, marks),
+    }
+}
+
 /// Deals with a class: what the runs on its routes come to is marked, or they are in classes that are appended. Whether it could be
 /// dealt with.
 fn visit(
@@ -101,15 +180,18 @@ fn visit(
     ensures more { Extend marks.old marks.new }
     ensures sound { AreSound code.now class.now.size marks.old → AreSound code.now class.now.size marks.new }
     ensures few { OnOk result (vec_len todo.new ≤ vec_len todo.old + 253) }
+    ensures tried { IfOk result (λ done. IsTrue done → most_tried_of class.now.size todo.new.items + 1
+        ≤ most_tried_of class.now.size todo.old.items + most_tried class.now.size class.now) }
+    ensures decided { IfOk result (λ done. smallest_size ≤ class.now.size → NeverFaults code.now class.now.size → done ≡ true) }
 {
-    match mark_run(code, class, settled, marks) {
+    match mark_class(code, class, settled, marks) {
         Extent::Whole => Ok(true),
         Extent::AsksBits => {
-            let is_split = split(class, todo)?;
+            let is_split = split(class, false, todo)?;
             Ok(is_split)
         }
         Extent::AsksMetric => {
-            let is_split = split_by_metric(class, todo)?;
+            let is_split = split(class, true, todo)?;
             Ok(is_split)
         }
     }
@@ -136,6 +218,9 @@ fn deal(
     ensures sound { AreSound code.now class.now.size marks.old → AreSound code.now class.now.size marks.new }
     ensures settled { OnOk result (AreSettled code.now marks.new settled.new) }
     ensures few { OnOk result (vec_len todo.new ≤ vec_len todo.old + 253) }
+    ensures tried { IfOk result (λ done. IsTrue done → most_tried_of class.now.size todo.new.items + 1
+        ≤ most_tried_of class.now.size todo.old.items + most_tried class.now.size class.now) }
+    ensures decided { IfOk result (λ done. smallest_size ≤ class.now.size → NeverFaults code.now class.now.size → done ≡ true) }
 {
     let is_dealt = visit(code, class, settled, marks, todo)?;
     settle(code, marks, settled);
@@ -156,7 +241,7 @@ fn unmarked(alloc: Global, watched: &[bool]) -> Result<Vec<Mark>, AllocError>
 /// Which instructions of a code are reached on routes of the domains of a size, and with which conditions; and which of the MAX that are
 /// watched raise what is below. It tries at most as many classes of routes as the limit says, each by one run.
 ///
-/// It is not complete where the limit ends the search, and it may not be where the run on some route ends with a fault.
+/// It is complete, unless the limit ends the search or the run on some route ends with a fault.
 pub fn reach(
     alloc: Global,
     code: &Code,
@@ -166,7 +251,8 @@ pub fn reach(
 ) -> Result<Reach, AllocError>
     requires small { size ≤ largest_size }
     requires watched { length watched.now ≡ length code.now.instrs }
-    ensures { IfOk result (IsReach code.now size watched.now) }
+    ensures found { IfOk result (IsReach code.now size watched.now) }
+    ensures decided { IsEnough size limit → NeverFaults code.now size → IfOk result (λ found. found.is_complete ≡ true) }
 {
     let mut marks = unmarked(alloc, watched)?;
     let mut settled = vec![in alloc; false; watched.len()]?;

@@ -1,10 +1,13 @@
 //! One class of a search: what the runs of two codes on its routes say, and the classes that it is split into.
 
-ghost use Rattle.std.specs.Prelude.{◌≡◌, ◌+◌, ◌≤◌, ◌++◌, [], ◌∷◌, All, IfOk, IfSome, IsTrue, OnOk, Some, length, vec_len};
+ghost use Rattle.std.specs.Prelude.{◌≡◌, ◌+◌, ◌*◌, ◌-◌, ◌≤◌, ◌++◌, [], ◌∷◌, All, IfOk, IfSome, IsTrue, None, OnOk, Some, false, is_some, length, true, vec_len};
+ghost use Rattle.prefix_patterns.specs.Bits.{address_length};
+ghost use Rattle.filter_code.specs.Limits.{largest_size, smallest_size};
 ghost use Rattle.filter_code.specs.RouteView.{RouteView};
 ghost use Rattle.filter_diff.specs.Classes.{Always, IsOf, IsOfSize};
-ghost use Rattle.filter_diff.specs.Parts.{Holds, InOne, IsIn, IsReal, IsTrueOf};
-ghost use Rattle.filter_diff.specs.Searches.{AreReal, Compare, HasBit, IsDealt, IsLeft, IsPartOf, Says};
+ghost use Rattle.filter_diff.specs.Parts.{Holds, InOne, IsDecided, IsIn, IsReal, IsTrueOf, is_undecided};
+ghost use Rattle.filter_diff.specs.Searches.{AreReal, Compare, HasBit, IsDealt, IsLeft, IsPartOf, IsWhole, Says};
+ghost use Rattle.filter_diff.specs.Searches.{is_asking, most_tried, most_tried_of, split_by_bits};
 ghost use Rattle.filter_diff.specs.declared.ending.Ending.TheVariants as ending;
 
 use crate::class::Class;
@@ -19,7 +22,8 @@ use std::alloc::AllocError;
 
 /// Whether two outcomes are the same.
 pub(crate) fn outcomes(before: Outcome, after: Outcome) -> Found
-    ensures { Compare (ending.Fixed before) (ending.Fixed after) result }
+    ensures compared { Compare (ending.Fixed before) (ending.Fixed after) result }
+    ensures decided { is_asking result ≡ false }
 {
     if before == after {
         Found::Same
@@ -69,7 +73,8 @@ pub(crate) fn endings(before: Ending, after: Ending) -> Found
 fn on_route(old: &Code, new: &Code, class: &Class, metric: u32) -> Found
     requires known { class.now.metric ≡ Some metric }
     requires whole { length class.now.known ≡ class.now.len }
-    ensures { Says old.now new.now class.now result }
+    ensures said { Says old.now new.now class.now result }
+    ensures decided { smallest_size ≤ class.now.size → class.now.size ≤ largest_size → metric ≤ class.now.size → is_asking result ≡ false }
 {
     match Route::new(class.known, metric, class.size) {
         Some(route) => outcomes(run_checked(old, &route), run_checked(new, &route)),
@@ -96,9 +101,12 @@ fn on_class(old: &Code, new: &Code, class: &Class) -> Found
     }
 }
 
-/// What is found of a class.
+/// What is found of a class: something where nothing is left to know.
 fn find(old: &Code, new: &Code, class: &Class) -> Found
-    ensures { Says old.now new.now class.now result }
+    requires small { class.now.size ≤ 250 }
+    requires real { IsOfSize class.now.size class.now }
+    ensures said { Says old.now new.now class.now result }
+    ensures decided { smallest_size ≤ class.now.size → IsWhole class.now → is_asking result ≡ false }
 {
     match class.metric {
         Some(metric) if class.known.len() == class.len => on_route(old, new, class, metric),
@@ -108,7 +116,8 @@ fn find(old: &Code, new: &Code, class: &Class) -> Found
 
 /// The prefix with one more bit. None if it has all.
 pub(crate) fn longer(known: &Prefix, bit: bool) -> Option<Prefix>
-    ensures { IfSome result (λ longer. longer ≡ known.now ++ (bit ∷ [])) }
+    ensures longer { IfSome result (λ longer. longer ≡ known.now ++ (bit ∷ [])) }
+    ensures all { result ≡ None → address_length ≤ length known.now }
 {
     let count = known.len();
     let first = known.address().0;
@@ -124,7 +133,8 @@ pub(crate) fn longer(known: &Prefix, bit: bool) -> Option<Prefix>
 
 /// The class with one more bit known. None if all are.
 fn with_bit(class: &Class, bit: bool) -> Option<Class>
-    ensures { IfSome result (λ longer. HasBit class.now bit longer) }
+    ensures longer { IfSome result (λ longer. HasBit class.now bit longer) }
+    ensures all { result ≡ None → address_length ≤ length class.now.known }
 {
     match longer(&class.known, bit) {
         Some(known) => Some(Class {
@@ -165,6 +175,8 @@ pub(crate) fn push_metrics(class: &Class, todo: &mut Vec<Class>) -> Result<(), A
     ensures real { OnOk result (All (IsOfSize class.now.size) todo.old.items → All (IsOfSize class.now.size) todo.new.items) }
     ensures split { OnOk result ((route : RouteView) → IsIn class.now.size route → IsOf class.now route → IsLeft route todo.new.items) }
     ensures few { OnOk result (vec_len todo.new ≤ vec_len todo.old + 251) }
+    ensures tried { OnOk result (most_tried_of class.now.size todo.new.items
+        ≡ most_tried_of class.now.size todo.old.items + (class.now.size + 1) * split_by_bits (class.now.len - length class.now.known)) }
 {
     for step in 0..=class.size {
         todo.push(Class {
@@ -184,6 +196,9 @@ pub(crate) fn push_bits(class: &Class, todo: &mut Vec<Class>) -> Result<bool, Al
     ensures real { OnOk result (All (IsOfSize class.now.size) todo.old.items → All (IsOfSize class.now.size) todo.new.items) }
     ensures split { IfOk result (λ done. IsTrue done → (route : RouteView) → IsOf class.now route → IsLeft route todo.new.items) }
     ensures few { OnOk result (vec_len todo.new ≤ vec_len todo.old + 2) }
+    ensures tried { IfOk result (λ done. IsTrue done → most_tried_of class.now.size todo.new.items + 1
+        ≤ most_tried_of class.now.size todo.old.items + most_tried class.now.size class.now) }
+    ensures all { IfOk result (λ done. done ≡ false → (length class.now.known ≡ class.now.len) × (todo.new.items ≡ todo.old.items)) }
 {
     if class.known.len() >= class.len {
         return Ok(false);
@@ -197,6 +212,56 @@ pub(crate) fn push_bits(class: &Class, todo: &mut Vec<Class>) -> Result<bool, Al
     todo.push(one)?;
     todo.push(zero)?;
     Ok(true)
+}
+
+/// Splits a class by the metric. Not where that is known.
+fn split_by_metric(class: &Class, todo: &mut Vec<Class>) -> Result<bool, AllocError>
+    requires small { class.now.size ≤ 250 }
+    requires real { IsOfSize class.now.size class.now }
+    ensures kept { OnOk result ((route : RouteView) → IsLeft route todo.old.items → IsLeft route todo.new.items) }
+    ensures real { OnOk result (All (IsOfSize class.now.size) todo.old.items → All (IsOfSize class.now.size) todo.new.items) }
+    ensures split { IfOk result (λ done. IsTrue done → (route : RouteView) → IsIn class.now.size route → IsOf class.now route
+        → IsLeft route todo.new.items) }
+    ensures few { OnOk result (vec_len todo.new ≤ vec_len todo.old + 251) }
+    ensures tried { IfOk result (λ done. IsTrue done → most_tried_of class.now.size todo.new.items + 1
+        ≤ most_tried_of class.now.size todo.old.items + most_tried class.now.size class.now) }
+    ensures all { IfOk result (λ done. done ≡ false → (is_some class.now.metric ≡ true) × (todo.new.items ≡ todo.old.items)) }
+{
+    match class.metric {
+        None => {
+            push_metrics(class, todo)?;
+            Ok(true)
+        }
+        Some(_) => Ok(false),
+    }
+}
+
+/// Splits a class by its next bit, or by the metric where all bits are known; by the metric first where that is asked for. Not where
+/// nothing is left to know.
+pub(crate) fn split(
+    class: &Class,
+    asks_metric: bool,
+    todo: &mut Vec<Class>,
+) -> Result<bool, AllocError>
+    requires small { class.now.size ≤ 250 }
+    requires real { IsOfSize class.now.size class.now }
+    ensures kept { OnOk result ((route : RouteView) → IsLeft route todo.old.items → IsLeft route todo.new.items) }
+    ensures real { OnOk result (All (IsOfSize class.now.size) todo.old.items → All (IsOfSize class.now.size) todo.new.items) }
+    ensures split { IfOk result (λ done. IsTrue done → (route : RouteView) → IsIn class.now.size route → IsOf class.now route
+        → IsLeft route todo.new.items) }
+    ensures few { OnOk result (vec_len todo.new ≤ vec_len todo.old + 253) }
+    ensures tried { IfOk result (λ done. IsTrue done → most_tried_of class.now.size todo.new.items + 1
+        ≤ most_tried_of class.now.size todo.old.items + most_tried class.now.size class.now) }
+    ensures all { IfOk result (λ done. done ≡ false → IsWhole class.now × (todo.new.items ≡ todo.old.items)) }
+{
+    if asks_metric && class.metric.is_none() {
+        return split_by_metric(class, todo);
+    }
+    if push_bits(class, todo)? {
+        return Ok(true);
+    }
+    let done = split_by_metric(class, todo)?;
+    Ok(done)
 }
 
 /// Appends the part with the routes of a class.
@@ -214,42 +279,19 @@ pub(crate) fn push_part(
         All (IsTrueOf old.now new.now class.now.size) parts.new.items) }
     ensures kept { OnOk result ((route : RouteView) → InOne route parts.old.items → InOne route parts.new.items) }
     ensures covered { OnOk result ((route : RouteView) → IsIn class.now.size route → IsOf class.now route → InOne route parts.new.items) }
+    ensures decided { OnOk result (is_undecided finding ≡ false → All IsDecided parts.old.items → All IsDecided parts.new.items) }
 {
     parts.push(part_of(class, finding))?;
     Ok(())
 }
 
-/// Splits a class by the metric. Where that is known, all that can be known is, and the class is a part that is undecided.
-fn split_metric(
+/// Deals with a class of which more has to be known: its routes are in classes that are appended. Where nothing is left to know, they lie
+/// in a part that is undecided.
+fn split_further(
     old: &Code,
     new: &Code,
     class: &Class,
-    parts: &mut Vec<RoutePart>,
-    todo: &mut Vec<Class>,
-) -> Result<(), AllocError>
-    requires small { class.now.size ≤ 250 }
-    requires real { IsOfSize class.now.size class.now }
-    ensures real { OnOk result (AreReal class.now.size parts.old.items todo.old.items → AreReal class.now.size parts.new.items todo.new.items) }
-    ensures sound { OnOk result (All (IsTrueOf old.now new.now class.now.size) parts.old.items →
-        All (IsTrueOf old.now new.now class.now.size) parts.new.items) }
-    ensures kept { OnOk result ((route : RouteView) → IsDealt old.now new.now parts.old.items todo.old.items route →
-        IsDealt old.now new.now parts.new.items todo.new.items route) }
-    ensures covered { OnOk result ((route : RouteView) → IsIn class.now.size route → IsOf class.now route →
-        IsDealt old.now new.now parts.new.items todo.new.items route) }
-    ensures few { OnOk result (vec_len todo.new ≤ vec_len todo.old + 251) }
-{
-    match class.metric {
-        None => push_metrics(class, todo)?,
-        Some(_) => push_part(old, new, class, Finding::Undecided, parts)?,
-    }
-    Ok(())
-}
-
-/// Splits a class by its next bit, or by the metric where all bits are known.
-fn split_bits(
-    old: &Code,
-    new: &Code,
-    class: &Class,
+    asks_metric: bool,
     parts: &mut Vec<RoutePart>,
     todo: &mut Vec<Class>,
 ) -> Result<(), AllocError>
@@ -263,11 +305,13 @@ fn split_bits(
     ensures covered { OnOk result ((route : RouteView) → IsIn class.now.size route → IsOf class.now route →
         IsDealt old.now new.now parts.new.items todo.new.items route) }
     ensures few { OnOk result (vec_len todo.new ≤ vec_len todo.old + 253) }
+    ensures tried { OnOk result (most_tried_of class.now.size todo.new.items + 1
+        ≤ most_tried_of class.now.size todo.old.items + most_tried class.now.size class.now) }
+    ensures decided { OnOk result ((IsWhole class.now → ⊥) → All IsDecided parts.old.items → All IsDecided parts.new.items) }
 {
-    if push_bits(class, todo)? {
-        return Ok(());
+    if !split(class, asks_metric, todo)? {
+        push_part(old, new, class, Finding::Undecided, parts)?;
     }
-    split_metric(old, new, class, parts, todo)?;
     Ok(())
 }
 
@@ -289,14 +333,17 @@ pub(crate) fn visit(
     ensures covered { OnOk result ((route : RouteView) → IsIn class.now.size route → IsOf class.now route →
         IsDealt old.now new.now parts.new.items todo.new.items route) }
     ensures few { OnOk result (vec_len todo.new ≤ vec_len todo.old + 253) }
+    ensures tried { OnOk result (most_tried_of class.now.size todo.new.items + 1
+        ≤ most_tried_of class.now.size todo.old.items + most_tried class.now.size class.now) }
+    ensures decided { OnOk result (smallest_size ≤ class.now.size → All IsDecided parts.old.items → All IsDecided parts.new.items) }
 {
     match find(old, new, class) {
         Found::Same => {}
         Found::Differ(before, after) => {
             push_part(old, new, class, Finding::Differ(before, after), parts)?;
         }
-        Found::AsksBits => split_bits(old, new, class, parts, todo)?,
-        Found::AsksMetric => split_metric(old, new, class, parts, todo)?,
+        Found::AsksBits => split_further(old, new, class, false, parts, todo)?,
+        Found::AsksMetric => split_further(old, new, class, true, parts, todo)?,
     }
     Ok(())
 }

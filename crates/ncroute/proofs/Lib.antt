@@ -9,6 +9,7 @@ mod Gathered
 mod HostBits
 mod Imported
 mod JoinedRead
+mod Linting
 mod Loaded
 mod MadeTexts
 mod PlanAdded

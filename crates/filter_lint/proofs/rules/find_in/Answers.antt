@@ -1,5 +1,7 @@
-use Rattle.std.proofs.Common.{◌∙◌, ap, length, refl, sym}
+use Rattle.std.proofs.Common.{ℕ, ◌∙◌, ap, length, refl, sym, subst}
 use Rattle.filter_code.specs.CodeView.{CodeView}
+use Rattle.filter_diff.specs.Parts.{IsEnough}
+use Rattle.filter_diff.specs.Reaching.{NeverFaults}
 use Rattle.filter_lint.specs.Watching.{is_watched, watched_places}
 use Rattle.filter_lint.proofs.Tried.{said_is_so, same_reach}
 use Rattle.filter_lint.proofs.Watched.{length-watched}
@@ -17,7 +19,7 @@ returns-clause-found c =
     let source = c.args.source.now in record {
       reach = c.in_ok-reached.reached;
       is_reach = same_reach c.code.result.now source.program c.size.result source.size c.as_slice.result.now (watched_places source)
-          c.in_ok-reached.reached c.code.ensures c.size.ensures (c.as_slice.ensures.value ∙ c.in_ok-watched.ensures) c.in_ok-reached.ensures;
+          c.in_ok-reached.reached c.code.ensures c.size.ensures (c.as_slice.ensures.value ∙ c.in_ok-watched.ensures) c.in_ok-reached.ensures.found;
       found_is = c.in_ok-found.ensures;
       complete_is = refl;
     }
@@ -27,5 +29,12 @@ returns-clause-sound c =
     let source = c.args.source.now in
     said_is_so source c.as_slice.result.now c.in_ok-reached.reached
     (same_reach c.code.result.now source.program c.size.result source.size c.as_slice.result.now c.as_slice.result.now
-    c.in_ok-reached.reached c.code.ensures c.size.ensures refl c.in_ok-reached.ensures)
+    c.in_ok-reached.reached c.code.ensures c.size.ensures refl c.in_ok-reached.ensures.found)
     c.in_ok-found.found.items c.in_ok-found.ensures
+
+pub returns-clause-decided : goal.returns-clause-decided
+returns-clause-decided c enough never =
+    let source = c.args.source.now in
+    c.in_ok-reached.ensures.decided (subst (λ (n : ℕ). IsEnough n c.args.limit) (sym c.size.ensures) enough)
+    (subst (λ (p : CodeView). NeverFaults p c.size.result) (sym c.code.ensures)
+    (subst (λ (n : ℕ). NeverFaults source.program n) (sym c.size.ensures) never))

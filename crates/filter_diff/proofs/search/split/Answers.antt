@@ -1,4 +1,4 @@
-use Rattle.filter_diff.proofs.checking.split.Goals as goal
+use Rattle.filter_diff.proofs.search.split.Goals as goal
 
 pub returns-clause-kept : goal.returns-clause-kept
 returns-clause-kept c route left = c.in_ok-done.ensures.kept route (c.in_ok-push_bits.ensures.kept route left)
