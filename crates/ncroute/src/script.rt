@@ -53,16 +53,15 @@ fn answer<R: Read, W: Write, E: Write>(
     ensures quiet { IsQuiet is_explained (E.contents errors.old) (E.contents errors.new) }
 {
     match (engine, is_explained) {
-        (Engine::Router, true) => run_watched_script(
-            alloc,
-            reader,
-            writer,
-            Teller {
+        (Engine::Router, true) => {
+            let teller = Teller {
                 engine,
                 name,
                 errors,
-            },
-        ),
+            };
+            let (ended, _script) = run_watched_script(alloc, reader, writer, teller);
+            ended
+        }
         (Engine::Router, false) => run_script(alloc, reader, writer),
         (Engine::Domain, true) => run_watched_domain(
             alloc,

@@ -1,6 +1,7 @@
 //! A script that somebody watches: they are shown each line that it refuses.
 ghost use Rattle.std.specs.Prelude.{◌≡◌, IfErr, IfOk, IfSome};
 ghost use Rattle.operator_cmds.specs.Running.{IsBrokenOff, IsCarriedOut};
+ghost use Rattle.router_script.specs.State.{script_of};
 
 use crate::script::{Script, ScriptFault};
 use line_protocol::{LineReply, Service, answer_lines};
@@ -18,14 +19,14 @@ struct Watched<S: Watch + Drop> {
 }
 
 impl<S: Watch + Drop> Service for Watched<S> {
-    ghost use Rattle.std.specs.Prelude.{⊤};
+    ghost use Rattle.operator_cmds.specs.Entries.{BreaksOff};
     ghost use Rattle.operator_cmds.specs.Script.{AnswersLine};
     ghost use Rattle.router_script.specs.State.{script_of};
 
     ghost answers = { λ before number line answer after.
         AnswersLine (script_of before.script) number line answer (script_of after.script) };
 
-    ghost refuses = { λ _ _. ⊤ };
+    ghost refuses = { λ before after. BreaksOff (script_of before.script) (script_of after.script) };
 
     fn answer(
         &mut self,
@@ -45,21 +46,25 @@ impl<S: Watch + Drop> Service for Watched<S> {
     }
 }
 
-/// Does what `run_script` does, and shows each line that is refused to who watches.
+/// Does what `run_script` does, shows each line that is refused to who watches, and hands out the script as it was left: so where memory
+/// is refused (E3), what was carried out can be told from what was answered, which is all of it but for an event of the last line.
 pub fn run_watched_script<R: Read, W: Write, S: Watch + Drop>(
     alloc: Global,
     reader: &mut R,
     writer: &mut W,
     watcher: S,
-) -> Result<u32, ScriptFault>
-    ensures finished { IfOk result (λ refused. IfSome (R.remaining reader.old) (λ input.
-        IsCarriedOut input (R.remaining reader.new) (W.contents writer.old) (W.contents writer.new) refused)) }
-    ensures broken_off { IfErr result (λ fault. IfSome (R.remaining reader.old) (λ input.
-        IsBrokenOff fault input (R.remaining reader.new) (W.contents writer.old) (W.contents writer.new))) }
+) -> (Result<u32, ScriptFault>, Script)
+    ensures finished { IfOk result.0 (λ refused. IfSome (R.remaining reader.old) (λ input.
+        (ends : IsCarriedOut input (R.remaining reader.new) (W.contents writer.old) (W.contents writer.new) refused)
+        × (script_of result.1 ≡ ends.after))) }
+    ensures broken_off { IfErr result.0 (λ fault. IfSome (R.remaining reader.old) (λ input.
+        (ends : IsBrokenOff fault input (R.remaining reader.new) (W.contents writer.old) (W.contents writer.new))
+        × (script_of result.1 ≡ ends.after))) }
 {
     let mut service = Watched {
         script: Script::new(alloc),
         watcher,
     };
-    answer_lines(alloc, reader, writer, &mut service)
+    let ended = answer_lines(alloc, reader, writer, &mut service);
+    (ended, service.script)
 }
