@@ -1,2 +1,3 @@
 mod Notes
 mod Queues
+pub mod Waking

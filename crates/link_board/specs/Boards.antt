@@ -1,9 +1,10 @@
 -- What is noted on a board. (This project's own choice.)
-use Rattle.std.specs.Prelude.{◌≡◌, ◌==◌, ℕ, ◌+◌, ◌&&◌, ◌||◌, max, nat_lt, nat_le, not, Bool, true, false, if◌then◌else◌}
-use Rattle.std.specs.Prelude.{List, map, position, Option, Some, None, slice_get, slice_set}
+use Rattle.std.specs.Prelude.{◌≡◌, ◌==◌, ℕ, ◌+◌, ◌<◌, ◌&&◌, ◌||◌, max, nat_lt, nat_le, not, Bool, true, false, if◌then◌else◌}
+use Rattle.std.specs.Prelude.{List, length, map, position, Option, Some, None, slice_get, slice_set}
 use Rattle.std.specs.List.{list_any}
-use Rattle.link_board.specs.Steps.{Begins, Ends, Wakes, changing_less, changing_more, link_to, queued_at, taken_at, waits}
+use Rattle.link_board.specs.Steps.{Begins, Ends, Wakes, changing_less, changing_more, is_woken, link_to, queued_at, taken_at, waits}
 use Rattle.netchange_core.specs.declared.reply.Reply.{Reply}
+use Rattle.netchange_core.specs.declared.reply.Reply.TheVariants as reply
 use Rattle.link_board.specs.Noting.{tells_all}
 use Rattle.link_board.specs.declared.link.Link.{Link}
 
@@ -89,6 +90,21 @@ with_change at b = record b { entries = max b.entries (at + 1); changed = max b.
 abbrev pub noted : ℕ → Reply → BoardView → BoardView
 noted at r b = if tells_all r then with_change at b else with_entry at b
 
+-- a call of those who serve a link is noted: a Take by what it brought, of at most 16 messages
+abbrev pub Serves : ℕ → ℕ → Reply → BoardView → BoardView → Type 0
+Serves index at (reply.Messages messages) old new = TakesAt index at (length messages) 16 old new
+Serves index at r old new = new ≡ noted at r old
+
+-- something was queued for a node, if it has a link
+abbrev pub QueuesFor : Option ℕ → ℕ → BoardView → BoardView → Type 0
+QueuesFor None at old new = new ≡ with_entry at old
+QueuesFor (Some index) at old new = QueuesAt index at old new
+
+-- the export filter of a node was set, unless that was refused
+abbrev pub Exports : ℕ → ℕ → Reply → BoardView → BoardView → Type 0
+Exports node at (reply.Done changed) old new = QueuesFor (position (λ l. l.node == node) old.links) at old new
+Exports node at r old new = new ≡ with_entry at old
+
 -- the session of a link, and whether something waits there
 abbrev pub session_in : Option Link → Option ℕ
 session_in None = None
@@ -103,6 +119,17 @@ waits_in changed (Some l) = waits changed l.waiting
 
 abbrev pub waits_at : BoardView → ℕ → Bool
 waits_at b index = waits_in b.changed (slice_get b.links index)
+
+-- whether the writer of a link sleeps and is to be woken, and that of no link is
+abbrev pub oversleeps_in : ℕ → Option Link → Bool
+oversleeps_in changed None = false
+oversleeps_in changed (Some l) = is_woken changed l
+
+abbrev pub AllAwakeBelow : ℕ → BoardView → Type 0
+AllAwakeBelow n b = (index : ℕ) → index < n → oversleeps_in b.changed (slice_get b.links index) ≡ false
+
+abbrev pub AllAwake : BoardView → Type 0
+AllAwake b = AllAwakeBelow (length b.links) b
 
 -- who saves the history can sleep: no more entries are known than are saved, and the router is not being closed
 abbrev pub can_rest : ℕ → BoardView → Bool

@@ -2,3 +2,4 @@
 pub mod Steps
 pub mod Boards
 pub mod Noting
+pub mod Endings

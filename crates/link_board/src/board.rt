@@ -2,9 +2,13 @@
 ghost use Rattle.std.specs.Prelude.{◌≡◌, ◌==◌, ◌<◌, ◌≤◌, ◌||◌, ◌&&◌, false, true, None, Some, []};
 ghost use Rattle.std.specs.Prelude.{IfOk, IfSome, IfNone, map, position, length, slice_get};
 ghost use Rattle.link_board.specs.Boards as spec;
+ghost use Rattle.link_board.specs.Noting.{tells_all};
 ghost use Rattle.link_board.specs.Steps.{link_to};
 
+use crate::ending::Ending;
 use crate::link::Link;
+use netchange_core::Reply;
+use route_session::MOST_TAKEN;
 use std::alloc::{AllocError, Global};
 use std::marker::Model;
 
@@ -75,11 +79,12 @@ impl Board {
         self.links.iter().any(|link| link.changing > 0)
     }
 
-    /// Begins a session of a link, whose Up was entered and has this position. False, and nothing is done, where a session is there
-    /// already, there is no such link, or the router is being closed.
+    /// Begins a session of a link, whose Up was entered and has this position. False, and only the entry is noted, where a session is
+    /// there already, there is no such link, or the router is being closed.
     pub fn begin(&mut self, index: usize, session: u32, at: u32) -> bool
-        ensures { spec.BeginsAt index session at self.old result self.new }
+        ensures { spec.BeginsAt index session at (spec.with_entry at self.old) result self.new }
     {
+        self.note_entry(at);
         if self.closing {
             return false;
         }
@@ -89,13 +94,19 @@ impl Board {
         }
     }
 
-    /// Ends a session of a link: true for the first who does, who is to enter its Down.
-    pub fn end(&mut self, index: usize, session: u32) -> bool
-        ensures { spec.EndsAt index session self.old result self.new }
+    /// Ends a session of a link: the answer says who is the first who does, who is to enter its Down.
+    pub fn end(&mut self, index: usize, session: u32) -> Ending
+        ensures ends { spec.EndsAt index session self.old result.is_first self.new }
+        ensures of { (result.link ≡ index) × (result.session ≡ session) }
     {
-        match self.links.get_mut(index) {
+        let is_first = match self.links.get_mut(index) {
             Some(link) => link.end(session),
             None => false,
+        };
+        Ending {
+            link: index,
+            session,
+            is_first,
         }
     }
 
@@ -124,14 +135,14 @@ impl Board {
     }
 
     /// The entry at this position is there.
-    pub fn note_entry(&mut self, at: u32)
+    fn note_entry(&mut self, at: u32)
         ensures { self.new ≡ spec.with_entry at self.old }
     {
         self.entries = self.entries.max(u64::from(at) + 1);
     }
 
     /// The entry at this position changed a distance: something waits for each neighbour.
-    pub fn note_changed(&mut self, at: u32)
+    fn note_changed(&mut self, at: u32)
         ensures { self.new ≡ spec.with_change at self.old }
     {
         self.note_entry(at);
@@ -139,7 +150,7 @@ impl Board {
     }
 
     /// The entry at this position queued something for the neighbour of a link.
-    pub fn note_queued(&mut self, index: usize, at: u32)
+    fn note_queued(&mut self, index: usize, at: u32)
         ensures { spec.QueuesAt index at self.old self.new }
     {
         self.note_entry(at);
@@ -149,12 +160,57 @@ impl Board {
     }
 
     /// The entry at this position is a Take for a link, of at most `most` messages, and brought `taken` of them.
-    pub fn note_taken(&mut self, index: usize, at: u32, taken: usize, most: usize)
+    fn note_taken(&mut self, index: usize, at: u32, taken: usize, most: usize)
         ensures { spec.TakesAt index at taken most self.old self.new }
     {
         self.note_entry(at);
         if let Some(link) = self.links.get_mut(index) {
             link.waiting.note_taken(at, taken, most);
+        }
+    }
+
+    /// The entry at this position has this reply: where it changed a distance, something waits for each neighbour. Whether it did.
+    pub fn note(&mut self, at: u32, reply: &Reply) -> bool
+        ensures changed { result ≡ tells_all reply.now }
+        ensures noted { self.new ≡ spec.noted at reply.now self.old }
+    {
+        match reply {
+            Reply::Done { changed } if *changed > 0 => {
+                self.note_changed(at);
+                true
+            }
+            _ => {
+                self.note_entry(at);
+                false
+            }
+        }
+    }
+
+    /// The entry at this position is a call of those who serve a session of a link, with this reply. A Take is one of `MOST_TAKEN` messages:
+    /// where it brought fewer, nothing is left in the queue. Whether a distance changed.
+    pub fn note_served(&mut self, index: usize, at: u32, reply: &Reply) -> bool
+        ensures changed { result ≡ tells_all reply.now }
+        ensures noted { spec.Serves index at reply.now self.old self.new }
+    {
+        let Reply::Messages(messages) = reply else {
+            return self.note(at, reply);
+        };
+        self.note_taken(
+            index,
+            at,
+            messages.as_slice().len(),
+            usize::from(MOST_TAKEN),
+        );
+        false
+    }
+
+    /// The entry at this position set the export filter of a node, with this reply: unless it was refused, something waits for the node.
+    pub fn note_exported(&mut self, node: u16, at: u32, reply: &Reply)
+        ensures { spec.Exports node at reply.now self.old self.new }
+    {
+        match (reply, self.link_to(node)) {
+            (Reply::Done { .. }, Some(index)) => self.note_queued(index, at),
+            _ => self.note_entry(at),
         }
     }
 

@@ -3,11 +3,13 @@
 #![tactic(auto)]
 
 mod board;
+mod ending;
 mod laws;
 mod link;
 mod waiting;
 
 pub use board::Board;
+pub use ending::Ending;
 pub use laws::{no_queue_is_overlooked, notes_add_up};
 pub use link::Link;
 pub use waiting::Waiting;

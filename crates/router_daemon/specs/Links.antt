@@ -1,6 +1,7 @@
 -- What becomes of a link. (This project's own choice.)
-use Rattle.std.specs.Prelude.{◌≡◌, ◌⊎◌, ℕ, ◌≤◌, Bool, true, false, List, None, string_bytes, ⊤}
+use Rattle.std.specs.Prelude.{◌≡◌, ◌⊎◌, ℕ, ◌*◌, ◌≤◌, Bool, true, false, List, Option, None, Some, string_bytes, ⊤}
 use Rattle.message_streams.specs.Views.{ReaderView, WriterView}
+use Rattle.neighbour_session.specs.Calls.{Closes}
 use Rattle.neighbour_session.specs.Ending.{GoesDown}
 use Rattle.neighbour_session.specs.Greeting.{Greets}
 use Rattle.neighbour_session.specs.Keeping.{IsServed, IsTurnedAway, LacksShares}
@@ -9,8 +10,11 @@ use Rattle.neighbour_session.specs.Words.{can_be_opened_again}
 use Rattle.neighbour_session.specs.declared.ends.SessionEnd.{SessionEnd}
 use Rattle.neighbour_session.specs.declared.ends.SessionEnd.TheVariants as end
 use Rattle.neighbour_session.specs.declared.greeting.Domain.{Domain}
+use Rattle.route_history.specs.declared.fault.CallFault.TheVariants as fault
 use Rattle.router_options.specs.declared.parts.LinkFiles.{LinkFiles}
+use Rattle.slot_lock.specs.Calls.{Refused}
 use Rattle.slot_lock.specs.Passes.{PassView, RouterView}
+use Rattle.slot_lock.specs.declared.answer.Answer.{Answer}
 use Rattle.router_daemon.specs.Passes.{TakesBack}
 
 -- A session whose Up was entered is over: it went down with nobody to serve it; or anybody entered what the neighbour said, and its Down.
@@ -37,6 +41,10 @@ pub record Meets (r : RouterView) (d : Domain) (neighbour : ℕ) (input : Reader
 abbrev pub Serves : RouterView → Domain → ℕ → ReaderView → WriterView → PassView → SessionEnd → PassView → Type 0
 Serves r d neighbour input output old why new = LacksShares old why new ⊎ (IsTurnedAway d neighbour input output old why new
     ⊎ Meets r d neighbour input output old why new)
+
+-- the Down of a session was entered, or the history is full, and takes none any more
+abbrev pub IsSettled : RouterView → ℕ → PassView → PassView → Type 0
+IsSettled r session old new = ((a : Answer) × Closes r session old a new) ⊎ Refused fault.Full r old new
 
 -- streams that nobody used
 pub record AreFresh (input : ReaderView) (output : WriterView) : Type 0 where
@@ -66,3 +74,18 @@ IsUnopened may_read may_write files = IsUnreadable may_read (string_bytes files.
 abbrev pub KeepsOnce : (List ℕ → Bool → Type 0) → (List ℕ → Bool → Type 0) → RouterView → Domain → LinkFiles → PassView → Bool → PassView → Type 0
 KeepsOnce may_read may_write r d files old again new =
     Opens r d files.node old again new ⊎ (IsUnopened may_read may_write files × (again ≡ true) × (new ≡ old))
+
+-- after how many nanoseconds a link is opened again: never without `--retry`, nor after a session that says that it cannot be
+abbrev pub reopens : Option ℕ → Bool → Option ℕ
+reopens None again = None
+reopens (Some seconds) false = None
+reopens (Some seconds) true = Some (seconds * 1000000000)
+
+-- A link is opened once, and what that came to and `--retry` alone decide whether it is opened again, and after how long.
+abbrev pub KeepsTurn : (List ℕ → Bool → Type 0) → (List ℕ → Bool → Type 0) → RouterView → Domain → LinkFiles → Option ℕ → PassView → Option ℕ → Type 0
+KeepsTurn may_read may_write r d files retry old wait =
+    (again : Bool) × (mid : PassView) × KeepsOnce may_read may_write r d files old again mid × (wait ≡ reopens retry again)
+
+-- A link stays closed after such a turn.
+abbrev pub StaysClosed : (List ℕ → Bool → Type 0) → (List ℕ → Bool → Type 0) → RouterView → Domain → LinkFiles → Option ℕ → Type 0
+StaysClosed may_read may_write r d files retry = (old : PassView) × KeepsTurn may_read may_write r d files retry old None

@@ -1,9 +1,10 @@
 //! Those who serve one session of a link.
+ghost use Rattle.std.specs.Prelude.{◌≡◌};
 
 use crate::signals::Signals;
+use link_board::Ending;
 use neighbour_session::{Crew, Leaver, READER};
-use netchange_core::Reply;
-use route_session::{Gate, MOST_TAKEN};
+use route_session::Gate;
 use slot_lock::Answer;
 use std::rt::Clock;
 use std::sync::Wait;
@@ -33,12 +34,8 @@ impl<'a> LinkCrew<'a> {
 #[derive(Drop)]
 pub(crate) struct LinkLeaver<'a> {
     signals: &'a Signals,
-    /// The link's number.
-    link: usize,
-    /// The session.
-    session: u32,
-    /// Whether this one ended the session, and nobody else did before.
-    is_first: bool,
+    /// What the board answered when this one ended the session.
+    ending: Ending,
     /// Whether this one is to enter its Down.
     owes_down: bool,
 }
@@ -46,14 +43,15 @@ pub(crate) struct LinkLeaver<'a> {
 impl<'a> LinkLeaver<'a> {
     /// Whether this one ended the session, and nobody else did before: then this one tells people why.
     pub(crate) fn ended_it(&self) -> bool {
-        self.is_first
+        self.ending.is_first()
     }
 
     /// Notes, when this one is done, whether the Down that it was to enter was refused.
     pub(crate) fn note_owed<R: Wait>(&self, rt: &R) {
         if self.owes_down {
-            self.signals.owe(rt, self.link, self.session);
-            self.signals.settle(rt, self.link);
+            self.signals
+                .owe(rt, self.ending.link(), self.ending.session());
+            self.signals.settle(rt, self.ending.link());
         }
     }
 }
@@ -86,14 +84,7 @@ impl<'a> Gate for LinkCrew<'a> {
     }
 
     fn answered<R: Wait + Clock>(&self, rt: &R, _job: u32, answer: &Answer) {
-        let Reply::Messages(messages) = &answer.reply else {
-            self.signals.note(rt, answer);
-            return;
-        };
-        let taken = messages.as_slice().len();
-        let mut board = self.signals.board.lock(rt);
-        board.note_taken(self.link, answer.at, taken, usize::from(MOST_TAKEN));
-        self.signals.wake_saver(board);
+        self.signals.note_served(rt, self.link, answer);
     }
 }
 
@@ -101,7 +92,7 @@ impl<'a> Leaver for LinkLeaver<'a> {
     fn ended<R: Wait + Clock>(&mut self, rt: &R, answer: &Answer) {
         self.owes_down = false;
         self.signals.note(rt, answer);
-        self.signals.settle(rt, self.link);
+        self.signals.settle(rt, self.ending.link());
     }
 }
 
@@ -112,18 +103,20 @@ impl<'a> Crew for LinkCrew<'a> {
         self.signals.session(rt, self.link) == Some(self.session)
     }
 
-    fn end<R: Wait + Clock>(self, rt: &R) -> (bool, LinkLeaver<'a>) {
+    fn end<R: Wait + Clock>(self, rt: &R) -> (bool, LinkLeaver<'a>)
+        ensures first { result.0 ≡ result.1.ending.is_first }
+        ensures of { (result.1.ending.link ≡ self.entry.link) × (result.1.ending.session ≡ self.entry.session) }
+    {
         let LinkCrew {
             signals,
             link,
             session,
         } = self;
-        let is_first = signals.end(rt, link, session);
+        let ending = signals.end(rt, link, session);
+        let is_first = ending.is_first();
         let leaver = LinkLeaver {
             signals,
-            link,
-            session,
-            is_first,
+            ending,
             owes_down: is_first,
         };
         (is_first, leaver)

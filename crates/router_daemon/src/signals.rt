@@ -1,13 +1,19 @@
 //! How the threads of a router wake one another.
-ghost use Rattle.std.specs.Prelude.{◌≡◌, IfOk};
+ghost use Rattle.std.specs.Prelude.{◌≡◌, IfOk, is_some};
+ghost use Rattle.link_board.specs.Boards.{AllAwake};
 
-use link_board::Board;
-use netchange_core::Reply;
+use link_board::{Board, Ending};
 use router_operator::Listener;
 use slot_lock::Answer;
 use std::alloc::{AllocError, Global};
 use std::rt::Clock;
 use std::sync::{Condvar, Mutex, MutexGuard, Wait};
+
+/// The router is being closed. Only `Signals` makes one: who has it was told so.
+#[derive(Drop)]
+pub(crate) struct Closing {
+    of: (),
+}
 
 /// What the threads of a router know together, and how they wake one another.
 #[derive(Drop)]
@@ -22,6 +28,17 @@ pub(crate) struct Signals {
     settled: Condvar,
     /// For each link the session that is over, but whose Down is not entered, so that the router has it still.
     owed: Vec<Mutex<Option<u32>>>,
+}
+
+/// That the router is being closed, if a board says so.
+fn closing_of(board: &Board) -> Option<Closing>
+    ensures { is_some result ≡ board.now.closing }
+{
+    if board.is_closing() {
+        Some(Closing { of: () })
+    } else {
+        None
+    }
 }
 
 /// So many bells.
@@ -49,14 +66,23 @@ fn ring_saver(board: &mut Board, saver_bell: &Condvar) {
     }
 }
 
-/// Wakes whom the board says.
-fn ring(board: &mut Board, bells: &[Condvar], saver_bell: &Condvar) {
-    for index in 0..bells.len() {
-        if board.wakes(index) {
-            bells[index].notify_one();
+/// Rings the bell of a link, if it is to be.
+fn ring_bell(bells: &[Condvar], index: usize, rings: bool) {
+    if rings {
+        if let Some(bell) = bells.get(index) {
+            bell.notify_one();
         }
     }
-    ring_saver(board, saver_bell);
+}
+
+/// Wakes the writers that the board says: none that is to be woken is left out.
+fn ring_writers(board: &mut Board, bells: &[Condvar])
+    ensures { AllAwake board.new }
+{
+    for index in 0..board.len() {
+        let rings = board.wakes(index);
+        ring_bell(bells, index, rings);
+    }
 }
 
 impl Signals {
@@ -73,7 +99,8 @@ impl Signals {
 
     /// Wakes whom the board says, and lets go of it.
     pub(crate) fn wake(&self, mut board: MutexGuard<'_, Board>) {
-        ring(&mut board, self.bells.as_slice(), &self.saver_bell);
+        ring_writers(&mut board, self.bells.as_slice());
+        ring_saver(&mut board, &self.saver_bell);
     }
 
     /// Wakes who saves the history, if the board says so, and lets go of it. That is enough where nothing came into a queue and no session
@@ -82,19 +109,27 @@ impl Signals {
         ring_saver(&mut board, &self.saver_bell);
     }
 
+    /// Wakes whom the board says, once an entry is noted by which something came into queues or not, and lets go of it.
+    fn wake_after(&self, board: MutexGuard<'_, Board>, has_changed: bool) {
+        if has_changed {
+            self.wake(board);
+        } else {
+            self.wake_saver(board);
+        }
+    }
+
     /// Notes the answer to a call: where it changed a distance, something waits for each neighbour.
     pub(crate) fn note<R: Wait>(&self, rt: &R, answer: &Answer) {
         let mut board = self.board.lock(rt);
-        match answer.reply {
-            Reply::Done { changed } if changed > 0 => {
-                board.note_changed(answer.at);
-                self.wake(board);
-            }
-            _ => {
-                board.note_entry(answer.at);
-                self.wake_saver(board);
-            }
-        }
+        let has_changed = board.note(answer.at, &answer.reply);
+        self.wake_after(board, has_changed);
+    }
+
+    /// Notes the answer to a call of those who serve a session of a link.
+    pub(crate) fn note_served<R: Wait>(&self, rt: &R, link: usize, answer: &Answer) {
+        let mut board = self.board.lock(rt);
+        let has_changed = board.note_served(link, answer.at, &answer.reply);
+        self.wake_after(board, has_changed);
     }
 
     /// The session of a link, if one is there.
@@ -105,6 +140,11 @@ impl Signals {
     /// Whether the router is being closed.
     pub(crate) fn is_closing<R: Wait>(&self, rt: &R) -> bool {
         self.board.lock(rt).is_closing()
+    }
+
+    /// That the router is being closed, if it is.
+    pub(crate) fn closing<R: Wait>(&self, rt: &R) -> Option<Closing> {
+        closing_of(&self.board.lock(rt))
     }
 
     /// Says that the Up or the Down of a session of a link is about to be entered. False, and it is not to be, where the router is being
@@ -135,6 +175,18 @@ impl Signals {
         }
     }
 
+    /// Sleeps until the history has more entries than are saved, or the router is being closed: that it is, if so.
+    pub(crate) fn await_entries<R: Wait>(&self, rt: &R, saved: usize) -> Option<Closing> {
+        let mut board = self.board.lock(rt);
+        for _ in rt.forever() {
+            if !board.rest_saver(saved as u64) {
+                return closing_of(&board);
+            }
+            board = self.saver_bell.wait(rt, board);
+        }
+        unreachable!()
+    }
+
     /// Begins a session of a link, whose Up has this answer. False where one is there already or the router is being closed.
     pub(crate) fn begin<R: Wait>(
         &self,
@@ -144,18 +196,19 @@ impl Signals {
         answer: &Answer,
     ) -> bool {
         let mut board = self.board.lock(rt);
-        board.note_entry(answer.at);
         let begins = board.begin(link, session, answer.at);
         self.wake(board);
         begins
     }
 
-    /// Ends a session of a link: true for the first who does, who is to enter its Down, and to say when that is settled.
-    pub(crate) fn end<R: Wait>(&self, rt: &R, link: usize, session: u32) -> bool {
+    /// Ends a session of a link: the answer says who is the first who does, who is to enter its Down, and to say when that is settled.
+    pub(crate) fn end<R: Wait>(&self, rt: &R, link: usize, session: u32) -> Ending
+        ensures { (result.link ≡ link) × (result.session ≡ session) }
+    {
         let mut board = self.board.lock(rt);
-        let is_first = board.end(link, session);
+        let ending = board.end(link, session);
         self.wake(board);
-        is_first
+        ending
     }
 
     /// Notes a session of a link that is over, but whose Down is not entered.
@@ -178,13 +231,7 @@ impl Listener for Signals {
 
     fn exported<R: Wait + Clock>(&self, rt: &R, node: u16, answer: &Answer) {
         let mut board = self.board.lock(rt);
-        match answer.reply {
-            Reply::Done { .. } => match board.link_to(node) {
-                Some(index) => board.note_queued(index, answer.at),
-                None => board.note_entry(answer.at),
-            },
-            _ => board.note_entry(answer.at),
-        }
+        board.note_exported(node, answer.at, &answer.reply);
         self.wake(board);
     }
 }

@@ -1,0 +1,44 @@
+//! Who ended a session.
+ghost use Rattle.std.specs.Prelude.{◌≡◌};
+
+use std::marker::Model;
+
+/// What a board answered to one who ended a session: whether nobody did so before. Only a board makes one, so that whoever hands it on says
+/// what the board said. A contract sees it as an `EndingView`.
+#[derive(Drop)]
+pub struct Ending {
+    pub(crate) link: usize,
+    pub(crate) session: u32,
+    pub(crate) is_first: bool,
+}
+
+impl Model for Ending {
+    ghost use Rattle.link_board.specs.Endings.{EndingView};
+
+    ghost Value = { EndingView };
+
+    ghost view = { λ e. record { link = e.link; session = e.session; is_first = e.is_first } };
+}
+
+impl Ending {
+    /// The link's number.
+    pub fn link(&self) -> usize
+        ensures { result ≡ self.now.link }
+    {
+        self.link
+    }
+
+    /// The session that is over.
+    pub fn session(&self) -> u32
+        ensures { result ≡ self.now.session }
+    {
+        self.session
+    }
+
+    /// Whether nobody ended it before: who is first is to enter its Down, and to tell people why.
+    pub fn is_first(&self) -> bool
+        ensures { result ≡ self.now.is_first }
+    {
+        self.is_first
+    }
+}
