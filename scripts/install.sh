@@ -1,10 +1,15 @@
 #!/usr/bin/env bash
 # Proves, builds and installs `ncroute` with its man pages, its completions for bash, zsh and fish, and the syntax files of `editors/`.
 #
-# usage: scripts/install.sh [PREFIX]      (PREFIX: /usr/local)
+# usage: scripts/install.sh [PREFIX]                (PREFIX: /usr/local)
+#        scripts/install.sh --library [PREFIX]      proves, builds and installs the library of filters for C in its place
 #   NCROUTE=PATH   a program that is built already: then none is proved and built here
+#   FILTER_C=PATH  an archive of the crate filter_c that is built already: then none is proved and built here
 set -eu
 top="$(cd "$(dirname "$0")/.." && pwd)"
+if [ "${1:-}" = --library ]; then
+    exec "$top/scripts/install_library.sh" "${2:-/usr/local}"
+fi
 prefix="${1:-/usr/local}"
 # The files for Visual Studio Code are installed from another folder.
 mkdir -p "$prefix"

@@ -1,8 +1,8 @@
 #!/usr/bin/env bash
 # The test command: proves every crate from nothing, tries the must-fail edits, runs all tests and the program, and then the examples
 # of the documents, the rows of tests/rows/, random inputs, runs with their exit status, random domains, runs at the program's limits, refused
-# allocations, the filters that BIRD answered, configurations that are imported, killed runs, routers that talk, broken filters and what
-# is installed. The last line is 'N passed, M failed', the sum of all.
+# allocations, the filters that BIRD answered, configurations that are imported, killed runs, routers that talk, broken filters, what
+# is installed, and the library for C. The last line is 'N passed, M failed', the sum of all.
 #
 # usage: scripts/test.sh [--all]      (--all: tries the edits of wrong-bodies/ too)
 set -u
@@ -70,5 +70,6 @@ add scripts/check_router.py
 add scripts/lab.py
 add scripts/check_broken_filters.py
 add scripts/check_install.py
+add scripts/check_library.py
 echo "$passed passed, $failed failed"
 [ "$failed" = 0 ]
