@@ -1,5 +1,5 @@
 -- Reading a text from the left: what the lexer's functions answer (this project's own choice).
--- No promise to a caller cites it: those cite Cutting, and proofs join the two.
+-- No promise to a caller cites it: those cite Tokenization, and proofs join the two.
 use Rattle.std.specs.Prelude.{◌≡◌, ℕ, ◌+◌, ◌-◌, ◌*◌, ◌==◌, ◌&&◌, ◌||◌, nat_le, nat_lt, if◌then◌else◌, Bool, false}
 use Rattle.std.specs.Prelude.{not, List, [], ◌∷◌, length, take, drop, find, codes, Option, Some, None, Result, Ok, Err}
 use Rattle.std.specs.Char.{digit_value, is_ascii_digit, is_ascii_hexdigit}
