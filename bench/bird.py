@@ -17,10 +17,12 @@ import os
 import subprocess
 import sys
 import tempfile
-import time
 
 from compare import seconds
 from generate import PATTERNS, Numbers, cut, net_near, pattern, written_address
+
+sys.path.append(os.path.join(os.path.dirname(os.path.abspath(__file__)), "..", "scripts"))
+from lib import bird  # noqa: E402
 
 SIZE = 64
 STATEMENTS = 100
@@ -80,35 +82,18 @@ def routes_near(numbers, net, count):
     return found
 
 
-class Daemon:
-    """A BIRD of our own, without any interface."""
+class Daemon(bird.Daemon):
+    """A BIRD whose processor time is counted."""
 
-    def __init__(self, folder, texts, routes):
-        self.control = os.path.join(folder, "control")
-        path = os.path.join(folder, "bird.conf")
-        with open(path, "w") as out:
-            out.write('log "' + os.path.join(folder, "log") + '" all;\nrouter id 1.2.3.4;\n')
-            out.write("".join(texts.values()))
-            out.write("protocol static {\n  ipv4;\n")
-            out.writelines(f"  route {net} blackhole {{ rip_metric = {metric}; }};\n" for net, metric in routes.items())
-            out.write("}\n")
-        self.process = subprocess.Popen(["bird", "-f", "-c", path, "-s", self.control])
-        while not os.path.exists(self.control) and self.process.poll() is None:
-            time.sleep(0.05)
-
-    def ask(self, question):
+    def count(self, question):
         """An answer's first word that is a number, and the processor time that it took, in seconds."""
         before = self.used()
-        said = subprocess.run(["birdc", "-s", self.control, question], stdout=subprocess.PIPE, text=True, check=True).stdout
+        said = self.ask(question)
         return int(next(word for word in said.split() if word.isdigit())), self.used() - before
 
     def used(self):
         with open(f"/proc/{self.process.pid}/schedstat") as spent:
             return int(spent.read().split()[0]) / 1e9
-
-    def end(self):
-        self.process.terminate()
-        self.process.wait()
 
 
 def code_of(ncroute, text):
@@ -132,7 +117,7 @@ def write_input(path, code, routes):
 def a_turn(bench_parts, daemon, name, path):
     """The seconds of ROUNDS rounds and of none here, how many routes BIRD accepts, and its seconds."""
     here = (seconds([bench_parts, "verified", str(rounds)], path) for rounds in (ROUNDS, 0))
-    return *here, *daemon.ask(f"show route filter {name} count")
+    return *here, *daemon.count(f"show route filter {name} count")
 
 
 def measured(programs, daemon, runs, texts, routes, folder):
@@ -174,7 +159,7 @@ def main(words):
     texts, net = filters(numbers)
     routes = routes_near(numbers, net, int(words[3]) if len(words) > 3 else 20_000)
     with tempfile.TemporaryDirectory() as folder:
-        daemon = Daemon(folder, texts, routes)
+        daemon = Daemon(folder, texts.values(), routes)
         try:
             rows = list(measured(programs, daemon, runs, texts, routes, folder))
         finally:

@@ -20,7 +20,7 @@ PREFIXES = ("10.0.0.0/8", "1.2.3.4/32", "0.0.0.0/0", "10.0.0.0/33", "10.0.0.0", 
 COMMANDS = (
     "network", "prefix", "code", "import", "export", "up", "up", "down", "recv", "recv", "recv", "recv", "take", "take", "show", "show",
     "Up", "jump", "", "# c", " # c", "up1",
-)  # fmt: skip
+)
 
 
 class Lines:

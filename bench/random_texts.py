@@ -33,7 +33,7 @@ TOKENS = (
     *"1: 2..3 3..2 0..4294967295 1..2..3 [1] case".split(),
     *"= < > ~ ! + - * / # /* */ & | ' $ print é".split(),
     "\n", " ", "a" * 64, "b" * 65, "!" * 31, "!" * 33, "(" * 32, "{" * 33, "if a then " * 33,
-)  # fmt: skip
+)
 
 
 def changed(numbers, tokens):

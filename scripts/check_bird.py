@@ -6,12 +6,11 @@ usage: NCROUTE=PATH scripts/check_bird.py     (PATH: the program as it is built)
 """
 import os
 import subprocess
-import sys
 import tempfile
 
-sys.dont_write_bytecode = True
-import bird_filters  # noqa: E402
-from program import built, finish  # noqa: E402
+from lib import bird
+from lib.counts import Counts
+from lib.program import built
 
 SIZE = "250"
 
@@ -27,17 +26,13 @@ def answers(ncroute, path, block):
 
 def main():
     ncroute = built()
-    passed = failed = 0
+    counts = Counts()
     with tempfile.TemporaryDirectory() as folder:
-        for path in bird_filters.files():
-            for block in bird_filters.read(path)[1]:
+        for path in bird.files():
+            for block in bird.read(path)[1]:
                 said = answers(ncroute, os.path.join(folder, "filter"), block)
-                if said == block.ours():
-                    passed += 1
-                else:
-                    failed += 1
-                    print(f"{os.path.basename(path)}: {block.name()}: answered {said}")
-    finish(passed, failed)
+                counts.judge(f"{os.path.basename(path)}: {block.name()}", said != block.ours() and f"answered {said}")
+    counts.finish()
 
 
 if __name__ == "__main__":

@@ -5,16 +5,16 @@ line for each example where that is not so, and at last 'N passed, M failed'.
 
 usage: NCROUTE=PATH scripts/check_broken_filters.py     (PATH: the program)
 """
-import glob
 import os
+import pathlib
 import re
 import shutil
 import subprocess
-import sys
 import tempfile
 
-sys.dont_write_bytecode = True
-from program import TOP, built, finish  # noqa: E402
+from lib import documents
+from lib.counts import Counts
+from lib.program import TOP, built
 
 # A filter of a file that gets into a script.
 TAKES_FILTER = re.compile(r"examples/\w+\.filter.*\bncroute (run|domain)\b|\bncroute run\b.*examples/\w+\.filter")
@@ -24,42 +24,35 @@ NO_MISTAKE = {"no mistake": ("accept;", "accept;")}
 
 
 def examples():
-    """The commands of the documents, each with the page that has it."""
-    for page in [os.path.join(TOP, "README.md"), *sorted(glob.glob(os.path.join(TOP, "docs", "*.md")))]:
-        with open(page, encoding="utf-8") as it:
-            for line in it:
-                if line.startswith("    $ ") and TAKES_FILTER.search(line):
-                    yield os.path.relpath(page, TOP), line[6:].rstrip("\n")
+    """The examples that take a filter from a file, each with the document that has it."""
+    return [(page, command) for page in documents.names() for command, _ in documents.examples(documents.read(page)) if TAKES_FILTER.search(command)]
+
+
+def mistaken(folder, right, wrong):
+    """A copy of the examples, where each filter has the mistake."""
+    shutil.copytree(TOP / "examples", os.path.join(folder, "examples"))
+    for path in pathlib.Path(folder).glob("examples/*.filter"):
+        text = path.read_text(encoding="utf-8")
+        assert right in text, path
+        path.write_text(text.replace(right, wrong), encoding="utf-8")
 
 
 def main():
-    program = built()
-    passed = failed = 0
+    program, counts = built(), Counts()
     with tempfile.TemporaryDirectory() as folder:
         os.mkdir(os.path.join(folder, "bin"))
         os.symlink(program, os.path.join(folder, "bin", "ncroute"))
-        for name, (right, wrong) in {**NO_MISTAKE, **MISTAKES}.items():
-            copy = os.path.join(folder, str(passed + failed))
-            shutil.copytree(os.path.join(TOP, "examples"), os.path.join(copy, "examples"))
-            for path in glob.glob(os.path.join(copy, "examples", "*.filter")):
-                with open(path, encoding="utf-8") as it:
-                    text = it.read()
-                assert right in text, path
-                with open(path, "w", encoding="utf-8") as it:
-                    it.write(text.replace(right, wrong))
-            words = {**os.environ, "PATH": os.path.join(folder, "bin") + os.pathsep + os.environ["PATH"]}
+        environment = {**os.environ, "PATH": os.path.join(folder, "bin") + os.pathsep + os.environ["PATH"]}
+        for name, mistake in {**NO_MISTAKE, **MISTAKES}.items():
+            copy = os.path.join(folder, name)
+            mistaken(copy, *mistake)
             for page, command in examples():
-                run = subprocess.run(["bash", "-c", command], cwd=copy, env=words, stdout=subprocess.PIPE, stderr=subprocess.DEVNULL, text=True)
+                words = ["bash", "-c", command]
+                run = subprocess.run(words, cwd=copy, env=environment, stdout=subprocess.PIPE, stderr=subprocess.DEVNULL, text=True)
                 found = IN_FORCE.search(run.stdout)
-                if bool(found) == (name in NO_MISTAKE):
-                    passed += 1
-                else:
-                    failed += 1
-                    print(f"{page}: with {name} `{command}` answers {found[0] if found else run.stdout!r}")
-    if not passed:
-        failed += 1
-        print("no example takes a filter from a file")
-    finish(passed, failed)
+                wrong = bool(found) != (name in NO_MISTAKE)
+                counts.judge(page, wrong and f"with {name} `{command}` answers {found[0] if found else run.stdout!r}")
+    counts.finish()
 
 
 if __name__ == "__main__":

@@ -6,7 +6,7 @@ usage: scripts/check_documents.py        (NCROUTE=PATH: the program; without it,
 - Each example: a line `    $ COMMAND` of README.md or docs/*.md, run where the examples of the repository are, writes the indented lines below it. One that
   looks at standard error (`2>&1`), names the file of a filter or a history other than behind `<` (as `ncroute filter` and `ncroute lint` do), or runs
   a router (`ncroute router`) needs the program, and is left out without NCROUTE=PATH.
-- Each block of several terminals (`    one$ COMMAND`, `    one> LINE`, `    one: LINE`), played as scripts/terminals.py says, needs the program too.
+- Each block of several terminals (`    one$ COMMAND`, `    one> LINE`, `    one: LINE`), played as lib/terminals.py says, needs the program too.
 - Each example that hands a filter from `ncroute check` on to another `ncroute` does nothing, and fails, with a filter that is refused.
 - The table of the examples in docs/LANGUAGE.md: each filter of examples/ answers the route so.
 - Each row of a table of codes says what `ncroute explain CODE` says, and each example of `ncroute explain` writes what it shows.
@@ -15,15 +15,14 @@ usage: scripts/check_documents.py        (NCROUTE=PATH: the program; without it,
 - Each link of a document to a file of the repository, or to a heading of a document, leads there.
 """
 import collections
-import glob
 import os
 import re
 import shutil
-import sys
 
-sys.dont_write_bytecode = True
-import program  # noqa: E402
-import terminals  # noqa: E402
+from lib import documents, terminals
+from lib.counts import Counts
+from lib.documents import examples, read
+from lib.program import TOP, Program, named
 
 # The document whose table has the codes of a letter, and the column of their meaning.
 TABLES = {"P": ("LANGUAGE", 1), "Y": ("KINDS", 1), "V": ("VERIFIER", 1), "C": ("CODE_FILE", 1), "K": ("MACHINE", 1), "E": ("LINES", 1), "O": ("SCRIPT", 1),
@@ -33,29 +32,6 @@ OTHER_CODES = ["G1", "G2", "G3"]
 MISTAKE = "filter mistake { acept; }"
 SIZE = 8
 SET = "0001" + "01000000" + "080f11"
-
-
-def read(name):
-    with open(os.path.join(program.TOP, name), encoding="utf-8") as it:
-        return it.read()
-
-
-def documents_here():
-    """The documents, by their names from the top of the repository."""
-    return ["README.md", *sorted(os.path.relpath(path, program.TOP) for path in glob.glob(os.path.join(program.TOP, "docs", "*.md")))]
-
-
-def examples(text):
-    """The commands of a document, and what they write."""
-    found = []
-    for line in text.split("\n"):
-        if line.startswith("    $ "):
-            found.append((line[6:], []))
-        elif line.startswith("    ") and found and found[-1][1] is not None:
-            found[-1][1].append(line[4:] + "\n")
-        elif found and not line.startswith("    "):
-            found.append(("", None))
-    return [(command, "".join(wanted)) for command, wanted in found if wanted is not None]
 
 
 def with_mistake(command):
@@ -111,7 +87,8 @@ def listed(text):
 
 def needs_program(command):
     """`rt try --cases` tells no standard error, and runs in a folder without the files of the repository."""
-    return "2>&1" in command or "ncroute filter" in command or "ncroute lint" in command or "ncroute router" in command or ".history" in command or ".filter" in re.sub(r"< *[\w/.]+", "", command)
+    words = ("2>&1", "ncroute filter", "ncroute lint", "ncroute router", ".history")
+    return any(word in command for word in words) or ".filter" in re.sub(r"< *[\w/.]+", "", command)
 
 
 def explained(ncroute, tell):
@@ -123,28 +100,25 @@ def explained(ncroute, tell):
     tell("ncroute explain", "pages", [(code, not pages[code].startswith(code + ": ") and "has no page") for code in codes])
     tell("docs", "rows of codes as explained", [(f"{name} {code}", meaning not in pages[code] and f"not said by `ncroute explain {code}`: {meaning}")
                                                 for name, code, meaning in rows])
-    shown = [(code, *row) for code in codes for row in examples(pages[code]) if os.environ.get("NCROUTE") or not needs_program(row[0])]
+    shown = [(code, *row) for code in codes for row in examples(pages[code]) if named() or not needs_program(row[0])]
     said = ncroute.runs([(command, b"") for _, command, _ in shown])
     tell("ncroute explain", "examples", [(command, wrote.decode() != wanted and f"{code}: wrote {wrote.decode()!r}, and not {wanted!r}")
                                          for (code, command, wanted), (wrote, _) in zip(shown, said)])
 
 
-def played(ncroute, tell):
-    """Plays what the documents show of several terminals. Returns how many blocks need a command that is not there, and were not played."""
-    skipped = 0
-    if not os.environ.get("NCROUTE"):
-        return skipped
-    for name in documents_here():
+def played(ncroute, tell, counts):
+    """Plays what the documents show of several terminals. A block that needs a command that is not there is skipped."""
+    if not named():
+        return
+    for name in documents.names():
         blocks = []
         for block in terminals.blocks(read(name)):
             if lacking := sorted(needed for needed in needs(block) if not shutil.which(needed)):
-                print(f"{name}: {' '.join(block[-1])}: not run: there is no `{'`, `'.join(lacking)}` here")
-                skipped += 1
+                counts.skip(f"{name}: {' '.join(block[-1])}", f"there is no `{'`, `'.join(lacking)}` here")
             else:
                 blocks.append(block)
         if blocks:
             tell(name, "blocks of terminals", [(" ".join(block[-1]), terminals.play(block, ncroute.environment())) for block in blocks])
-    return skipped
 
 
 def without_code(text):
@@ -171,7 +145,7 @@ def linked(name):
             continue
         path, _, heading = target.partition("#")
         file = os.path.normpath(os.path.join(os.path.dirname(name), path)) if path else name
-        if not os.path.exists(os.path.join(program.TOP, file)):
+        if not (TOP / file).exists():
             yield target, f"there is no {file}"
         else:
             yield target, heading and heading not in anchors(read(file)) and f"{file} has no heading #{heading}"
@@ -183,34 +157,32 @@ def needs(block):
 
 
 def main():
-    ncroute = program.Program()
-    passed = failed = 0
+    ncroute, counts = Program(), Counts()
 
     def tell(name, kind, rows):
-        nonlocal passed, failed
         rows = rows or [(kind, "there are none")]
         wrong = [row for row in rows if row[1]]
-        passed += len(rows) - len(wrong)
-        failed += len(wrong)
+        counts.add(len(rows) - len(wrong), len(wrong))
         print(f"{name}: {len(rows) - len(wrong)} {kind} passed, {len(wrong)} failed")
         for what, why in wrong:
             print(f"  {what}\n    {why}")
 
-    documents = [(name, list(examples(read(name)))) for name in documents_here()]
-    if not os.environ.get("NCROUTE"):
-        left_out = sum(needs_program(command) for _, rows in documents for command, _ in rows)
-        documents = [(name, [row for row in rows if not needs_program(row[0])]) for name, rows in documents]
+    shown = [(name, examples(read(name))) for name in documents.names()]
+    if not named():
+        left_out = sum(needs_program(command) for _, rows in shown for command, _ in rows)
+        shown = [(name, [row for row in rows if not needs_program(row[0])]) for name, rows in shown]
         print(f"{left_out} examples are left out: they need the program, NCROUTE=PATH")
-    closed = [(name, command) for name, rows in documents for command in (with_mistake(row[0]) for row in rows) if command]
+    closed = [(name, command) for name, rows in shown for command in (with_mistake(row[0]) for row in rows) if command]
     table, codes = list(answers(read("docs/LANGUAGE.md"))), list(listed(read("docs/VERIFIER.md")))
-    lines = [command for _, rows in documents for command, _ in rows] + [row[0] for row in table] + [row[0] for row in codes] + [row[1] for row in closed]
+    lines = [command for _, rows in shown for command, _ in rows]
+    lines += [row[0] for row in table] + [row[0] for row in codes] + [row[1] for row in closed]
     said = iter(ncroute.runs([(line, b"") for line in lines]))
 
     def compare(command, wanted):
         wrote, _ = next(said)
         return command, wrote != wanted.encode() and f"wrote {wrote.decode()!r}, and not {wanted!r}"
 
-    for name, rows in documents:
+    for name, rows in shown:
         if rows:
             tell(name, "examples", [compare(*row) for row in rows])
     tell("docs/LANGUAGE.md", "routes under examples/", [compare(*row) for row in table])
@@ -224,14 +196,14 @@ def main():
     tell("docs", "pipelines closed on a refused filter", [
         (command, (MISTAKE not in command and "has no filter of its own" or wrote and f"wrote {wrote.decode()!r}" or not status and "ends with status 0"))
         for command, (wrote, status) in shut])
-    for name in documents_here():
+    for name in documents.names():
         rows = list(linked(name))
         if rows:
             tell(name, "links", rows)
     explained(ncroute, tell)
-    skipped = played(ncroute, tell)
+    played(ncroute, tell, counts)
     ncroute.close()
-    program.finish(passed, failed, skipped)
+    counts.finish()
 
 
 if __name__ == "__main__":

@@ -12,16 +12,13 @@ Bellman's equation, and it is the one that is answered, with the least next hops
 they send and receive their messages, they come to the routes that `ncroute domain` computes.
 """
 import itertools
-import os
 import random
 import subprocess
 import sys
 
-sys.dont_write_bytecode = True
-import program  # noqa: E402
-
-sys.path.append(os.path.join(program.TOP, "bench"))
-from generate import Numbers  # noqa: E402
+from lib.counts import Counts
+from lib.processes import Process
+from lib.program import TOP, Program, named
 
 FILTERS = (
     "accept;",
@@ -45,33 +42,33 @@ class Lines:
         self.numbers, self.size = numbers, size
 
     def node(self):
-        return self.numbers.below(self.size + 1 if self.numbers.below(20) == 0 else self.size)
+        return self.numbers.randrange(self.size + 1 if self.numbers.randrange(20) == 0 else self.size)
 
     def name(self):
-        return self.numbers.one_of(NAMES)
+        return self.numbers.choice(NAMES)
 
     def line(self):
-        chosen = self.numbers.below(100)
+        chosen = self.numbers.randrange(100)
         if chosen < 35:
             return f"link {self.node()} {self.node()}"
         if chosen < 45:
             return f"cut {self.node()} {self.node()}"
         if chosen < 60:
-            return f"{self.numbers.one_of(('import', 'export'))} {self.node()} {self.node()} {self.name()}"
+            return f"{self.numbers.choice(('import', 'export'))} {self.node()} {self.node()} {self.name()}"
         if chosen < 68:
-            return f"load {self.name()} filter f {{ {self.numbers.one_of(FILTERS)} }}"
+            return f"load {self.name()} filter f {{ {self.numbers.choice(FILTERS)} }}"
         if chosen < 70:
-            return f"prefix {self.node()} 10.{self.numbers.below(4)}.{self.numbers.below(3)}.0/24"
-        verb = self.numbers.one_of(QUESTIONS)
+            return f"prefix {self.node()} 10.{self.numbers.randrange(4)}.{self.numbers.randrange(3)}.0/24"
+        verb = self.numbers.choice(QUESTIONS)
         words = {"route": 2, "path": 2, "table": 1, "draw": 1}.get(verb, 0)
         return " ".join([verb, *(str(self.node()) for _ in range(words))])
 
     def script(self):
-        yield from (f"prefix {self.node()} 10.{self.numbers.below(4)}.7.0/24" for _ in range(self.numbers.below(2)))
+        yield from (f"prefix {self.node()} 10.{self.numbers.randrange(4)}.7.0/24" for _ in range(self.numbers.randrange(2)))
         yield f"domain {self.size}"
-        yield from (f"prefix {v} 10.{v % 4}.{v}.0/24" for v in range(self.size) if self.numbers.below(4) == 0)
-        yield f"load a filter a {{ {self.numbers.one_of(FILTERS)} }}"
-        yield from (self.line() for _ in range(self.numbers.within(20, 80)))
+        yield from (f"prefix {v} 10.{v % 4}.{v}.0/24" for v in range(self.size) if self.numbers.randrange(4) == 0)
+        yield f"load a filter a {{ {self.numbers.choice(FILTERS)} }}"
+        yield from (self.line() for _ in range(self.numbers.randint(20, 80)))
         yield "settle"
         yield from (f"table {u}" for u in range(self.size))
 
@@ -146,23 +143,6 @@ def small_plans(ncroute):
 # ---- routers whose messages come in any order
 
 
-class Node:
-    """A router that is a run of `ncroute run`."""
-
-    def __init__(self, ncroute):
-        self.process = subprocess.Popen([ncroute, "run", "--explain", "never"], stdin=subprocess.PIPE, stdout=subprocess.PIPE)
-
-    def ask(self, line):
-        self.process.stdin.write(line.encode() + b"\n")
-        self.process.stdin.flush()
-        return self.process.stdout.readline().decode().rstrip("\n")
-
-    def close(self):
-        self.process.stdin.close()
-        self.process.stdout.close()
-        self.process.wait()
-
-
 def play(numbers, nodes, links):
     """Lets nodes send all that waits for another, and messages be received, in random order until nothing is left to do."""
     ways = [way for u, w in links for way in ((u, w), (w, u))]
@@ -191,7 +171,7 @@ def any_order(ncroute, number):
     asked = [f"route {u} {v}" for u in range(size) for v in range(size)]
     script = [f"domain {size}", *loads, *(f"link {u} {w}" for u, w in links), *(f"{kind} {u} {w} {name}" for kind, u, w, name in uses), *asked]
     wanted = subprocess.run([ncroute, "domain"], input="\n".join(script).encode(), capture_output=True).stdout.decode().splitlines()[-len(asked):]
-    nodes = [Node(ncroute) for _ in range(size)]
+    nodes = [Process([ncroute, "run", "--explain", "never"]) for _ in range(size)]
     for me, node in enumerate(nodes):
         for line in [f"network {size} {me}", *loads, *(f"{kind} {w} {name}" for kind, u, w, name in uses if u == me)]:
             node.ask(line)
@@ -221,26 +201,21 @@ def main(words):
     if len(words) > 2:
         sys.exit(__doc__)
     count, seed = (int(word) for word in (words + ["100", "1"][len(words):]))
-    numbers = Numbers(seed)
-    scripts = [("\n".join(Lines(numbers, numbers.within(2, 9)).script()) + "\n").encode() for _ in range(count)]
+    numbers, counts = random.Random(seed), Counts()
+    scripts = [("\n".join(Lines(numbers, numbers.randint(2, 9)).script()) + "\n").encode() for _ in range(count)]
     scripts.append(row_of(56))
-    asked = program.Program()
+    asked = Program()
     said = asked.runs([("ncroute domain", script) for script in scripts])
     asked.close()
-    failed = 0
     for number, (script, (output, _)) in enumerate(zip(scripts, said)):
-        slow = subprocess.run([sys.executable, os.path.join(program.TOP, "scripts", "domain_oracle.py")], input=script, capture_output=True, check=True).stdout
-        if answers(output) != answers(slow):
-            failed += 1
-            sys.stderr.write(f"script {number}\n{script.decode()}\nanswered\n{output.decode()}\nslowly\n{slow.decode()}\n")
-    passed = len(scripts) - failed
-    if ncroute := os.environ.get("NCROUTE"):
-        ncroute = os.path.realpath(ncroute)
+        words = [sys.executable, TOP / "scripts" / "domain_oracle.py"]
+        slow = subprocess.run(words, input=script, capture_output=True, check=True).stdout
+        is_wrong = answers(output) != answers(slow)
+        counts.judge(f"script {number}", is_wrong and f"\n{script.decode()}\nanswered\n{output.decode()}\nslowly\n{slow.decode()}")
+    if ncroute := named():
         for wrong in itertools.chain(small_plans(ncroute), (any_order(ncroute, number) for number in range(100))):
-            passed, failed = passed + (not wrong), failed + bool(wrong)
-            if wrong:
-                sys.stderr.write(f"{wrong}\n")
-    program.finish(passed, failed)
+            counts.judge("routes", wrong)
+    counts.finish()
 
 
 if __name__ == "__main__":

@@ -13,8 +13,8 @@ import sys
 import tempfile
 import time
 
-sys.dont_write_bytecode = True
-from program import TOP, built, finish  # noqa: E402
+from lib.counts import Counts
+from lib.program import TOP, built
 
 # The words with which the answers to events begin, whether the router refuses them or not.
 REPLIES = (b"opened ", b"done ", b"messages", b"route ", b"refused N")
@@ -92,36 +92,25 @@ def fault_in(program, answered, saved):
 
 
 def main(runs=200, seed=1):
-    program = built()
-    chosen = random.Random(seed)
-    failed = 0
+    program, counts, chosen = built(), Counts(), random.Random(seed)
     with tempfile.TemporaryDirectory() as folder:
-        script = os.path.join(folder, "script")
+        script, whole = os.path.join(folder, "script"), os.path.join(folder, "all")
         # The first of them refuses no line, so that its status is 0. The last is the one that is killed.
         for kind in ("messages", "mixed"):
             with open(script, "wb") as it:
-                made = [sys.executable, "-B", os.path.join(TOP, "bench", "script.py"), kind, "16", str(LINES)]
-                subprocess.run(made, stdout=it, check=True)
-            if fault := fault_at_end(program, script, os.path.join(folder, "all")):
-                failed += 1
-                print(f"{kind}, to its end: {fault}")
+                subprocess.run([sys.executable, "-B", TOP / "bench" / "script.py", kind, "16", str(LINES)], stdout=it, check=True)
+            counts.judge(f"{kind}, to its end", fault_at_end(program, script, whole))
         cut = 0
         for run in range(runs):
             # A machine that has more to do than before takes longer, and would be killed before the first entry each time.
             if run % 20 == 0:
-                longest = seconds_of(program, script, os.path.join(folder, "all"))
-            kept = os.path.join(folder, str(run))
-            answered, saved = written_by(program, script, kept, chosen.uniform(0, longest))
+                longest = seconds_of(program, script, whole)
+            answered, saved = written_by(program, script, os.path.join(folder, str(run)), chosen.uniform(0, longest))
             cut += bool(saved)
-            fault = fault_in(program, answered, saved)
-            if fault:
-                failed += 1
-                print(f"run {run}: {fault}")
+            counts.judge(f"run {run}", fault_in(program, answered, saved))
         # A run of which every moment comes before the first entry would show nothing.
-        if cut < runs // 4:
-            failed += 1
-            print(f"only {cut} of {runs} runs had saved something")
-    finish(runs + 3 - failed, failed)
+        counts.judge("all runs", cut < runs // 4 and f"only {cut} of {runs} had saved something")
+    counts.finish()
 
 
 if __name__ == "__main__":

@@ -12,12 +12,11 @@ import re
 import resource
 import signal
 import subprocess
-import sys
 import tempfile
 
-sys.dont_write_bytecode = True
-import bird_filters  # noqa: E402
-from program import built, finish  # noqa: E402
+from lib import bird
+from lib.counts import Counts
+from lib.program import built
 
 SIZE = "250"
 TOKEN = re.compile(r"\s+|#[^\n]*|/\*.*?\*/|(\"[^\"\n]*\"|\d+\.\d+\.\d+\.\d+(?:/\d+)?|0x[0-9a-fA-F]+|\d+|[A-Za-z_]\w*|&&|\|\||!=|!~|<=|>=|\.\.|.)", re.S)
@@ -297,14 +296,10 @@ class Trial:
 
     def __init__(self, ncroute, folder):
         self.ncroute, self.folder = ncroute, folder
-        self.passed = self.failed = self.number = 0
+        self.counts, self.number = Counts(), 0
 
     def check(self, name, holds, told=""):
-        if holds:
-            self.passed += 1
-        else:
-            self.failed += 1
-            print(f"{name}: {told}")
+        self.counts.expect(name, holds, told)
 
     def run(self, config, files=()):
         """What is printed, the exit status, and the text of each filter that was written, by its name."""
@@ -528,7 +523,7 @@ def constants(text, dice):
 
 def randoms(trial, seed, count):
     dice = random.Random(seed)
-    blocks = [block for path in bird_filters.files() if "differences" not in path for block in bird_filters.read(path)[1]]
+    blocks = [block for path in bird.files() if "differences" not in path for block in bird.read(path)[1]]
     for block in dice.sample(blocks, min(count, len(blocks))):
         defined, body = constants(block.filter, dice)
         config = f"log syslog all;\n{defined}\nprotocol kernel {{ learn; }}\n/* {block.name()} */\n{body.rstrip()}{dice.choice(['', ';'])}\ntemplate bgp t {{ local as 1; }}\n"
@@ -539,8 +534,8 @@ def randoms(trial, seed, count):
 
 def verdicts(trial):
     """What BIRD takes and is refused here: what is imported answers as BIRD did."""
-    for path in bird_filters.files():
-        for block in bird_filters.read(path)[1]:
+    for path in bird.files():
+        for block in bird.read(path)[1]:
             refused = any(refusal.startswith("refused ") for refusal in block.refusals)
             if not refused or block.birds() is None:
                 continue
@@ -574,7 +569,7 @@ def main():
         counts(trial)
         randoms(trial, seed, 300)
         verdicts(trial)
-    finish(trial.passed, trial.failed)
+    trial.counts.finish()
 
 
 if __name__ == "__main__":

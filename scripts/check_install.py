@@ -11,15 +11,14 @@ import os
 import re
 import shutil
 import subprocess
-import sys
 import tempfile
 
-sys.dont_write_bytecode = True
-import manual_checks  # noqa: E402
-import program  # noqa: E402
+import manual_checks
+from lib.counts import Counts
+from lib.program import TOP, built
 
-INSTALL = os.path.join(program.TOP, "scripts", "install.sh")
-FILTERS = sorted(glob.glob(os.path.join(program.TOP, "examples", "*.filter")))
+INSTALL = os.path.join(TOP, "scripts", "install.sh")
+FILTERS = sorted(glob.glob(os.path.join(TOP, "examples", "*.filter")))
 
 # The words of BIRD that are refused by name.
 LEFT_OUT = """function define print printn return include string pair quad ec lc bgppath bgpmask clist eclist lclist set from proto preference
@@ -48,12 +47,12 @@ VIM = {
     "comment": "ncrouteComment", "text": "ncrouteText", "net": "ncrouteNet", "number": "ncrouteNumber", "part": "ncroutePart",
     "statement": "ncrouteStatement", "kind": "ncrouteKind", "truth": "ncrouteTruth", "route": "ncrouteRoute", "left out": "ncrouteLeftOut",
     "sign": "ncrouteSign", "name": "", "mark": "",
-}  # fmt: skip
+}
 TEXTMATE = {
     "comment": "comment", "text": "string", "net": "constant.other", "number": "constant.numeric", "part": "support.function",
     "statement": "keyword.control", "kind": "storage.type", "truth": "constant.language", "route": "variable.language",
     "left out": "invalid", "sign": "keyword.operator", "name": "variable.other", "mark": "",
-}  # fmt: skip
+}
 
 
 def tokens(text):
@@ -75,7 +74,7 @@ def texts():
 def scopes(grammar, text):
     """The scope of each byte's token, as far as patterns give one."""
     rules = [(rule["name"], re.compile(rule.get("match") or f"{rule['begin']}.*?{rule['end']}", re.DOTALL if "begin" in rule else re.MULTILINE))
-             for rule in grammar["patterns"]]  # fmt: skip
+             for rule in grammar["patterns"]]
     found, at = {}, 0
     while at < len(text):
         matches = [(match.start(), index, match.end()) for index, (_, rule) in enumerate(rules) if (match := rule.search(text, at)) and match[0]]
@@ -114,7 +113,7 @@ def vim_differs(prefix):
                 it.write(f"let places = {json.dumps(places)}\n")
                 it.write(f"call writefile(map(places, {{_, p -> synIDattr(synID(p[0], p[1], 1), 'name')}}), '{said}')\nqall!\n")
             subprocess.run(["vim", "-N", "-u", "NONE", "-es", "--cmd", f"set runtimepath^={prefix}/share/vim/vimfiles", "-c", "filetype on",
-                            "-c", "syntax on", "-c", f"edit {path}", "-S", script], stdin=subprocess.DEVNULL, capture_output=True)  # fmt: skip
+                            "-c", "syntax on", "-c", f"edit {path}", "-S", script], stdin=subprocess.DEVNULL, capture_output=True)
             with open(said) as it:
                 names = it.read().split("\n")[:-1]
             os.remove(said)
@@ -132,7 +131,7 @@ def vim_differs(prefix):
 def completed(prefix, words):
     """What bash completes the last of some words to."""
     line = f'. {prefix}/share/bash-completion/completions/ncroute; COMP_WORDS=({" ".join(words)}); COMP_CWORD={len(words) - 1}; _ncroute; echo "${{COMPREPLY[@]}}"'
-    return subprocess.run(["bash", "-c", line], capture_output=True, text=True, cwd=program.TOP).stdout.split()
+    return subprocess.run(["bash", "-c", line], capture_output=True, text=True, cwd=TOP).stdout.split()
 
 
 def bash_differs(prefix):
@@ -185,21 +184,16 @@ CHECKS = (
 
 def main():
     # `install.sh` reads it too.
-    os.environ["NCROUTE"] = program.built()
-    passed = failed = skipped = 0
+    os.environ["NCROUTE"] = built()
+    counts = Counts()
     with tempfile.TemporaryDirectory() as prefix:
         subprocess.run([INSTALL, prefix], check=True, capture_output=True)
         for name, needed, differs in CHECKS:
             if needed and not shutil.which(needed):
-                print(f"{name}: not run: there is no `{needed}` here")
-                skipped += 1
-                continue
-            if why := differs(prefix):
-                print(f"{name}: {why}")
-                failed += 1
+                counts.skip(name, f"there is no `{needed}` here")
             else:
-                passed += 1
-    program.finish(passed, failed, skipped)
+                counts.judge(name, differs(prefix))
+    counts.finish()
 
 
 if __name__ == "__main__":

@@ -14,8 +14,8 @@ import subprocess
 import sys
 import tempfile
 
-sys.dont_write_bytecode = True
-import program  # noqa: E402
+from lib.counts import Counts
+from lib.program import TOP, built
 
 LINE = 1_048_576
 INPUT = 16_777_216
@@ -533,7 +533,7 @@ def limit_memory(room):
 
 def run(ncroute, words, given):
     """What the program writes, and its exit status."""
-    ran = subprocess.run([ncroute, *words.split()], input=given, capture_output=True, cwd=program.TOP, preexec_fn=lambda: limit_memory(ROOM))
+    ran = subprocess.run([ncroute, *words.split()], input=given, capture_output=True, cwd=TOP, preexec_fn=lambda: limit_memory(ROOM))
     return ran.stdout, ran.stderr, ran.returncode
 
 
@@ -708,7 +708,7 @@ def million_routes(ncroute):
             it.writelines(b"10.%d.%d.0/24 %d\n" % (at >> 8 & 255, at & 255, at % 16) for at in range(ROUTES))
         with open(routes, "rb") as given, open(answers, "wb") as taken:
             ran = subprocess.run(
-                [ncroute, "filter", "--size", "16", name], stdin=given, stdout=taken, stderr=subprocess.PIPE, cwd=program.TOP,
+                [ncroute, "filter", "--size", "16", name], stdin=given, stdout=taken, stderr=subprocess.PIPE, cwd=TOP,
                 preexec_fn=lambda: limit_memory(MEMORY),
             )
         with open(answers, "rb") as it:
@@ -717,7 +717,7 @@ def million_routes(ncroute):
 
 
 def main(wanted):
-    ncroute = program.built()
+    ncroute = built()
     rows = [(name, lambda words=words, row=row: differs(run(ncroute, words, (made := row())[0]), made[1:])) for name, words, row in ROWS]
     rows += [
         (name, lambda row=row: row(ncroute))
@@ -735,16 +735,11 @@ def main(wanted):
             ("run, domains of each size", domains_of_each_size),
         ]
     ]
-    passed = failed = 0
+    counts = Counts()
     for name, row in rows:
-        if wanted and not any(word in name for word in wanted):
-            continue
-        if said := row():
-            failed += 1
-            print(f"{name}: {said}")
-        else:
-            passed += 1
-    program.finish(passed, failed)
+        if not wanted or any(word in name for word in wanted):
+            counts.judge(name, row())
+    counts.finish()
 
 
 if __name__ == "__main__":

@@ -28,8 +28,9 @@ import subprocess
 import sys
 import tempfile
 
-sys.dont_write_bytecode = True
-import program  # noqa: E402
+from lib.counts import Counts
+from lib.processes import preloaded
+from lib.program import TOP, named
 
 AT_ONCE = max(2, os.cpu_count() or 1)
 # The modules whose tests are swept.
@@ -53,15 +54,12 @@ class Sweep:
     """Runs commands without their Nth allocation, by a small library that is loaded before the C library."""
 
     def __init__(self, folder):
-        self.folder, self.marks = folder, itertools.count()
-        self.library = os.path.join(folder, "refuse.so")
-        source = os.path.join(program.TOP, "scripts", "fail_nth_allocation.c")
-        subprocess.run(["cc", "-shared", "-fPIC", "-O1", "-o", self.library, source, "-ldl"], check=True)
+        self.folder, self.marks, self.refusing = folder, itertools.count(), preloaded("fail_nth_allocation.c", folder)
 
     def without(self, nth, words, given=b"", **more):
         """How the command ends without its Nth allocation: status, output and errors; `None` where it asks less often. A minute is its limit."""
         mark = os.path.join(self.folder, f"refused.{next(self.marks)}")
-        told = {**os.environ, "NTH_ALLOCATION": str(nth), "REFUSED_FILE": mark, "LD_PRELOAD": self.library, **more}
+        told = {**os.environ, "NTH_ALLOCATION": str(nth), "REFUSED_FILE": mark, **self.refusing, **more}
         try:
             ran = subprocess.run(words, input=given, capture_output=True, env=told, timeout=60)
             ended = ran.returncode, ran.stdout, ran.stderr
@@ -86,9 +84,9 @@ class Sweep:
 
 def built_tests():
     """The path of the built tests."""
-    folder = os.path.join(program.TOP, "crates", "test_calls")
-    tests = os.path.join(folder, "out", "test_calls_tests")
-    if not os.path.exists(tests):
+    folder = TOP / "crates" / "test_calls"
+    tests = folder / "out" / "test_calls_tests"
+    if not tests.exists():
         subprocess.run(["rt", "test"], cwd=folder, check=True, stdout=subprocess.DEVNULL)
     return tests
 
@@ -98,15 +96,15 @@ def is_refusal(status, errors):
     return status == -signal.SIGABRT and re.search(rb"(?m)^error: ", errors)
 
 
-def sweep_tests(sweep, pool):
-    """Sweeps each test of the modules, and returns how many passed and failed, and what their calls answered."""
+def sweep_tests(sweep, pool, counts):
+    """Sweeps each test of the modules, and then says how often each of the calls was refused memory and what it answered. Each has to be."""
     tests, answers = built_tests(), collections.defaultdict(collections.Counter)
-    passed = failed = all_refused = without = 0
+    all_refused = without = 0
     listed = subprocess.run([tests, "--list"], capture_output=True, check=True)
     for name in re.findall(r"(?m)^(.+): test$", (listed.stdout + listed.stderr).decode()):
         if name.split("::")[-2] not in MODULES:
             continue
-        faults = 0
+        faults = []
         for nth, (status, output, errors) in sweep.all(pool, [tests, name]):
             told = output + errors
             all_refused += 1
@@ -116,21 +114,13 @@ def sweep_tests(sweep, pool):
                 for call, answer in re.findall(r"(?m)^error: (\S+) answered (.+)$", told.decode(errors="replace")):
                     answers[call][answer] += 1
             else:
-                faults += 1
-                print(f"{name}: without allocation {nth}: status {status}\n{told.decode(errors='replace')}")
-        passed, failed = passed + (not faults), failed + bool(faults)
+                faults.append(f"without allocation {nth}: status {status}\n{told.decode(errors='replace')}")
+        counts.judge(name, "\n".join(faults))
     print(f"tests: {all_refused} allocations refused, {without} of them in tests that did without")
-    return passed, failed, answers
-
-
-def count_calls(answers):
-    """Says how often each of the calls was refused memory and what it answered. Each has to be."""
-    passed = failed = 0
     for call in CALLS:
         told = ", ".join(f"{answer} ({times})" for answer, times in sorted(answers[call].items()))
-        print(f"{call}: {told or 'was never refused memory'}")
-        passed, failed = passed + bool(told), failed + (not told)
-    return passed, failed
+        counts.judge(call, not told and "was never refused memory")
+        print(f"{call}: {told}")
 
 
 def runs_of(ncroute):
@@ -139,7 +129,7 @@ def runs_of(ncroute):
         with open(file, "rb") as it:
             return it.read()
 
-    example = os.path.join(program.TOP, "examples", "")
+    example = f"{TOP}/examples/"
     filters, scripts = sorted(glob.glob(f"{example}*.filter")), sorted(glob.glob(f"{example}*.script"))
     yield ["eval"], text(f"{example}up_two.eval"), MEMORY
     for file in filters:
@@ -156,56 +146,39 @@ def begins_whole(output, whole):
     return whole.startswith(output) and (not output or output.endswith(b"\n"))
 
 
-def sweep_runs(sweep, pool):
-    ncroute = os.environ.get("NCROUTE") or os.path.join(program.TOP, "crates", "ncroute", "out", "ncroute")
-    passed = failed = all_refused = 0
+def sweep_runs(sweep, pool, counts):
+    ncroute, all_refused = named() or f"{TOP}/crates/ncroute/out/ncroute", 0
     for words, given, ends in runs_of(ncroute):
         ever = subprocess.run([ncroute, *words], input=given, capture_output=True)
-        faults, refused, came = 0, 0, set()
+        faults, came = [], set()
         for nth, (status, output, errors) in sweep.all(pool, [ncroute, *words], given):
             if (status, output, errors) == (ever.returncode, ever.stdout, ever.stderr):
                 continue
-            refused += 1
+            all_refused += 1
             came.add(errors)
             if status != 1 or errors not in ends or not begins_whole(output, ever.stdout):
-                faults += 1
-                print(f"{' '.join(words)}: without allocation {nth}: status {status}, {errors.decode(errors='replace')!r}, {len(output)} bytes written")
-        for end in sorted(ends - came):
-            faults += 1
-            print(f"{' '.join(words)}: no refusal ended it with {end.decode()!r}")
-        is_well = not faults
-        passed, failed, all_refused = passed + is_well, failed + (not is_well), all_refused + refused
+                faults.append(f"without allocation {nth}: status {status}, {errors.decode(errors='replace')!r}, {len(output)} bytes written")
+        faults += [f"no refusal ended it with {end.decode()!r}" for end in sorted(ends - came)]
+        counts.judge(" ".join(words), "; ".join(faults))
     print(f"runs: {all_refused} allocations refused that ended a run")
-    return passed, failed
-
-
-def refuse_replays(sweep, pool):
-    """`net` replays three histories once its threads have ended: it asks for memory then, and each refusal ends it."""
-    words = [os.environ.get("NCROUTE") or os.path.join(program.TOP, "crates", "ncroute", "out", "ncroute"), "net"]
-    ended = list(pool.map(lambda nth: sweep.without(nth, words, BEHIND_THREADS="1"), range(1, LEAST_OF_REPLAYS + 1)))
-    wrong = [(nth, end) for nth, end in enumerate(ended, 1) if end not in [(1, b"", errors) for errors in MEMORY]]
-    if wrong:
-        print(f"net, behind its threads: without allocation {wrong[0][0]} of {LEAST_OF_REPLAYS}: {wrong[0][1]}")
-    return int(not wrong), int(bool(wrong))
+    # `net` replays three histories once its threads have ended: it asks for memory then, and each refusal ends it.
+    numbers = range(1, LEAST_OF_REPLAYS + 1)
+    ended = pool.map(lambda nth: sweep.without(nth, [ncroute, "net"], BEHIND_THREADS="1"), numbers)
+    wrong = [f"without allocation {nth}: {end}" for nth, end in zip(numbers, ended) if end not in [(1, b"", errors) for errors in MEMORY]]
+    counts.judge("net, behind its threads", "; ".join(wrong))
 
 
 def main():
     names = sys.argv[1:] or ["calls", "runs"]
     if not set(names) <= {"calls", "runs"}:
         sys.exit(__doc__)
-    passed = failed = 0
+    counts = Counts()
     # Thousands of tests end by an abort, and are not to leave a core each.
     resource.setrlimit(resource.RLIMIT_CORE, (0, resource.getrlimit(resource.RLIMIT_CORE)[1]))
     with tempfile.TemporaryDirectory() as folder, concurrent.futures.ThreadPoolExecutor(AT_ONCE) as pool:
-        sweep = Sweep(folder)
         for name in names:
-            if name == "runs":
-                counts = [sweep_runs(sweep, pool), refuse_replays(sweep, pool)]
-            else:
-                well, ill, answers = sweep_tests(sweep, pool)
-                counts = [(well, ill), count_calls(answers)]
-            passed, failed = passed + sum(it[0] for it in counts), failed + sum(it[1] for it in counts)
-    program.finish(passed, failed)
+            (sweep_runs if name == "runs" else sweep_tests)(Sweep(folder), pool, counts)
+    counts.finish()
 
 
 if __name__ == "__main__":

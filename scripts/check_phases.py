@@ -19,6 +19,8 @@ import copy
 import random
 import sys
 
+from lib.counts import Counts
+
 
 class Domain:
     """One destination, node 0, and for each two nodes filters, what was heard, what waits and what is on its way."""
@@ -277,18 +279,13 @@ def main(words):
     if len(words) > 2 or not all(word.isdigit() for word in words):
         sys.exit(__doc__)
     count, seed = (int(word) for word in (words + ["600", "1"][len(words):]))
-    reached, passed, failed = Reached(), 0, 0
+    reached, judged = Reached(), Counts()
     for number in range(count):
-        wrong = check_domain(seed, number, reached)
-        passed, failed = passed + (not wrong), failed + bool(wrong)
-        if wrong:
-            sys.stderr.write(f"domain {number}: {wrong}\n")
+        judged.judge(f"domain {number}", check_domain(seed, number, reached))
     print("reached:", ", ".join(f"{bound} {times}" for bound, times in reached.counts.items()))
-    never = [bound for bound, times in reached.counts.items() if not times]
-    if never:
-        sys.stderr.write(f"never reached: {', '.join(never)}\n")
-    print(f"{passed} passed, {failed + len(never)} failed")
-    sys.exit(bool(failed or never))
+    if never := [bound for bound, times in reached.counts.items() if not times]:
+        judged.judge("bounds", f"never reached: {', '.join(never)}")
+    judged.finish()
 
 
 if __name__ == "__main__":

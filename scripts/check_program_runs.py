@@ -7,11 +7,8 @@ usage: scripts/check_program_runs.py     (NCROUTE=PATH: the program; without it,
 With NCROUTE=PATH it runs the program on streams that fail too: closed ones, a full device, an input that is a folder. And it runs it on a
 terminal, where people are told more.
 """
-import os
-import sys
-
-sys.dont_write_bytecode = True
-import program  # noqa: E402
+from lib.counts import Counts
+from lib.program import Program, named
 
 FILTER = b"filter up2 { rip_metric = rip_metric + 2; accept; }\n"
 CODE = b"4e4346320000000008130100000002201424157071"
@@ -301,22 +298,21 @@ def filling(room, line, output, taken):
 
 
 def main():
-    ncroute = program.Program()
-    faults = FAULTS + [filling(*row) for row in FULL] if os.environ.get("NCROUTE") else []
+    ncroute = Program()
+    faults = FAULTS + [filling(*row) for row in FULL] if named() else []
     said = ncroute.runs([(f"ncroute {words}", given) for words, given, _, _ in RUNS] + [(line, b"") for line, _ in faults])
     wanted = [(output, status) for _, _, output, status in RUNS] + [(output, 0) for _, output in faults]
     names = [f"ncroute {words}".strip() for words, _, _, _ in RUNS] + [line for line, _ in faults]
-    terminals = TERMINALS if os.environ.get("NCROUTE") else []
+    terminals = TERMINALS if named() else []
     names += [f"{line}, on a terminal" for line, _, _, _ in terminals]
     said += [ncroute.on_terminal(line, typed) for line, typed, _, _ in terminals]
     wanted += [(output, shown) for _, _, output, shown in terminals]
-    failed = 0
+    counts = Counts()
     for name, (wrote, status), (output, wanted_status) in zip(names, said, wanted):
-        if (wrote, status) != (output, wanted_status):
-            failed += 1
-            print(f"{name}: wrote {wrote!r} and ended with {status}, and not {output!r} with {wanted_status}")
+        is_wrong = (wrote, status) != (output, wanted_status)
+        counts.judge(name, is_wrong and f"wrote {wrote!r} and ended with {status}, and not {output!r} with {wanted_status}")
     ncroute.close()
-    program.finish(len(names) - failed, failed)
+    counts.finish()
 
 
 if __name__ == "__main__":

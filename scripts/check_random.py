@@ -27,9 +27,9 @@ import subprocess
 import sys
 import tempfile
 
-sys.dont_write_bytecode = True
-import bird_filters  # noqa: E402
-import program  # noqa: E402
+from lib import bird
+from lib.counts import Counts
+from lib.program import TOP, built
 
 FILES, TEXTS, PAIRS, SCRIPTS, HISTORIES, SETS = 3000, 1500, 1000, 300, 300, 30
 ROUTES, TOLD_ROUTES, COMPARED_ROUTES, COMPARED_CLASSES = 6, 60, 100, 4000
@@ -85,7 +85,7 @@ def tokens(text):
 
 def worked(kind):
     """The inputs of the rows of a kind in tests/rows/worked.rows."""
-    with open(os.path.join(program.TOP, "tests", "rows", "worked.rows"), encoding="utf-8") as it:
+    with open(TOP / "tests" / "rows" / "worked.rows", encoding="utf-8") as it:
         return [line.encode() for line in re.findall(rf"(?m)^\$ check --size \d+{kind}\n< (.*)$", it.read())]
 
 
@@ -148,8 +148,8 @@ class Laws:
     """The laws, and what kept and broke them."""
 
     def __init__(self, ncroute, seed):
-        self.ncroute, self.seed, self.passed, self.failed, self.pairs = ncroute, seed, 0, 0, 0
-        self.bird = [block for path in bird_filters.files() for block in bird_filters.read(path)[1]]
+        self.ncroute, self.seed, self.counts, self.pairs = ncroute, seed, Counts(), 0
+        self.bird = [block for path in bird.files() for block in bird.read(path)[1]]
         self.pool = concurrent.futures.ThreadPoolExecutor()
 
     def numbers(self, law, number):
@@ -157,9 +157,7 @@ class Laws:
         return random.Random(f"{self.seed} {law} {number}")
 
     def judge(self, law, number, wrong):
-        if wrong:
-            print(f"{law}, case {number} of seed {self.seed}: {wrong}")
-        self.passed, self.failed = self.passed + (not wrong), self.failed + bool(wrong)
+        self.counts.judge(f"{law}, case {number} of seed {self.seed}", wrong)
 
     def run(self, words, given):
         """What a run writes, and its status."""
@@ -533,9 +531,9 @@ def dotted(address):
 
 
 def main(words):
-    laws = Laws(program.built(), words[0] if words else "1")
+    laws = Laws(built(), words[0] if words else "1")
     laws.all()
-    program.finish(laws.passed, laws.failed)
+    laws.counts.finish()
 
 
 if __name__ == "__main__":

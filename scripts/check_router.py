@@ -16,10 +16,10 @@ import subprocess
 import sys
 import time
 
-sys.dont_write_bytecode = True
-from program import built, finish  # noqa: E402
-from router_runs import PATIENCE, SIZE, Run  # noqa: E402
-from router_sizes import SizeRows  # noqa: E402
+from lib.processes import open_files
+from lib.program import built
+from lib.routers import PATIENCE, SIZE, Run
+from router_sizes import SizeRows
 
 GIGABYTE = 1 << 30
 
@@ -84,8 +84,7 @@ class Rows(SizeRows):
 
     def with_one(self, behave, says, more=(), history=None):
         """Node 1 behaves so while node 2 is served; standard error says that."""
-        run = Run(self.program, more=more)
-        try:
+        with Run(self.program, more=more) as run:
             one = run.neighbours[1]
             one.open()
             try:
@@ -100,8 +99,6 @@ class Rows(SizeRows):
                 found = run.asks_until("history 0", history)
                 self.judge("history", re.search(history, found), found)
             self.end(run)
-        finally:
-            run.close()
 
     def row_silent(self):
         self.with_one(lambda one: None, "")
@@ -121,26 +118,23 @@ class Rows(SizeRows):
         self.say_without_end(1, lambda one: None, history=r"^(?!.*up 1)")
 
     def say_without_end(self, line, begin, history):
-        run = Run(self.program)
-        try:
+        with Run(self.program) as run:
             one = run.neighbours[1]
             one.open()
             begin(one)
-            before = run.memory()
+            before = run.kilobytes("VmHWM")
             most = one.holds() + MOST_TAKEN
             taken = one.say_without_end(GIGABYTE)
             print(f"a gigabyte without a line feed: {taken} bytes were taken", file=sys.stderr)
             self.judge("taken", taken <= most, taken)
             self.judge_too_long(run, line, before, history)
-        finally:
-            run.close()
 
     def judge_too_long(self, run, line, before, history):
         """The line was too long, and cost no memory."""
         wanted = f"link 1: line {line} has more than 64 bytes: closed\n"
         text = run.said(wanted)
         self.judge("says", wanted in text, text)
-        more = run.memory() - before
+        more = run.kilobytes("VmHWM") - before
         print(f"a gigabyte without a line feed: {more} kB more memory", file=sys.stderr)
         self.judge("memory", more <= MOST_MEMORY, more)
         self.serve_two(run)
@@ -150,8 +144,7 @@ class Rows(SizeRows):
 
     def row_gigabyte_of_a_file(self):
         """IN is a file that has a gigabyte behind its greeting, without a line feed."""
-        run = Run(self.program)
-        try:
+        with Run(self.program) as run:
             one = run.neighbours[1]
             # The router waits for its output to be opened.
             os.remove(one.there)
@@ -159,11 +152,9 @@ class Rows(SizeRows):
                 it.write(b"netchange 1 8 1\n")
                 it.truncate(GIGABYTE)
             run.ask("routes")
-            before = run.memory()
+            before = run.kilobytes("VmHWM")
             one.open()
             self.judge_too_long(run, 2, before, r"up 1 opened 1 .*down 1 done")
-        finally:
-            run.close()
 
     def row_binary(self):
         def behave(one):
@@ -201,8 +192,7 @@ class Rows(SizeRows):
             ends = "ended its stream" if count in (0, 16, 20) else "ended within line"
             self.name = f"closes at byte {count}"
             # The first line that node 1 is told is the router's greeting. It may have closed its end before that is written.
-            run = Run(self.program)
-            try:
+            with Run(self.program) as run:
                 one = run.neighbours[1]
                 one.open()
                 behave(one)
@@ -210,21 +200,15 @@ class Rows(SizeRows):
                 self.judge("says", ends in said or "could not be written" in said, said)
                 self.serve_two(run)
                 self.end(run)
-            finally:
-                run.close()
 
     def row_nobody_opens(self):
-        run = Run(self.program)
-        try:
+        with Run(self.program) as run:
             self.serve_two(run)
             self.end(run)
-        finally:
-            run.close()
 
     def row_never_read(self):
         """Node 1 hears nothing while node 2 changes its mind 40,000 times."""
-        run = Run(self.program)
-        try:
+        with Run(self.program) as run:
             one, two = run.neighbours[1], run.neighbours[2]
             one.open()
             one.greet()
@@ -240,13 +224,10 @@ class Rows(SizeRows):
             self.end(run)
             said = run.replays()
             self.judge("each was entered", int(said.split()[-1]) > 40000, said)
-        finally:
-            run.close()
 
     def row_out_breaks(self):
         """Node 1 closes what it is told, and says something after its session is over."""
-        run = Run(self.program)
-        try:
+        with Run(self.program) as run:
             one = run.neighbours[1]
             one.open()
             one.greet()
@@ -261,13 +242,10 @@ class Rows(SizeRows):
             self.judge("one down", found.count("down 1 ") == 1, found)
             self.judge("nothing of the old session", "recv 1 3 0 done" not in found, found)
             self.end(run)
-        finally:
-            run.close()
 
     def row_out_breaks_in_silence(self):
         """Node 1 closes what it is told, and says nothing: that is told at once, and once. Once it has ended, it can come again."""
-        run = Run(self.program, more=("--retry", "1"))
-        try:
+        with Run(self.program, more=("--retry", "1")) as run:
             one = run.neighbours[1]
             one.open()
             one.greet()
@@ -285,13 +263,10 @@ class Rows(SizeRows):
             text = run.said("", patience=0)
             self.judge("says once", text == wanted, text)
             self.end(run)
-        finally:
-            run.close()
 
     def row_comes_again(self):
         """Node 1 ends and comes again, with --retry: each time in a session of its own."""
-        run = Run(self.program, more=("--retry", "1"))
-        try:
+        with Run(self.program, more=("--retry", "1")) as run:
             self.serve_two(run)
             one = run.neighbours[1]
             for times in range(1, 4):
@@ -306,13 +281,10 @@ class Rows(SizeRows):
             found = run.ask("history 0")
             self.judge("sessions", len(re.findall(r"up 1 opened", found)) == 3 == len(re.findall(r"down \d+ done", found)), found)
             self.end(run)
-        finally:
-            run.close()
 
     def row_ends_while_quiet(self):
         """Node 1 ends while all is quiet: who writes to it takes nothing for it any more."""
-        run = Run(self.program)
-        try:
+        with Run(self.program) as run:
             self.serve_two(run)
             one = run.neighbours[1]
             one.open()
@@ -329,12 +301,9 @@ class Rows(SizeRows):
             self.judge("one down", found.count(f" down {session} ") == 1, found)
             self.judge("nothing is taken for it", f" take {session} " not in later, later)
             self.end(run)
-        finally:
-            run.close()
 
     def row_operator(self):
-        run = Run(self.program, more=("--prefix", "3=192.168.0.0/24"))
-        try:
+        with Run(self.program, more=("--prefix", "3=192.168.0.0/24")) as run:
             self.serve_two(run)
             rows = (
                 ("up 1", "refused O9 "), ("down 2", "refused O9 "), ("up 3", "opened 2"), ("down 3", "done 0"), ("network 4 0", "refused O5 "),
@@ -348,8 +317,6 @@ class Rows(SizeRows):
             run.neighbours[2].say(b"3 1\n")
             self.judge("filtered", run.asks_until("show 3", "via 2") == "route 6 via 2")
             self.end(run)
-        finally:
-            run.close()
 
     def row_wrong_words(self):
         """One line says which option has which value and why it is refused, the first that is wrong; nothing is read, and the status is 2."""
@@ -360,21 +327,16 @@ class Rows(SizeRows):
             self.judge(" ".join(words), right, told)
 
     def row_input_ends(self):
-        run = Run(self.program)
-        try:
+        with Run(self.program) as run:
             self.serve_two(run)
-            run.process.stdin.close()
-            self.judge("ends", run.process.wait(timeout=PATIENCE) == 0)
+            self.judge("ends", run.end() == 0)
             said = run.replays()
             self.judge("replay", said.startswith("replay ok "), said)
-        finally:
-            run.close()
 
     def row_no_standard_input(self):
         """The router is started without standard input: what its neighbour says is not the operator's, though IN is opened first."""
         for _ in range(5):
-            run = Run(self.program, nodes=(1,), more=("--stay",), prepare=lambda: os.close(0), node=3, saves=False, early=(1,))
-            try:
+            with Run(self.program, nodes=(1,), more=("--stay",), prepare=lambda: os.close(0), node=3, saves=False, early=(1,)) as run:
                 one = run.neighbours[1]
                 one.reads = os.open(one.back, os.O_RDONLY | os.O_NONBLOCK)
                 one.greet()
@@ -382,47 +344,36 @@ class Rows(SizeRows):
                 for wanted in ("link 1: line 2 is no message: closed\n", "operator: E1: no more lines are taken\n"):
                     text = run.said(wanted)
                     self.judge("says", wanted in text, text)
-                self.judge("stays", run.process.poll() is None)
+                self.judge("stays", run.is_running())
                 run.process.kill()
                 answers = run.process.stdout.read()
                 self.judge("answers nothing", answers == b"", answers)
-            finally:
-                run.close()
 
     def row_no_standard_output(self):
         """The router is started without standard output: no answer gets into the history."""
-        run = Run(self.program, prepare=lambda: os.close(1))
-        try:
-            run.process.stdin.write(b"show 2\nroutes\nquit\n")
-            run.process.stdin.close()
-            status = run.process.wait(timeout=PATIENCE)
+        with Run(self.program, prepare=lambda: os.close(1)) as run:
+            run.say(b"show 2\nroutes\nquit\n")
+            status = run.end()
             said = run.replays()
             self.judge("status", status == 1, status)
             self.judge("replay", said == "replay ok 1", said)
-        finally:
-            run.close()
 
     def row_stays_without_operator(self):
         """Nobody reads the answers any more: with --stay that is told, and the router goes on without its operator."""
-        run = Run(self.program, more=("--stay",))
-        try:
+        with Run(self.program, more=("--stay",)) as run:
             self.serve_two(run)
             run.process.stdout.close()
-            run.process.stdin.write(b"routes\n")
-            run.process.stdin.flush()
+            run.say(b"routes\n")
             wanted = "operator: E2: no more lines are taken\n"
             text = run.said(wanted)
             self.judge("says", text == wanted, text)
             two = run.neighbours[2]
             two.say(b"3 1\n")
             self.judge("2 hears", two.hear(b"3 2\n"), two.told)
-            self.judge("stays", run.process.poll() is None)
-        finally:
-            run.close()
+            self.judge("stays", run.is_running())
 
     def row_stays_and_is_killed(self):
-        run = Run(self.program, more=("--stay",))
-        try:
+        with Run(self.program, more=("--stay",)) as run:
             good = run.neighbours[2]
             good.open()
             good.greet()
@@ -430,21 +381,18 @@ class Rows(SizeRows):
             good.say(b"2 0\n3 1\n")
             self.judge("2 hears", good.hear(b"3 2\n"), good.told)
             time.sleep(1.0)
-            self.judge("stays", run.process.poll() is None)
+            self.judge("stays", run.is_running())
             text = run.said("", patience=0)
             self.judge("says nothing", text == "", text)
             run.kill()
             said = run.replays()
             self.judge("replay", said.startswith("replay ok ") and int(said.split()[-1]) >= 3, said)
-        finally:
-            run.close()
 
     def row_full_disk(self):
         def prepare():
             signal.signal(signal.SIGXFSZ, signal.SIG_IGN)
             resource.setrlimit(resource.RLIMIT_FSIZE, (4096, 4096))
-        run = Run(self.program, prepare=prepare)
-        try:
+        with Run(self.program, prepare=prepare) as run:
             self.serve_two(run)
             run.neighbours[2].say(b"3 0\n3 1\n" * 1000 + b"4 0\n")
             self.judge("2 is served", run.asks_until("show 4", "via 2") == "route 1 via 2")
@@ -453,12 +401,9 @@ class Rows(SizeRows):
             self.judge("quit", run.quit() == ("ok", 1))
             said = run.replays()
             self.judge("replay", said.startswith(("cut ", "replay ok ")), said)
-        finally:
-            run.close()
 
     def row_full_history(self):
-        run = Run(self.program, more=("--limit", "60", "--retry", "1"))
-        try:
+        with Run(self.program, more=("--limit", "60", "--retry", "1")) as run:
             self.serve_two(run)
             run.neighbours[2].say(b"3 0\n3 1\n" * 100)
             text = run.said("J1")
@@ -467,19 +412,16 @@ class Rows(SizeRows):
             self.judge("answers", answer == "refused J1 60", answer)
             self.judge("looks", run.ask("routes").startswith("routes 0:0 "))
             self.end(run)
-        finally:
-            run.close()
 
     def row_memory_is_refused(self):
         """Memory is refused while node 1 floods the link, and is there again later: no session stays that nobody serves."""
-        run = Run(self.program, more=("--retry", "1"), environment={"MALLOC_ARENA_MAX": "1"})
-        try:
+        with Run(self.program, more=("--retry", "1"), environment={"MALLOC_ARENA_MAX": "1"}) as run:
             one, two = run.neighbours[1], run.neighbours[2]
             for each in (one, two):
                 each.open()
                 each.greet()
                 self.judge("is up", each.hear(b"7 8\n"), each.told)
-            taken = int(run.status("VmSize").split()[0]) << 10
+            taken = run.kilobytes("VmSize") << 10
             resource.prlimit(run.process.pid, resource.RLIMIT_AS, (taken, resource.RLIM_INFINITY))
             with contextlib.suppress(BrokenPipeError):
                 while "J2" not in run.said("", patience=0):
@@ -496,8 +438,6 @@ class Rows(SizeRows):
             answer = run.asks_until("neighbours", " 1:")
             self.judge("1 comes again", " 1:" in answer, answer)
             self.end(run)
-        finally:
-            run.close()
 
     def row_no_threads(self):
         """Only some of 20 links get a thread for their writers: the others are closed, and these are served.
@@ -520,14 +460,13 @@ class Rows(SizeRows):
         def prepare():
             resource.setrlimit(resource.RLIMIT_STACK, (stack, resource.getrlimit(resource.RLIMIT_STACK)[1]))
             resource.setrlimit(resource.RLIMIT_AS, (limit, limit))
-        run, found = Run(self.program, nodes=range(1, 21), size=30, prepare=prepare), []
-        try:
-            self.find_without_threads(run, found)
-        except BrokenPipeError as why:
-            found.append(("runs", False, str(why)))
-        finally:
+        found = []
+        with Run(self.program, nodes=range(1, 21), size=30, prepare=prepare) as run:
+            try:
+                self.find_without_threads(run, found)
+            except BrokenPipeError as why:
+                found.append(("runs", False, str(why)))
             ended = run.said("", patience=0).endswith("ncroute: E3\n")
-            run.close()
         return [] if ended else found
 
     def find_without_threads(self, run, found):
@@ -555,11 +494,10 @@ class Rows(SizeRows):
 
 def main(words):
     program = built()
-    soft, hard = resource.getrlimit(resource.RLIMIT_NOFILE)
-    resource.setrlimit(resource.RLIMIT_NOFILE, (max(soft, min(2048, hard)), hard))
+    open_files(2048)
     rows = Rows(program)
     rows.run(words)
-    finish(rows.passed, rows.failed)
+    rows.counts.finish()
 
 
 if __name__ == "__main__":

@@ -5,168 +5,18 @@ usage: scripts/check_rows.py [NAME..]
        (NAMEs: of files, as `eval`; NCROUTE=PATH: the program; without it, the sources as they are, by `rt try`: rows with files, on a
        terminal or with lines on standard error are left out then)
 
-A file has rows with empty lines between them. A row is lines that begin with a sign and a blank:
-
-    $ WORDS     the words of the command line behind `ncroute`, as a shell takes them
-    < LINE      a line of standard input
-    > LINE      a line of standard output
-    ! LINE      a line of standard error, which has no other
-    = STATUS    the exit status; without this line 0
-    - LINE      a line of standard input of a further run of the same words, which the lines below belong to. Without a `=`, it ends with 1 where
-                the last line that it writes begins with `refused`, and with 0 otherwise
-    ~ WORDS     what is a terminal: `input`, `errors`, or both
-    @ NAME      a file; `<` below it are the lines that the row finds there, or else `>` those that it leaves
-    # TEXT      a comment
-
-The lines of a sign belong together, whatever stands between them: so each answer may stand below its line of the input. `>...` and `!...` stand
-for any lines, or none. Files that stand by themselves, without a `$`, are there for every row below them, and `examples/` is there for all.
-
-In a line `\\t`, `\\r`, `\\n`, `\\xHH` and `\\\\` are bytes, `\\(N TEXT\\)` is the text so many times, and a line that ends with `\\` has no line feed.
+`lib/rows.py` says how a file of rows is laid out.
 """
 import os
-import re
 import sys
 import tempfile
 
-sys.dont_write_bytecode = True
-import program  # noqa: E402
+from lib.counts import Counts
+from lib.program import TOP, Program, named
+from lib.rows import FOLDER, rows_of
 
-FOLDER = os.path.join(program.TOP, "tests", "rows")
-SPECIAL = re.compile(r"\\(?:x([0-9a-f]{2})|([\\tnr])|\((\d+) (.*?)\\\))")
-NAMED = {"\\": b"\\", "t": b"\t", "r": b"\r", "n": b"\n"}
-ANY_LINES = rb"(?:[^\n]*\n)*"
 # What ends an input that is typed.
 CTRL_D = b"\4"
-
-
-def spelled(text):
-    """The bytes of a text with its escapes."""
-    out, end = b"", 0
-    for found in SPECIAL.finditer(text):
-        byte, name, times, part = found.groups()
-        out += text[end:found.start()].encode()
-        out += bytes.fromhex(byte) if byte else NAMED[name] if name else spelled(part) * int(times)
-        end = found.end()
-    return out + text[end:].encode()
-
-
-def bytes_of(line):
-    """The bytes of a line: those of its text, and a line feed unless it ends with a backslash of its own."""
-    is_open = (len(line) - len(line.rstrip("\\"))) % 2 == 1
-    return spelled(line[:-1]) if is_open else spelled(line) + b"\n"
-
-
-class Wanted:
-    """The lines that are wanted of a stream or a file."""
-
-    def __init__(self):
-        self.parts = [b""]
-
-    def add(self, line):
-        self.parts[-1] += line
-
-    def add_any(self):
-        self.parts.append(b"")
-
-    def is_met(self, text):
-        return re.fullmatch(ANY_LINES.join(map(re.escape, self.parts)), text, re.S) is not None
-
-    def last_line(self):
-        """The last line that is wanted."""
-        return self.parts[-1].rstrip(b"\n").rpartition(b"\n")[2]
-
-    def __repr__(self):
-        return " ... ".join(map(repr, self.parts))
-
-
-class Row:
-    """What the program is run on, and what it must answer."""
-
-    def __init__(self, place, files):
-        self.place, self.words, self.files = place, None, dict(files)
-        self.given, self.output, self.errors, self.left = b"", Wanted(), Wanted(), {}
-        self.status, self.terminals, self.looks_at_errors, self.has_files = None, set(), False, bool(files)
-        self.is_further = False
-
-    def further(self, place, text):
-        """A further run of the same words, on this line."""
-        row = Row(place, self.files)
-        row.words, row.is_further = self.words, True
-        row.take("<", text, None)
-        return row
-
-    def take(self, sign, text, file):
-        """Takes a line of the row, below the line of a file if there is one. Returns the file that the next line is below."""
-        if sign == "@":
-            self.has_files, file = True, os.fsdecode(spelled(text))
-            self.left[file] = Wanted()
-            return file
-        if sign == "$":
-            self.words = text
-        elif sign == "<" and file is None:
-            self.given += bytes_of(text)
-        elif sign == "<":
-            if self.left.pop(file, None):
-                self.files[file] = b""
-            self.files[file] += bytes_of(text)
-        elif sign == ">":
-            (self.output if file is None else self.left[file]).add(bytes_of(text))
-        elif sign == "!":
-            self.looks_at_errors = True
-            self.errors.add(bytes_of(text))
-        elif sign == "=":
-            self.status = int(text)
-        else:
-            self.terminals = set(text.split())
-            if not self.terminals or self.terminals - {"input", "errors"}:
-                sys.exit(f"{self.place}: behind `~` stand `input`, `errors`, or both")
-        return file
-
-    def is_files_alone(self):
-        """Whether no line says what a program is given or what it must do."""
-        has_more = self.given or self.left or self.looks_at_errors or self.terminals or self.output.parts != [b""]
-        return bool(self.files) and not has_more and self.status is None
-
-    def wanted_status(self):
-        """The exit status that is wanted."""
-        if self.status is None and self.is_further:
-            return int(self.output.last_line().startswith(b"refused"))
-        return self.status or 0
-
-    def needs_program(self):
-        return self.has_files or self.looks_at_errors or self.terminals or "examples/" in self.words
-
-
-def rows_of(path):
-    """The rows of a file."""
-    name = os.path.relpath(path, program.TOP)
-    files, row, file = {}, None, None
-    with open(path, encoding="utf-8", newline="\n") as it:
-        lines = it.read().split("\n") + [""]
-    for number, line in enumerate(lines, 1):
-        if line.startswith("#"):
-            continue
-        if not line:
-            if row and row.words is None:
-                if not row.is_files_alone():
-                    sys.exit(f"{row.place}: a row needs a line `$ WORDS`")
-                files = row.files
-            elif row:
-                yield row
-            row = file = None
-            continue
-        row = row or Row(f"{name}:{number}", files)
-        if line in (">...", "!..."):
-            (row.output if line[0] == ">" else row.errors).add_any()
-            row.looks_at_errors |= line[0] == "!"
-        elif line[0] == "-" and line[1:2] in ("", " ") and row.words:
-            if row.is_further:
-                yield row
-            row, file = row.further(f"{name}:{number}", line[2:]), None
-        elif line[0] in "$<>!=~@" and line[1:2] in ("", " "):
-            file = row.take(line[0], line[2:], file)
-        else:
-            sys.exit(f"{name}:{number}: a line begins with a sign and a blank")
 
 
 class Place:
@@ -176,7 +26,7 @@ class Place:
         self.outer = os.path.join(outer, str(number))
         self.folder, self.errors, self.status, self.given = (os.path.join(self.outer, name) for name in ("here", "errors", "status", "given"))
         os.makedirs(self.folder)
-        os.symlink(os.path.join(program.TOP, "examples"), os.path.join(self.folder, "examples"))
+        os.symlink(TOP / "examples", os.path.join(self.folder, "examples"))
         for name, text in [*row.files.items(), ("../given", row.given)]:
             path = os.path.join(self.folder, name)
             os.makedirs(os.path.dirname(path), exist_ok=True)
@@ -221,25 +71,22 @@ class Place:
 
 
 def main(names):
-    is_built = bool(os.environ.get("NCROUTE"))
-    paths = [os.path.join(FOLDER, name) for name in sorted(os.listdir(FOLDER)) if not names or os.path.splitext(name)[0] in names]
+    is_built = bool(named())
+    paths = [path for path in sorted(FOLDER.glob("*.rows")) if not names or path.stem in names]
     rows = [row for path in paths for row in rows_of(path)]
     if not is_built:
         print(f"{sum(bool(row.needs_program()) for row in rows)} rows are left out: they need the program, NCROUTE=PATH")
         rows = [row for row in rows if not row.needs_program()]
-    ncroute, outer = program.Program(), tempfile.TemporaryDirectory()
+    ncroute, outer, counts = Program(), tempfile.TemporaryDirectory(), Counts()
     places = [Place(outer.name, number, row) for number, row in enumerate(rows)]
     plain = [place for place in places if not place.row.terminals]
     said = dict(zip(plain, ncroute.runs([(place.line(f"2>{place.errors}"), place.row.given) for place in plain])))
-    failed = 0
     for place in places:
         output, status = said[place] if place in said else place.on_terminal(ncroute)
-        if wrong := list(place.differences(output, status, is_built)):
-            failed += 1
-            print(f"{place.row.place}: ncroute {place.row.words}: {'; '.join(wrong)}")
+        counts.judge(f"{place.row.place}: ncroute {place.row.words}", "; ".join(place.differences(output, status, is_built)))
     outer.cleanup()
     ncroute.close()
-    program.finish(len(rows) - failed, failed)
+    counts.finish()
 
 
 if __name__ == "__main__":

@@ -25,7 +25,8 @@ if [ -z "${NCROUTE:-}" ]; then
     "$top/scripts/build.sh" "${how[@]}" "$NCROUTE"
 fi
 install -D -m 755 "$NCROUTE" "$prefix/bin/ncroute"
-"$top/scripts/make_manual.py" "$prefix/bin/ncroute" "$prefix"
+# Where this runs as root, it leaves no folder of its own in the sources.
+PYTHONDONTWRITEBYTECODE=1 "$top/scripts/make_manual.py" "$prefix/bin/ncroute" "$prefix"
 for part in syntax ftdetect; do
     install -D -m 644 "$top/editors/vim/$part/ncroute.vim" "$prefix/share/vim/vimfiles/$part/ncroute.vim"
 done

@@ -19,25 +19,23 @@ The last line is 'N passed, M failed'. With --keep the folder with the FIFOs and
 """
 import argparse
 import os
-import re
-import resource
-import select
 import shutil
-import signal
 import subprocess
 import sys
 import tempfile
 import time
 import traceback
 
-sys.dont_write_bytecode = True
-from program import TOP, built, entries_of, finish  # noqa: E402
+from lib.counts import Counts
+from lib.processes import PATIENCE, Router, open_files
+from lib.program import TOP, built
+
 TOPOLOGIES = ("examples/ring_of_five.domain", "examples/grid_of_sixteen.domain")
 SETUP = ("domain", "prefix", "load", "link", "import", "export")
 
-# Seconds: what is quiet makes no entry for so long; nothing takes longer than that to be quiet; how long idle routers are looked at, if no
-# option says otherwise; what was answered so long ago is saved.
-QUIET, PATIENCE, IDLE, SAVED = 0.5, 30.0, 2.0, 1.0
+# Seconds: what is quiet makes no entry for so long; how long idle routers are looked at, if no option says otherwise; what was answered so long ago is
+# saved.
+QUIET, IDLE, SAVED = 0.5, 2.0, 1.0
 
 
 class Topology:
@@ -69,69 +67,37 @@ class Topology:
         return tables
 
 
-class Router:
-    """The process of one node."""
+class Node:
+    """A node, whose router may be killed and started again."""
 
-    def __init__(self, lab, node):
-        self.lab, self.node, self.starts, self.process = lab, node, 0, None
-
-    def history(self):
-        return os.path.join(self.lab.folder, f"{self.node}.{self.starts}.history")
+    def __init__(self, lab, number):
+        self.lab, self.number, self.starts, self.router = lab, number, 0, None
 
     def start(self):
         self.starts += 1
         lab, topology = self.lab, self.lab.topology
-        words = [lab.program, "router", "--size", str(topology.size), "--node", str(self.node), "--save", self.history(), "--retry", "1"]
+        history = os.path.join(lab.folder, f"{self.number}.{self.starts}.history")
+        options = ["--retry", "1"]
         for node, prefix in topology.prefixes:
-            words += ["--prefix", f"{node}={prefix}"]
-        used = {name for _, node, _, name in topology.uses if node == self.node}
-        for name in sorted(used):
-            words += ["--filter", f"{name}={lab.filter_file(name)}"]
-        for kind, node, other, name in topology.uses:
-            if node == self.node:
-                words += [f"--{kind}", f"{other}={name}"]
-        for other in topology.neighbours(self.node):
-            words += ["--link", f"{other}={lab.fifo(other, self.node, 'in')},{lab.fifo(self.node, other, 'out')}"]
-        self.errors = open(os.path.join(lab.folder, f"{self.node}.errors"), "ab")
-        self.process = subprocess.Popen(words, stdin=subprocess.PIPE, stdout=subprocess.PIPE, stderr=self.errors)
+            options += ["--prefix", f"{node}={prefix}"]
+        uses = [(kind, other, name) for kind, node, other, name in topology.uses if node == self.number]
+        for name in sorted({name for _, _, name in uses}):
+            options += ["--filter", f"{name}={lab.filter_file(name)}"]
+        for kind, other, name in uses:
+            options += [f"--{kind}", f"{other}={name}"]
+        links = {other: (lab.fifo(other, self.number, "in"), lab.fifo(self.number, other, "out")) for other in topology.neighbours(self.number)}
+        with open(os.path.join(lab.folder, f"{self.number}.errors"), "ab") as errors:
+            self.router = Router(lab.program, topology.size, self.number, links, history, options, errors=errors)
 
-    def ask(self, line):
-        self.process.stdin.write(line.encode() + b"\n")
-        self.process.stdin.flush()
-        # Each answer is one line, so that none is left in the buffer. A router that gives none would keep the lab for ever.
-        if not select.select([self.process.stdout], [], [], PATIENCE)[0]:
-            raise TimeoutError(f"node {self.node} does not answer {line!r}")
-        return self.process.stdout.readline().decode().rstrip("\n")
+    def is_running(self):
+        return self.router is not None and self.router.is_running()
 
     def saved(self):
+        """How many bytes of its history are saved."""
         try:
-            return os.path.getsize(self.history())
+            return os.path.getsize(self.router.history)
         except OSError:
             return 0
-
-    def processor_time(self):
-        with open(f"/proc/{self.process.pid}/stat") as it:
-            fields = it.read().rsplit(")", 1)[1].split()
-        return (int(fields[11]) + int(fields[12])) / os.sysconf("SC_CLK_TCK")
-
-    def memory(self):
-        with open(f"/proc/{self.process.pid}/status") as it:
-            return int(re.search(r"VmRSS:\s*(\d+)", it.read())[1])
-
-    def quit(self):
-        answer = self.ask("quit")
-        self.process.stdin.close()
-        status = self.process.wait(timeout=10)
-        self.errors.close()
-        return answer, status
-
-    def kill(self):
-        self.process.send_signal(signal.SIGKILL)
-        self.process.wait()
-        self.process.stdin.close()
-        self.process.stdout.close()
-        self.errors.close()
-        self.process = None
 
 
 class Lab:
@@ -141,13 +107,13 @@ class Lab:
         self.program, self.name, self.idle = program, os.path.basename(path), idle
         self.topology = Topology(path)
         self.folder = tempfile.mkdtemp(prefix="lab.")
-        self.passed = self.failed = 0
+        self.counts = Counts()
         self.cats = {}
         for u, w in self.topology.links:
             for a, b in ((u, w), (w, u)):
                 for end in ("out", "in"):
                     os.mkfifo(self.fifo(a, b, end))
-        self.routers = [Router(self, node) for node in range(self.topology.size)]
+        self.nodes = [Node(self, number) for number in range(self.topology.size)]
 
     def fifo(self, a, b, end):
         """What `a` tells `b`: the end where it is written, or where it is read."""
@@ -173,14 +139,10 @@ class Lab:
                 cat.wait()
 
     def judge(self, what, holds, told=""):
-        if holds:
-            self.passed += 1
-        else:
-            self.failed += 1
-            print(f"{self.name}: {what}: failed {told}", file=sys.stderr)
+        self.counts.expect(f"{self.name}: {what}", holds, told)
 
     def sizes(self):
-        return [router.saved() for router in self.routers if router.process]
+        return [node.saved() for node in self.nodes if node.is_running()]
 
     def await_quiet(self, quiet=QUIET):
         """Waits until no history grows for so long: the seconds until then, or None."""
@@ -204,7 +166,7 @@ class Lab:
         while time.monotonic() - begun < PATIENCE:
             quiet = self.await_quiet()
             rest = None if quiet is None else time.monotonic() - begun - QUIET
-            found = [router.ask("routes") if router.process else None for router in self.routers]
+            found = [node.router.ask("routes") if node.is_running() else None for node in self.nodes]
             if all(a == b for a, b in zip(found, wanted) if a is not None):
                 break
             # A link that was closed is opened again after a second.
@@ -217,9 +179,9 @@ class Lab:
     def look_at_idle(self):
         # The tables may be right before the last message is entered, which on a loaded machine comes late.
         self.await_quiet(IDLE)
-        before = [(router.saved(), router.processor_time()) for router in self.routers]
+        before = [(node.saved(), node.router.processor_time()) for node in self.nodes]
         time.sleep(self.idle)
-        after = [(router.saved(), router.processor_time()) for router in self.routers]
+        after = [(node.saved(), node.router.processor_time()) for node in self.nodes]
         most = max(t - s for (_, s), (_, t) in zip(before, after))
         print(f"{self.name}: idle for {self.idle:g} s: at most {most:.2f} s of processor time", file=sys.stderr)
         for node, ((a, s), (b, t)) in enumerate(zip(before, after)):
@@ -228,12 +190,12 @@ class Lab:
     def run(self):
         for link in self.topology.links:
             self.connect(link)
-        for router in self.routers:
-            router.start()
+        for node in self.nodes:
+            node.start()
         self.compare("begun", [])
         self.look_at_idle()
-        most = max(self.routers, key=lambda router: router.memory())
-        print(f"{self.name}: at most {most.memory()} kB, of node {most.node}", file=sys.stderr)
+        most, number = max((node.router.kilobytes("VmRSS"), node.number) for node in self.nodes)
+        print(f"{self.name}: at most {most} kB, of node {number}", file=sys.stderr)
         link = tuple(sorted((self.topology.cuts or self.topology.links)[0]))
         u, w = link
         self.cut(link)
@@ -242,39 +204,41 @@ class Lab:
         self.compare("mended", [])
         text = "filter farther { rip_metric = rip_metric + 1; accept; }"
         more = [f"load farther {text}", f"import {u} {w} farther"]
-        self.judge("load", self.routers[u].ask(more[0]).startswith("verified "))
-        self.judge("import", self.routers[u].ask(f"import {w} farther").startswith("done "))
+        self.judge("load", self.nodes[u].router.ask(more[0]).startswith("verified "))
+        self.judge("import", self.nodes[u].router.ask(f"import {w} farther").startswith("done "))
         self.compare("filtered", more)
-        victim = self.routers[w]
-        answered = entries_of(victim.ask)
-        time.sleep(SAVED)
-        victim.kill()
-        self.replay(victim, may_be_cut=True)
-        with open(victim.history()) as it:
-            saved = it.read().split("\n")[1:-1]
-        self.judge("killed: all is saved", saved[:len(answered)] == answered, f"{len(saved)} entries of {len(answered)}")
+        self.kill(self.nodes[w])
         mine = [tuple(sorted((w, other))) for other in self.topology.neighbours(w)]
         for one in mine:
             self.cut(one)
         self.compare("killed", more + [f"cut {a} {b}" for a, b in mine])
         for one in mine:
             self.connect(one)
-        victim.start()
+        self.nodes[w].start()
         self.compare("started again", more)
-        for router in self.routers:
-            answer, status = router.quit()
-            self.judge(f"quit: node {router.node}", (answer, status) == ("ok", 0), f"{answer} {status}")
-            self.replay(router)
+        for node in self.nodes:
+            answer, status = node.router.quit()
+            self.judge(f"quit: node {node.number}", (answer, status) == ("ok", 0), f"{answer} {status}")
+            self.replay(node)
 
-    def replay(self, router, may_be_cut=False):
-        said = subprocess.run([self.program, "replay", router.history()], capture_output=True, check=False).stdout.decode()
+    def kill(self, victim):
+        """Kills a router, a second after it answered its history."""
+        answered = victim.router.entries()
+        time.sleep(SAVED)
+        victim.router.kill()
+        self.replay(victim, may_be_cut=True)
+        saved = victim.router.saved()
+        self.judge("killed: all is saved", saved[:len(answered)] == answered, f"{len(saved)} entries of {len(answered)}")
+
+    def replay(self, node, may_be_cut=False):
+        said = node.router.replays()
         right = said.startswith("replay ok ") or may_be_cut and said.startswith("cut ")
-        self.judge(f"replay: node {router.node}", right, said)
+        self.judge(f"replay: node {node.number}", right, said)
 
     def close(self, keep):
-        for router in self.routers:
-            if router.process and router.process.poll() is None:
-                router.kill()
+        for node in self.nodes:
+            if node.router:
+                node.router.close()
         for cat in self.cats.values():
             cat.kill()
             cat.wait()
@@ -288,12 +252,12 @@ def main(words):
     parser = argparse.ArgumentParser(usage=__doc__)
     parser.add_argument("--keep", action="store_true")
     parser.add_argument("--idle", type=float, default=IDLE)
-    parser.add_argument("paths", nargs="*", default=[os.path.join(TOP, path) for path in TOPOLOGIES])
+    parser.add_argument("paths", nargs="*", default=[str(TOP / path) for path in TOPOLOGIES])
     asked = parser.parse_args(words)
     program = built()
     # A router has two files open for each link, and inherits this limit.
-    resource.setrlimit(resource.RLIMIT_NOFILE, (min(4096, resource.getrlimit(resource.RLIMIT_NOFILE)[1]),) * 2)
-    passed = failed = 0
+    open_files(4096)
+    counts = Counts()
     for path in asked.paths:
         lab = Lab(program, path, asked.idle)
         begun = time.monotonic()
@@ -304,9 +268,9 @@ def main(words):
             lab.judge("runs", False, str(why))
         finally:
             lab.close(asked.keep)
-        print(f"{lab.name}: {lab.passed} passed, {lab.failed} failed, {time.monotonic() - begun:.1f} s", file=sys.stderr)
-        passed, failed = passed + lab.passed, failed + lab.failed
-    finish(passed, failed)
+        print(f"{lab.name}: {lab.counts.passed} passed, {lab.counts.failed} failed, {time.monotonic() - begun:.1f} s", file=sys.stderr)
+        counts.add(lab.counts.passed, lab.counts.failed)
+    counts.finish()
 
 
 if __name__ == "__main__":

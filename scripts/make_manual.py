@@ -1,6 +1,6 @@
 #!/usr/bin/env python3
 """Writes the man pages of `ncroute` from what `ncroute --help` and the help of each command say and from the documents of `docs/` (as
-manual_documents.py has them), and its completions for bash, zsh and fish from the help alone.
+`lib/manual.py` has them), and its completions for bash, zsh and fish from the help alone.
 
 usage: make_manual.py NCROUTE FOLDER     (NCROUTE: the program as it is built; FOLDER gets share/man, share/bash-completion, share/zsh, share/fish)
 """
@@ -10,8 +10,7 @@ import subprocess
 import sys
 import tempfile
 
-sys.dont_write_bytecode = True
-from manual_documents import NAME, documents, reference, roff  # noqa: E402
+from lib.manual import NAME, documents, reference, roff
 
 
 class Option:

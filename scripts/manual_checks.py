@@ -1,6 +1,6 @@
 """What check_install.py asks of the man pages. Each function answers what is wrong, or nothing.
 
-The pages are shown by groff, and what a document has is read here by other means than those of manual_documents.py, which makes them.
+The pages are shown by groff, and what a document has is read here by other means than those of `lib/manual.py`, which makes them.
 """
 import collections
 import glob
@@ -10,15 +10,15 @@ import re
 import subprocess
 import tempfile
 
-import manual_documents
-import program
+from lib import manual
+from lib.program import TOP
 
 
 def pages_missing(prefix):
     """One page for each command, and the one that each document is on; no others."""
     said = subprocess.run([os.environ["NCROUTE"], "--help"], capture_output=True, text=True, check=True).stdout
     commands = re.findall(r"(?m)^  (\w+) ", said.partition("Commands:")[2].partition("Options:")[0])
-    wanted = {("ncroute", 1)} | {(f"ncroute-{name}", 1) for name in commands if name != "help"} | set(manual_documents.PAGES.values())
+    wanted = {("ncroute", 1)} | {(f"ncroute-{name}", 1) for name in commands if name != "help"} | set(manual.PAGES.values())
     if different := {f"man{section}/{name}.{section}" for name, section in wanted} ^ set(installed(prefix)):
         return f"there are others or too few: {sorted(different)}"
     return None
@@ -49,7 +49,7 @@ def pages_differ(prefix):
             return f"{page}: no synopsis or no options"
     if why := references_differ(texts):
         return why
-    for name, (page, section) in manual_documents.PAGES.items():
+    for name, (page, section) in manual.PAGES.items():
         if why := document_differs(name, (page, section), texts.get(f"man{section}/{page}.{section}", "")):
             return f"{page}({section}): {why}"
     return None
@@ -80,7 +80,7 @@ def references_differ(texts):
 
 def document_differs(name, page, whole):
     """What a page lacks of the document that it has to show: a heading, code, a reference, a cell of a table, or words."""
-    with open(os.path.join(program.TOP, "docs", f"{name}.md"), encoding="utf-8") as it:
+    with open(os.path.join(TOP, "docs", f"{name}.md"), encoding="utf-8") as it:
         text = it.read()
     headings = [heading.replace("`", "") for heading in re.findall(r"(?m)^#+ (.*)$", re.sub(r"(?ms)^```.*?^```", "", text))]
     title = re.sub(r"^ncroute \w+: ", "", headings[0])
@@ -91,7 +91,7 @@ def document_differs(name, page, whole):
     if [heading.strip().lower() for heading in found[-len(wanted) :]] != [heading.lower() for heading in wanted]:
         return f"the headings are {found}, and not {wanted}"
     part = whole.partition(f"\n{found[-len(wanted)]}\n")[2].partition("\nSEE ALSO\n")[0]
-    links = [manual_documents.PAGES.get(target, page) for target in re.findall(r"\]\((\w+)\.md[)#]", text)]
+    links = [manual.PAGES.get(target, page) for target in re.findall(r"\]\((\w+)\.md[)#]", text)]
     if missing := collections.Counter(it for it in links if it != page) - collections.Counter(references(part)):
         return f"these references are lost: {sorted(missing)}"
     if missing := lost(text.partition("\n")[2], part):
@@ -145,7 +145,7 @@ def drawn_tables(page):
 
 def words(text):
     """The words of a text, but for where its links lead and the names of other documents that stand for their pages."""
-    text = re.sub(r"\]\([^)\s]+\)", "]", re.sub(rf"\[({'|'.join(manual_documents.PAGES)})\.md\]\([^)]+\)", "", text))
+    text = re.sub(r"\]\([^)\s]+\)", "]", re.sub(rf"\[({'|'.join(manual.PAGES)})\.md\]\([^)]+\)", "", text))
     return re.findall(r"\w+", re.sub(r"(?m)^```\w*$", "", text).replace("`", "").lower())
 
 
@@ -155,7 +155,7 @@ UNKNOWN_FORMS = (
     "[a][b]", "[a]: b", "see https://a.b", "[a](https://b.c)", "a _b_", "~~a~~", "a\nb\n====", "***", "#### deep", "# again", "| a |",
     "| a | b |\n|---|---|\n| c |", "| a |\n|:--|\n| b |", "| a |\n|---|\n| " + "b" * 80 + " |", "![a](b) c", "a ![b](c)", "a \\* b",
     "``a``", "`a", "**a", "~~~\na\n~~~", "```\na", "    a\nb", "a\n    b",
-)  # fmt: skip
+)
 
 
 def forms_taken(_):
@@ -165,7 +165,7 @@ def forms_taken(_):
             with open(os.path.join(folder, "KINDS.md"), "w") as it:
                 it.write(f"# Title\n\n## Heading\n\nText.\n\n{form}\n")
             try:
-                manual_documents.Document("KINDS", folder)
+                manual.Document("KINDS", folder)
             except SystemExit:
                 continue
         return f"{form!r} is taken"
@@ -175,7 +175,7 @@ def forms_taken(_):
 def signs_lost(_):
     """A line of code that is shown as another one: each begins with another sign, which may make a request of it."""
     lines = [f"{chr(sign)}B {chr(sign)}x{chr(sign)}" for sign in (*range(33, 127), ord("²"), ord("λ"))]
-    page = ".TH SIGNS 7\n.nf\n" + manual_documents.roff("\n".join(lines))
+    page = ".TH SIGNS 7\n.nf\n" + manual.roff("\n".join(lines))
     ran = subprocess.run(["groff", "-man", "-Tutf8", "-ww", "-P-cbou"], input=page, capture_output=True, text=True)
     found = {line.strip() for line in ran.stdout.split("\n")}
     return ran.stderr or next((f"{line!r} is not shown" for line in lines if line not in found), None)

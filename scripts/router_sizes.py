@@ -4,8 +4,7 @@ import re
 import sys
 import time
 
-sys.dont_write_bytecode = True
-from router_runs import PATIENCE, SIZE, Run, RunRows  # noqa: E402
+from lib.routers import PATIENCE, SIZE, Run, RunRows
 
 # The largest domain, in which a router has a link to each other node.
 NODES = 250
@@ -59,8 +58,8 @@ class SizeRows(RunRows):
 
     def row_killed(self):
         """A router is killed a second after its last entry, whichever that is: its file has all that it answered of its history."""
-        runs = {what: Run(self.program) for what in LAST_ENTRIES}
-        try:
+        with contextlib.ExitStack() as stack:
+            runs = {what: stack.enter_context(Run(self.program)) for what in LAST_ENTRIES}
             answered = {}
             for what, run in runs.items():
                 self.bring_up(run)
@@ -76,9 +75,6 @@ class SizeRows(RunRows):
                 self.judge(f"{what}: is saved", saved[:len(wanted)] == wanted, (len(saved), len(wanted), wanted[-1]))
                 said = run.replays()
                 self.judge(f"{what}: replay", said == f"replay ok {len(saved)}", said)
-        finally:
-            for run in runs.values():
-                run.close()
 
     def bring_up(self, run, size=SIZE):
         """All neighbours come up: each is told that the last node of the domain cannot be reached."""
@@ -89,8 +85,7 @@ class SizeRows(RunRows):
 
     def row_comes_two_hundred_times(self):
         """Node 1 comes and goes, 200 times: each session begins and ends, with its routes."""
-        run = Run(self.program, more=("--retry", "1"), quicker=QUICKER)
-        try:
+        with Run(self.program, more=("--retry", "1"), quicker=QUICKER) as run:
             self.serve_two(run)
             one = run.neighbours[1]
             for times in range(1, SESSIONS + 1):
@@ -110,8 +105,6 @@ class SizeRows(RunRows):
             self.judge("2 hears at last", two.distances() == {node: {0: 0, 2: 1}.get(node, SIZE) for node in range(SIZE)}, two.distances())
             self.end(run)
             self.judge_sessions(run, {1: SESSIONS, 2: 1})
-        finally:
-            run.close()
 
     def judge_sessions(self, run, wanted):
         """The history that was saved has so many sessions of each node, each of them after the one before, and the Down of each."""
@@ -131,8 +124,7 @@ class SizeRows(RunRows):
 
     def row_long_links(self):
         """Node 1 changes its mind 70,000 times: each line is entered, and node 2 is told of each change."""
-        run = Run(self.program)
-        try:
+        with Run(self.program) as run:
             self.bring_up(run)
             one, two = run.neighbours.values()
             one.say(b"3 0\n3 1\n" * (LINES // 2) + b"4 0\n")
@@ -144,14 +136,12 @@ class SizeRows(RunRows):
             self.end(run)
             received = sum(" recv 1 3 " in entry for entry in run.saved())
             self.judge("each is saved", received == LINES, received)
-        finally:
-            run.close()
 
     def row_retries(self):
         """A link that was closed is opened again after as many seconds as `--retry` says: not before, and not much later. Without it, it is not."""
-        runs = {seconds: Run(self.program, nodes=(1,), more=("--retry", str(seconds)), saves=False) for seconds in RETRIES}
-        runs[None] = Run(self.program, nodes=(1,), saves=False)
-        try:
+        with contextlib.ExitStack() as stack:
+            options = {**{seconds: ("--retry", str(seconds)) for seconds in RETRIES}, None: ()}
+            runs = {seconds: stack.enter_context(Run(self.program, nodes=(1,), more=more, saves=False)) for seconds, more in options.items()}
             closed, took = {}, {}
             for seconds, run in runs.items():
                 self.bring_up(run)
@@ -168,14 +158,10 @@ class SizeRows(RunRows):
                 waited = took.get(seconds)
                 self.judge(f"--retry {seconds}", waited is not None and seconds <= waited <= seconds + LATE, waited)
             self.judge("no --retry", None not in took, took.get(None))
-        finally:
-            for run in runs.values():
-                run.close()
 
     def row_exports(self):
         """An export filter that the operator sets while the router runs: its neighbour hears the new distances at once, and no other does."""
-        run = Run(self.program, nodes=(1, 2, 3, 4))
-        try:
+        with Run(self.program, nodes=(1, 2, 3, 4)) as run:
             self.bring_up(run)
             run.ask(FAR)
             farther = {node: min(distance + 2, SIZE) for node, distance in run.neighbours[1].distances().items()}
@@ -187,8 +173,6 @@ class SizeRows(RunRows):
             last = run.neighbours[3]
             self.judge("3 hears nothing", not last.listen(lambda: last.distances() == farther, 0.1), last.told)
             self.end(run)
-        finally:
-            run.close()
 
     def row_twenty_links(self):
         self.serve_many(20, 40)
@@ -201,8 +185,7 @@ class SizeRows(RunRows):
         """Each of so many neighbours comes up, says that it is there, and hears of all. One that is far behind goes, the last one is told other
         distances, and at the end each session has its Down."""
         nodes = range(1, count + 1)
-        run = Run(self.program, nodes=nodes, size=size)
-        try:
+        with Run(self.program, nodes=nodes, size=size) as run:
             self.bring_up(run, size)
             self.judge("all are up", run.ask("neighbours").count(":") == count)
             for node, neighbour in run.neighbours.items():
@@ -223,8 +206,6 @@ class SizeRows(RunRows):
             self.judge(f"{count} hears", run.neighbours[count].hear_distances({**farther, gone: size}), run.neighbours[count].told)
             self.end(run)
             self.judge_sessions(run, dict.fromkeys(nodes, 1))
-        finally:
-            run.close()
 
     def judge_heard(self, run, distances, gone=None):
         """Each neighbour but one that is gone has heard these distances."""
@@ -236,8 +217,7 @@ class SizeRows(RunRows):
     def row_quits_while_neighbours_greet(self):
         """`quit` comes while sessions begin: the history that is saved has the Down of each of them."""
         for turn in range(GREETED_QUITS):
-            run = Run(self.program, nodes=range(1, GREETING + 1), size=80)
-            try:
+            with Run(self.program, nodes=range(1, GREETING + 1), size=80) as run:
                 neighbours = list(run.neighbours.values())
                 for neighbour in neighbours:
                     neighbour.open()
@@ -245,16 +225,13 @@ class SizeRows(RunRows):
                 text = "\n".join(run.saved())
                 opened, closed = (sorted(re.findall(pattern, text, re.MULTILINE)) for pattern in (r" up \d+ opened (\d+)$", r" down (\d+) done \d+$"))
                 self.judge("each session has its Down", opened == closed, (turn, len(opened), len(closed)))
-            finally:
-                run.close()
 
     def quit_behind(self, run, neighbours, count):
         """Neighbours greet, and behind so many of them comes `quit`."""
         for neighbour in neighbours[:count]:
             neighbour.greet(size=80)
-        run.process.stdin.write(b"quit\n")
-        run.process.stdin.close()
+        run.say(b"quit\n")
         with contextlib.suppress(BrokenPipeError):
             for neighbour in neighbours[count:]:
                 neighbour.greet(size=80)
-        self.judge("ends", run.process.wait(timeout=PATIENCE) == 0)
+        self.judge("ends", run.end() == 0)

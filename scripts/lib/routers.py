@@ -7,14 +7,13 @@ import re
 import select
 import shutil
 import signal
-import subprocess
 import sys
 import tempfile
 import time
 import traceback
 
-sys.dont_write_bytecode = True
-from program import TOP, entries_of  # noqa: E402
+from lib.counts import Counts
+from lib.processes import Router, preloaded
 
 SIZE = 8
 PATIENCE = 10.0
@@ -126,36 +125,31 @@ class Neighbour:
             setattr(self, name, None)
 
 
-class Run:
-    """One router and its neighbours."""
+class Run(Router):
+    """One router and its neighbours, in a folder of their own."""
 
     def __init__(self, program, nodes=(1, 2), more=(), size=SIZE, prepare=None, saves=True, node=0, early=(), quicker=None, environment=None):
-        self.program, self.folder = program, tempfile.mkdtemp(prefix="router.")
-        environment = {**os.environ, **(environment or {}), **(self.sleeps(quicker) if quicker else {})}
+        self.folder = tempfile.mkdtemp(prefix="router.")
         self.neighbours = {node: Neighbour(self.folder, node) for node in nodes}
-        self.history = os.path.join(self.folder, "history")
         self.errors = os.path.join(self.folder, "errors")
-        words = [program, "router", "--size", str(size), "--node", str(node), *more]
-        if saves:
-            words += ["--save", self.history]
-        for other, neighbour in self.neighbours.items():
-            words += ["--link", f"{other}={neighbour.there},{neighbour.back}"]
+        # A small library has the program sleep so many times less long.
+        sleeps = {**preloaded("quick_sleep.c", self.folder), "QUICKER": str(quicker)} if quicker else {}
         for other in early:
             self.neighbours[other].open_early()
+        links = {other: (neighbour.there, neighbour.back) for other, neighbour in self.neighbours.items()}
+        history = os.path.join(self.folder, "history") if saves else None
         with open(self.errors, "wb") as errors:
-            self.process = subprocess.Popen(words, stdin=subprocess.PIPE, stdout=subprocess.PIPE, stderr=errors, preexec_fn=prepare, env=environment)
+            super().__init__(program, size, node, links, history, more, errors=errors, preexec_fn=prepare,
+                             env={**os.environ, **(environment or {}), **sleeps})
 
-    def sleeps(self, quicker):
-        """What has a program sleep so many times less long, by a small library that is loaded before the C library."""
-        library = os.path.join(self.folder, "sleep.so")
-        source = os.path.join(TOP, "scripts", "quick_sleep.c")
-        subprocess.run(["cc", "-shared", "-fPIC", "-O1", "-o", library, source, "-ldl"], check=True)
-        return {"LD_PRELOAD": library, "QUICKER": str(quicker)}
+    def __enter__(self):
+        return self
 
-    def ask(self, line):
-        self.process.stdin.write(line.encode() + b"\n")
-        self.process.stdin.flush()
-        return self.process.stdout.readline().decode().rstrip("\n")
+    def __exit__(self, *_):
+        self.close()
+        for neighbour in self.neighbours.values():
+            neighbour.close()
+        shutil.rmtree(self.folder)
 
     def asks_until(self, line, wanted):
         """Asks until an answer has this pattern: the last answer."""
@@ -189,46 +183,12 @@ class Run:
 
     def rests(self):
         """The entries of the history, once they are the same twice."""
-        before = None
-        found = entries_of(self.ask)
+        before, found = None, self.entries()
         until = time.monotonic() + PATIENCE
         while before != found and time.monotonic() < until:
             time.sleep(0.2)
-            before, found = found, entries_of(self.ask)
+            before, found = found, self.entries()
         return found
-
-    def saved(self):
-        """The entries in the file of the history, as far as their lines are whole."""
-        with open(self.history) as it:
-            return it.read().split("\n")[1:-1]
-
-    def status(self, name):
-        """What the system says of the process."""
-        with open(f"/proc/{self.process.pid}/status") as it:
-            return re.search(name + r":\s*(.*)", it.read())[1]
-
-    def memory(self):
-        """The most kilobytes that it had at a time."""
-        return int(self.status("VmHWM").split()[0])
-
-    def quit(self):
-        answer = self.ask("quit")
-        self.process.stdin.close()
-        return answer, self.process.wait(timeout=PATIENCE)
-
-    def kill(self):
-        self.process.send_signal(signal.SIGKILL)
-        self.process.wait()
-
-    def replays(self):
-        return subprocess.run([self.program, "replay", self.history], capture_output=True, check=False).stdout.decode().strip()
-
-    def close(self):
-        if self.process.poll() is None:
-            self.kill()
-        for neighbour in self.neighbours.values():
-            neighbour.close()
-        shutil.rmtree(self.folder)
 
 
 class RunRows:
@@ -238,14 +198,10 @@ class RunRows:
     WAITING = ()
 
     def __init__(self, program):
-        self.program, self.passed, self.failed, self.name = program, 0, 0, ""
+        self.program, self.counts, self.name = program, Counts(), ""
 
     def judge(self, what, holds, told=""):
-        if holds:
-            self.passed += 1
-        else:
-            self.failed += 1
-            print(f"{self.name}: {what}: failed: {told!r}", file=sys.stderr)
+        self.counts.expect(f"{self.name}: {what}", holds, repr(told))
 
     def serve_two(self, run):
         """Node 2 is served: it comes up, says that it is there, and hears of itself."""
@@ -285,13 +241,13 @@ class RunRows:
                 if name[4:] not in self.WAITING:
                     self.run_row(name)
             for passed, failed in (each.result() for each in beside):
-                self.passed, self.failed = self.passed + passed, self.failed + failed
+                self.counts.add(passed, failed)
 
 
 def counts_of(rows, name):
     """Runs a row: how many of its judgements passed, and how many failed."""
     rows.run_row(name)
-    return rows.passed, rows.failed
+    return rows.counts.passed, rows.counts.failed
 
 
 def take_too_long(*_):

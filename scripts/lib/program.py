@@ -5,6 +5,7 @@ all inputs at once: a command that was not run yet stands for each input that th
 """
 import concurrent.futures
 import os
+import pathlib
 import pty
 import re
 import subprocess
@@ -12,7 +13,9 @@ import sys
 import tempfile
 import termios
 
-TOP = os.path.realpath(os.path.join(os.path.dirname(os.path.abspath(__file__)), ".."))
+from lib.counts import Counts
+
+TOP = pathlib.Path(__file__).resolve().parents[2]
 NOT_RUN = 125
 
 # What of the repository the commands read.
@@ -52,11 +55,10 @@ class Program:
             os.mkdir(folder)
         # Some examples make files where they run. In the repository those of a run that was ended would be in the way of the next one.
         for name in READ:
-            os.symlink(os.path.join(TOP, name), os.path.join(self.here, name))
-        built = os.environ.get("NCROUTE")
+            os.symlink(TOP / name, os.path.join(self.here, name))
         command = os.path.join(self.bin, "ncroute")
-        if built:
-            os.symlink(os.path.realpath(built), command)
+        if path := named():
+            os.symlink(path, command)
         else:
             with open(command, "w") as it:
                 it.write(STAND_IN.format(python=sys.executable, answers=self.answers, asked=self.asked, not_run=NOT_RUN))
@@ -67,7 +69,8 @@ class Program:
 
     def shell(self, line, given=b""):
         """What a line writes and its status, in a folder that has what is read of the repository."""
-        ran = subprocess.run(["bash", "-o", "pipefail", "-c", line], cwd=self.here, env=self.environment(), input=given, capture_output=True)
+        words = ["bash", "-o", "pipefail", "-c", line]
+        ran = subprocess.run(words, cwd=self.here, env=self.environment(), input=given, capture_output=True)
         return ran.stdout, ran.returncode
 
     def environment(self):
@@ -75,15 +78,15 @@ class Program:
         return {**os.environ, "LC_ALL": "C", "PATH": self.bin + os.pathsep + os.environ["PATH"]}
 
     def on_terminal(self, line, typed):
-        """What a line writes on standard output, and on standard error, which is a terminal, as standard input is where something is typed."""
+        """What a line writes on standard output, and on standard error, which is a terminal. So is standard input where something is typed."""
         terminal, side = pty.openpty()
         settings = termios.tcgetattr(side)
         settings[LOCAL_MODES] &= ~termios.ECHO
         settings[OUTPUT_MODES] &= ~termios.OPOST
         termios.tcsetattr(side, termios.TCSANOW, settings)
         os.write(terminal, typed)
-        ran = subprocess.Popen(["bash", "-c", line], cwd=self.here, env=self.environment(), stdin=side if typed else subprocess.DEVNULL,
-                               stdout=subprocess.PIPE, stderr=side)
+        given = side if typed else subprocess.DEVNULL
+        ran = subprocess.Popen(["bash", "-c", line], cwd=self.here, env=self.environment(), stdin=given, stdout=subprocess.PIPE, stderr=side)
         os.close(side)
         output, shown = ran.stdout.read(), b""
         while part := read_terminal(terminal):
@@ -103,7 +106,8 @@ class Program:
 
     def answer(self):
         """Runs the program on all that was asked."""
-        tried = subprocess.run(["rt", "try", "--cases", self.asked], cwd=os.path.join(TOP, "crates", "ncroute"), stdin=subprocess.DEVNULL, capture_output=True)
+        words = ["rt", "try", "--cases", self.asked]
+        tried = subprocess.run(words, cwd=TOP / "crates" / "ncroute", stdin=subprocess.DEVNULL, capture_output=True)
         status = dict(re.findall(r"(?m)^case=(\w+) run=ended status=(\d+)", tried.stderr.decode()))
         parts = re.split(rb"(?m)^== (\w+)\n", tried.stdout)[1:]
         for name, text in zip(parts[::2], parts[1::2]):
@@ -125,27 +129,17 @@ def read_terminal(terminal):
         return b""
 
 
+def named():
+    """The path of the program that NCROUTE names; nothing where it names none."""
+    path = os.environ.get("NCROUTE")
+    return os.path.realpath(path) if path else None
+
+
 def built():
-    """The path of the program that NCROUTE names, for a script that runs nothing else. Without it the script ends, and has not passed."""
-    if path := os.environ.get("NCROUTE"):
-        return os.path.realpath(path)
+    """The same, for a script that runs nothing else: where NCROUTE names none, the script ends and has not passed."""
+    if path := named():
+        return path
     print("nothing is run: NCROUTE=PATH names the program")
-    return finish(0, 1)
-
-
-def entries_of(ask):
-    """All entries of the history of a router that is asked, in the words that its file has for them. To ask makes no entry."""
-    found = []
-    while (answer := ask(f"history {len(found)}")).startswith("history "):
-        found += answer[len("history "):].split(" | ")
-    if answer != "history":
-        raise ValueError(f"`history {len(found)}` is answered {answer!r}")
-    return found
-
-
-def finish(passed, failed, skipped=0):
-    """Ends a script with its count. Where nothing was checked, it has not passed; with CI=true what could not be run has failed."""
-    if os.environ.get("CI") == "true":
-        failed, skipped = failed + skipped, 0
-    print(f"{passed} passed, {failed} failed" + (f", {skipped} skipped" if skipped else ""))
-    sys.exit(0 if passed + skipped and not failed else 1)
+    counts = Counts()
+    counts.failed = 1
+    return counts.finish()

@@ -1,4 +1,4 @@
-"""Which documents of `docs/` are man pages, and how their Markdown becomes roff. make_manual.py puts the pages together.
+"""Which documents of `docs/` are man pages, and how their Markdown becomes roff. `make_manual.py` puts the pages together.
 
 A document about one command is the last section of that command's page; each other one is a page of its own, in section 5 (formats) or 7.
 A link to another page becomes that page's name and section, and a link to anything else its text alone. A form of Markdown that no document
@@ -8,7 +8,9 @@ import os
 import re
 import sys
 
-DOCS = os.path.realpath(os.path.join(os.path.dirname(os.path.abspath(__file__)), "..", "docs"))
+from lib.program import TOP
+
+DOCS = TOP / "docs"
 NAME = "ncroute"
 
 # The page and the section of each document. That of ROUTER.md is named after its title, since `ncroute router` has a page.
@@ -19,7 +21,7 @@ PAGES = {
     "CODE_FILE": ("ncroute-code-file", 5), "HISTORY": ("ncroute-history", 5), "LINKS": ("ncroute-links", 5), "SCRIPT": ("ncroute-script", 5),
     "KINDS": ("ncroute-kinds", 7), "LANGUAGE": ("ncroute-language", 7), "LINES": ("ncroute-lines", 7), "MACHINE": ("ncroute-machine", 7),
     "OPERATORS": ("ncroute-operators", 7), "ROUTER": ("ncroute-tables", 7), "SESSIONS": ("ncroute-sessions", 7), "VERIFIER": ("ncroute-verifier", 7),
-}  # fmt: skip
+}
 # Those for people who change the program or build on it.
 NO_PAGES = {"ARCHITECTURE", "DECISIONS", "EMBEDDING", "LOCK", "PROMISES", "WRONG_BODIES"}
 
@@ -29,7 +31,7 @@ CODE = "    "
 
 INLINE = re.compile(r"""
     `(?P<code>[^`]+)` | \*\*(?P<strong>.+?)\*\* | \*(?P<emphasis>[^*\s][^*]*)\* | (?<!!)\[(?P<text>(?:`[^`]*`|[^][`])+)\]\((?P<target>[^)\s]+)\)
-""", re.VERBOSE)  # fmt: skip
+""", re.VERBOSE)
 UNKNOWN_INLINE = re.compile(r"`|\*\S|\S\*|(?<!\w)_\w|\\|\]\(|\]\[|<\w|&#?\w+;|~~|https?:")
 UNKNOWN_BLOCK = re.compile(r"[>+<]|\* |1\. |\d+\) |[-*_]{3,}$|={3,}$|\[\w+\]:|.*  $")
 
@@ -237,5 +239,5 @@ def documents():
     """The documents that are pages or parts of pages."""
     names = {name.removesuffix(".md") for name in os.listdir(DOCS) if name.endswith(".md")}
     if wrong := names ^ (set(PAGES) | NO_PAGES):
-        sys.exit(f"scripts/manual_documents.py says which documents are man pages, and does not fit docs/: {', '.join(sorted(wrong))}")
+        sys.exit(f"scripts/lib/manual.py says which documents are man pages, and does not fit docs/: {', '.join(sorted(wrong))}")
     return [Document(name) for name in sorted(names - NO_PAGES)]

@@ -1,0 +1,1 @@
+"""What the scripts share: each notion once."""

@@ -1,0 +1,120 @@
+"""Programs that run beside a script and answer its lines, `ncroute router` among them."""
+import os
+import re
+import resource
+import select
+import signal
+import subprocess
+
+from lib.program import TOP
+
+# Seconds: no answer takes longer.
+PATIENCE = 30.0
+
+
+class Process:
+    """A program that answers each line with a line."""
+
+    def __init__(self, words, errors=None, **more):
+        self.process = subprocess.Popen(words, stdin=subprocess.PIPE, stdout=subprocess.PIPE, stderr=errors, **more)
+
+    def say(self, text):
+        self.process.stdin.write(text)
+        self.process.stdin.flush()
+
+    def ask(self, line):
+        """The answer to a line, without its line feed; nothing where the program has ended. One that does not answer is not waited for."""
+        self.say(line.encode() + b"\n")
+        # Each answer is one line, so that none is left in the buffer. `select` takes no file above 1,023.
+        answered = select.poll()
+        answered.register(self.process.stdout, select.POLLIN)
+        if not answered.poll(PATIENCE * 1000):
+            raise TimeoutError(f"{line!r} is not answered")
+        return self.process.stdout.readline().decode().rstrip("\n")
+
+    def is_running(self):
+        return self.process.poll() is None
+
+    def end(self, patience=PATIENCE):
+        """Ends the input, and waits for the program's end: its exit status."""
+        self.process.stdin.close()
+        return self.process.wait(timeout=patience)
+
+    def kill(self):
+        self.process.send_signal(signal.SIGKILL)
+        self.process.wait()
+
+    def close(self):
+        """Kills what still runs, and lets its streams go. What was written to one that nobody reads any more is lost."""
+        if self.is_running():
+            self.kill()
+        for stream in (self.process.stdin, self.process.stdout):
+            try:
+                stream.close()
+            except BrokenPipeError:
+                pass
+
+    def status(self, name):
+        """What the system says of the process."""
+        with open(f"/proc/{self.process.pid}/status") as it:
+            return re.search(name + r":\s*(.*)", it.read())[1]
+
+    def kilobytes(self, name):
+        """So many kilobytes the system says: VmHWM is the most memory that it had at a time, VmRSS what it has, VmSize its addresses."""
+        return int(self.status(name).split()[0])
+
+    def processor_time(self):
+        """The seconds that it took of processors."""
+        with open(f"/proc/{self.process.pid}/stat") as it:
+            fields = it.read().rsplit(")", 1)[1].split()
+        return (int(fields[11]) + int(fields[12])) / os.sysconf("SC_CLK_TCK")
+
+
+class Router(Process):
+    """A process of `ncroute router`. `links` has for each neighbour the files that the router reads and writes, `history` is where it saves."""
+
+    def __init__(self, program, size, node, links, history=None, options=(), **more):
+        self.program, self.history = program, history
+        words = [program, "router", "--size", str(size), "--node", str(node), *options]
+        if history:
+            words += ["--save", history]
+        for other, (there, back) in links.items():
+            words += ["--link", f"{other}={there},{back}"]
+        super().__init__(words, **more)
+
+    def quit(self):
+        """What is answered to `quit`, and the exit status."""
+        return self.ask("quit"), self.end()
+
+    def entries(self):
+        """All entries of its history, in the words that the file has for them. To ask makes no entry."""
+        found = []
+        while (answer := self.ask(f"history {len(found)}")).startswith("history "):
+            found += answer[len("history "):].split(" | ")
+        if answer != "history":
+            raise ValueError(f"`history {len(found)}` is answered {answer!r}")
+        return found
+
+    def saved(self):
+        """The entries in the file of the history, as far as their lines are whole."""
+        with open(self.history) as it:
+            return it.read().split("\n")[1:-1]
+
+    def replays(self):
+        """The verdict of `ncroute replay` on the history that was saved."""
+        ran = subprocess.run([self.program, "replay", self.history], capture_output=True, check=False)
+        return ran.stdout.decode().strip()
+
+
+def open_files(most):
+    """Lets this script, and what it starts, have so many files open, if that is allowed."""
+    soft, hard = resource.getrlimit(resource.RLIMIT_NOFILE)
+    allowed = most if hard == resource.RLIM_INFINITY else min(most, hard)
+    resource.setrlimit(resource.RLIMIT_NOFILE, (max(soft, allowed), hard))
+
+
+def preloaded(source, folder):
+    """The environment that has a program load a small library of the scripts before the C library."""
+    library = os.path.join(folder, source.replace(".c", ".so"))
+    subprocess.run(["cc", "-shared", "-fPIC", "-O1", "-o", library, TOP / "scripts" / source, "-ldl"], check=True)
+    return {"LD_PRELOAD": library}
