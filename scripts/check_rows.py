@@ -1,9 +1,9 @@
 #!/usr/bin/env python3
 """Runs the rows of `tests/rows/`: what the program reads and what it answers. Prints each row that differs, and at last 'N passed, M failed'.
 
-usage: scripts/check_rows.py [NAME..]
-       (NAMEs: of files, as `eval`; NCROUTE=PATH: the program; without it, the sources as they are, by `rt try`: rows with files, on a
-       terminal or with lines on standard error are left out then)
+usage: scripts/check_rows.py [[--without] NAME..]
+       (NAMEs: of files, as `eval`; --without: all files but these; NCROUTE=PATH: the program; without it, the sources as they are, by `rt try`:
+       rows with files or other streams, on a terminal or with lines on standard error are left out then)
 
 `lib/rows.py` says how a file of rows is laid out.
 """
@@ -36,7 +36,7 @@ class Place:
 
     def line(self, redirections):
         """The line of a shell that runs the row. What is behind a `|` of its words has another standard input and error."""
-        return f"cd {self.folder} && {redirections} ncroute {self.row.words}"
+        return f"cd {self.folder} && {self.row.before} && {redirections} ncroute {self.row.words}"
 
     def read(self, name):
         """The bytes of a file; none where it is not there."""
@@ -71,8 +71,8 @@ class Place:
 
 
 def main(names):
-    is_built = bool(named())
-    paths = [path for path in sorted(FOLDER.glob("*.rows")) if not names or path.stem in names]
+    is_built, is_without = bool(named()), not names or names[0] == "--without"
+    paths = [path for path in sorted(FOLDER.glob("*.rows")) if (path.stem in names) != is_without]
     rows = [row for path in paths for row in rows_of(path)]
     if not is_built:
         print(f"{sum(bool(row.needs_program()) for row in rows)} rows are left out: they need the program, NCROUTE=PATH")

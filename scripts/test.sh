@@ -1,16 +1,15 @@
 #!/usr/bin/env bash
-# The test command: proves every crate from nothing, tries the must-fail edits, runs all tests and the program, and then the linters of the
-# scripts, the examples of the documents, the rows of tests/rows/, random inputs, runs with their exit status, random domains, phases, runs at
-# the program's limits, refused allocations, the filters that BIRD answered, configurations that are imported, killed runs, routers that talk, broken
-# filters and what is installed. The last line is 'N passed, M failed', the sum of all, and ', K skipped' behind it where something could not be
-# run: a line says 'not run: WHY' of each. With CI=true in the environment it has failed.
+# The test command: proves every crate from nothing, tries the must-fail edits, runs all tests and the program, and then the parts that
+# scripts/parts.txt lists. The last line is 'N passed, M failed', the sum of all, and ', K skipped' behind it where something could not be run: a line
+# says 'not run: WHY' of each. With CI=true in the environment it has failed.
 #
 # usage: scripts/test.sh [--all]      (--all: tries the edits of wrong-bodies/ too)
 #        scripts/test.sh --quick      proves nothing: builds the program without proofs, and runs all parts on it
 #        scripts/test.sh PART..       proves nothing: runs the parts named on the program NCROUTE=PATH, or else on one that is built without proofs
 set -u
 cd "$(dirname "$0")/.." || exit
-all_parts="scripts documents rows random program_runs domains phases limits memory bird import histories router lab broken_filters install"
+list=scripts/parts.txt
+all_parts="$(sed -nE 's/^([a-z_]+) .*/\1/p' $list | xargs)"
 parts="$all_parts"
 is_proved=yes
 
@@ -88,14 +87,10 @@ elif [ -z "${NCROUTE:-}" ]; then
     fi
 fi
 for part in $parts; do
-    case "$part" in
-        lab) add scripts/lab.py ;;
-        memory)
-            # Refused are also the allocations of tests, which only a proof builds.
-            if [ -n "$is_proved" ]; then add scripts/check_memory.py; else add scripts/check_memory.py runs; fi
-            ;;
-        *) add "scripts/check_$part.py" ;;
-    esac
+    read -ra words <<<"$(sed -nE "s/^$part +\| ([^|]*) \|.*/\1/p" $list)"
+    # `memory` refuses also the allocations of tests, which only a proof builds.
+    [ "$part" != memory ] || [ -n "$is_proved" ] || words+=(runs)
+    add "scripts/${words[0]}" "${words[@]:1}"
 done
 if [ -z "$is_proved" ]; then
     echo "no proof was made: \`rt ci\` did not run, nor did the tests of the crates, those whose allocations \`memory\` refuses among them"

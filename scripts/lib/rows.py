@@ -10,7 +10,8 @@ A file has rows with empty lines between them. A row is lines that begin with a 
     - LINE      a line of standard input of a further run of the same words, which the lines below belong to. Without a `=`, it ends with 1 where
                 the last line that it writes begins with `refused`, and with 0 otherwise
     ~ WORDS     what is a terminal: `input`, `errors`, or both
-    @ NAME      a file; `<` below it are the lines that the row finds there, or else `>` those that it leaves
+    @ NAME      a file; `<` below it are the lines that the row finds there, `>` those that it leaves
+    % LINE      what a shell does in the row's folder before it runs the program, as `ulimit -f 1`
     # TEXT      a comment
 
 The lines of a sign belong together, whatever stands between them: so each answer may stand below its line of the input. `>...` and `!...` stand
@@ -77,12 +78,12 @@ class Row:
         self.place, self.words, self.files = place, None, dict(files)
         self.given, self.output, self.errors, self.left = b"", Wanted(), Wanted(), {}
         self.status, self.terminals, self.looks_at_errors, self.has_files = None, set(), False, bool(files)
-        self.is_further = False
+        self.is_further, self.before = False, ":"
 
     def further(self, place, text):
         """A further run of the same words, on this line."""
         row = Row(place, self.files)
-        row.words, row.is_further = self.words, True
+        row.words, row.before, row.is_further = self.words, self.before, True
         row.take("<", text, None)
         return row
 
@@ -97,16 +98,19 @@ class Row:
         elif sign == "<" and file is None:
             self.given += bytes_of(text)
         elif sign == "<":
+            # Nothing is said of how such a file is left, unless it is below.
             if self.left.pop(file, None):
                 self.files[file] = b""
             self.files[file] += bytes_of(text)
         elif sign == ">":
-            (self.output if file is None else self.left[file]).add(bytes_of(text))
+            (self.output if file is None else self.left.setdefault(file, Wanted())).add(bytes_of(text))
         elif sign == "!":
             self.looks_at_errors = True
             self.errors.add(bytes_of(text))
         elif sign == "=":
             self.status = int(text)
+        elif sign == "%":
+            self.before, self.has_files = text, True
         else:
             self.terminals = set(text.split())
             if not self.terminals or self.terminals - {"input", "errors"}:
@@ -125,7 +129,8 @@ class Row:
         return self.status or 0
 
     def needs_program(self):
-        return self.has_files or self.looks_at_errors or self.terminals or "examples/" in self.words
+        """`rt try` tells no standard error, and has no other streams and no files."""
+        return self.has_files or self.looks_at_errors or self.terminals or re.search(r"examples|[<>]&|<\(|/dev/full", self.words)
 
 
 def rows_of(path):
@@ -154,7 +159,7 @@ def rows_of(path):
             if row.is_further:
                 yield row
             row, file = row.further(f"{name}:{number}", line[2:]), None
-        elif line[0] in "$<>!=~@" and line[1:2] in ("", " "):
+        elif line[0] in "$<>!=~@%" and line[1:2] in ("", " "):
             file = row.take(line[0], line[2:], file)
         else:
             sys.exit(f"{name}:{number}: a line begins with a sign and a blank")
