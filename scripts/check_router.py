@@ -12,13 +12,12 @@ import os
 import re
 import resource
 import signal
-import subprocess
 import sys
 import time
 
 from lib.processes import open_files
 from lib.program import built
-from lib.routers import PATIENCE, SIZE, Run
+from lib.routers import Run
 from router_sizes import SizeRows
 
 GIGABYTE = 1 << 30
@@ -28,55 +27,6 @@ MOST_TAKEN, MOST_MEMORY = 1 << 16, 4096
 
 # The bytes of a thread's stack where nothing else is said, and what a router has beside its threads, for the row in which these find no room.
 STACK, BESIDE = 8 << 20, 4 << 20
-
-# Wrong words behind `router --size 8 --node 3`, or behind `router` where they begin with a size, and what is said of them behind `error: invalid
-# value`. Filters are read later, so none has to be there.
-LINK_FORM = "the form is W=IN,OUT, with the number of a neighbour and two files"
-USE_FORM = "the form is W=NAME, with the number of a neighbour and the name of a filter"
-PREFIX_FORM = "the form is V=PREFIX, with the number of a node and a prefix as 10.0.0.0/8"
-OUTSIDE = "is not in the domain, whose nodes are 0 to"
-SIZE_RANGE, LIMIT_RANGE = "a domain has 2 to 250 nodes", "the limit of a history is 1 to 1000000"
-WAIT = "a link is opened again after 1 second or more"
-WRONG_NUMBERS = [
-    (("--size", "1", "--node", "0"), f"'1' for '--size': {SIZE_RANGE}"),
-    (("--size", "0", "--node", "0"), f"'0' for '--size': {SIZE_RANGE}"),
-    (("--size", "251", "--node", "0"), f"'251' for '--size': {SIZE_RANGE}"),
-    (("--size", "2", "--node", "2"), f"'2' for '--node': node 2 {OUTSIDE} 1"),
-    (("--size", "250", "--node", "4294967295"), f"'4294967295' for '--node': node 4294967295 {OUTSIDE} 249"),
-    (("--limit", "0"), f"'0' for '--limit': {LIMIT_RANGE}"),
-    (("--limit", "1000001"), f"'1000001' for '--limit': {LIMIT_RANGE}"),
-    (("--retry", "0"), f"'0' for '--retry': {WAIT}"),
-    # The first that is wrong is told: numbers before options, and of the numbers the size, the node, the limit and the wait.
-    (("--size", "1", "--node", "9", "--limit", "0", "--retry", "0"), f"'1' for '--size': {SIZE_RANGE}"),
-    (("--size", "8", "--node", "9", "--limit", "0", "--retry", "0"), f"'9' for '--node': node 9 {OUTSIDE} 7"),
-    (("--limit", "0", "--retry", "0", "--link", "x"), f"'0' for '--limit': {LIMIT_RANGE}"),
-    (("--link", "x", "--prefix", "x", "--retry", "0"), f"'0' for '--retry': {WAIT}"),
-]
-WRONG_OPTIONS = [
-    *((("--prefix", text), f"'{text}' for '--prefix': {PREFIX_FORM}") for text in ("4", "4=", "x=10.0.0.0/8", "4=10.0.0.0", "4=10.0.0.0/33")),
-    (("--prefix", "8=10.0.0.0/8"), f"'8=10.0.0.0/8' for '--prefix': node 8 {OUTSIDE} 7"),
-    (("--prefix", "3=10.0.0.0/8", "--prefix", "3=10.0.0.0/8"), "'3=10.0.0.0/8' for '--prefix': an earlier --prefix names node 3 too"),
-    (("--prefix", "4=10.0.0.0/8", "--prefix", "5=10.0.0.0/8", "--prefix", "4=11.0.0.0/8"),
-     "'4=11.0.0.0/8' for '--prefix': an earlier --prefix names node 4 too"),
-    *((("--filter", "f=x", use, text), f"'{text}' for '{use}': {why}")
-      for use in ("--import", "--export") for text, why in (
-          ("1", USE_FORM), ("x=f", USE_FORM), ("1=2f", USE_FORM), ("65536=f", USE_FORM), ("8=f", f"node 8 {OUTSIDE} 7"),
-          ("3=f", "node 3 is this router itself"), ("1=g", "no --filter gives this name"), ("8=g", f"node 8 {OUTSIDE} 7"))),
-    *((("--filter", "f=x", "--filter", "g=y", use, "2=f", use, "1=f", use, "1=g"), f"'1=g' for '{use}': an earlier {use} names node 1 too")
-      for use in ("--import", "--export")),
-    (("--filter", "f=x", "--import", "1=f", "--export", "1=f", "--import", "1=f"), "'1=f' for '--import': an earlier --import names node 1 too"),
-    *((("--link", text), f"'{text}' for '--link': {LINK_FORM}") for text in ("1", "1=a", "1=,b", "1=a,", "=a,b", "x=a,b")),
-    (("--link", "9=a,b"), f"'9=a,b' for '--link': node 9 {OUTSIDE} 7"),
-    (("--link", "3=a,b"), "'3=a,b' for '--link': node 3 is this router itself"),
-    (("--link", "1=a,b", "--link", "2=a,b", "--link", "1=c,d"), "'1=c,d' for '--link': an earlier --link names node 1 too"),
-    # Prefixes are looked at first, then the uses of filters, imports before exports, and links at last.
-    (("--link", "9=a,b", "--export", "9=f", "--import", "9=f", "--prefix", "9=10.0.0.0/8"),
-     f"'9=10.0.0.0/8' for '--prefix': node 9 {OUTSIDE} 7"),
-    (("--link", "9=a,b", "--export", "9=f", "--import", "9=f"), f"'9=f' for '--import': node 9 {OUTSIDE} 7"),
-    (("--link", "9=a,b", "--export", "9=f"), f"'9=f' for '--export': node 9 {OUTSIDE} 7"),
-    # What is told cannot steer a terminal.
-    (("--link", "9=a\033[2J\n,\u202eb"), f"'9=a [2J ,\ufffdb' for '--link': node 9 {OUTSIDE} 7"),
-]
 
 
 class Rows(SizeRows):
@@ -317,14 +267,6 @@ class Rows(SizeRows):
             run.neighbours[2].say(b"3 1\n")
             self.judge("filtered", run.asks_until("show 3", "via 2") == "route 6 via 2")
             self.end(run)
-
-    def row_wrong_words(self):
-        """One line says which option has which value and why it is refused, the first that is wrong; nothing is read, and the status is 2."""
-        for words, wanted in WRONG_NUMBERS + WRONG_OPTIONS:
-            domain = () if words[0] == "--size" else ("--size", str(SIZE), "--node", "3")
-            told = subprocess.run([self.program, "router", *domain, *words], input=b"routes\n", capture_output=True, timeout=PATIENCE)
-            right = (told.returncode, told.stdout, told.stderr.decode()) == (2, b"", f"error: invalid value {wanted}\n")
-            self.judge(" ".join(words), right, told)
 
     def row_input_ends(self):
         with Run(self.program) as run:
