@@ -1,7 +1,8 @@
 #!/usr/bin/env python3
-"""Tries `ncroute import`: each rewrite, what is left out and at which place, both at many sizes, names that would steer a terminal, and random
-configurations that are made of the filters in `tests/bird/`, whose import must have the tokens of the filter itself. Where BIRD takes a filter that is refused here,
-what is imported must answer as BIRD did. Prints what fails, and at last 'N passed, M failed'.
+"""Tries `ncroute import` at many sizes: variables, lengths, numbers of filters; names that would steer a terminal, files that include files; and random
+configurations that are made of the filters in `tests/bird/`, whose import must have the tokens of the filter itself. Where BIRD takes a filter that is
+refused here, what is imported must answer as BIRD did. Prints what fails, and at last 'N passed, M failed'. Each rewrite, and what is left out and at
+which place, is in `tests/rows/import.rows`.
 
 usage: NCROUTE=PATH [SEED=N] scripts/check_import.py     (PATH: the program as it is built; N: the seed of the random configurations, 1)
 """
@@ -20,238 +21,6 @@ from lib.program import built
 
 SIZE = "250"
 TOKEN = re.compile(r"\s+|#[^\n]*|/\*.*?\*/|(\"[^\"\n]*\"|\d+\.\d+\.\d+\.\d+(?:/\d+)?|0x[0-9a-fA-F]+|\d+|[A-Za-z_]\w*|&&|\|\||!=|!~|<=|>=|\.\.|.)", re.S)
-
-BODY = "{ if net ~ OWN then accept; reject; }"
-DEFINED = "{ if net ~ 10.0.0.0/8 then accept; reject; }"
-
-# A configuration, and the tokens of each filter that it gives, with its name; or the place and a part of the words by which it is left out.
-TAKEN = [
-    ("a definition", "define OWN = 10.0.0.0/8;\nfilter f " + BODY, {"f": DEFINED}),
-    ("a definition by a definition", "define ALL = 10.0.0.0/8; define OWN = ALL;\nfilter f " + BODY, {"f": DEFINED}),
-    ("a set", "define OWN = [ 10.0.0.0/8+ ];\nfilter f " + BODY, {"f": "{ if net ~ [ 10.0.0.0/8+ ] then accept; reject; }"}),
-    ("a set of one prefix is no prefix", "define OWN = [ 10.0.0.0/8 ];\nfilter f " + BODY, {"f": "{ if net ~ [ 10.0.0.0/8 ] then accept; reject; }"}),
-    ("a chain of definitions", "".join(f"define d{n} = d{n - 1} + d{n - 1};\n" if n else "define d0 = 1;\n" for n in range(8)) + "filter f { rip_metric = d7; accept; }",
-     {"f": "{ rip_metric = " + functools.reduce(lambda value, _: f"( {value} + {value} )", range(7), "1") + "; accept; }"}),
-    ("a longer value", "define FAR = 2 + 3;\nfilter f { if rip_metric > 2 * FAR then reject; accept; }",
-     {"f": "{ if rip_metric > 2 * ( 2 + 3 ) then reject; accept; }"}),
-    ("a name that begins with a defined name", "define OWN = 1;\nfilter f int OWNER; { OWNER = OWN; if net.len = OWNER then accept; }",
-     {"f": "int OWNER; { OWNER = 1; if net.len = OWNER then accept; }"}),
-    ("a defined name in a text and in comments", "define OWN = 1;\nfilter f { # OWN\n /* OWN */ reject \"OWN\"; }", {"f": "{ reject \"OWN\"; }"}),
-    ("a part of a prefix with a defined name", "define len = 8;\nfilter f { if net.len = len then accept; }", {"f": "{ if net.len = 8 then accept; }"}),
-    ("a number in a mask and a label", "define N = 8;\nfilter f { case net.len { N..9: accept; } if net.ip.mask(N) = 10.0.0.0 then accept; }",
-     {"f": "{ case net.len { 8..9: accept; } if net.ip.mask(8) = 10.0.0.0 then accept; }"}),
-    ("two filters, closed", "filter f { accept; };\nfilter g { reject; };", {"f": "{ accept; }", "g": "{ reject; }"}),
-    ("a declaration with a value", "filter f { int k = 1; bool b = true; if b && net.len = k then accept; }",
-     {"f": "int k; bool b; { k = 1; b = true; if b && net.len = k then accept; }"}),
-    ("a declaration behind a command", "filter f { if net.len < 4 then reject; int k = 4; if net.len > k then accept; }",
-     {"f": "int k; { if net.len < 4 then reject; k = 4; if net.len > k then accept; }"}),
-    ("a declaration in a block", "filter f { if net.len > 4 then { int k = 9; if net.len < k then accept; } }",
-     {"f": "int k; { if net.len > 4 then { k = 9; if net.len < k then accept; } }"}),
-    ("no filter of a protocol", "protocol rip r { ipv4 { import all; export filter f; }; }\nfilter f { accept; }", {"f": "{ accept; }"}),
-    ("filters of two protocols", "protocol rip a { import filter { accept; }; }\nprotocol rip b { import filter { reject; }; }",
-     {"a_import": "{ accept; }", "b_import": "{ reject; }"}),
-    ("both directions", "protocol rip a { ipv4 { import filter { accept; }; export filter { reject; }; }; }",
-     {"a_import": "{ accept; }", "a_export": "{ reject; }"}),
-    ("variables of a filter without a name", "template rip t { ipv4 { import filter int k; { k = 1; if net.len = k then accept; }; }; }",
-     {"t_import": "int k; { k = 1; if net.len = k then accept; }"}),
-    ("a protocol without a name", "protocol rip { ipv4 { import filter { accept; }; }; }", {"rip1_import": "{ accept; }"}),
-    ("protocols without a name, each kind by itself", "protocol device { }\nprotocol rip { ipv4 { import filter { accept; }; }; }\n"
-     "protocol bgp { ipv4 { export where true; }; }\nprotocol rip { ipv4 { import filter { reject; }; }; }",
-     {"rip1_import": "{ accept; }", "bgp1_export": "{ if true then accept; reject; }", "rip2_import": "{ reject; }"}),
-    ("protocols of a kind of two words, and from a template", "protocol ospf v2 core { ipv4 { import filter { accept; }; }; }\n"
-     "protocol ospf v3 { ipv4 { export filter { accept; }; }; }\nprotocol rip from t { ipv4 { import filter { reject; }; }; }",
-     {"core_import": "{ accept; }", "ospf1_export": "{ accept; }", "rip1_import": "{ reject; }"}),
-    ("a protocol with a name in quotes, which moves no number",
-     "protocol rip 'p-1' { ipv4 { export all; }; }\nprotocol rip { ipv4 { import filter { accept; }; }; }", {"rip1_import": "{ accept; }"}),
-    ("a name in quotes that is one", "protocol rip 'up' { ipv4 { import filter { accept; }; }; }", {"up_import": "{ accept; }"}),
-    ("the word `from` in quotes", "template rip t { }\nprotocol rip 'from' t { ipv4 { import filter { accept; }; }; }", {"rip1_import": "{ accept; }"}),
-    ("other kinds of channels of IPv4", "protocol bgp a { ipv4 multicast { import filter { accept; }; }; ipv4 mpls { export filter { reject; }; }; }",
-     {"a_import": "{ accept; }", "a_export": "{ reject; }"}),
-    ("a filter that channels of both kinds use", "filter f { accept; }\nprotocol bgp b { ipv4 { import filter f; }; ipv6 { import filter f; }; }", {"f": "{ accept; }"}),
-    ("filters of a pipe between tables of IPv4", "ipv4 table t4;\nipv6 table t6;\nfilter f { accept; }\n"
-     "protocol pipe p { table master4; peer table t4; import filter f; export filter { reject; }; }", {"f": "{ accept; }", "p_export": "{ reject; }"}),
-    ("a condition", "define OWN = 10.0.0.0/8;\nprotocol rip a { ipv4 { import where net ~ OWN; }; }", {"a_import": DEFINED}),
-    ("mixed operators", "filter f { if true || true && false then accept; reject; }", {"f": "{ if ( true || true ) && false then accept; reject; }"}),
-    ("more of them", "filter f bool b; { b = true && false || true && true; if b then accept; }",
-     {"f": "bool b; { b = ( ( true && false ) || true ) && true; if b then accept; }"}),
-    ("lengths in mixed operators", "filter f { if net ~ [ 10.0.0.0/8{8,24} ] && rip_metric < 5 || net.len = 16 then accept; reject; }",
-     {"f": "{ if ( net ~ [ 10.0.0.0/8{8,24} ] && rip_metric < 5 ) || net.len = 16 then accept; reject; }"}),
-    ("lengths between mixed operators", "filter f { if rip_metric < 5 || net ~ [ 10.0.0.0/8{8,24}, 11.0.0.0/8{9,9} ] && net.len = 16 then accept; reject; }",
-     {"f": "{ if ( rip_metric < 5 || net ~ [ 10.0.0.0/8{8,24}, 11.0.0.0/8{9,9} ] ) && net.len = 16 then accept; reject; }"}),
-    ("lengths of a defined set in mixed operators", "define OURS = [ 10.0.0.0/8{8,24} ];\nprotocol rip r { ipv4 { export where net ~ OURS && rip_metric < 5 || net.len = 16; }; }",
-     {"r_export": "{ if ( net ~ [ 10.0.0.0/8{8,24} ] && rip_metric < 5 ) || net.len = 16 then accept; reject; }"}),
-    ("lengths of a set that is assigned behind mixed operators",
-     "filter f bool b; { b = true || net ~ [ 10.0.0.0/8{8,24} ] && false; if b then { if b && net ~ [ 10.0.0.0/8{8,24} ] || b then accept; } reject; }",
-     {"f": "bool b; { b = ( true || net ~ [ 10.0.0.0/8{8,24} ] ) && false; if b then { if ( b && net ~ [ 10.0.0.0/8{8,24} ] ) || b then accept; } reject; }"}),
-    ("operators in parentheses", "filter f { if (true || false && true) then accept; }", {"f": "{ if ( ( true || false ) && true ) then accept; }"}),
-    ("a missing semicolon", "filter f { if net.len > 8 then rip_metric = 4 else reject\n}", {"f": "{ if net.len > 8 then rip_metric = 4; else reject; }"}),
-    ("lengths before a brace", "filter f { if net ~ [ 10.0.0.0/8{8,24} ] then accept; }", {"f": "{ if net ~ [ 10.0.0.0/8{8,24} ] then accept; }"}),
-    ("printing", "filter f { print \"x \", net, \" \", rip_metric; if net.len > 8 then printn net.len; else reject \"far\", net; accept; }",
-     {"f": "{ ; if net.len > 8 then ; else reject \"far\"; accept; }"}),
-    ("printing attributes that no route has here", "filter f { print \"from \", from, \" \", proto, source, preference; if net.len > 8 then reject \"from \", proto; accept; }",
-     {"f": "{ ; if net.len > 8 then reject \"from \"; accept; }"}),
-    ("printing what is in parentheses", "filter f { print (1 + 2) * net.len, net.ip.mask(8), gw; accept (1), bgp_path; }", {"f": "{ ; accept; }"}),
-    ("the kind of a prefix", "filter f { if net.type = NET_IP4 && net.len > 8 then accept; if net.type = NET_IP6 then accept; }",
-     {"f": "{ if true && net.len > 8 then accept; if false then accept; }"}),
-    ("a function's value", "function f() { return net.len > 8; }\nfilter g { if f() && !f() then accept; }",
-     {"g": "{ if ( net.len > 8 ) && !( net.len > 8 ) then accept; }"}),
-    ("a function with cases", "function f() { if net.len > 8 then return true; if net.len < 4 then { return false; } return net ~ 10.0.0.0/8; }\n"
-     "filter g { if f() then accept; }",
-     {"g": "{ if ( ( net.len > 8 ) || ( ! ( net.len < 4 ) && ( net ~ 10.0.0.0/8 ) ) ) then accept; }"}),
-    ("a function's commands", "function f() { if net.len > 8 then reject; }\nfilter g { f(); if net.len = 1 then f(); accept; }",
-     {"g": "{ { if net.len > 8 then reject; } if net.len = 1 then { if net.len > 8 then reject; } accept; }"}),
-    ("a function with a set", "function f()\nprefix set s;\n{ s = [ 10.0.0.0/8+ ]; return net ~ s; }\nfilter g { if f() then accept; }",
-     {"g": "{ if ( net ~ [ 10.0.0.0/8+ ] ) then accept; }"}),
-    ("a function that calls one", "function f() { return net.len > 8; }\nfunction h() { return !f(); }\nfilter g { if h() then accept; }",
-     {"g": "{ if ( !( net.len > 8 ) ) then accept; }"}),
-    ("a variable that is a set", "filter f prefix set s; { s = [ 10.0.0.0/8+ ]; if net ~ s then accept; }",
-     {"f": "{ if net ~ [ 10.0.0.0/8+ ] then accept; }"}),
-    ("a set that its declaration assigns", "filter f { prefix set s = [ 10.0.0.0/8+ ]; if net ~ s then accept; }", {"f": "{ if net ~ [ 10.0.0.0/8+ ] then accept; }"}),
-    ("a set in a block", "filter f { if net.len > 8 then { prefix set s = [ 10.0.0.0/8+ ]; if net ~ s then accept; } reject; }",
-     {"f": "{ if net.len > 8 then { if net ~ [ 10.0.0.0/8+ ] then accept; } reject; }"}),
-    ("two sets", "filter f prefix set s; int set n; { s = [ 10.0.0.0/8+ ]; n = [ 8, 16..24 ]; if net ~ s && net.len ~ n then accept; reject; }",
-     {"f": "{ if net ~ [ 10.0.0.0/8+ ] && net.len ~ [ 8, 16..24 ] then accept; reject; }"}),
-    ("functions that call and decide", "function a() { return net ~ [ 10.0.0.0/8+ ]; }\nfunction b() { if a() then return false; else return net.len > 8; }\n"
-     "filter f { if b() then accept; reject; }",
-     {"f": "{ if ( ! ( ( net ~ [ 10.0.0.0/8+ ] ) ) && ( net.len > 8 ) ) then accept; reject; }"}),
-    ("a function with braces round what it returns", "function a() { if net.len > 8 then { return true; } else { return net.len < 4; } }\nfilter f { if a() then accept; reject; }",
-     {"f": "{ if ( ( net.len > 8 ) || ( net.len < 4 ) ) then accept; reject; }"}),
-    ("a function that says what it returns", "function a() -> bool { return net.len > 8; }\nfilter f { if a() then accept; reject; }",
-     {"f": "{ if ( net.len > 8 ) then accept; reject; }"}),
-    ("commands of functions on both ways", "function a() { rip_metric = rip_metric + 1; }\nfunction b() { if net.len > 8 then reject; }\n"
-     "filter f { if net.len > 4 then a(); else b(); accept; }",
-     {"f": "{ if net.len > 4 then { rip_metric = rip_metric + 1; } else { if net.len > 8 then reject; } accept; }"}),
-    ("a case of addresses by a name", "define EAST = 10.1.0.0; define FAR = 10.9.0.0;\nfilter f { case net.ip.mask(16) { EAST, 10.3.0.0: rip_metric = 4; 10.4.0.0..FAR: reject; } accept; }",
-     {"f": "{ if net.ip.mask(16) = 10.1.0.0 || net.ip.mask(16) = 10.3.0.0 then { rip_metric = 4; } else if ( net.ip.mask(16) >= 10.4.0.0 && "
-      "net.ip.mask(16) <= 10.9.0.0 ) then { reject; } accept; }"}),
-    ("comments in odd places", "define X = /* eight */ 8; # why\nfilter /* name */ odd # before\n{ # behind\n if # a\n net.len /* b */ > X then\n # c\n accept /* d */ ; "
-     "/* e */ else /* f */ reject; # g\n}\n# tail", {"odd": "{ if net.len > 8 then accept; else reject; }"}),
-    ("a variable that each way assigns", "filter f int k; { if net.len > 8 then k = 1; else { case net.len { 8: k = 2; 7: reject; else: k = 3; } } if net.len > k then accept; }",
-     {"f": "int k; { if net.len > 8 then k = 1; else { case net.len { 8: k = 2; 7: reject; else: k = 3; } } if net.len > k then accept; }"}),
-    ("a variable of a part of a case", "filter f { case net.len { 8: int k = 3; rip_metric = k; else: reject; } accept; }",
-     {"f": "int k; { case net.len { 8: k = 3; rip_metric = k; else: reject; } accept; }"}),
-    ("a case of addresses", "filter f { case net.ip { 10.0.0.0: accept; else: reject; 10.0.0.1, 10.1.0.0..10.2.0.0: rip_metric = 3; } }",
-     {"f": "{ if net.ip = 10.0.0.0 then { accept; } else if net.ip = 10.0.0.1 || ( net.ip >= 10.1.0.0 && net.ip <= 10.2.0.0 ) then "
-      "{ rip_metric = 3; } else { reject; } }"}),
-    ("a set in the last part of a case", "filter f prefix set s; { case net.len { 8: rip_metric = 2; 9: rip_metric = 3; s = [ 10.0.0.0/8 ]; if net ~ s then accept; } reject; }",
-     {"f": "{ case net.len { 8: rip_metric = 2; 9: rip_metric = 3; if net ~ [ 10.0.0.0/8 ] then accept; } reject; }"}),
-    ("a case of addresses before an else", "filter f { if net.len = 8 then case net.ip { 10.0.0.0: accept; } else reject; accept; }",
-     {"f": "{ if net.len = 8 then { if net.ip = 10.0.0.0 then { accept; } } else reject; accept; }"}),
-    ("a case of addresses in an else", "filter f { if net.len = 8 then accept; else case net.ip { 10.0.0.0: reject; 11.0.0.0: accept; } reject; }",
-     {"f": "{ if net.len = 8 then accept; else if net.ip = 10.0.0.0 then { reject; } else if net.ip = 11.0.0.0 then { accept; } reject; }"}),
-    ("a case of addresses in an else, before an else",
-     "filter f { if net.len > 4 then if net.len = 8 then accept; else case net.ip { 10.0.0.0: accept; } else reject; accept; }",
-     {"f": "{ if net.len > 4 then if net.len = 8 then accept; else { if net.ip = 10.0.0.0 then { accept; } } else reject; accept; }"}),
-    ("a case of addresses before a label of another", "filter f { case net.len { 8: rip_metric = 3; case net.ip { 10.0.0.0: accept; } else: reject; } accept; }",
-     {"f": "{ case net.len { 8: rip_metric = 3; { if net.ip = 10.0.0.0 then { accept; } } else: reject; } accept; }"}),
-    ("a case in a case", "filter f { case net.ip.mask(8) { 10.0.0.0: case net.ip.mask(16) { 10.1.0.0: accept; else: reject; } else: rip_metric = 4; "
-     "11.0.0.0: accept; } reject; }",
-     {"f": "{ if net.ip.mask(8) = 10.0.0.0 then { if net.ip.mask(16) = 10.1.0.0 then { accept; } else { reject; } } else if net.ip.mask(8) = "
-      "11.0.0.0 then { accept; } else { rip_metric = 4; } reject; }"}),
-    ("a function with one case in another's else", "function f() { if net.len = 1 then return true; else if net.len = 2 then return false; else return net.len > 8; }\n"
-     "filter g { if f() then accept; }",
-     {"g": "{ if ( ( net.len = 1 ) || ( ! ( net.len = 2 ) && ( net.len > 8 ) ) ) then accept; }"}),
-    ("a function that prints", "function g() { print \"g\"; return net.len > 8; }\nfilter f { if g() then accept; }",
-     {"f": "{ if ( net.len > 8 ) then accept; }"}),
-    ("other blocks", "log \"/var/log/x\" { debug, trace };\nrouter id 1.2.3.4;\nprotocol bgp p { local as 65000; neighbor 2001:db8::1 as 65001; hold time 240; "
-     "password 'x'; ipv6 { import all; }; }\nprotocol static { route 10.0.0.0/8 via \"eth0\"; }\nipv4 table t;\nfilter f { accept; }", {"f": "{ accept; }"}),
-]
-
-LEFT_OUT = [
-    ("a definition below", "filter f " + BODY + "\ndefine OWN = 10.0.0.0/8;", "1:21", "f: `OWN` is used before its definition ends"),
-    ("a definition by itself", "define OWN = OWN;\nfilter f " + BODY, "1:14", "f: `OWN` is used before"),
-    ("definitions in a circle", "define A = B;\ndefine B = A;\nfilter f { if net.len = B then accept; }", "1:12", "f: `B` is used before"),
-    ("two definitions", "define A = 1;\ndefine A = 2;\nfilter f { if net.len = A then accept; }", "3:25", "f: `A` has two definitions"),
-    ("a variable with a defined name", "define k = 8;\nfilter f int k; { k = 1; if net.len = k then accept; }", "2:14", "f: `k` is a variable here and a definition too"),
-    ("a defined name in a block that declares it", "define X = 5;\nfilter f { { int X = 1; rip_metric = rip_metric + X; } rip_metric = rip_metric + X; accept; }",
-     "2:18", "f: `X` is a variable here and a definition too"),
-    ("a defined name that a part of an if declares", "define X = 5;\nfilter f { if net.len > 24 then { int X = 1; rip_metric = rip_metric + X; } rip_metric = rip_metric + X; accept; }",
-     "2:39", "f: `X` is a variable here and a definition too"),
-    ("a variable with a name that a definition is defined by", "define Y = 5;\ndefine X = Y + 1;\nfilter f int Y; { Y = 1; rip_metric = rip_metric + X; accept; }",
-     "3:14", "f: `Y` is a variable here and a definition too"),
-    ("a set with a defined name", "define s = [ 10.0.0.0/8 ];\nfilter f prefix set s; { s = [ 11.0.0.0/8 ]; if net ~ s then accept; }", "2:21", "f: `s` is a variable here and a definition too"),
-    ("a function's set with a defined name", "define s = [ 10.0.0.0/8 ];\nfunction g() prefix set s; { s = [ 11.0.0.0/8 ]; return net ~ s; }\nfilter f { if g() then accept; }",
-     "2:25", "f: `s` is a variable here and a definition too"),
-    ("a variable that is used behind its block", "filter f { if net.len > 16 then { int x = 1; rip_metric = rip_metric + x; } x = 3; accept; }",
-     "1:77", "f: `x` stands outside the braces or the part of a `case` in which it is declared, or before that"),
-    ("a variable that is used before its declaration", "filter f { x = 3; int x = 1; accept; }", "1:12", "f: `x` stands outside the braces"),
-    ("two variables of one name", "filter f { if net.len > 24 then { int x = 1; rip_metric = rip_metric + x; } else { int x = 2; rip_metric = rip_metric + x; } accept; }",
-     "1:88", "f: `x` stands outside the braces"),
-    ("definitions that are too long", "".join(f"define d{n} = d{n - 1} + d{n - 1};\n" if n else "define d0 = 1;\n" for n in range(17)) + "filter f { rip_metric = d16; accept; }",
-     "18:1", "f: it is longer than 65536 bytes with all definitions in place"),
-    ("an attribute of BGP", "filter f { if net.len > 8 then reject; bgp_path.prepend(1); accept; }", "1:40", "f: `bgp_path` is an attribute of BGP"),
-    ("a preference", "filter f { preference = 90; accept; }", "1:12", "f: `preference` is an attribute"),
-    ("a tag", "filter f { rip_tag = 666; accept; }", "1:12", "f: `rip_tag` is an attribute"),
-    ("where a route comes from", "filter f { if from = 10.0.0.1 then reject; accept; }", "1:15", "f: `from` is an attribute"),
-    ("another kind", "filter f bgppath p; { accept; }", "1:10", "f: `bgppath` is a type that is not taken"),
-    ("a function with arguments", "function g(int k) { return net.len > k; }\nfilter f { if g(8) then accept; }", "2:15", "f: `g` is called with arguments"),
-    ("a function with a variable", "function g() int k; { k = 8; return net.len > k; }\nfilter f { if g() then accept; }", "2:15", "f: the function `g` cannot"),
-    ("a function below", "filter f { if g() then accept; }\nfunction g() { return true; }", "1:15", "f: `g` is used before"),
-    ("a function that calls itself", "function g() { return g(); }\nfilter f { if g() then accept; }", "1:23", "f: `g` is used before"),
-    ("no function", "filter f { if g() then accept; }", "1:15", "f: `g` is no function"),
-    ("a value of a function in a print", "function g() { reject; }\nfilter f { print g(); accept; }", "2:18", "f: the function `g` cannot"),
-    ("a set that is assigned twice", "filter f prefix set s; { s = [ 10.0.0.0/8 ]; s = [ 11.0.0.0/8 ]; if net ~ s then accept; }", "1:21", "f: the set `s`"),
-    ("a set that is assigned on a condition", "filter f prefix set s; { if net.len > 8 then s = [ 10.0.0.0/8 ]; if net ~ s then accept; }", "1:21", "f: the set `s`"),
-    ("a variable that the next part of a case uses", "filter f { case net.len { 8: int k = 3; rip_metric = k; 9: rip_metric = 1 + k; } accept; }", "1:77", "f: `k` stands outside the braces or the part of a `case`"),
-    ("a variable that is used behind its part of a case", "filter f { case net.len { 8: int k = 3; rip_metric = k; else: reject; } rip_metric = 1 + k; accept; }", "1:90", "f: `k` stands outside"),
-    ("a variable in two parts of a case", "filter f { case net.len { 8: int k = 3; rip_metric = k; else: int k = 4; rip_metric = k; } accept; }", "1:67", "f: `k` stands outside"),
-    ("a set that is used behind its block", "filter f { if net.len > 8 then { prefix set s = [ 10.0.0.0/8+ ]; } if net ~ s then accept; reject; }", "1:77", "f: `s` stands outside the braces"),
-    ("a set that another part of a case uses", "filter f prefix set s; { case net.len { 8: rip_metric = 2; s = [ 10.0.0.0/8 ]; 9: if net ~ s then accept; } reject; }",
-     "1:21", "f: the set `s`"),
-    ("a condition in a condition of a function", "function g() { if net.len > 20 then if net.len < 22 then return true; return false; }\nfilter f { if g() then accept; }",
-     "2:15", "f: the function `g` cannot"),
-    ("a set without a value in the body", "filter f { prefix set s; s = [ 10.0.0.0/8 ]; if net ~ s then accept; }", "1:23", "f: `s` has no value in the body"),
-    ("a label of several words", "define FAR = 2 + 3;\nfilter f { case net.len { FAR: accept; else: reject; } }", "2:27", "f: `FAR` is defined by more than one word"),
-    ("a mask of several words", "define FAR = 2 + 3;\nfilter f { if net.ip.mask(FAR) = 10.0.0.0 then accept; }", "2:27", "f: `FAR` is defined by more than one word"),
-    ("a length of several words", "define FAR = 2 + 3;\nfilter f { if net ~ [ 10.0.0.0/8{FAR,24} ] then accept; }", "2:34", "f: `FAR` is defined by more than one word"),
-    ("a member of several words", "define FAR = 2 + 3;\nfilter f { if net.len ~ [ FAR, 9 ] then accept; }", "2:27", "f: `FAR` is defined by more than one word"),
-    ("a name in quotes", "filter 'e-8' { accept; }\nfilter f { accept; }", "1:8", "'e-8': `'e-8'` is a name in quotes"),
-    ("labels that share an address", "filter f { case net.ip { 10.0.0.0..10.0.0.9: accept; 10.0.0.5: reject; } }", "1:12", "f: the labels"),
-    ("a variable without a value in the body", "filter f { int k; k = 4; if net.len > k then accept; }", "1:16", "f: `k` has no value in the body"),
-    ("a variable that is not assigned", "filter f int k; { if net.len > k then accept; }", "1:32", "f: `k` may be read before it is assigned"),
-    ("a variable that is assigned on a condition", "filter f int k; { if net.len > 8 then k = 1; if net.len > k then accept; }", "1:59", "f: `k` may be read"),
-    ("a division", "filter f { rip_metric = 8 / rip_metric; accept; }", "1:27", "f: the divisor may be 0"),
-    ("a strange byte in a filter", "filter f { accept; $ }", "1:20", "f: no word of a configuration begins with this byte"),
-    ("a strange byte elsewhere", "filter f { accept; }\n$", "2:1", "no word begins with this byte"),
-    ("a comment that does not end", "filter f { accept; }\n/* ", "2:1", "a comment or a text begins here that is not closed"),
-    ("a text that does not end", "filter f { accept; }\nlog \"x\n;", "2:5", "a comment or a text begins here that is not closed"),
-    ("braces that do not close", "filter f { if net.len > 8 then { accept; }", "1:1", "f: its braces are not closed: nothing behind them was read"),
-    ("one name for two", "filter f { accept; }\nfilter f { reject; }", "2:1", "f: a filter before it has this name"),
-    ("a parenthesis that does not close", "filter a { if (net.len > 24 then reject; accept; }\nfilter b { accept; }", "1:15", "a: `(` is not closed: nothing behind"),
-    ("the inner of two parentheses", "filter a { if ((net.len > 24) || (net.len < 8 then reject; accept; }", "1:34", "a: `(` is not closed"),
-    ("a bracket that does not close", "filter a { if net ~ [ 10.0.0.0/8{8,24}, (11.0.0.0/8) then reject; accept; }", "1:21", "a: `[` is not closed"),
-    ("a name of a protocol that is none", "protocol rip 'p-1' { ipv4 { import filter { accept; }; }; }", "1:29", "p-1_import: a name is letters, digits and `_`, with no digit first"),
-    ("a name of a protocol that begins with a digit", "protocol rip '4to6' { ipv4 { import where true; }; }", "1:30", "4to6_import: a name is letters"),
-    ("a filter whose name begins with a digit", "filter 4to6 { accept; }", "1:1", "filter 4: a name is letters, digits and `_`, with no digit first"),
-    ("a filter without a name", "filter { accept; }", "1:1", "filter {: a name is letters"),
-    ("a name of more than 64 bytes", "filter " + 65 * "a" + " { accept; }", "1:8", "` is a name of more than 64 bytes (P8)"),
-    ("a length over 32", "filter f { if net ~ 10.0.0.0/33 then accept; }", "1:21", "f: `10.0.0.0/33` is out of range: the length of the prefix exceeds 32 (P4)"),
-    ("a group over 255", "filter f { if net ~ 10.0.0.256/8 then accept; }", "1:21", "f: `10.0.0.256/8` is out of range: a number of the address exceeds 255 (P4)"),
-    ("an address out of range", "filter f { if net.ip = 10.0.0.256 then accept; }", "1:24", "f: `10.0.0.256` is out of range: a number of the address exceeds 255 (P4)"),
-    ("a number out of range", "filter f { rip_metric = 4294967296; accept; }", "1:25", "f: `4294967296` is out of range: the number exceeds 4294967295 (P3)"),
-    ("a hexadecimal number out of range", "filter f { rip_metric = 0x100000000; accept; }", "1:25", "f: `0x100000000` is out of range: the number exceeds"),
-    ("a hexadecimal number without a digit", "filter f { rip_metric = 0x; accept; }", "1:25", "f: `0x` is no number: no hexadecimal digit follows (P1)"),
-    ("a table of origins", "filter f { if roa_check(r4, net, 1) = ROA_INVALID then reject; accept; }", "1:15", "f: `roa_check` asks a table of origins"),
-    ("an attribute that is taken away", "filter f { unset(rip_metric); accept; }", "1:12", "f: `unset` takes an attribute away"),
-    ("a path that is changed", "filter f { bgp_path = prepend(bgp_path, 65000); accept; }", "1:23", "f: `prepend` changes a path"),
-    ("communities that are changed", "filter f { bgp_community = delete(bgp_community, [(65000,*)]); accept; }", "1:28", "f: `delete` changes a path"),
-    ("a call of what is no operator", "filter f { if not (net.len > 8) then accept; }", "1:15", "f: `not` is no operator: write `!`"),
-    ("a division in a print", "filter f { print (8 / rip_metric); accept; }", "1:12", "f: what is printed here is computed by more than attributes"),
-    ("a comparison by a function in a print", "function g() { return net.len > 8; }\nfilter f { print g(); accept; }", "2:12", "f: what is printed here"),
-    ("IPv6", "protocol rip a { ipv6 { import filter { accept; }; }; }", "1:25", "a_import: the routes that it is for are none of IPv4: IPv6 is not supported"),
-    ("a filter that channels of IPv6 alone use", "filter f { accept; }\nprotocol bgp b { ipv6 { import filter f; export filter f; }; }", "1:1", "f: the routes that it is for are none of IPv4"),
-    ("a filter that a pipe between tables of IPv6 uses", "ipv6 table t6;\nfilter f { accept; }\nprotocol pipe p { table t6; peer table master6; import filter f; }", "2:1", "f: the routes that it is for are none of IPv4"),
-    ("a condition of such a pipe", "protocol pipe p { table master6; peer table t6; export where net.len < 49; }", "1:49", "p_export: the routes that it is for are none of IPv4"),
-    ("a channel of VPNs", "protocol bgp a { vpn6 mpls { import where net.len > 48; }; }", "1:30", "a_import: the routes that it is for are none of IPv4"),
-    ("a channel of flows", "protocol bgp a { flow4 { import where net.len > 8; }; }", "1:26", "a_import: the routes that it is for are none of IPv4"),
-    ("a channel of origins", "protocol rpki a { roa6 { table r6; import where net.len < 20; }; remote 10.1.1.1; }", "1:36", "a_import: the routes that it is for are none"),
-    ("a channel of labels", "protocol static a { mpls { import where net.len < 20; }; }", "1:28", "a_import: the routes that it is for are none"),
-    ("an address of IPv6", "filter f { if net ~ [ 2001:db8::/32+ ] then accept; }", "1:28", "f: "),
-    ("a loop", "filter f { for int k in 1 do accept; }", "1:12", "f: "),
-    ("unset", "filter f { unset(rip_tag); accept; }", "1:12", "f: "),
-    ("no such file", "include \"nowhere.bird\";\nfilter f { accept; }", "1:1", "include nowhere.bird: it cannot be read"),
-    ("many files", "include \"*.bird\";\nfilter f { accept; }", "1:1", "include *.bird: include each file by its own name"),
-]
 
 # A name that steers a terminal where it is not shown: it has a title, a line that is written over, and text that runs the other way.
 STEERING = "a\x1b]0;x\x07\r\u202e\u2028b"
@@ -437,8 +206,17 @@ def variables(trial):
         trial.left_out(f"the first of two variables behind {count} commands", two, place(two, "b then"), "f: `b` may be read")
 
 
+def chain(count):
+    """So many definitions, each but the first the sum of two of the one before."""
+    return "define d0 = 1;\n" + "".join(f"define d{n} = d{n - 1} + d{n - 1};\n" for n in range(1, count))
+
+
 def lengths(trial):
     """Definitions, names, labels and filters of many lengths."""
+    value = functools.reduce(lambda value, _: f"( {value} + {value} )", range(7), "1")
+    trial.taken("a chain of definitions", chain(8) + "filter f { rip_metric = d7; accept; }", {"f": f"{{ rip_metric = {value}; accept; }}"})
+    trial.left_out("definitions that are too long", chain(17) + "filter f { rip_metric = d16; accept; }", "18:1",
+                   "f: it is longer than 65536 bytes with all definitions in place")
     for count in range(1, 33):
         value = " + ".join(["1"] * count)
         written = value if count == 1 else f"( {value} )"
@@ -556,10 +334,6 @@ def main():
     seed = int(os.environ.get("SEED", "1"))
     with tempfile.TemporaryDirectory() as folder:
         trial = Trial(ncroute, folder)
-        for name, config, filters in TAKEN:
-            trial.taken(name, config, filters)
-        for name, config, place, words in LEFT_OUT:
-            trial.left_out(name, config, place, words)
         shown(trial)
         includes(trial)
         comments(trial)

@@ -10,7 +10,7 @@ A file has rows with empty lines between them. A row is lines that begin with a 
     - LINE      a line of standard input of a further run of the same words, which the lines below belong to. Without a `=`, it ends with 1 where
                 the last line that it writes begins with `refused`, and with 0 otherwise
     ~ WORDS     what is a terminal: `input`, `errors`, or both
-    @ NAME      a file; `<` below it are the lines that the row finds there, `>` those that it leaves
+    @ NAME      a file; `<` below it are the lines that the row finds there, `>` those that it leaves. It leaves no other files
     % LINE      what a shell does in the row's folder before it runs the program, as `ulimit -f 1`
     # TEXT      a comment
 
@@ -102,11 +102,8 @@ class Row:
             if self.left.pop(file, None):
                 self.files[file] = b""
             self.files[file] += bytes_of(text)
-        elif sign == ">":
-            (self.output if file is None else self.left.setdefault(file, Wanted())).add(bytes_of(text))
-        elif sign == "!":
-            self.looks_at_errors = True
-            self.errors.add(bytes_of(text))
+        elif sign in ">!":
+            self.wanted(sign, file).add(bytes_of(text))
         elif sign == "=":
             self.status = int(text)
         elif sign == "%":
@@ -116,6 +113,13 @@ class Row:
             if not self.terminals or self.terminals - {"input", "errors"}:
                 sys.exit(f"{self.place}: behind `~` stand `input`, `errors`, or both")
         return file
+
+    def wanted(self, sign, file):
+        """The lines of which one stands behind a sign, below the line of a file if there is one."""
+        if sign == "!":
+            self.looks_at_errors = True
+            return self.errors
+        return self.output if file is None else self.left.setdefault(file, Wanted())
 
     def is_files_alone(self):
         """Whether no line says what a program is given or what it must do."""
@@ -153,8 +157,7 @@ def rows_of(path):
             continue
         row = row or Row(f"{name}:{number}", files)
         if line in (">...", "!..."):
-            (row.output if line[0] == ">" else row.errors).add_any()
-            row.looks_at_errors |= line[0] == "!"
+            row.wanted(line[0], file).add_any()
         elif line[0] == "-" and line[1:2] in ("", " ") and row.words:
             if row.is_further:
                 yield row
