@@ -13,12 +13,15 @@ they send and receive their messages, they come to the routes that `ncroute doma
 """
 import itertools
 import random
+import re
 import subprocess
 import sys
 
+import domain_oracle
+from lib import netchange
 from lib.counts import Counts
 from lib.processes import Process
-from lib.program import TOP, Program, named
+from lib.program import Program, named
 
 FILTERS = (
     "accept;",
@@ -102,30 +105,29 @@ class SmallPlan:
         yield from (f"{kind} {u} {w} {used[0]}" for (kind, u, w), used in self.filters.items() if used)
         yield from (f"route {u} {v}" for v in self.nodes for u in self.nodes)
 
-    def filtered(self, used, node, dist):
-        return used[2](self.size, node, dist) if used else dist
+    def toll(self, u, w, node, dist):
+        """What a distance of w comes to at u."""
+        for used in (self.filters["export", w, u], self.filters["import", u, w]):
+            dist = used[2](self.size, node, dist) if used else dist
+        return dist
 
-    def route(self, node, u, dists):
-        """The route of a node where all are at these distances: its distance, and its next hop."""
-        if u == node:
-            return 0, "local"
-        best = self.size, "none"
-        for w in self.nodes:
-            if (min(u, w), max(u, w)) in self.links:
-                way = self.filtered(self.filters["import", u, w], node, self.filtered(self.filters["export", w, u], node, dists[w])) + 1
-                if way < best[0]:
-                    best = way, f"via {w}"
-        return best
+    def routes(self, node, dists):
+        """The routes to a node where all are at these distances."""
+        return [netchange.best(self.size, u == node, ((w, self.toll(u, w, node, dists[w])) for w in self.nodes if (min(u, w), max(u, w)) in self.links))
+                for u in self.nodes]
 
     def answers(self):
         """The routes at rest, as they are told; nothing where there is not just one rest."""
         told = []
         for node in self.nodes:
-            rests = [dists for dists in itertools.product(range(self.size + 1), repeat=self.size)
-                     if all(self.route(node, u, dists)[0] == dists[u] for u in self.nodes)]
+            rests = []
+            for dists in itertools.product(range(self.size + 1), repeat=self.size):
+                routes = self.routes(node, dists)
+                if all(dist == route[0] for dist, route in zip(dists, routes)):
+                    rests.append(routes)
             if len(rests) != 1:
                 return None
-            told += ["route %d %s" % self.route(node, u, rests[0]) for u in self.nodes]
+            told += [netchange.in_words(route, u == node) for u, route in enumerate(rests[0])]
         return told
 
 
@@ -186,9 +188,9 @@ def any_order(ncroute, number):
     return None if said == wanted else f"order {number}: {script}: {said}, and not {wanted}"
 
 
-def answers(text):
-    """The answers, without what was found of a filter."""
-    return ["verified" if line.startswith("verified ") else line for line in text.decode().split("\n")]
+def without_numbers(text):
+    """Answers, without what was found of a filter."""
+    return re.sub(r"(?m)^verified .*$", "verified", text)
 
 
 def row_of(nodes):
@@ -208,10 +210,8 @@ def main(words):
     said = asked.runs([("ncroute domain", script) for script in scripts])
     asked.close()
     for number, (script, (output, _)) in enumerate(zip(scripts, said)):
-        words = [sys.executable, TOP / "scripts" / "domain_oracle.py"]
-        slow = subprocess.run(words, input=script, capture_output=True, check=True).stdout
-        is_wrong = answers(output) != answers(slow)
-        counts.judge(f"script {number}", is_wrong and f"\n{script.decode()}\nanswered\n{output.decode()}\nslowly\n{slow.decode()}")
+        answered, slow = without_numbers(output.decode()), "".join(domain_oracle.answers(script.decode().splitlines()))
+        counts.judge(f"script {number}", answered != slow and f"\n{script.decode()}\nanswered\n{answered}\nslowly\n{slow}")
     if ncroute := named():
         for wrong in itertools.chain(small_plans(ncroute), (any_order(ncroute, number) for number in range(100))):
             counts.judge("routes", wrong)

@@ -18,10 +18,9 @@ import tempfile
 from lib import bird
 from lib.counts import Counts
 from lib.program import built
+from lib.tokens import words
 
 SIZE = "250"
-TOKEN = re.compile(r"\s+|#[^\n]*|/\*.*?\*/|(\"[^\"\n]*\"|\d+\.\d+\.\d+\.\d+(?:/\d+)?|0x[0-9a-fA-F]+|\d+|[A-Za-z_]\w*|&&|\|\||!=|!~|<=|>=|\.\.|.)", re.S)
-
 # A name that steers a terminal where it is not shown: it has a title, a line that is written over, and text that runs the other way.
 STEERING = "a\x1b]0;x\x07\r\u202e\u2028b"
 SHOWN = "a ]0;x  \ufffd\ufffdb"
@@ -56,10 +55,6 @@ ECHOED = [
 ]
 
 
-def tokens(text):
-    return [found[1] for found in TOKEN.finditer(text) if found[1]]
-
-
 class Trial:
     """Configurations that are imported in a folder of their own."""
 
@@ -89,8 +84,8 @@ class Trial:
 
     def taken(self, name, config, filters):
         said, status, written = self.run(config)
-        wanted = {filter: tokens(f"filter {filter} {body}") for filter, body in filters.items()}
-        got = {filter: tokens(text) for filter, text in written.items()}
+        wanted = {filter: words(f"filter {filter} {body}") for filter, body in filters.items()}
+        got = {filter: words(text) for filter, text in written.items()}
         self.check(name, got == wanted and status == 0, f"status {status}\n{said}{written}")
 
     def left_out(self, name, config, place, words):
@@ -132,7 +127,7 @@ def includes(trial):
     """Files that include files: in order, each once, relative to the one that includes it, 8 deep, and not in a circle."""
     said, status, written = trial.run("include \"a/one.bird\";\nfilter f { if net.len = ONE + TWO then accept; }",
                                       [("a/one.bird", "define ONE = 1;\ninclude \"two.bird\"; # no line feed"), ("a/two.bird", "define TWO = 2;")])
-    trial.check("include", status == 0 and tokens(written["f"]) == tokens("filter f { if net.len = 1 + 2 then accept; }"), said)
+    trial.check("include", status == 0 and words(written["f"]) == words("filter f { if net.len = 1 + 2 then accept; }"), said)
     trial.check("the place in an included file", "a/one.bird:1:14" in written["f"] and "a/two.bird:1:14" in written["f"], written)
     trial.check("the place behind an include", said.startswith("bird.conf:2:1 filter f -> out/f.filter verified"), said)
     said, status, _ = trial.run("include \"a.bird\";\nfilter f { accept; }", [("a.bird", "filter g { accept; }\ninclude \"bird.conf\";")])
@@ -307,7 +302,7 @@ def randoms(trial, seed, count):
         config = f"log syslog all;\n{defined}\nprotocol kernel {{ learn; }}\n/* {block.name()} */\n{body.rstrip()}{dice.choice(['', ';'])}\ntemplate bgp t {{ local as 1; }}\n"
         said, status, written = trial.run(config)
         text = written.get(block.name(), "")
-        trial.check(block.name(), status == 0 and tokens(text) == tokens(block.filter), f"{said}{config}")
+        trial.check(block.name(), status == 0 and words(text) == words(block.filter), f"{said}{config}")
 
 
 def verdicts(trial):

@@ -5,7 +5,7 @@
 usage: NCROUTE=PATH scripts/check_limits.py [WORD..]     (PATH: the program as it is built; WORDs: only the rows whose name has one)
 
 No contract says when memory is refused, so these runs show that it is not, at the sizes that the documents name. What a router answers is
-worked out here once more, in the plainest way, by `Router`.
+worked out once more, in the plainest way, by `lib/netchange.py`.
 """
 import itertools
 import os
@@ -14,6 +14,7 @@ import subprocess
 import sys
 import tempfile
 
+from lib import netchange
 from lib.counts import Counts
 from lib.program import TOP, built
 
@@ -35,75 +36,33 @@ VERIFIED = b"verified 1 0\n"
 # ---- a router, from its rules
 
 
-class Router:
-    """A router's tables, each answer worked out from what its neighbours told. A filter is what it adds to a distance."""
+class Router(netchange.Router):
+    """A router, and what is answered to its events. A filter is what it adds to a distance."""
 
-    def __init__(self, size, me):
-        self.size, self.me, self.sessions = size, me, 0
-        self.told, self.queues, self.imports, self.exports = {}, {}, {}, {}
-
-    def distance(self, node):
-        return self.route(node)[0]
-
-    def route(self, node):
-        if node == self.me:
-            return 0, "local"
-        best = self.size, "none"
-        for neighbour in sorted(self.told):
-            told = self.told[neighbour].get(node, self.size)
-            if told + self.imports.get(neighbour, 0) + 1 < best[0]:
-                best = told + self.imports.get(neighbour, 0) + 1, f"via {neighbour}"
-        return best
-
-    def tell(self, neighbour, node):
-        distance = min(self.distance(node) + self.exports.get(neighbour, 0), self.size)
-        self.queues[neighbour].append(f"{node}:{distance}")
-
-    def tell_all(self, neighbour):
-        for node in range(self.size):
-            self.tell(neighbour, node)
-
-    def change(self, nodes, change):
-        """Makes a change, and tells each neighbour what it did to the distances to these nodes, in which all are that it may have changed."""
-        before = {node: self.distance(node) for node in sorted(nodes)}
-        change()
-        changed = [node for node in before if self.distance(node) != before[node]]
-        for node in changed:
-            for neighbour in self.queues:
-                self.tell(neighbour, node)
-        return f"done {len(changed)}"
+    sessions = 0
 
     def up(self, neighbour):
+        super().up(neighbour)
         self.sessions += 1
-        self.told[neighbour], self.queues[neighbour] = {}, []
-        self.tell_all(neighbour)
         return f"opened {self.sessions}"
 
     def down(self, neighbour):
-        def forget():
-            del self.told[neighbour], self.queues[neighbour]
-
-        return self.change(self.told[neighbour], forget)
+        return f"done {super().down(neighbour)}"
 
     def recv(self, neighbour, node, distance):
-        return self.change([node], lambda: self.told[neighbour].update({node: distance}))
+        return f"done {self.receive(neighbour, node, distance)}"
 
     def take(self, neighbour):
-        taken, self.queues[neighbour] = self.queues[neighbour][:MOST_TAKEN], self.queues[neighbour][MOST_TAKEN:]
-        return " ".join(["messages"] + taken)
+        return " ".join(["messages", *(f"{node}:{distance}" for node, distance in super().take(neighbour, MOST_TAKEN))])
 
     def show(self, node):
-        distance, way = self.route(node)
-        return f"route {distance} {way}"
+        return netchange.in_words(self.route(node), node == self.me)
 
     def set_import(self, neighbour, added):
-        return self.change(self.told.get(neighbour, {}), lambda: self.imports.update({neighbour: added}))
+        return f"done {super().set_import(neighbour, lambda _, distance: distance + added)}"
 
     def set_export(self, neighbour, added):
-        self.exports[neighbour] = added
-        if neighbour in self.queues:
-            self.tell_all(neighbour)
-        return "done 0"
+        return f"done {super().set_export(neighbour, lambda _, distance: distance + added)}"
 
 
 class Script:

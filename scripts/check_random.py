@@ -30,6 +30,7 @@ import tempfile
 from lib import bird
 from lib.counts import Counts
 from lib.program import TOP, built
+from lib.tokens import tokens
 
 FILES, TEXTS, PAIRS, SCRIPTS, HISTORIES, SETS = 3000, 1500, 1000, 300, 300, 30
 ROUTES, TOLD_ROUTES, COMPARED_ROUTES, COMPARED_CLASSES = 6, 60, 100, 4000
@@ -60,27 +61,17 @@ CUT = [bytes.fromhex("4e4346310001000101000000080f1100051251006100017071"),
        bytes.fromhex("4e43463200000100020000000200000002000000040000000600051352006100017071")]
 NET = 17
 
-# A token of a filter that parses.
-TOKEN = re.compile(
-    rb'"[^"\n]*"|\d+\.\d+\.\d+\.\d+(?:/\d+)?|0x[0-9a-fA-F]+|\d+|[A-Za-z_][A-Za-z_0-9]*|&&|\|\||!=|!~|<=|>=|\.\.|[-+*/=<>~!(){}\[\];,.:]')
 # A part that two filters differ on, or that is undecided: a pattern of prefixes, a range of metrics, and what each filter does there.
 PART = re.compile(r"(differ|undecided) ([\d.]+)/(\d+)\{(\d+),(\d+)\}, metrics (\d+)\.\.(\d+)(?:: (\w+(?: \d+)?) \| (\w+(?: \d+)?))?")
 CONSTANT = re.compile(rb"(?<![\w.])(\d+\.\d+\.\d+\.\d+)(?:/(\d+))?|(?<![\w./{,-])\d+(?![\w./])")
-SPACE = re.compile(rb"(?:[ \t\r\n]|#[^\n]*(?:\n|$)|/\*.*?\*/)+", re.S)
 
 
-def tokens(text):
-    """The tokens of a filter; nothing where a byte begins none."""
-    found, at = [], 0
-    while at < len(text):
-        space = SPACE.match(text, at)
-        token = space or TOKEN.match(text, at)
-        if not token:
-            return None
-        if not space:
-            found.append(token[0])
-        at = token.end()
-    return found
+def spaced(text):
+    """A filter with a comment between its tokens; a text that is none, where a byte begins none."""
+    found = tokens(text.decode("latin-1"))
+    if any(token.kind == "strange" for token in found):
+        return b"$"
+    return "".join(token.text + " /* } */\n" for token in found if token.kind != "comment").encode("latin-1")
 
 
 def worked(kind):
@@ -256,8 +247,7 @@ class Laws:
         made = [self.random_text(self.numbers("text", number), worked("")) for number in range(TEXTS)]
         said = self.check(f"--size {size}", made)
         parsed = [number for number, lines in enumerate(said) if not lines[0].startswith("refused P")]
-        spaced = [b" /* } */\n".join([*(tokens(made[number]) or [b"$"]), b""]) for number in parsed]
-        again = dict(zip(parsed, self.check(f"--size {size}", spaced)))
+        again = dict(zip(parsed, self.check(f"--size {size}", [spaced(made[number]) for number in parsed])))
         taken = [number for number in parsed if said[number][-1].startswith("verified ")]
         wrongs = dict(zip(taken, self.pool.map(lambda number: self.unsafe(self.numbers("routes", number), said[number], size), taken)))
         tolds = dict(zip(taken, self.pool.map(lambda number: self.told(self.numbers("told", number), made[number], size), taken)))

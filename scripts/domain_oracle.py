@@ -12,6 +12,8 @@ there is no `code`. Scripts are taken to have no mistakes of words (O1, O2, O3, 
 import re
 import sys
 
+from lib import netchange
+
 
 def address(text):
     a, b, c, d = map(int, text.split("."))
@@ -64,97 +66,24 @@ class Filter:
         return {"=": value == int(right), "<": value < int(right), ">": value > int(right)}[compares]
 
 
-class Router:
-    """A node that runs Netchange."""
-
-    def __init__(self, domain, me):
-        self.domain, self.me, self.size = domain, me, domain.size
-        self.advertised, self.queues = {}, {}
-        self.dist = [0 if v == me else self.size for v in range(self.size)]
-
-    def tell(self, w, v):
-        self.queues[w].append((v, self.domain.exported(self.me, w, v, self.dist[v])))
-
-    def tell_all(self, w):
-        for v in range(self.size):
-            self.tell(w, v)
-
-    def up(self, w):
-        self.advertised[w], self.queues[w] = [self.size] * self.size, []
-        self.tell_all(w)
-
-    def down(self, w):
-        del self.advertised[w], self.queues[w]
-        self.recompute()
-
-    def receive(self, w, v, d):
-        self.advertised[w][v] = d
-        self.recompute()
-
-    def recompute(self):
-        for v in range(self.size):
-            near = [self.domain.imported(self.me, w, v, advertised[v]) + 1 for w, advertised in self.advertised.items()]
-            dist = 0 if v == self.me else min(near + [self.size])
-            if dist != self.dist[v]:
-                self.dist[v] = dist
-                for w in sorted(self.queues):
-                    self.tell(w, v)
-
-
-class Domain:
-    """Nodes, links and filters, and the routers that are played."""
+class Domain(netchange.Domain):
+    """A domain with prefixes."""
 
     def __init__(self, size):
-        self.size, self.links, self.imports, self.exports = size, set(), {}, {}
+        super().__init__(size)
+        self.links = set()
         self.prefixes = [((10 << 24) + (v << 16), 16) for v in range(size)]
-        self.routers = [Router(self, u) for u in range(size)]
 
-    def filtered(self, named, v, d):
-        return named.apply(self.prefixes[v], d, self.size) if named and d < self.size else d
-
-    def exported(self, u, w, v, d):
-        return self.filtered(self.exports.get((u, w)), v, d)
-
-    def imported(self, u, w, v, d):
-        return self.filtered(self.imports.get((u, w)), v, d)
-
-    def neighbours(self, u):
-        return [w for w in range(self.size) if (u, w) in self.links]
-
-    def toll(self, u, w, v, d):
-        return self.imported(u, w, v, self.exported(w, u, v, d))
+    def under(self, named):
+        """What a distance becomes under a filter."""
+        return lambda v, dist: named.apply(self.prefixes[v], dist, self.size)
 
     def routes_to(self, v):
-        """Of each node its distance and next hop; the node itself where it is the destination, and None where there is no way."""
-        dist = [0 if u == v else self.size for u in range(self.size)]
-        near = [self.neighbours(u) for u in range(self.size)]
-        while True:
-            now = [0 if u == v else min([self.toll(u, w, v, dist[w]) + 1 for w in near[u]] + [self.size]) for u in range(self.size)]
-            if now == dist:
-                break
-            dist = now
-        via = [u if u == v else next((w for w in near[u] if dist[u] < self.size and self.toll(u, w, v, dist[w]) + 1 == dist[u]), None)
-               for u in range(self.size)]
-        return list(zip(dist, via))
+        """The route of each node to one."""
+        return netchange.rest(self.size, v, self.links, lambda u, w, dist: self.toll(u, w, v, dist))
 
     def all_routes(self):
         return [self.routes_to(v) for v in range(self.size)]
-
-    def settle(self):
-        rounds = received = 0
-        while True:
-            flights = []
-            for u, router in enumerate(self.routers):
-                for w in sorted(router.queues):
-                    flights.append((u, w, router.queues[w]))
-                    router.queues[w] = []
-            count = sum(len(messages) for _, _, messages in flights)
-            if count == 0:
-                return rounds, received
-            rounds, received = rounds + 1, received + count
-            for u, w, messages in flights:
-                for v, d in messages:
-                    self.routers[w].receive(u, v, d)
 
 
 class Script:
@@ -199,26 +128,22 @@ class Script:
 
     def link(self, u, w):
         self.domain.links |= {(u, w), (w, u)}
-        self.domain.routers[u].up(w)
-        self.domain.routers[w].up(u)
+        self.domain.up(u, w)
+        self.domain.up(w, u)
         return "ok"
 
     def cut(self, u, w):
         self.domain.links -= {(u, w), (w, u)}
-        self.domain.routers[u].down(w)
-        self.domain.routers[w].down(u)
+        self.domain.down(u, w)
+        self.domain.down(w, u)
         return "ok"
 
     def export(self, u, w, name):
-        router = self.domain.routers[u]
-        self.domain.exports[u, w] = self.filters[name]
-        if w in router.queues:
-            router.tell_all(w)
+        self.domain.routers[u].set_export(w, self.domain.under(self.filters[name]))
         return "ok"
 
     def route(self, u, v):
-        dist, via = self.domain.routes_to(v)[u]
-        return f"route {dist} " + ("none" if via is None else "local" if u == v else f"via {via}")
+        return netchange.in_words(self.domain.routes_to(v)[u], u == v)
 
     def path(self, u, v):
         routes, on = self.domain.routes_to(v), [u]
@@ -230,12 +155,12 @@ class Script:
 
     def table(self, u):
         rows = [routes[u] for routes in self.domain.all_routes()]
-        return "table " + " ".join(f"{v}:{d}" + (f":{via}" if via not in (None, u) else "") for v, (d, via) in enumerate(rows))
+        return "table " + " ".join(f"{v}:{dist}" + (f":{via}" if via is not None else "") for v, (dist, via) in enumerate(rows))
 
     def draw(self, v):
         routes = self.domain.routes_to(v)
-        nodes = [f'{u} [style=dotted];' if via is None else f'{u} [label="{u} at {d}"];' for u, (d, via) in enumerate(routes)]
-        hops = [(u, via) for u, (d, via) in enumerate(routes) if via not in (None, u)]
+        nodes = [f'{u} [label="{u} at {d}"];' if d < self.domain.size else f"{u} [style=dotted];" for u, (d, _) in enumerate(routes)]
+        hops = [(u, via) for u, (_, via) in enumerate(routes) if via is not None]
         idle = [(u, w) for u, w in sorted(self.domain.links) if u < w and (u, w) not in hops and (w, u) not in hops]
         arrows = [f"{u} -> {w};" for u, w in hops] + [f"{u} -> {w} [dir=none, style=dotted];" for u, w in idle]
         return "digraph { " + " ".join(nodes + arrows) + " }"
@@ -249,12 +174,14 @@ class Script:
         return "changes" + "".join(f" {u}:{v}" for u in range(size) for v in range(size) if now[v][u] != self.marked[v][u])
 
     def settle(self):
-        return "settled {} {}".format(*self.domain.settle())
+        rounds = received = 0
+        while count := self.domain.play_round():
+            rounds, received = rounds + 1, received + count
+        return f"settled {rounds} {received}"
 
 
 def importing(script, u, w, name):
-    script.domain.imports[u, w] = script.filters[name]
-    script.domain.routers[u].recompute()
+    script.domain.routers[u].set_import(w, script.domain.under(script.filters[name]))
     return "ok"
 
 
@@ -262,13 +189,19 @@ def importing(script, u, w, name):
 setattr(Script, "import", importing)
 
 
-def main(words):
-    text = open(words[0], encoding="utf-8") if words else sys.stdin
+def answers(lines):
+    """The answers to the lines of a script, each with its line feed."""
     script = Script()
-    for number, line in enumerate(text, 1):
+    for number, line in enumerate(lines, 1):
         line = line.rstrip("\r\n")
         if line and not line.startswith("#"):
-            print(script.answer(number, line), flush=True)
+            yield script.answer(number, line) + "\n"
+
+
+def main(words):
+    with open(words[0], encoding="utf-8") if words else sys.stdin as text:
+        for answer in answers(text):
+            print(answer, end="", flush=True)
 
 
 if __name__ == "__main__":
