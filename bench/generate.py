@@ -19,10 +19,10 @@ or a code file in hexadecimal, or one of these texts, which are written alone (R
     text_of_case         2 KB: the filter whose code is that of case_of_64
     text_of_labels       60 KB: a `case` of 64 parts, whose labels have some 60 ranges each
 
-ROUTES is the number of route lines (100,000 for `straight_filter`, 200,000 otherwise),
-SEED the seed of the generator (1), SIZE the size of the domain on each line (2 to 250; without it sizes differ). The same words
-give the same bytes on every machine: the numbers come from a small generator in this file. One route line in 500 is one that `eval` refuses, and before every thousandth there is a comment
-line, which is no route line.
+ROUTES is the number of route lines (100,000 for `straight_filter`, 200,000 otherwise), SEED the seed of the generator (1), SIZE the size of the
+domain on each line (2 to 250; without it sizes differ). The same words give the same bytes on every machine: the numbers come from a small
+generator in this file. One route line in 500 is one that `eval` refuses, and before every thousandth there is a comment line, which is no route
+line.
 """
 import sys
 

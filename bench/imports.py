@@ -1,5 +1,6 @@
 #!/usr/bin/env python3
-"""Counts what `ncroute import` takes for configurations of more and more filters, and prints a table: the instructions of each, and those of a filter.
+"""Counts what `ncroute import` takes for configurations of more and more filters, and prints a table: the instructions of each, and those of a
+filter.
 
 usage: imports.py NCROUTE
 

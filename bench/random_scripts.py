@@ -3,9 +3,9 @@
 
 usage: random_scripts.py NCROUTE PLAIN SCRIPTS [SEED]
 
-A script has 3 to 200 lines: known and unknown commands, with numbers, names, prefixes and code files that fit and others that do not, now and
-then with a word too many or too few, other blanks, CR, comments, and no line feed at the end. There is no `load`, as the plain program has no
-compiler. A script that the two answer differently, or end with another status, is written to standard error with its number, and the exit status is 1.
+A script has 3 to 200 lines: known and unknown commands, with numbers, names, prefixes and code files that fit and others that do not, now and then
+with a word too many or too few, other blanks, CR, comments, and no line feed at the end. There is no `load`, as the plain program has no compiler.
+A script that the two answer differently, or end with another status, is written to standard error with its number, and the exit status is 1.
 """
 import subprocess
 import sys

@@ -3,9 +3,9 @@
 
 usage: random_texts.py NCROUTE PLAIN TEXTS [SEED]
 
-A text is a filter of `examples/`, or one of those below, in which up to six tokens are left out, put in, replaced or exchanged; some end too early. It
-is checked for a domain of 1, 16, 64, 250 or 251 nodes. A text that the two answer differently, or end with another status, is written to standard
-error with its number, and the exit status is 1.
+A text is a filter of `examples/`, or one of those below, in which up to six tokens are left out, put in, replaced or exchanged; some end too early.
+It is checked for a domain of 1, 16, 64, 250 or 251 nodes. A text that the two answer differently, or end with another status, is written to
+standard error with its number, and the exit status is 1.
 """
 import glob
 import os

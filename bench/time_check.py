@@ -1,7 +1,8 @@
 #!/usr/bin/env python3
 """Checks a crate from nothing, in one job, and prints how much processor time each function took, in seconds.
 
-usage: bench/time_check.py CRATE [--test] [--only FUNCTION ..] > TABLE     (with --test, its tests too; the checker's own output goes to standard error)
+usage: bench/time_check.py CRATE [--test] [--only FUNCTION ..] > TABLE
+       (--test: its tests too; the checker's own output goes to standard error)
 
 First `rt check` in the crate's folder, which builds the libraries below it. The checker makes several modules of a function, of its code,
 lifetimes, goals and proof, and with ANTT_CACHE_DEBUG it says of each when it begins and ends; the table names those that took longest. What

@@ -3,9 +3,9 @@
 
 usage: scripts/check_documents.py        (NCROUTE=PATH: the program; without it, the sources as they are, by `rt try`)
 
-- Each example: a line `    $ COMMAND` of README.md or docs/*.md, run where the examples of the repository are, writes the indented lines below it. One that
-  looks at standard error (`2>&1`), names the file of a filter or a history other than behind `<` (as `ncroute filter` and `ncroute lint` do), or runs
-  a router (`ncroute router`) needs the program, and is left out without NCROUTE=PATH.
+- Each example: a line `    $ COMMAND` of README.md or docs/*.md, run where the examples of the repository are, writes the indented lines below it.
+  One that looks at standard error (`2>&1`), names the file of a filter or a history other than behind `<` (as `ncroute filter` and `ncroute lint`
+  do), or runs a router (`ncroute router`) needs the program, and is left out without NCROUTE=PATH.
 - Each block of several terminals (`    one$ COMMAND`, `    one> LINE`, `    one: LINE`), played as lib/terminals.py says, needs the program too.
 - Each example that hands a filter from `ncroute check` on to another `ncroute` does nothing, and fails, with a filter that is refused.
 - The table of the examples in docs/LANGUAGE.md: each filter of examples/ answers the route so.
@@ -25,8 +25,10 @@ from lib.documents import examples, read
 from lib.program import TOP, Program, named
 
 # The document whose table has the codes of a letter, and the column of their meaning.
-TABLES = {"P": ("LANGUAGE", 1), "Y": ("KINDS", 1), "V": ("VERIFIER", 1), "C": ("CODE_FILE", 1), "K": ("MACHINE", 1), "E": ("LINES", 1), "O": ("SCRIPT", 1),
-          "N": ("ROUTER", 1), "D": ("DOMAIN", 1), "J": ("ROUTER", 1), "H": ("HISTORY", 1), "L": ("LOCK", 2), "X": ("SESSIONS", 1), "W": ("LINT", 1)}
+TABLES = {
+    "P": ("LANGUAGE", 1), "Y": ("KINDS", 1), "V": ("VERIFIER", 1), "C": ("CODE_FILE", 1), "K": ("MACHINE", 1), "E": ("LINES", 1), "O": ("SCRIPT", 1),
+    "N": ("ROUTER", 1), "D": ("DOMAIN", 1), "J": ("ROUTER", 1), "H": ("HISTORY", 1), "L": ("LOCK", 2), "X": ("SESSIONS", 1), "W": ("LINT", 1),
+}
 OTHER_CODES = ["G1", "G2", "G3"]
 # A filter that is refused.
 MISTAKE = "filter mistake { acept; }"
@@ -190,12 +192,15 @@ def main():
     for command, wanted, is_shown in codes:
         wrote = next(said)[0].decode()
         well = wrote == wanted if wanted else wrote.startswith("verified ")
-        judged.append((command, not is_shown and "the hexadecimal is not the listing's" or not well and f"wrote {wrote!r}, and not {wanted or 'verified ..'!r}"))
+        wrong = not well and f"wrote {wrote!r}, and not {wanted or 'verified ..'!r}"
+        judged.append((command, not is_shown and "the hexadecimal is not the listing's" or wrong))
     tell("docs/VERIFIER.md", "listings", judged)
-    shut = [(command, next(said)) for _, command in closed]
-    tell("docs", "pipelines closed on a refused filter", [
-        (command, (MISTAKE not in command and "has no filter of its own" or wrote and f"wrote {wrote.decode()!r}" or not status and "ends with status 0"))
-        for command, (wrote, status) in shut])
+    shut = []
+    for _, command in closed:
+        wrote, status = next(said)
+        wrong = wrote and f"wrote {wrote.decode()!r}" or not status and "ends with status 0"
+        shut.append((command, MISTAKE not in command and "has no filter of its own" or wrong))
+    tell("docs", "pipelines closed on a refused filter", shut)
     for name in documents.names():
         rows = list(linked(name))
         if rows:

@@ -7,9 +7,9 @@ A script has 2 to 9 nodes and 20 to 80 lines: links, cuts, filters, questions ab
 Of `load` only the first word of the answer is compared: the slow program verifies no filter. A script that the two answer differently is written to
 standard error with its number, and the exit status is 1.
 
-With NCROUTE=PATH two more things are looked at. Small plans of 2 to 4 nodes: of all distances that there could be, just one choice is a fixed point of
-Bellman's equation, and it is the one that is answered, with the least next hops. And domains whose routers are runs of `ncroute run`: in whatever order
-they send and receive their messages, they come to the routes that `ncroute domain` computes.
+With NCROUTE=PATH two more things are looked at. Small plans of 2 to 4 nodes: of all distances that there could be, just one choice is a fixed point
+of Bellman's equation, and it is the one that is answered, with the least next hops. And domains whose routers are runs of `ncroute run`: in
+whatever order they send and receive their messages, they come to the routes that `ncroute domain` computes.
 """
 import itertools
 import random
@@ -113,8 +113,8 @@ class SmallPlan:
 
     def routes(self, node, dists):
         """The routes to a node where all are at these distances."""
-        return [netchange.best(self.size, u == node, ((w, self.toll(u, w, node, dists[w])) for w in self.nodes if (min(u, w), max(u, w)) in self.links))
-                for u in self.nodes]
+        near = {u: [w for w in self.nodes if (min(u, w), max(u, w)) in self.links] for u in self.nodes}
+        return [netchange.best(self.size, u == node, ((w, self.toll(u, w, node, dists[w])) for w in near[u])) for u in self.nodes]
 
     def answers(self):
         """The routes at rest, as they are told; nothing where there is not just one rest."""

@@ -1,8 +1,8 @@
 #!/usr/bin/env python3
-"""Tries `ncroute import` at many sizes: variables, lengths, numbers of filters; names that would steer a terminal, files that include files; and random
-configurations that are made of the filters in `tests/bird/`, whose import must have the tokens of the filter itself. Where BIRD takes a filter that is
-refused here, what is imported must answer as BIRD did. Prints what fails, and at last 'N passed, M failed'. Each rewrite, and what is left out and at
-which place, is in `tests/rows/import.rows`.
+"""Tries `ncroute import` at many sizes: variables, lengths, numbers of filters; names that would steer a terminal, files that include files; and
+random configurations that are made of the filters in `tests/bird/`, whose import must have the tokens of the filter itself. Where BIRD takes a
+filter that is refused here, what is imported must answer as BIRD did. Prints what fails, and at last 'N passed, M failed'. Each rewrite, and what
+is left out and at which place, is in `tests/rows/import.rows`.
 
 usage: NCROUTE=PATH [SEED=N] scripts/check_import.py     (PATH: the program as it is built; N: the seed of the random configurations, 1)
 """
@@ -158,7 +158,8 @@ def full(trial):
         signal.signal(signal.SIGXFSZ, signal.SIG_IGN)
         resource.setrlimit(resource.RLIMIT_FSIZE, (200, 200))
 
-    ran = subprocess.run([trial.ncroute, "import", "--size", SIZE, "--out", "out", "bird.conf"], cwd=here, capture_output=True, text=True, preexec_fn=limit)
+    words = [trial.ncroute, "import", "--size", SIZE, "--out", "out", "bird.conf"]
+    ran = subprocess.run(words, cwd=here, capture_output=True, text=True, preexec_fn=limit)
     told = ran.stderr == "out/f.filter: could not be written to its end (E2)\n"
     with open(os.path.join(here, "out", "f.filter")) as it:
         held = it.read()
@@ -195,7 +196,8 @@ def variables(trial):
                 trial.left_out(f"{count} variables, of which {way} assigns {unset}", some, place(some, name, 1 + one.count(name)), told)
     for count in (1, 10, 100):
         filler = "if net.len = 9 then reject;\n" * count
-        late = f"filter f int a; int k;\n{{ a = 1;\n{filler}if net.len > k then reject;\n{filler}k = 2; if net.len > k then accept; a = k;\n{filler}reject; }}"
+        late = (f"filter f int a; int k;\n{{ a = 1;\n{filler}if net.len > k then reject;\n"
+                f"{filler}k = 2; if net.len > k then accept; a = k;\n{filler}reject; }}")
         trial.left_out(f"the place of a variable between {2 * count} commands", late, place(late, "k", 1), "f: `k` may be read before it is assigned")
         two = f"filter f int a; int b;\n{{ {filler}if net.len > b then reject;\nif net.len > a then reject;\n{filler}accept; }}"
         trial.left_out(f"the first of two variables behind {count} commands", two, place(two, "b then"), "f: `b` may be read")
@@ -215,10 +217,12 @@ def lengths(trial):
     for count in range(1, 33):
         value = " + ".join(["1"] * count)
         written = value if count == 1 else f"( {value} )"
-        trial.taken(f"a definition of {2 * count - 1} words beside an operator", f"define A = {value};\nfilter f {{ if rip_metric * A > 9 then accept; reject; }}",
+        trial.taken(f"a definition of {2 * count - 1} words beside an operator",
+                    f"define A = {value};\nfilter f {{ if rip_metric * A > 9 then accept; reject; }}",
                     {"f": f"{{ if rip_metric * {written} > 9 then accept; reject; }}"})
         members = ", ".join(f"10.{n}.0.0/16" for n in range(count))
-        trial.taken(f"a set of {count}", f"define A = [ {members} ];\nfilter f {{ if net ~ A then accept; reject; }}", {"f": f"{{ if net ~ [ {members} ] then accept; reject; }}"})
+        trial.taken(f"a set of {count}", f"define A = [ {members} ];\nfilter f {{ if net ~ A then accept; reject; }}",
+                    {"f": f"{{ if net ~ [ {members} ] then accept; reject; }}"})
     for count in range(1, 65):
         name = "n" * count
         twice = f"define {name} = 8;\ndefine other = 7;\ndefine {name} = 9;\nfilter f {{ if net.len = {name} then accept; reject; }}"
@@ -233,8 +237,9 @@ def lengths(trial):
         trial.left_out(f"labels that share an address before {count} parts", first, "1:12", "f: the labels")
         apart = f"filter f {{ case net.ip {{ 10.9.9.9: accept; {parts} 10.9.9.0..10.9.9.8: reject; }} reject; }}"
         tests = "".join(f"else if net.ip = {label} then {{ rip_metric = 3; }} " for label in labels)
+        last = "else if ( net.ip >= 10.9.9.0 && net.ip <= 10.9.9.8 ) then { reject; }"
         trial.taken(f"labels that share no address, with {count} parts between", apart,
-                    {"f": f"{{ if net.ip = 10.9.9.9 then {{ accept; }} {tests}else if ( net.ip >= 10.9.9.0 && net.ip <= 10.9.9.8 ) then {{ reject; }} reject; }}"})
+                    {"f": f"{{ if net.ip = 10.9.9.9 then {{ accept; }} {tests}{last} reject; }}"})
     for count in (1, 5, 30, 60, 100, 150):
         filler = "if net.len = 9 then reject; " * count
         words = 8 * count
@@ -299,7 +304,8 @@ def randoms(trial, seed, count):
     blocks = [block for path in bird.files() if "differences" not in path for block in bird.read(path)[1]]
     for block in dice.sample(blocks, min(count, len(blocks))):
         defined, body = constants(block.filter, dice)
-        config = f"log syslog all;\n{defined}\nprotocol kernel {{ learn; }}\n/* {block.name()} */\n{body.rstrip()}{dice.choice(['', ';'])}\ntemplate bgp t {{ local as 1; }}\n"
+        before, end = f"log syslog all;\n{defined}\nprotocol kernel {{ learn; }}\n/* {block.name()} */\n", dice.choice(["", ";"])
+        config = f"{before}{body.rstrip()}{end}\ntemplate bgp t {{ local as 1; }}\n"
         said, status, written = trial.run(config)
         text = written.get(block.name(), "")
         trial.check(block.name(), status == 0 and words(text) == words(block.filter), f"{said}{config}")
@@ -318,9 +324,10 @@ def verdicts(trial):
                 trial.check(block.name(), "was left out" in said, said)
                 continue
             routes = "".join(f"{net} {metric}\n" for net, metric in block.routes)
-            with open(os.path.join(trial.folder, "filter"), "w") as it:
+            path = os.path.join(trial.folder, "filter")
+            with open(path, "w") as it:
                 it.write(text)
-            ran = subprocess.run([trial.ncroute, "filter", "--size", SIZE, os.path.join(trial.folder, "filter")], input=routes, capture_output=True, text=True)
+            ran = subprocess.run([trial.ncroute, "filter", "--size", SIZE, path], input=routes, capture_output=True, text=True)
             trial.check(block.name(), ran.stdout.splitlines() == block.birds(), f"{text}{ran.stdout}{block.birds()}")
 
 

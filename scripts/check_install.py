@@ -1,7 +1,7 @@
 #!/usr/bin/env python3
-"""Installs the program in a temporary folder, and looks at what came there: its man pages, its completions, and the syntax files, by which each token of
-the filters in `examples/` is read. Prints what is wrong, and at last 'N passed, M failed'. What needs a program that is not there (`groff`, `vim`,
-`zsh`, `fish`) is not run: a line says so, and it counts as skipped.
+"""Installs the program in a temporary folder, and looks at what came there: its man pages, its completions, and the syntax files, by which each
+token of the filters in `examples/` is read. Prints what is wrong, and at last 'N passed, M failed'. What needs a program that is not there
+(`groff`, `vim`, `zsh`, `fish`) is not run: a line says so, and it counts as skipped.
 
 usage: NCROUTE=PATH scripts/check_install.py     (PATH: the program as it is built)
 """
@@ -34,7 +34,10 @@ WORDS = {
 }
 WORD_KINDS = {word: kind for kind, words in WORDS.items() for word in words.split()}
 # More tokens than the examples have.
-MORE = 'filter more int a; { a = 0x1F * 2; if !(net.ip.mask(8) != 10.0.0.0) || true then /* two\nlines */ accept "as is"; print "no"; }\n' + " ".join(LEFT_OUT) + "\n"
+MORE = f"""filter more int a; {{ a = 0x1F * 2; if !(net.ip.mask(8) != 10.0.0.0) || true then /* two
+lines */ accept "as is"; print "no"; }}
+{" ".join(LEFT_OUT)}
+"""
 
 VIM = {
     "comment": "ncrouteComment", "text": "ncrouteText", "net": "ncrouteNet", "number": "ncrouteNumber", "part": "ncroutePart",
@@ -124,7 +127,8 @@ def vim_differs(prefix):
 
 def completed(prefix, words):
     """What bash completes the last of some words to."""
-    line = f'. {prefix}/share/bash-completion/completions/ncroute; COMP_WORDS=({" ".join(words)}); COMP_CWORD={len(words) - 1}; _ncroute; echo "${{COMPREPLY[@]}}"'
+    given = f'COMP_WORDS=({" ".join(words)}); COMP_CWORD={len(words) - 1}'
+    line = f'. {prefix}/share/bash-completion/completions/ncroute; {given}; _ncroute; echo "${{COMPREPLY[@]}}"'
     return subprocess.run(["bash", "-c", line], capture_output=True, text=True, cwd=TOP).stdout.split()
 
 

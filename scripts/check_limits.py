@@ -371,8 +371,10 @@ def full_filter(variables=16, sets=64, patterns=1024, settings=183, end="accept;
     names = "abcdefghijklmnopq"
     largest = ",".join(f"10.{number // 256}.{number % 256}.0/24" for number in range(patterns))
     counted = "".join(f"{later} = {earlier} + 1; " for earlier, later in zip(names[:15], names[1:16]))
-    return (f"filter full {''.join(f'int {name}; ' for name in names[:variables])}{{ if net ~ [{largest}] then reject; "
-            + "if net ~ [1.0.0.0/8] then ; " * (sets - 1) + counted + "rip_metric = p; " + "rip_metric = rip_metric; " * settings + end + "}").encode()
+    declared = "".join(f"int {name}; " for name in names[:variables])
+    others = "if net ~ [1.0.0.0/8] then ; " * (sets - 1)
+    unchanged = "rip_metric = rip_metric; " * settings
+    return f"filter full {declared}{{ if net ~ [{largest}] then reject; {others}{counted}rip_metric = p; {unchanged}{end}}}".encode()
 
 
 def longest_labels():
@@ -412,7 +414,8 @@ def greatest_plan():
     cuts = [(u, w) for u, w in pairs if w != u + 1]
     lines += [f"cut {u} {w}" for u, w in cuts] + ["table 0", "changes", "path 0 249"]
     answers += ["ok"] * len(cuts) + ["table 0:0" + "".join(f" {v}:{v}:1" for v in range(1, NODES))]
-    answers += ["changes" + "".join(f" {u}:{v}" for u in range(NODES) for v in range(NODES) if abs(u - v) > 1), "path " + " ".join(map(str, range(NODES)))]
+    answers.append("changes" + "".join(f" {u}:{v}" for u in range(NODES) for v in range(NODES) if abs(u - v) > 1))
+    answers.append("path " + " ".join(map(str, range(NODES))))
     return written(lines), written(answers), 0
 
 

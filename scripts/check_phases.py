@@ -1,19 +1,19 @@
 #!/usr/bin/env python3
-"""Holds a plain model of Netchange to the bounds that docs/DOMAIN.md gives: how soon routes are right, and what a failure cannot touch. It uses nothing
-of the program. The last line is 'N passed, M failed'.
+"""Holds a plain model of Netchange to the bounds that docs/DOMAIN.md gives: how soon routes are right, and what a failure cannot touch. It uses
+nothing of the program. The last line is 'N passed, M failed'.
 
 usage: scripts/check_phases.py [DOMAINS [SEED]]        (600 domains; 100000 take some minutes)
 
-A model has 2 to 7 nodes, one destination, and filters that are any tables of metrics that never lower one. Each domain is brought into a random state by
-links that come and go, by new filters, and by messages that are sent and received in a random order. Then nothing else happens, and three things are
-looked at, each in a copy:
-- phases: in a phase all is received that waited or was on its way at its start, in a random order; and now and then a link leaves out a message that a
-  later one follows, which is then awaited in its place. After j phases each node that is at most j away has its distance and its next hop, and every
-  other one is farther than j; after D + 1 phases, D being the longest distance, and after as many as there are nodes, nothing waits.
+A model has 2 to 7 nodes, one destination, and filters that are any tables of metrics that never lower one. Each domain is brought into a random
+state by links that come and go, by new filters, and by messages that are sent and received in a random order. Then nothing else happens, and three
+things are looked at, each in a copy:
+- phases: in a phase all is received that waited or was on its way at its start, in a random order; and now and then a link leaves out a message
+  that a later one follows, which is then awaited in its place. After j phases each node that is at most j away has its distance and its next hop,
+  and every other one is farther than j; after D + 1 phases, D being the longest distance, and after as many as there are nodes, nothing waits.
 - rounds, as `settle` plays them: not more than either of both.
-- failures far away: some links come and go, some routers begin anew and some filters are replaced, and messages are lost anywhere. No distance below K
-  changes where K is the least distance on which the state of rest with all of that and the one with nothing of it differ, nor a next hop that both have.
-That a bound is never reached fails too.
+- failures far away: some links come and go, some routers begin anew and some filters are replaced, and messages are lost anywhere. No distance
+  below K changes where K is the least distance on which the state of rest with all of that and the one with nothing of it differ, nor a next hop
+  that both have. That a bound is never reached fails too.
 """
 import copy
 import random

@@ -52,7 +52,8 @@ LINES = [
     "recv 2 1 99999\n", "take 1\n", "take 2\n", "show 1\n", "show 2\n", "show 3\n", "load F filter f { if rip_metric < 2 then accept; }\n",
     "load G filter g { rip_metric = rip_metric + 1; accept; }\n", "load F filter f { rip_metric = 1 / rip_metric; }\n", "code H 4e4346310000000170\n",
     "code I 4e4346320000010001000000020000000400051352006100017071\n",
-    "load J filter j { case rip_metric { 0, 1: accept; else: rip_metric = rip_metric + 1; accept; } }\n", "import 1 F\n", "export 2 G\n", "# nothing\n", "\n",
+    "load J filter j { case rip_metric { 0, 1: accept; else: rip_metric = rip_metric + 1; accept; } }\n", "import 1 F\n", "export 2 G\n",
+    "# nothing\n", "\n",
 ]
 
 # NET, MEMBER, JUMPIFNOT, ACCEPT and REJECT, after a set of one pattern; METRIC, INSET, JUMPIFNOT, ACCEPT and REJECT, after a set of ints of two
@@ -364,7 +365,8 @@ class Laws:
         """Events up to a limit, looks at all that the router knows, and one entry more than there is room for."""
         numbers = self.numbers("history", number)
         count = numbers.randint(1, 200)
-        setup = ["load A filter a { reject; }", "load B filter b { accept; }", "load C filter c { if rip_metric <= 3 then { rip_metric = 3; accept; } }"]
+        setup = ["load A filter a { reject; }", "load B filter b { accept; }"]
+        setup.append("load C filter c { if rip_metric <= 3 then { rip_metric = 3; accept; } }")
         events = [random_event(numbers) for _ in range(count)] + [f"{word} {node}" for node in range(1, 6) for word in ("show", "take")]
         lines = [f"network 6 0 {len(events)}", *setup, *events, "show 0"]
         with tempfile.TemporaryDirectory() as folder:

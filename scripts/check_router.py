@@ -119,7 +119,8 @@ class Rows(SizeRows):
         self.with_one(behave, "link 1: line 7 is no message: closed\n", history=r"recv 1 6 1 done 1(?!.*recv 1 7)")
 
     def row_other_size(self):
-        self.with_one(lambda one: one.greet(size=9), "line 1 is not its greeting: the neighbour's domain has 9 nodes: closed\n", history=r"^(?!.*up 1)")
+        says = "line 1 is not its greeting: the neighbour's domain has 9 nodes: closed\n"
+        self.with_one(lambda one: one.greet(size=9), says, history=r"^(?!.*up 1)")
 
     def row_other_node(self):
         self.with_one(lambda one: one.greet(node=3), "line 1 is not its greeting: the neighbour is node 3: closed\n", history=r"^(?!.*up 1)")

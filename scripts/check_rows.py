@@ -68,9 +68,9 @@ class Place:
         for name, wanted in row.left.items():
             if self.read(name) is None or not wanted.is_met(self.read(name)):
                 yield f"left {self.read(name)!r} in {name}, and not {wanted}"
-        named = {"examples", *map(os.path.normpath, [*row.files, *row.left])}
-        if more := sorted({os.path.relpath(os.path.join(path, name), self.folder) for path, _, names in os.walk(self.folder) for name in names} - named):
-            yield f"left {more} too"
+        found = {os.path.relpath(os.path.join(path, name), self.folder) for path, _, names in os.walk(self.folder) for name in names}
+        if more := found - {"examples", *map(os.path.normpath, [*row.files, *row.left])}:
+            yield f"left {sorted(more)} too"
 
 
 def main(names):

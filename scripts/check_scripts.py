@@ -1,7 +1,7 @@
 #!/usr/bin/env python3
-"""Has `pyflakes3` read each Python file of `scripts/` and `bench/`, and `shellcheck` each shell script. Prints
-what they find, and at last 'N passed, M failed', where each file counts with each linter. A linter that is not there is not run: a line says so, and it
-counts as skipped.
+"""Has `pyflakes3` and `pycodestyle` read each Python file of `scripts/` and `bench/`, and `shellcheck` each shell script; `setup.cfg` says how.
+Prints what they find, and at last 'N passed, M failed', where each file counts with each linter. A linter that is not there is not run: a line says
+so, and it counts as skipped.
 
 usage: scripts/check_scripts.py
 """
@@ -15,7 +15,7 @@ from lib.program import TOP
 PYTHON, SHELL = ("scripts/**/*.py", "bench/*.py"), ("scripts/*.sh", "bench/*.sh", ".ci/run")
 
 # What each linter is called by, and the files that it reads. It begins a line with the name of the file in which it finds something.
-LINTERS = ((["pyflakes3"], PYTHON), (["shellcheck", "-f", "gcc"], SHELL))
+LINTERS = ((["pyflakes3"], PYTHON), (["pycodestyle"], PYTHON), (["shellcheck", "-f", "gcc"], SHELL))
 
 
 def main():

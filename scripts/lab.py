@@ -33,8 +33,8 @@ from lib.program import TOP, built
 TOPOLOGIES = ("examples/ring_of_five.domain", "examples/grid_of_sixteen.domain")
 SETUP = ("domain", "prefix", "load", "link", "import", "export")
 
-# Seconds: what is quiet makes no entry for so long; how long idle routers are looked at, if no option says otherwise; what was answered so long ago is
-# saved.
+# Seconds: what is quiet makes no entry for so long; how long idle routers are looked at, if no option says otherwise; what was answered so long
+# ago is saved.
 QUIET, IDLE, SAVED = 0.5, 2.0, 1.0
 
 

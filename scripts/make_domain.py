@@ -21,7 +21,8 @@ def script(rows, columns):
                 below = node + columns
                 yield from (f"link {node} {below}", f"import {node} {below} longer", f"import {below} {node} longer")
     last, middle = rows * columns - 1, columns // 2
-    yield from ("settle", f"path 0 {last}", f"path 0 {columns - 1}", "mark", f"cut {middle - 1} {middle}", "changes", f"path 0 {columns - 1}", "settle")
+    yield from ("settle", f"path 0 {last}", f"path 0 {columns - 1}", "mark")
+    yield from (f"cut {middle - 1} {middle}", "changes", f"path 0 {columns - 1}", "settle")
 
 
 def main(words):

@@ -130,7 +130,8 @@ def pages(commands, documents):
 
 
 def bash(program, commands):
-    lines = ["# Completes ncroute in bash.", "_ncroute() {", "    local word=${COMP_WORDS[COMP_CWORD]} before=${COMP_WORDS[COMP_CWORD - 1]}", "    COMPREPLY=()"]
+    lines = ["# Completes ncroute in bash.", "_ncroute() {", "    local word=${COMP_WORDS[COMP_CWORD]} before=${COMP_WORDS[COMP_CWORD - 1]}"]
+    lines.append("    COMPREPLY=()")
     names = " ".join([command.name for command in commands] + ["help"] + [option.long() for option in program.options])
     lines += ["    if ((COMP_CWORD == 1)); then", f'        COMPREPLY=($(compgen -W "{names}" -- "$word"))', "        return", "    fi"]
     lines.append('    case "${COMP_WORDS[1]} $before" in')
@@ -166,7 +167,9 @@ def zsh(program, commands):
             action = {"FILE": "_files", "FOLDER": "_files -/"}.get(option.value, f"({' '.join(option.values)})")
             values = f":{option.value}:{action}" if option.value else ""
             again = "*" if option.may_come_again() else ""
-            specs += [f"'{again}{name}{'=' if option.value and name.startswith('--') else ''}[{in_quotes(option.text)}]{values}'" for name in option.names]
+            for name in option.names:
+                sign = "=" if option.value and name.startswith("--") else ""
+                specs.append(f"'{again}{name}{sign}[{in_quotes(option.text)}]{values}'")
         if command.takes_files():
             specs.append("'*:file:_files'")
         lines.append(f"    {command.name}) _arguments {' '.join(specs)} ;;")

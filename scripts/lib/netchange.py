@@ -1,5 +1,5 @@
-"""A plain model of Netchange, worked out from its rules: the tables of a router, the routers of a domain with what is on its way between them, and the
-routes of a domain at rest.
+"""A plain model of Netchange, worked out from its rules: the tables of a router, the routers of a domain with what is on its way between them, and
+the routes of a domain at rest.
 
 A filter is a function of a node and of a distance to it that is less than the size of the domain: what the distance becomes. The size, or more, says
 that the node is out of reach.
@@ -7,7 +7,7 @@ that the node is out of reach.
 
 
 def best(size, is_here, ways):
-    """A route: its distance, and the least neighbour through whom it is had, or `None`. `ways` are the neighbours, each with its distance as it counts."""
+    """A route: its distance, and the least neighbour through whom it is had, or `None`. `ways` has each neighbour with its distance as it counts."""
     return (0, None) if is_here else min(((dist + 1, w) for w, dist in ways if dist + 1 < size), default=(size, None))
 
 

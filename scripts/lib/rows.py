@@ -17,7 +17,8 @@ A file has rows with empty lines between them. A row is lines that begin with a 
 The lines of a sign belong together, whatever stands between them: so each answer may stand below its line of the input. `>...` and `!...` stand
 for any lines, or none. Files that stand by themselves, without a `$`, are there for every row below them, and `examples/` is there for all.
 
-In a line `\\t`, `\\r`, `\\n`, `\\xHH` and `\\\\` are bytes, `\\(N TEXT\\)` is the text so many times, and a line that ends with `\\` has no line feed.
+In a line `\\t`, `\\r`, `\\n`, `\\xHH` and `\\\\` are bytes, and `\\(N TEXT\\)` is the text so many times.
+A line that ends with `\\` has no line feed.
 """
 import os
 import re
