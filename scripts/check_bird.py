@@ -5,6 +5,7 @@ and at last 'N passed, M failed'. BIRD itself is not needed: `ask_bird.py` asks 
 usage: NCROUTE=PATH scripts/check_bird.py     (PATH: the program as it is built)
 """
 import os
+import pathlib
 import subprocess
 import tempfile
 
@@ -17,8 +18,7 @@ SIZE = "250"
 
 def answers(ncroute, path, block):
     """What is answered to the block's routes; a text that is not taken has its refusal in their place."""
-    with open(path, "w") as it:
-        it.write(block.filter)
+    path.write_text(block.filter)
     routes = "".join(f"{net} {metric}\n" for net, metric in block.routes)
     said = subprocess.run([ncroute, "filter", "--size", SIZE, "--explain", "never", path], input=routes, capture_output=True, text=True)
     return said.stdout.splitlines()
@@ -30,7 +30,7 @@ def main():
     with tempfile.TemporaryDirectory() as folder:
         for path in bird.files():
             for block in bird.read(path)[1]:
-                said = answers(ncroute, os.path.join(folder, "filter"), block)
+                said = answers(ncroute, pathlib.Path(folder, "filter"), block)
                 counts.judge(f"{os.path.basename(path)}: {block.name()}", said != block.ours() and f"answered {said}")
     counts.finish()
 

@@ -5,7 +5,7 @@ their end, with as many entries as events. Prints a line for each run where this
 
 usage: NCROUTE=PATH scripts/check_histories.py [RUNS [SEED]]     (PATH: the program; 200 runs, of seed 1)
 """
-import os
+import pathlib
 import random
 import signal
 import subprocess
@@ -26,8 +26,7 @@ def seconds_of(program, script, kept):
     begun = time.monotonic()
     subprocess.run([program, "run", "--save", kept, script], stdout=subprocess.DEVNULL)
     took = time.monotonic() - begun
-    if os.path.exists(kept):
-        os.remove(kept)
+    kept.unlink(missing_ok=True)
     return took
 
 
@@ -35,17 +34,15 @@ def fault_at_end(program, script, kept):
     """What is wrong with a run to its end, if anything is: each line is answered and each event saved, the status says whether a line was
     refused, and no fault is told."""
     ran = subprocess.run([program, "run", "--save", kept, script], capture_output=True)
-    with open(script, "rb") as it:
-        lines = it.read().count(b"\n")
+    lines = script.read_bytes().count(b"\n")
     answers = ran.stdout.splitlines()
     if len(answers) != lines:
         return f"of {lines} lines {len(answers)} are answered, and told is {ran.stderr[-100:]!r}"
     status = int(any(answer.startswith(b"refused ") for answer in answers))
     if ran.returncode != status:
         return f"the status is {ran.returncode} in place of {status}"
-    with open(kept, "rb") as it:
-        saved = it.read()
-    os.remove(kept)
+    saved = kept.read_bytes()
+    kept.unlink()
     events, entries = sum(answer.startswith(REPLIES) for answer in answers), saved.count(b"\n") - 1
     if entries != events:
         return f"{events} events are answered, and {entries} are saved"
@@ -61,11 +58,10 @@ def written_by(program, script, kept, seconds):
         run.wait()
         answers.seek(0)
         answered = answers.read()
-    if not os.path.exists(kept):
+    if not kept.exists():
         return answered, b""
-    with open(kept, "rb") as it:
-        saved = it.read()
-    os.remove(kept)
+    saved = kept.read_bytes()
+    kept.unlink()
     return answered, saved
 
 
@@ -94,7 +90,7 @@ def fault_in(program, answered, saved):
 def main(runs=200, seed=1):
     program, counts, chosen = built(), Counts(), random.Random(seed)
     with tempfile.TemporaryDirectory() as folder:
-        script, whole = os.path.join(folder, "script"), os.path.join(folder, "all")
+        script, whole = pathlib.Path(folder, "script"), pathlib.Path(folder, "all")
         # The first of them refuses no line, so that its status is 0. The last is the one that is killed.
         for kind in ("messages", "mixed"):
             with open(script, "wb") as it:
@@ -105,7 +101,7 @@ def main(runs=200, seed=1):
             # A machine that has more to do than before takes longer, and would be killed before the first entry each time.
             if run % 20 == 0:
                 longest = seconds_of(program, script, whole)
-            answered, saved = written_by(program, script, os.path.join(folder, str(run)), chosen.uniform(0, longest))
+            answered, saved = written_by(program, script, pathlib.Path(folder, str(run)), chosen.uniform(0, longest))
             cut += bool(saved)
             counts.judge(f"run {run}", fault_in(program, answered, saved))
         # A run of which every moment comes before the first entry would show nothing.

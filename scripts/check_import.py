@@ -8,6 +8,7 @@ usage: NCROUTE=PATH [SEED=N] scripts/check_import.py     (PATH: the program as i
 """
 import functools
 import os
+import pathlib
 import random
 import re
 import resource
@@ -67,20 +68,19 @@ class Trial:
 
     def run(self, config, files=()):
         """What is printed, the exit status, and the text of each filter that was written, by its name."""
+        here, ran = self.imported([("bird.conf", config), *files])
+        return ran.stdout.decode(), ran.returncode, {path.stem: path.read_text() for path in here.glob("out/*")}
+
+    def imported(self, files, folder="out", **more):
+        """A new folder, and how the import of the first of some files ended there. They may have any names and bytes."""
         self.number += 1
-        here = os.path.join(self.folder, str(self.number))
-        out = os.path.join(here, "out")
-        os.makedirs(out)
-        for name, text in [("bird.conf", config), *files]:
-            os.makedirs(os.path.dirname(os.path.join(here, name)), exist_ok=True)
-            with open(os.path.join(here, name), "w") as it:
-                it.write(text)
-        ran = subprocess.run([self.ncroute, "import", "--size", SIZE, "--out", "out", "bird.conf"], cwd=here, capture_output=True, text=True)
-        written = {}
-        for name in os.listdir(out):
-            with open(os.path.join(out, name)) as it:
-                written[re.sub(r"\.filter$", "", name)] = it.read()
-        return ran.stdout, ran.returncode, written
+        here = pathlib.Path(self.folder, str(self.number))
+        (here / folder).mkdir(parents=True)
+        for name, text in files:
+            (here / name).parent.mkdir(exist_ok=True)
+            (here / name).write_bytes(text.encode("utf-8", "surrogateescape"))
+        words = [self.ncroute, "import", "--size", SIZE, "--out", folder, files[0][0]]
+        return here, subprocess.run(words, cwd=here, capture_output=True, **more)
 
     def taken(self, name, config, filters):
         said, status, written = self.run(config)
@@ -96,14 +96,8 @@ class Trial:
         self.check(name, status == 1 and is_told and len(taken) == len(written), f"status {status}\n{said}{written}")
 
     def printed(self, config, name="bird.conf", folder="out", files=()):
-        """What is printed on both streams, where files may have any names and bytes."""
-        self.number += 1
-        here = os.path.join(self.folder, str(self.number))
-        os.makedirs(os.path.join(here, folder))
-        for file, text in [(name, config), *files]:
-            with open(os.path.join(here, file), "wb") as it:
-                it.write(text.encode("utf-8", "surrogateescape"))
-        ran = subprocess.run([self.ncroute, "import", "--size", SIZE, "--out", folder, name], cwd=here, capture_output=True)
+        """What is printed on both streams."""
+        _, ran = self.imported([(name, config), *files], folder)
         return ran.stdout + ran.stderr
 
 
@@ -148,23 +142,17 @@ def comments(trial):
 
 def full(trial):
     """A file that takes 200 bytes and no more: it is named, it has the beginning of the filter, and the next filter is imported."""
-    here = os.path.join(trial.folder, "full")
-    os.makedirs(os.path.join(here, "out"))
-    members = ", ".join(f"10.{n}.0.0/16" for n in range(40))
-    with open(os.path.join(here, "bird.conf"), "w") as it:
-        it.write(f"filter f {{ if net ~ [{members}] then accept; reject; }}\nfilter g {{ accept; }}\n")
-
     def limit():
         signal.signal(signal.SIGXFSZ, signal.SIG_IGN)
         resource.setrlimit(resource.RLIMIT_FSIZE, (200, 200))
 
-    words = [trial.ncroute, "import", "--size", SIZE, "--out", "out", "bird.conf"]
-    ran = subprocess.run(words, cwd=here, capture_output=True, text=True, preexec_fn=limit)
-    told = ran.stderr == "out/f.filter: could not be written to its end (E2)\n"
-    with open(os.path.join(here, "out", "f.filter")) as it:
-        held = it.read()
-    is_next = ran.stdout.startswith("bird.conf:2:1 filter g -> out/g.filter verified ")
-    trial.check("a file that is not written to its end", told and is_next and ran.returncode == 1 and len(held) == 200, f"{ran} {held}")
+    members = ", ".join(f"10.{n}.0.0/16" for n in range(40))
+    config = f"filter f {{ if net ~ [{members}] then accept; reject; }}\nfilter g {{ accept; }}\n"
+    here, ran = trial.imported([("bird.conf", config)], preexec_fn=limit)
+    held = (here / "out" / "f.filter").read_text()
+    is_told = ran.stderr == b"out/f.filter: could not be written to its end (E2)\n"
+    is_next = ran.stdout.startswith(b"bird.conf:2:1 filter g -> out/g.filter verified ")
+    trial.check("a file that is not written to its end", is_told and is_next and ran.returncode == 1 and len(held) == 200, f"{ran} {held}")
 
 
 def place(text, part, number=0):
@@ -324,9 +312,8 @@ def verdicts(trial):
                 trial.check(block.name(), "was left out" in said, said)
                 continue
             routes = "".join(f"{net} {metric}\n" for net, metric in block.routes)
-            path = os.path.join(trial.folder, "filter")
-            with open(path, "w") as it:
-                it.write(text)
+            path = pathlib.Path(trial.folder, "filter")
+            path.write_text(text)
             ran = subprocess.run([trial.ncroute, "filter", "--size", SIZE, path], input=routes, capture_output=True, text=True)
             trial.check(block.name(), ran.stdout.splitlines() == block.birds(), f"{text}{ran.stdout}{block.birds()}")
 

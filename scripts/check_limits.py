@@ -9,6 +9,7 @@ worked out once more, in the plainest way, by `lib/netchange.py`.
 """
 import itertools
 import os
+import pathlib
 import resource
 import subprocess
 import sys
@@ -536,10 +537,9 @@ def full_filters(ncroute):
 def on_filters(ncroute, words, texts):
     """A run that names the files of some filters."""
     with tempfile.TemporaryDirectory() as folder:
-        names = [os.path.join(folder, f"{number}.filter") for number in range(len(texts))]
+        names = [f"{folder}/{number}.filter" for number in range(len(texts))]
         for name, text in zip(names, texts):
-            with open(name, "wb") as it:
-                it.write(text)
+            pathlib.Path(name).write_bytes(text)
         output, shown, status = run(ncroute, " ".join([words, *names]), b"")
         return output.replace(folder.encode() + b"/", b""), shown.replace(folder.encode() + b"/", b""), status
 
@@ -623,13 +623,8 @@ def decided_filters(ncroute):
 
 def hundred_files(ncroute):
     """A hundred files are checked, of which the last is refused."""
-    with tempfile.TemporaryDirectory() as folder:
-        names = [os.path.join(folder, f"{number:03}.filter") for number in range(100)]
-        for name in names:
-            with open(name, "wb") as it:
-                it.write(FILTER if name != names[-1] else FILTER[:-1])
-        wanted = (b"code 4e43463200000000027071\n" + VERIFIED) * 99 + b"refused P9 19\n", 1, names[-1].encode() + b": refused P9 19\n"
-        return differs(run(ncroute, "check --size 250 --explain never " + " ".join(names), b""), wanted)
+    said = on_filters(ncroute, "check --size 250 --explain never", [FILTER] * 99 + [FILTER[:-1]])
+    return differs(said, ((b"code 4e43463200000000027071\n" + VERIFIED) * 99 + b"refused P9 19\n", 1, b"99.filter: refused P9 19\n"))
 
 
 def full_router(ncroute):
@@ -663,18 +658,13 @@ MEMORY = 16_777_216
 def million_routes(ncroute):
     """More routes than the Internet has, of more bytes than an input of other commands may have, and than the program is given for memory."""
     with tempfile.TemporaryDirectory() as folder:
-        name, routes, answers = (os.path.join(folder, name) for name in ("it.filter", "routes", "answers"))
-        with open(name, "wb") as it:
-            it.write(FILTER)
-        with open(routes, "wb") as it:
-            it.writelines(b"10.%d.%d.0/24 %d\n" % (at >> 8 & 255, at & 255, at % 16) for at in range(ROUTES))
+        name, routes, answers = (pathlib.Path(folder, name) for name in ("it.filter", "routes", "answers"))
+        name.write_bytes(FILTER)
+        routes.write_bytes(b"".join(b"10.%d.%d.0/24 %d\n" % (at >> 8 & 255, at & 255, at % 16) for at in range(ROUTES)))
+        words = [ncroute, "filter", "--size", "16", name]
         with open(routes, "rb") as given, open(answers, "wb") as taken:
-            ran = subprocess.run(
-                [ncroute, "filter", "--size", "16", name], stdin=given, stdout=taken, stderr=subprocess.PIPE, cwd=TOP,
-                preexec_fn=lambda: limit_memory(MEMORY),
-            )
-        with open(answers, "rb") as it:
-            wrote = it.read()
+            ran = subprocess.run(words, stdin=given, stdout=taken, stderr=subprocess.PIPE, preexec_fn=lambda: limit_memory(MEMORY))
+        wrote = answers.read_bytes()
     return differs((wrote, ran.stderr, ran.returncode), (b"".join(b"accept %d\n" % (at % 16) for at in range(ROUTES)), 0))
 
 

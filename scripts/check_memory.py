@@ -18,7 +18,6 @@ each whole; or it did without, and ended as ever. `net` meets a refusal also whe
 """
 import collections
 import concurrent.futures
-import glob
 import itertools
 import os
 import re
@@ -125,18 +124,13 @@ def sweep_tests(sweep, pool, counts):
 
 def runs_of(ncroute):
     """The runs of the program: its words and its input, and how it ends where memory is refused."""
-    def text(file):
-        with open(file, "rb") as it:
-            return it.read()
-
-    example = f"{TOP}/examples/"
-    filters, scripts = sorted(glob.glob(f"{example}*.filter")), sorted(glob.glob(f"{example}*.script"))
-    yield ["eval"], text(f"{example}up_two.eval"), MEMORY
-    for file in filters:
-        yield ["check", "--size", "16"], text(file), MEMORY
-    for file in scripts:
-        yield ["run"], text(file), MEMORY
-    checked = subprocess.run([ncroute, "check", "--size", "16"], input=text(f"{example}no_bogons.filter"), capture_output=True, check=True)
+    examples = TOP / "examples"
+    yield ["eval"], (examples / "up_two.eval").read_bytes(), MEMORY
+    for file in sorted(examples.glob("*.filter")):
+        yield ["check", "--size", "16"], file.read_bytes(), MEMORY
+    for file in sorted(examples.glob("*.script")):
+        yield ["run"], file.read_bytes(), MEMORY
+    checked = subprocess.run([ncroute, "check", "--size", "16", examples / "no_bogons.filter"], capture_output=True, check=True)
     yield ["check", "--size", "16", "--code"], re.search(rb"(?m)^code (.*\n)", checked.stdout)[1], MEMORY
     yield ["net"], b"", MEMORY_OF_NETWORK
 

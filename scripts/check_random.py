@@ -21,6 +21,7 @@ The filters that are damaged are those of `tests/rows/worked.rows`.
 import collections
 import concurrent.futures
 import os
+import pathlib
 import random
 import re
 import subprocess
@@ -29,7 +30,8 @@ import tempfile
 
 from lib import bird
 from lib.counts import Counts
-from lib.program import TOP, built
+from lib.program import built
+from lib.rows import FOLDER, rows_of
 from lib.tokens import tokens
 
 FILES, TEXTS, PAIRS, SCRIPTS, HISTORIES, SETS = 3000, 1500, 1000, 300, 300, 30
@@ -77,8 +79,7 @@ def spaced(text):
 
 def worked(kind):
     """The inputs of the rows of a kind in tests/rows/worked.rows."""
-    with open(TOP / "tests" / "rows" / "worked.rows", encoding="utf-8") as it:
-        return [line.encode() for line in re.findall(rf"(?m)^\$ check --size \d+{kind}\n< (.*)$", it.read())]
+    return [row.given.rstrip(b"\n") for row in rows_of(FOLDER / "worked.rows") if re.fullmatch(rf"check --size \d+{kind}", row.words)]
 
 
 def damaged(numbers, text, most):
@@ -161,8 +162,7 @@ class Laws:
         lines = [[] for _ in inputs]
         with tempfile.TemporaryDirectory() as folder:
             for number, text in enumerate(inputs):
-                with open(os.path.join(folder, str(number)), "wb") as it:
-                    it.write(text)
+                pathlib.Path(folder, str(number)).write_bytes(text)
             blocks = [range(first, min(first + 300, len(inputs))) for first in range(0, len(inputs), 300)]
             for ran in self.pool.map(lambda block: self.check_block(words, folder, block), blocks):
                 for name, line in re.findall(r"(?m)^(\d+): (.*)$", ran.stdout.decode()):
@@ -312,11 +312,10 @@ class Laws:
     def compared(self, numbers, old, new, size):
         """What is wrong with what `diff` says of two filters; None, too, where one of them is refused."""
         with tempfile.TemporaryDirectory() as folder:
-            paths = [os.path.join(folder, name) for name in ("old", "new")]
+            paths = [pathlib.Path(folder, name) for name in ("old", "new")]
             for path, text in zip(paths, (old, new)):
-                with open(path, "wb") as it:
-                    it.write(text)
-            told, status = self.run(f"diff --size {size} --limit {COMPARED_CLASSES} --explain never {' '.join(paths)}", b"")
+                path.write_bytes(text)
+            told, status = self.run(f"diff --size {size} --limit {COMPARED_CLASSES} --explain never {paths[0]} {paths[1]}", b"")
             if status == 3 and not told:
                 return None
             self.pairs += 1

@@ -8,6 +8,7 @@ usage: scripts/check_rows.py [[--without] NAME..]
 `lib/rows.py` says how a file of rows is laid out.
 """
 import os
+import pathlib
 import sys
 import tempfile
 
@@ -23,15 +24,13 @@ class Place:
     """Where a row is run: a folder with its files, and beside it what standard error and the exit status were."""
 
     def __init__(self, outer, number, row):
-        self.outer = os.path.join(outer, str(number))
-        self.folder, self.errors, self.status, self.given = (os.path.join(self.outer, name) for name in ("here", "errors", "status", "given"))
-        os.makedirs(self.folder)
-        os.symlink(TOP / "examples", os.path.join(self.folder, "examples"))
+        self.folder, self.errors, self.status, self.given = (pathlib.Path(outer, str(number), name) for name in ("here", "errors", "status", "given"))
+        self.folder.mkdir(parents=True)
+        (self.folder / "examples").symlink_to(TOP / "examples")
         for name, text in [*row.files.items(), ("../given", row.given)]:
-            path = os.path.join(self.folder, name)
-            os.makedirs(os.path.dirname(path), exist_ok=True)
-            with open(path, "wb") as it:
-                it.write(text)
+            path = self.folder / name
+            path.parent.mkdir(parents=True, exist_ok=True)
+            path.write_bytes(text)
         self.row = row
 
     def line(self, redirections):
@@ -40,11 +39,8 @@ class Place:
 
     def read(self, name):
         """The bytes of a file; none where it is not there."""
-        path = os.path.join(self.folder, name)
-        if not os.path.exists(path):
-            return None
-        with open(path, "rb") as it:
-            return it.read()
+        path = self.folder / name
+        return path.read_bytes() if path.exists() else None
 
     def on_terminal(self, ncroute):
         """What is written, and the exit status, where a terminal is among the streams."""
@@ -52,8 +48,7 @@ class Place:
         redirections = ("" if typed else f"<{self.given} ") + ("" if "errors" in self.row.terminals else f"2>{self.errors}")
         output, shown = ncroute.on_terminal(f"({self.line(redirections)}); echo $? >{self.status}", typed)
         if "errors" in self.row.terminals:
-            with open(self.errors, "wb") as it:
-                it.write(shown)
+            self.errors.write_bytes(shown)
         return output, int(self.read(self.status))
 
     def differences(self, output, status, looks_at_errors):

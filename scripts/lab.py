@@ -19,6 +19,7 @@ The last line is 'N passed, M failed'. With --keep the folder with the FIFOs and
 """
 import argparse
 import os
+import pathlib
 import shutil
 import subprocess
 import sys
@@ -42,8 +43,7 @@ class Topology:
     """A domain, by the lines that set it up."""
 
     def __init__(self, path):
-        with open(path) as it:
-            lines = [line.strip() for line in it]
+        lines = [line.strip() for line in pathlib.Path(path).read_text().splitlines()]
         self.lines = [line for line in lines if line.split(" ")[0] in SETUP]
         self.cuts = [tuple(map(int, line.split()[1:3])) for line in lines if line.startswith("cut ")]
         words = [line.split() for line in self.lines]
@@ -68,7 +68,7 @@ class Topology:
 
 
 class Node:
-    """A node, whose router may be killed and started again."""
+    """A node, whose router may be killed and started again: meanwhile it has none."""
 
     def __init__(self, lab, number):
         self.lab, self.number, self.starts, self.router = lab, number, 0, None
@@ -82,15 +82,12 @@ class Node:
             options += ["--prefix", f"{node}={prefix}"]
         uses = [(kind, other, name) for kind, node, other, name in topology.uses if node == self.number]
         for name in sorted({name for _, _, name in uses}):
-            options += ["--filter", f"{name}={lab.filter_file(name)}"]
+            options += ["--filter", f"{name}={lab.folder}/{name}.filter"]
         for kind, other, name in uses:
             options += [f"--{kind}", f"{other}={name}"]
         links = {other: (lab.fifo(other, self.number, "in"), lab.fifo(self.number, other, "out")) for other in topology.neighbours(self.number)}
         with open(os.path.join(lab.folder, f"{self.number}.errors"), "ab") as errors:
             self.router = Router(lab.program, topology.size, self.number, links, history, options, errors=errors)
-
-    def is_running(self):
-        return self.router is not None and self.router.is_running()
 
     def saved(self):
         """How many bytes of its history are saved."""
@@ -113,18 +110,13 @@ class Lab:
             for a, b in ((u, w), (w, u)):
                 for end in ("out", "in"):
                     os.mkfifo(self.fifo(a, b, end))
+        for name, text in self.topology.filters.items():
+            pathlib.Path(self.folder, f"{name}.filter").write_text(text)
         self.nodes = [Node(self, number) for number in range(self.topology.size)]
 
     def fifo(self, a, b, end):
         """What `a` tells `b`: the end where it is written, or where it is read."""
         return os.path.join(self.folder, f"{a}-{b}.{end}")
-
-    def filter_file(self, name):
-        path = os.path.join(self.folder, f"{name}.filter")
-        if not os.path.exists(path):
-            with open(path, "w") as it:
-                it.write(self.topology.filters[name])
-        return path
 
     def connect(self, link):
         for a, b in (link, link[::-1]):
@@ -142,7 +134,7 @@ class Lab:
         self.counts.expect(f"{self.name}: {what}", holds, told)
 
     def sizes(self):
-        return [node.saved() for node in self.nodes if node.is_running()]
+        return [node.saved() for node in self.nodes if node.router]
 
     def await_quiet(self, quiet=QUIET):
         """Waits until no history grows for so long: the seconds until then, or None."""
@@ -166,7 +158,7 @@ class Lab:
         while time.monotonic() - begun < PATIENCE:
             quiet = self.await_quiet()
             rest = None if quiet is None else time.monotonic() - begun - QUIET
-            found = [node.router.ask("routes") if node.is_running() else None for node in self.nodes]
+            found = [node.router.ask("routes") if node.router else None for node in self.nodes]
             if all(a == b for a, b in zip(found, wanted) if a is not None):
                 break
             # A link that was closed is opened again after a second.
@@ -229,6 +221,8 @@ class Lab:
         self.replay(victim, may_be_cut=True)
         saved = victim.router.saved()
         self.judge("killed: all is saved", saved[:len(answered)] == answered, f"{len(saved)} entries of {len(answered)}")
+        victim.router.close()
+        victim.router = None
 
     def replay(self, node, may_be_cut=False):
         said = node.router.replays()

@@ -5,6 +5,7 @@
 usage: make_manual.py NCROUTE FOLDER     (NCROUTE: the program as it is built; FOLDER gets share/man, share/bash-completion, share/zsh, share/fish)
 """
 import os
+import pathlib
 import re
 import subprocess
 import sys
@@ -208,10 +209,9 @@ def main(words):
         "share/fish/vendor_completions.d/ncroute.fish": fish(program, commands),
     }
     for name, text in files.items():
-        path = os.path.join(words[1], name)
-        os.makedirs(os.path.dirname(path), exist_ok=True)
-        with open(path, "w") as it:
-            it.write(text)
+        path = pathlib.Path(words[1], name)
+        path.parent.mkdir(parents=True, exist_ok=True)
+        path.write_text(text)
 
 
 if __name__ == "__main__":

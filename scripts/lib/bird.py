@@ -5,6 +5,7 @@ A file is blocks with an empty line between them. The first one is a comment on 
 A text that is not taken has one line in their place: `# refused CODE AT`, `# BIRD refuses`, or both of them.
 """
 import os
+import pathlib
 import re
 import subprocess
 import time
@@ -50,8 +51,7 @@ class Block:
 
 def read(path):
     """The comment on all, and the blocks."""
-    with open(path) as it:
-        head, *blocks = it.read().rstrip("\n").split("\n\n")
+    head, *blocks = pathlib.Path(path).read_text().rstrip("\n").split("\n\n")
     return head, [Block(block) for block in blocks]
 
 

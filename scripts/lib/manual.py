@@ -4,7 +4,7 @@ A document about one command is the last section of that command's page; each ot
 A link to another page becomes that page's name and section, and a link to anything else its text alone. A form of Markdown that no document
 has used yet ends the script with a message, so that nothing is left out unseen.
 """
-import os
+import pathlib
 import re
 import sys
 
@@ -61,8 +61,7 @@ class Document:
 
     def __init__(self, name, folder=DOCS):
         self.name, self.page, self.references = name, PAGES[name], set()
-        with open(os.path.join(folder, f"{name}.md"), encoding="utf-8") as it:
-            title, *self.rest = it.read().split("\n")
+        title, *self.rest = pathlib.Path(folder, f"{name}.md").read_text(encoding="utf-8").split("\n")
         if not title.startswith("# "):
             self.stop(title)
         self.title = re.sub(rf"^`{NAME} \w+`: ", "", title[2:])
@@ -237,7 +236,7 @@ def height(words, width):
 
 def documents():
     """The documents that are pages or parts of pages."""
-    names = {name.removesuffix(".md") for name in os.listdir(DOCS) if name.endswith(".md")}
+    names = {path.stem for path in DOCS.glob("*.md")}
     if wrong := names ^ (set(PAGES) | NO_PAGES):
         sys.exit(f"scripts/lib/manual.py says which documents are man pages, and does not fit docs/: {', '.join(sorted(wrong))}")
     return [Document(name) for name in sorted(names - NO_PAGES)]

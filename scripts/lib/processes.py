@@ -1,5 +1,6 @@
 """Programs that run beside a script and answer its lines, `ncroute router` among them."""
 import os
+import pathlib
 import re
 import resource
 import select
@@ -56,8 +57,7 @@ class Process:
 
     def status(self, name):
         """What the system says of the process."""
-        with open(f"/proc/{self.process.pid}/status") as it:
-            return re.search(name + r":\s*(.*)", it.read())[1]
+        return re.search(name + r":\s*(.*)", pathlib.Path(f"/proc/{self.process.pid}/status").read_text())[1]
 
     def kilobytes(self, name):
         """So many kilobytes the system says: VmHWM is the most memory that it had at a time, VmRSS what it has, VmSize its addresses."""
@@ -65,8 +65,7 @@ class Process:
 
     def processor_time(self):
         """The seconds that it took of processors."""
-        with open(f"/proc/{self.process.pid}/stat") as it:
-            fields = it.read().rsplit(")", 1)[1].split()
+        fields = pathlib.Path(f"/proc/{self.process.pid}/stat").read_text().rsplit(")", 1)[1].split()
         return (int(fields[11]) + int(fields[12])) / os.sysconf("SC_CLK_TCK")
 
 
@@ -97,8 +96,7 @@ class Router(Process):
 
     def saved(self):
         """The entries in the file of the history, as far as their lines are whole."""
-        with open(self.history) as it:
-            return it.read().split("\n")[1:-1]
+        return pathlib.Path(self.history).read_text().split("\n")[1:-1]
 
     def replays(self):
         """The verdict of `ncroute replay` on the history that was saved."""

@@ -29,11 +29,11 @@ STAND_IN = """#!{python} -S
 import hashlib, os, sys
 words, given = sys.argv[1:], sys.stdin.buffer.read()
 name = hashlib.sha256("\\0".join([*words, ""]).encode() + given).hexdigest()[:16]
-answer = os.path.join({answers!r}, name)
+answer = os.path.join("{answers}", name)
 if not os.path.exists(answer):
-    with open(os.path.join({asked!r}, name), "wb") as it:
+    with open(os.path.join("{asked}", name), "wb") as it:
         it.write(given)
-    with open(os.path.join({asked!r}, name + ".args"), "w") as it:
+    with open(os.path.join("{asked}", name + ".args"), "w") as it:
         it.write("".join(word + "\\n" for word in words))
     sys.exit({not_run})
 with open(answer, "rb") as it:
@@ -49,20 +49,19 @@ class Program:
     def __init__(self):
         # It goes when the script ends, however that is.
         self.holder = tempfile.TemporaryDirectory()
-        self.folder = self.holder.name
-        self.bin, self.asked, self.answers, self.here = (os.path.join(self.folder, name) for name in ("bin", "asked", "answers", "here"))
-        for folder in (self.bin, self.asked, self.answers, self.here):
-            os.mkdir(folder)
+        folders = [pathlib.Path(self.holder.name, name) for name in ("bin", "asked", "answers", "here")]
+        for folder in folders:
+            folder.mkdir()
+        self.bin, self.asked, self.answers, self.here = folders
         # Some examples make files where they run. In the repository those of a run that was ended would be in the way of the next one.
         for name in READ:
-            os.symlink(TOP / name, os.path.join(self.here, name))
-        command = os.path.join(self.bin, "ncroute")
+            (self.here / name).symlink_to(TOP / name)
+        command = self.bin / "ncroute"
         if path := named():
-            os.symlink(path, command)
+            command.symlink_to(path)
         else:
-            with open(command, "w") as it:
-                it.write(STAND_IN.format(python=sys.executable, answers=self.answers, asked=self.asked, not_run=NOT_RUN))
-            os.chmod(command, 0o755)
+            command.write_text(STAND_IN.format(python=sys.executable, answers=self.answers, asked=self.asked, not_run=NOT_RUN))
+            command.chmod(0o755)
 
     def close(self):
         self.holder.cleanup()
@@ -75,7 +74,7 @@ class Program:
 
     def environment(self):
         """The environment in which a shell finds the program. Of a locale that is not there bash would warn on standard error."""
-        return {**os.environ, "LC_ALL": "C", "PATH": self.bin + os.pathsep + os.environ["PATH"]}
+        return {**os.environ, "LC_ALL": "C", "PATH": f"{self.bin}{os.pathsep}{os.environ['PATH']}"}
 
     def on_terminal(self, line, typed):
         """What a line writes on standard output, and on standard error, which is a terminal. So is standard input where something is typed."""
@@ -111,14 +110,12 @@ class Program:
         status = dict(re.findall(r"(?m)^case=(\w+) run=ended status=(\d+)", tried.stderr.decode()))
         parts = re.split(rb"(?m)^== (\w+)\n", tried.stdout)[1:]
         for name, text in zip(parts[::2], parts[1::2]):
-            with open(os.path.join(self.answers, name.decode()), "wb") as it:
-                it.write(text)
-            with open(os.path.join(self.answers, name.decode() + ".status"), "w") as it:
-                it.write(status.get(name.decode(), str(NOT_RUN)))
-        for name in os.listdir(self.asked):
-            if not name.endswith(".args") and not os.path.exists(os.path.join(self.answers, name)):
+            (self.answers / name.decode()).write_bytes(text)
+            (self.answers / f"{name.decode()}.status").write_text(status.get(name.decode(), str(NOT_RUN)))
+        for path in self.asked.iterdir():
+            if path.suffix != ".args" and not (self.answers / path.name).exists():
                 sys.exit(f"'rt try' gave no answer:\n{tried.stderr.decode()}")
-            os.remove(os.path.join(self.asked, name))
+            path.unlink()
 
 
 def read_terminal(terminal):
