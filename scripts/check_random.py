@@ -30,6 +30,7 @@ import tempfile
 
 from lib import bird
 from lib.counts import Counts
+from lib.prefixes import dotted, masked, number_of, parsed, written
 from lib.program import built
 from lib.rows import FOLDER, rows_of
 from lib.tokens import tokens
@@ -268,7 +269,7 @@ class Laws:
 
     def told(self, numbers, text, size):
         """What is wrong with what is told of a filter that is verified, and of some routes that it answers."""
-        routes = [f"{without_host_bits(random_prefix(numbers))} {numbers.randint(0, size)}" for _ in range(TOLD_ROUTES)]
+        routes = [f"{written(*parsed(random_prefix(numbers)))} {numbers.randint(0, size)}" for _ in range(TOLD_ROUTES)]
         with tempfile.NamedTemporaryFile(suffix=".filter") as file:
             file.write(text)
             file.flush()
@@ -388,7 +389,7 @@ class Laws:
         patterns = []
         for _ in range((1, 2, 12, 13, 40, 200, 1024)[number % 7]):
             low, high = sorted(numbers.randrange(33) for _ in range(2))
-            patterns.append((bits(random_address(numbers)), numbers.randrange(33), low, high))
+            patterns.append((number_of(random_address(numbers)), numbers.randrange(33), low, high))
         file = b"NCF2\0\1" + len(patterns).to_bytes(2, "big")
         for address, length, low, high in patterns:
             file += masked(address, length).to_bytes(4, "big") + bytes([length, low, high])
@@ -445,26 +446,11 @@ def hexadecimal(line):
     return re.sub("^code ", "", line)
 
 
-def bits(address):
-    return int.from_bytes(bytes(map(int, address.split("."))), "big")
-
-
-def without_host_bits(prefix):
-    """A prefix with the bits behind its length cleared."""
-    address, length = prefix.split("/")
-    return f"{dotted(masked(bits(address), int(length)))}/{length}"
-
-
-def masked(address, length):
-    """An address with the bits behind a length cleared."""
-    return address & (0xFFFFFFFF << (32 - length)) & 0xFFFFFFFF
-
-
 def matches(pattern, address, length):
     """Whether a pattern matches a prefix: its length is in the range, and both agree in the bits that the shorter has."""
     own, own_length, low, high = pattern
     shared = min(own_length, int(length))
-    return low <= int(length) <= high and masked(own, shared) == masked(bits(address), shared)
+    return low <= int(length) <= high and masked(own, shared) == masked(number_of(address), shared)
 
 
 def other_constant(numbers, text):
@@ -477,7 +463,7 @@ def other_constant(numbers, text):
     elif found[2] and numbers.randrange(2):
         other = f"{found[1].decode()}/{min(int(found[2]) + 1, 32)}"
     else:
-        address = bits(found[1].decode()) ^ 1 << (32 - numbers.randint(1, int(found[2] or 32) or 1))
+        address = number_of(found[1].decode()) ^ 1 << (32 - numbers.randint(1, int(found[2] or 32) or 1))
         other = dotted(address) + (f"/{found[2].decode()}" if found[2] else "")
     return text[:found.start()] + other.encode() + text[found.end():]
 
@@ -485,12 +471,12 @@ def other_constant(numbers, text):
 def places(numbers, parts, texts, count):
     """Where routes are tried: an address, a length near which theirs are, and metrics."""
     lengths = [int(it) for it in re.findall(rb"\d+", texts) if int(it) <= 32]
-    spots = [(bits(address.decode()), int(length or 32)) for address, length in re.findall(rb"(\d+\.\d+\.\d+\.\d+)(?:/(\d+))?", texts)]
+    spots = [(number_of(address.decode()), int(length or 32)) for address, length in re.findall(rb"(\d+\.\d+\.\d+\.\d+)(?:/(\d+))?", texts)]
     metrics = [int(it) for it in re.findall(rb"\d+", texts) if int(it) <= 250] or [0]
     for part in parts[:20]:
         for length in {int(part[3]), int(part[4]), int(part[3]) - 1, int(part[4]) + 1}:
             for metric in {int(part[5]), int(part[6]), int(part[5]) - 1, int(part[6]) + 1}:
-                yield bits(part[1]), int(part[2]), length, metric
+                yield number_of(part[1]), int(part[2]), length, metric
     for _ in range(count):
         address, fixed = numbers.choice(spots or [(0, 0)]) if numbers.randrange(4) else (numbers.getrandbits(32), numbers.randrange(33))
         length = numbers.choice([fixed, fixed, *lengths]) + numbers.randint(-1, 1)
@@ -507,7 +493,7 @@ def route_at(numbers, address, fixed, length, metric, size):
 def differs_otherwise(parts, prefix, metric, one, other):
     """What the parts say of a route that is not so, where two filters answer it with these lines."""
     address, length = prefix.split("/")
-    own = [part for part in parts if matches((bits(part[1]), int(part[2]), int(part[3]), int(part[4])), address, length)
+    own = [part for part in parts if matches((number_of(part[1]), int(part[2]), int(part[3]), int(part[4])), address, length)
            and int(part[5]) <= metric <= int(part[6])]
     if any(part[0] == "undecided" for part in own):
         return None
@@ -515,10 +501,6 @@ def differs_otherwise(parts, prefix, metric, one, other):
         return None if one == other else "nothing is told"
     said = [f"accept {metric}" if verdict == "accept" else verdict for verdict in own[0][7:]]
     return None if said == [one, other] and one != other else f"{own[0]}"
-
-
-def dotted(address):
-    return ".".join(map(str, address.to_bytes(4, "big")))
 
 
 def main(words):

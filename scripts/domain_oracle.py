@@ -13,21 +13,7 @@ import re
 import sys
 
 from lib import netchange
-
-
-def address(text):
-    a, b, c, d = map(int, text.split("."))
-    return (a << 24) + (b << 16) + (c << 8) + d
-
-
-def prefix(text):
-    ip, length = text.split("/")
-    return address(ip), int(length)
-
-
-def is_within(inner, outer):
-    shift = 32 - outer[1]
-    return inner[1] >= outer[1] and inner[0] >> shift == outer[0] >> shift
+from lib.prefixes import masked, parsed
 
 
 class Filter:
@@ -61,7 +47,8 @@ class Filter:
     @staticmethod
     def holds(left, compares, right, net, metric):
         if compares == "~":
-            return is_within(net, prefix(right.strip("[] +")))
+            address, length = parsed(right.strip("[] +"))
+            return net[1] >= length and masked(net[0], length) == masked(address, length)
         value = net[1] if left == "net.len" else metric
         return {"=": value == int(right), "<": value < int(right), ">": value > int(right)}[compares]
 
@@ -108,7 +95,7 @@ class Script:
                 return f"refused O5 {number}"
             if int(words[0]) >= domain.size:
                 return f"refused O2 {number}"
-            domain.prefixes[int(words[0])] = prefix(words[1])
+            domain.prefixes[int(words[0])] = parsed(words[1])
             return "ok"
         if verb == "load":
             self.filters[words[0]] = Filter(line.split(None, 2)[2])

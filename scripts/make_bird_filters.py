@@ -11,25 +11,14 @@ divisor is 0, no metric is assigned that is lower than the one received or highe
 import random
 import sys
 
+from lib.prefixes import ALL, dotted, masked, written
+
 FILTERS, SEED = 43, 1
 THEMES = ("sets", "prefixes", "arithmetic", "conditions", "variables", "metrics", "cases", "whole")
 ROUTES_OF_A_THEME, ROUTES_OF_A_FILTER = 160, 20
 VARIABLES = {"int": "abc", "bool": "uv", "ip": "ij", "prefix": "pq"}
-LARGEST = 2**32 - 1
 # How much one assignment raises the metric at most, of metrics of at most 100; a filter has at most eight.
 MOST_RAISED = 15
-
-
-def address_text(address):
-    return ".".join(str(address >> shift & 255) for shift in (24, 16, 8, 0))
-
-
-def cut(address, length):
-    return address >> (32 - length) << (32 - length) if length else 0
-
-
-def prefix_text(address, length):
-    return f"{address_text(cut(address, length))}/{length}"
 
 
 class Writer:
@@ -58,7 +47,7 @@ class Writer:
 
     def prefix(self):
         address, length = self.near()
-        return prefix_text(address, self.length_near(length))
+        return written(address, self.length_near(length))
 
     def pattern(self):
         prefix, kind = self.prefix(), self.numbers.randrange(6)
@@ -72,7 +61,7 @@ class Writer:
         return "[ " + ", ".join(self.pattern() for _ in range(self.one_of((1, 2, 3, 5, 14)))) + " ]"
 
     def number(self):
-        found = self.one_of((0, 1, 2, 3, 8, 16, 24, 32, self.numbers.randrange(101), self.numbers.randrange(2**32), LARGEST))
+        found = self.one_of((0, 1, 2, 3, 8, 16, 24, 32, self.numbers.randrange(101), self.numbers.randrange(2**32), ALL))
         return hex(found) if self.is_one_in(8) else str(found)
 
     def int(self, depth):
@@ -89,7 +78,7 @@ class Writer:
     def ip(self, depth):
         if depth > 0 and self.is_one_in(2):
             return f"{self.one_of(('net.ip', self.variable('ip') or 'net.ip'))}.mask({self.numbers.randrange(33)})"
-        return self.one_of(("net.ip", address_text(self.near()[0]), self.variable("ip") or "net.ip"))
+        return self.one_of(("net.ip", dotted(self.near()[0]), self.variable("ip") or "net.ip"))
 
     def prefix_value(self):
         return self.one_of(("net", self.prefix(), self.variable("prefix") or "net"))
@@ -232,7 +221,8 @@ def routes_of_theme(numbers):
     found = {}
     while len(found) < ROUTES_OF_A_THEME:
         length = numbers.randrange(33)
-        address = cut(numbers.randrange(1, 6) * 37 << 24 | numbers.randrange(4) << 20 | numbers.randrange(2**32) >> numbers.randrange(8, 32), length)
+        network = numbers.randrange(1, 6) * 37 << 24 | numbers.randrange(4) << 20
+        address = masked(network | numbers.randrange(2**32) >> numbers.randrange(8, 32), length)
         if length == 0 or address >> 24 in range(1, 224) and address >> 24 != 127:
             found[address, length] = numbers.randrange(101)
     return found
@@ -249,7 +239,7 @@ def main(words):
         asked = numbers.sample(sorted(routes), ROUTES_OF_A_FILTER)
         print("\n" + Writer(numbers, words[0], asked).filter(f"{words[0]}_{number}"))
         for net in asked:
-            print(f"# {prefix_text(*net)} {routes[net]}:")
+            print(f"# {written(*net)} {routes[net]}:")
 
 
 if __name__ == "__main__":
