@@ -118,8 +118,8 @@ def sweep_tests(sweep, pool, counts):
     print(f"tests: {all_refused} allocations refused, {without} of them in tests that did without")
     for call in CALLS:
         told = ", ".join(f"{answer} ({times})" for answer, times in sorted(answers[call].items()))
-        counts.judge(call, not told and "was never refused memory")
         print(f"{call}: {told}")
+        counts.judge(call, not told and "was never refused memory")
 
 
 def runs_of(ncroute):

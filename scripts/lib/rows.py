@@ -17,8 +17,8 @@ A file has rows with empty lines between them. A row is lines that begin with a 
 The lines of a sign belong together, whatever stands between them: so each answer may stand below its line of the input. `>...` and `!...` stand
 for any lines, or none. Files that stand by themselves, without a `$`, are there for every row below them, and `examples/` is there for all.
 
-In a line `\\t`, `\\r`, `\\n`, `\\xHH` and `\\\\` are bytes, and `\\(N TEXT\\)` is the text so many times.
-A line that ends with `\\` has no line feed.
+In a line `\\t`, `\\r`, `\\n`, `\\xHH` and `\\\\` are bytes, and `\\(N TEXT\\)` is the text so many times. A line that ends with `\\` has no line
+feed.
 """
 import os
 import re
@@ -62,7 +62,7 @@ class Wanted:
         self.parts.append(b"")
 
     def is_met(self, text):
-        return re.fullmatch(ANY_LINES.join(map(re.escape, self.parts)), text, re.S) is not None
+        return text == self.parts[0] if len(self.parts) == 1 else bool(re.fullmatch(ANY_LINES.join(map(re.escape, self.parts)), text))
 
     def last_line(self):
         """The last line that is wanted."""
