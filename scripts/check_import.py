@@ -1,8 +1,8 @@
 #!/usr/bin/env python3
-"""Tries `ncroute import` at many sizes: variables, lengths, numbers of filters; names that would steer a terminal, files that include files; and
-random configurations that are made of the filters in `tests/bird/`, whose import must have the tokens of the filter itself. Where BIRD takes a
-filter that is refused here, what is imported must answer as BIRD did. Prints what fails, and at last 'N passed, M failed'. Each rewrite, and what
-is left out and at which place, is in `tests/rows/import.rows`.
+"""Tries `ncroute import` at many sizes: variables, lengths, numbers of filters; names that would steer a terminal; and random configurations that
+are made of the filters in `tests/bird/`, whose import must have the tokens of the filter itself. Where BIRD takes a filter that is refused here, what
+is imported must answer as BIRD did. Prints what fails, and at last 'N passed, M failed'. Each rewrite, files that include files, and what is left
+out and at which place, are in `tests/rows/import.rows`.
 
 usage: NCROUTE=PATH [SEED=N] scripts/check_import.py     (PATH: the program as it is built; N: the seed of the random configurations, 1)
 """
@@ -115,29 +115,6 @@ def shown(trial):
     check("the folder", trial.printed("filter f { accept; }", folder=STEERING), 1)
     file = (f"{STEERING}.bird", "filter f { accept; }\n$")
     check("the name of an included file", trial.printed(f"include \"{STEERING}.bird\";", files=[file]), 2)
-
-
-def includes(trial):
-    """Files that include files: in order, each once, relative to the one that includes it, 8 deep, and not in a circle."""
-    said, status, written = trial.run("include \"a/one.bird\";\nfilter f { if net.len = ONE + TWO then accept; }",
-                                      [("a/one.bird", "define ONE = 1;\ninclude \"two.bird\"; # no line feed"), ("a/two.bird", "define TWO = 2;")])
-    trial.check("include", status == 0 and words(written["f"]) == words("filter f { if net.len = 1 + 2 then accept; }"), said)
-    trial.check("the place in an included file", "a/one.bird:1:14" in written["f"] and "a/two.bird:1:14" in written["f"], written)
-    trial.check("the place behind an include", said.startswith("bird.conf:2:1 filter f -> out/f.filter verified"), said)
-    said, status, _ = trial.run("include \"a.bird\";\nfilter f { accept; }", [("a.bird", "filter g { accept; }\ninclude \"bird.conf\";")])
-    trial.check("a circle", status == 1 and "a.bird:2:1 include bird.conf: the file includes itself" in said and said.count("filter g") == 1, said)
-    deep = [(f"{n}.bird", f"include \"{n + 1}.bird\";\nfilter f{n} {{ accept; }}") for n in range(1, 12)]
-    said, status, _ = trial.run("include \"1.bird\";", deep)
-    trial.check("nine deep", status == 1 and "8.bird:1:1 include 9.bird: files are included at most 8 deep" in said and "filter f8 " in said, said)
-    said, status, _ = trial.run("filter f { include \"a.bird\"; reject; }", [("a.bird", "if net.len > 8 then accept;")])
-    trial.check("include in a filter", status == 0, said)
-    said, status, _ = trial.run("# include \"a.bird\";\nfilter f { reject \"include\"; }")
-    trial.check("include in a comment", status == 0, said)
-
-
-def comments(trial):
-    _, _, written = trial.run("define A = 1; # not this\n# above\nfilter f # head\n{ /* one */ if net.len = A # two\n then accept; # three\n}")
-    trial.check("comments", all(word in written["f"] for word in ("# above", "# head", "/* one */", "# two", "# three")), written)
 
 
 def full(trial):
@@ -324,8 +301,6 @@ def main():
     with tempfile.TemporaryDirectory() as folder:
         trial = Trial(ncroute, folder)
         shown(trial)
-        includes(trial)
-        comments(trial)
         full(trial)
         variables(trial)
         lengths(trial)
