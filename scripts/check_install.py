@@ -6,22 +6,21 @@ token of the filters in `examples/` is read. Prints what is wrong, and at last '
 usage: NCROUTE=PATH scripts/check_install.py     (PATH: the program as it is built)
 """
 import collections
-import glob
 import itertools
 import json
 import os
+import pathlib
 import re
 import shutil
 import subprocess
 import tempfile
 
-from lib import manual
+from lib import documents, manual
 from lib.counts import Counts
 from lib.program import TOP, built
 from lib.tokens import tokens
 
 INSTALL = os.path.join(TOP, "scripts", "install.sh")
-FILTERS = sorted(glob.glob(os.path.join(TOP, "examples", "*.filter")))
 
 # The words of BIRD that are refused by name.
 LEFT_OUT = """function define print printn return include string pair quad ec lc bgppath bgpmask clist eclist lclist set from proto preference
@@ -59,9 +58,7 @@ def kinds_of_tokens(text):
 
 
 def texts():
-    for path in FILTERS:
-        with open(path) as it:
-            yield it.read()
+    yield from (path.read_text() for path in sorted(TOP.glob("examples/*.filter")))
     yield MORE
 
 
@@ -84,8 +81,7 @@ def scopes(grammar, text):
 
 
 def textmate_differs(prefix):
-    with open(os.path.join(prefix, "share/ncroute/vscode/syntaxes/ncroute.tmLanguage.json")) as it:
-        grammar = json.load(it)
+    grammar = json.loads(pathlib.Path(prefix, "share/ncroute/vscode/syntaxes/ncroute.tmLanguage.json").read_text())
     for text in texts():
         found = scopes(grammar, text)
         for at, kind in kinds_of_tokens(text):
@@ -100,20 +96,16 @@ def textmate_differs(prefix):
 def vim_differs(prefix):
     with tempfile.TemporaryDirectory() as folder:
         for text in texts():
-            path, said = os.path.join(folder, "it.filter"), os.path.join(folder, "said")
-            with open(path, "w") as it:
-                it.write(text)
+            path, said, script = (pathlib.Path(folder, name) for name in ("it.filter", "said", "script.vim"))
+            path.write_text(text)
             wanted = list(kinds_of_tokens(text))
             places = [(text.count("\n", 0, at) + 1, at - text.rfind("\n", 0, at)) for at, _ in wanted]
-            script = os.path.join(folder, "script.vim")
-            with open(script, "w") as it:
-                it.write(f"let places = {json.dumps(places)}\n")
-                it.write(f"call writefile(map(places, {{_, p -> synIDattr(synID(p[0], p[1], 1), 'name')}}), '{said}')\nqall!\n")
+            kinds = "map(places, {_, p -> synIDattr(synID(p[0], p[1], 1), 'name')})"
+            script.write_text(f"let places = {json.dumps(places)}\ncall writefile({kinds}, '{said}')\nqall!\n")
             subprocess.run(["vim", "-N", "-u", "NONE", "-es", "--cmd", f"set runtimepath^={prefix}/share/vim/vimfiles", "-c", "filetype on",
                             "-c", "syntax on", "-c", f"edit {path}", "-S", script], stdin=subprocess.DEVNULL, capture_output=True)
-            with open(said) as it:
-                names = it.read().split("\n")[:-1]
-            os.remove(said)
+            names = said.read_text().split("\n")[:-1]
+            said.unlink()
             if len(names) != len(wanted):
                 return f"it says what {len(names)} tokens are, and not {len(wanted)}"
             for (at, kind), name in zip(wanted, names):
@@ -181,15 +173,14 @@ def pages_missing(prefix):
 
 
 def installed(prefix):
-    folder = os.path.join(prefix, "share/man")
-    return [os.path.relpath(path, folder) for path in sorted(glob.glob(os.path.join(folder, "man*/*")))]
+    folder = pathlib.Path(prefix, "share", "man")
+    return sorted(str(path.relative_to(folder)) for path in folder.glob("man*/*"))
 
 
 def shown(prefix, page):
     """A page as `man` shows it on a terminal of 80 columns, and what groff says of it. The first line tells that it has tables."""
-    path = os.path.join(prefix, "share/man", page)
-    with open(path) as it:
-        tables = ["-t"] if it.readline() == "'\\\" t\n" else []
+    path = pathlib.Path(prefix, "share", "man", page)
+    tables = ["-t"] if path.read_text().startswith("'\\\" t\n") else []
     ran = subprocess.run(["groff", *tables, "-man", "-Tutf8", "-ww", "-rLL=78n", "-P-cbou", path], capture_output=True)
     return "\n".join(line.rstrip() for line in ran.stdout.decode().split("\n")), ran.stderr.decode()
 
@@ -236,8 +227,7 @@ def references_differ(texts):
 
 def document_differs(name, page, whole):
     """What a page lacks of the document that it has to show: a heading, code, a reference, a cell of a table, or words."""
-    with open(os.path.join(TOP, "docs", f"{name}.md"), encoding="utf-8") as it:
-        text = it.read()
+    text = documents.read(f"docs/{name}.md")
     headings = [heading.replace("`", "") for heading in re.findall(r"(?m)^#+ (.*)$", re.sub(r"(?ms)^```.*?^```", "", text))]
     title = re.sub(r"^ncroute \w+: ", "", headings[0])
     if page[1] != 1 and f"{page[0]} - {title}\n" not in whole:
@@ -318,8 +308,7 @@ def forms_taken(_):
     """The first of these forms that is taken, and comes out as something else or not at all."""
     for form in UNKNOWN_FORMS:
         with tempfile.TemporaryDirectory() as folder:
-            with open(os.path.join(folder, "KINDS.md"), "w") as it:
-                it.write(f"# Title\n\n## Heading\n\nText.\n\n{form}\n")
+            pathlib.Path(folder, "KINDS.md").write_text(f"# Title\n\n## Heading\n\nText.\n\n{form}\n")
             try:
                 manual.Document("KINDS", folder)
             except SystemExit:

@@ -6,11 +6,20 @@ import resource
 import select
 import signal
 import subprocess
+import time
 
 from lib.program import TOP
 
 # Seconds: no answer takes longer.
 PATIENCE = 30.0
+
+
+def awaited(look, is_enough, patience, pause=0.01):
+    """Looks until what is seen is enough, or patience is over: what was seen last."""
+    until = time.monotonic() + patience
+    while not is_enough(seen := look()) and time.monotonic() < until:
+        time.sleep(pause)
+    return seen
 
 
 class Process:

@@ -3,6 +3,7 @@ import concurrent.futures
 import errno
 import fcntl
 import os
+import pathlib
 import re
 import select
 import shutil
@@ -13,7 +14,7 @@ import time
 import traceback
 
 from lib.counts import Counts
-from lib.processes import Router, preloaded
+from lib.processes import Router, awaited, preloaded
 
 SIZE = 8
 PATIENCE = 10.0
@@ -58,11 +59,8 @@ class Neighbour:
 
     def open(self):
         """Opens both files, as the router does."""
-        until = time.monotonic() + PATIENCE
-        while not self.is_opened():
-            if time.monotonic() > until:
-                raise TimeoutError(f"the router does not open its link to {self.node}")
-            time.sleep(0.001)
+        if not awaited(self.is_opened, bool, PATIENCE, 0.001):
+            raise TimeoutError(f"the router does not open its link to {self.node}")
 
     def open_early(self):
         """Opens what the router reads before anybody reads it."""
@@ -131,7 +129,7 @@ class Run(Router):
     def __init__(self, program, nodes=(1, 2), more=(), size=SIZE, prepare=None, saves=True, node=0, early=(), quicker=None, environment=None):
         self.folder = tempfile.mkdtemp(prefix="router.")
         self.neighbours = {node: Neighbour(self.folder, node) for node in nodes}
-        self.errors = os.path.join(self.folder, "errors")
+        self.errors = pathlib.Path(self.folder, "errors")
         # A small library has the program sleep so many times less long.
         sleeps = {**preloaded("quick_sleep.c", self.folder), "QUICKER": str(quicker)} if quicker else {}
         for other in early:
@@ -153,28 +151,15 @@ class Run(Router):
 
     def asks_until(self, line, wanted):
         """Asks until an answer has this pattern: the last answer."""
-        until = time.monotonic() + PATIENCE
-        while True:
-            answer = self.ask(line)
-            if re.search(wanted, answer) or time.monotonic() > until:
-                return answer
-            time.sleep(0.01)
+        return awaited(lambda: self.ask(line), lambda answer: re.search(wanted, answer), PATIENCE)
 
     def said(self, wanted, patience=PATIENCE):
         """What standard error says, when it has this or patience is over."""
-        until = time.monotonic() + patience
-        while True:
-            with open(self.errors) as it:
-                text = it.read()
-            if wanted in text or time.monotonic() > until:
-                return text
-            time.sleep(0.01)
+        return awaited(self.errors.read_text, lambda text: wanted in text, patience)
 
     def told_closed(self, node, times):
         """Waits until standard error has said so many times that the link to a node was closed: then its IN is read no more."""
-        until = time.monotonic() + PATIENCE
-        while self.said("", patience=0).count(f"link {node}: ") < times and time.monotonic() < until:
-            time.sleep(0.01)
+        awaited(self.errors.read_text, lambda text: text.count(f"link {node}: ") >= times, PATIENCE)
 
     def routes_until(self, node, wanted):
         """Asks for the routes, which makes no entry, until that of a node is the wanted one: whether it is."""
