@@ -11,6 +11,7 @@ With NCROUTE=PATH two more things are looked at. Small plans of 2 to 4 nodes: of
 of Bellman's equation, and it is the one that is answered, with the least next hops. And domains whose routers are runs of `ncroute run`: in
 whatever order they send and receive their messages, they come to the routes that `ncroute domain` computes.
 """
+import contextlib
 import itertools
 import random
 import re
@@ -173,18 +174,17 @@ def any_order(ncroute, number):
     asked = [f"route {u} {v}" for u in range(size) for v in range(size)]
     script = [f"domain {size}", *loads, *(f"link {u} {w}" for u, w in links), *(f"{kind} {u} {w} {name}" for kind, u, w, name in uses), *asked]
     wanted = subprocess.run([ncroute, "domain"], input="\n".join(script).encode(), capture_output=True).stdout.decode().splitlines()[-len(asked):]
-    nodes = [Process([ncroute, "run", "--explain", "never"]) for _ in range(size)]
-    for me, node in enumerate(nodes):
-        for line in [f"network {size} {me}", *loads, *(f"{kind} {w} {name}" for kind, u, w, name in uses if u == me)]:
-            node.ask(line)
-    for u, w in links:
-        nodes[u].ask(f"up {w}")
-        nodes[w].ask(f"up {u}")
-    if links:
-        play(numbers, nodes, links)
-    said = [node.ask(f"show {v}") for node in nodes for v in range(size)]
-    for node in nodes:
-        node.close()
+    with contextlib.ExitStack() as stack:
+        nodes = [stack.enter_context(Process([ncroute, "run", "--explain", "never"])) for _ in range(size)]
+        for me, node in enumerate(nodes):
+            for line in [f"network {size} {me}", *loads, *(f"{kind} {w} {name}" for kind, u, w, name in uses if u == me)]:
+                node.ask(line)
+        for u, w in links:
+            nodes[u].ask(f"up {w}")
+            nodes[w].ask(f"up {u}")
+        if links:
+            play(numbers, nodes, links)
+        said = [node.ask(f"show {v}") for node in nodes for v in range(size)]
     return None if said == wanted else f"order {number}: {script}: {said}, and not {wanted}"
 
 

@@ -42,8 +42,7 @@ class Rows(SizeRows):
             except BrokenPipeError:
                 pass
             if says:
-                text = run.said(says)
-                self.judge("says", says in text, text)
+                self.says(run, says)
             self.serve_two(run)
             if history:
                 found = run.asks_until("history 0", history)
@@ -81,9 +80,7 @@ class Rows(SizeRows):
 
     def judge_too_long(self, run, line, before, history):
         """The line was too long, and cost no memory."""
-        wanted = f"link 1: line {line} has more than 64 bytes: closed\n"
-        text = run.said(wanted)
-        self.judge("says", wanted in text, text)
+        self.says(run, f"link 1: line {line} has more than 64 bytes: closed\n")
         more = run.kilobytes("VmHWM") - before
         print(f"a gigabyte without a line feed: {more} kB more memory", file=sys.stderr)
         self.judge("memory", more <= MOST_MEMORY, more)
@@ -161,8 +158,7 @@ class Rows(SizeRows):
         """Node 1 hears nothing while node 2 changes its mind 40,000 times."""
         with Run(self.program) as run:
             one, two = run.neighbours[1], run.neighbours[2]
-            one.open()
-            one.greet()
+            one.come()
             self.judge("1 is up", "1:" in run.asks_until("neighbours", " 1:"))
             self.serve_two(run)
             begun = time.monotonic()
@@ -180,15 +176,13 @@ class Rows(SizeRows):
         """Node 1 closes what it is told, and says something after its session is over."""
         with Run(self.program) as run:
             one = run.neighbours[1]
-            one.open()
-            one.greet()
+            one.come()
             self.judge("1 hears", one.hear(b"7 8\n"))
             one.close_one("reads")
             self.serve_two(run)
             self.judge("1 is down", "1:" not in run.asks_until("neighbours", "^neighbours 2:"))
             one.say(b"3 0\n")
-            text = run.said("closed")
-            self.judge("says", "link 1: " in text, text)
+            self.says(run, "link 1: ")
             found = run.ask("history 0")
             self.judge("one down", found.count("down 1 ") == 1, found)
             self.judge("nothing of the old session", "recv 1 3 0 done" not in found, found)
@@ -198,17 +192,14 @@ class Rows(SizeRows):
         """Node 1 closes what it is told, and says nothing: that is told at once, and once. Once it has ended, it can come again."""
         with Run(self.program, more=("--retry", "1")) as run:
             one = run.neighbours[1]
-            one.open()
-            one.greet()
+            one.come()
             self.judge("1 hears", one.hear(b"7 8\n"))
             one.close_one("reads")
             self.serve_two(run)
             wanted = "link 1: a line could not be written: closed\n"
-            text = run.said(wanted)
-            self.judge("says", text == wanted, text)
+            self.says(run, wanted, is_all=True)
             one.close()
-            one.open()
-            one.greet()
+            one.come()
             up = run.asks_until("neighbours", " 1:")
             self.judge("1 is up again", " 1:" in up, up)
             text = run.said("", patience=0)
@@ -221,8 +212,7 @@ class Rows(SizeRows):
             self.serve_two(run)
             one = run.neighbours[1]
             for times in range(1, 4):
-                one.open()
-                one.greet()
+                one.come()
                 one.say(b"1 0\n")
                 self.judge("1 is up", run.routes_until(1, "1:1"))
                 one.close()
@@ -238,8 +228,7 @@ class Rows(SizeRows):
         with Run(self.program) as run:
             self.serve_two(run)
             one = run.neighbours[1]
-            one.open()
-            one.greet()
+            one.come()
             one.say(b"1 0\n")
             self.judge("1 is up", run.routes_until(1, "1:1"))
             run.rests()
@@ -273,8 +262,7 @@ class Rows(SizeRows):
         with Run(self.program) as run:
             self.serve_two(run)
             self.judge("ends", run.end() == 0)
-            said = run.replays()
-            self.judge("replay", said.startswith("replay ok "), said)
+            self.ends_well(run)
 
     def row_no_standard_input(self):
         """The router is started without standard input: what its neighbour says is not the operator's, though IN is opened first."""
@@ -285,8 +273,7 @@ class Rows(SizeRows):
                 one.greet()
                 one.say(b"quit\n")
                 for wanted in ("link 1: line 2 is no message: closed\n", "operator: E1: no more lines are taken\n"):
-                    text = run.said(wanted)
-                    self.judge("says", wanted in text, text)
+                    self.says(run, wanted)
                 self.judge("stays", run.is_running())
                 run.process.kill()
                 answers = run.process.stdout.read()
@@ -307,9 +294,7 @@ class Rows(SizeRows):
             self.serve_two(run)
             run.process.stdout.close()
             run.say(b"routes\n")
-            wanted = "operator: E2: no more lines are taken\n"
-            text = run.said(wanted)
-            self.judge("says", text == wanted, text)
+            self.says(run, "operator: E2: no more lines are taken\n", is_all=True)
             two = run.neighbours[2]
             two.say(b"3 1\n")
             self.judge("2 hears", two.hear(b"3 2\n"), two.told)
@@ -318,8 +303,7 @@ class Rows(SizeRows):
     def row_stays_and_is_killed(self):
         with Run(self.program, more=("--stay",)) as run:
             good = run.neighbours[2]
-            good.open()
-            good.greet()
+            good.come()
             run.process.stdin.close()
             good.say(b"2 0\n3 1\n")
             self.judge("2 hears", good.hear(b"3 2\n"), good.told)
@@ -339,8 +323,7 @@ class Rows(SizeRows):
             self.serve_two(run)
             run.neighbours[2].say(b"3 0\n3 1\n" * 1000 + b"4 0\n")
             self.judge("2 is served", run.asks_until("show 4", "via 2") == "route 1 via 2")
-            text = run.said("not saved")
-            self.judge("says", "history: the history could not be written (E2): not saved from here on\n" in text, text)
+            self.says(run, "history: the history could not be written (E2): not saved from here on\n")
             self.judge("quit", run.quit() == ("ok", 1))
             said = run.replays()
             self.judge("replay", said.startswith(("cut ", "replay ok ")), said)
@@ -349,8 +332,7 @@ class Rows(SizeRows):
         with Run(self.program, more=("--limit", "60", "--retry", "1")) as run:
             self.serve_two(run)
             run.neighbours[2].say(b"3 0\n3 1\n" * 100)
-            text = run.said("J1")
-            self.judge("says", "link 2: the history is full (J1): closed\n" in text, text)
+            self.says(run, "link 2: the history is full (J1): closed\n")
             answer = run.ask("show 2")
             self.judge("answers", answer == "refused J1 60", answer)
             self.judge("looks", run.ask("routes").startswith("routes 0:0 "))
@@ -361,23 +343,20 @@ class Rows(SizeRows):
         with Run(self.program, more=("--retry", "1"), environment={"MALLOC_ARENA_MAX": "1"}) as run:
             one, two = run.neighbours[1], run.neighbours[2]
             for each in (one, two):
-                each.open()
-                each.greet()
+                each.come()
                 self.judge("is up", each.hear(b"7 8\n"), each.told)
             taken = run.kilobytes("VmSize") << 10
             resource.prlimit(run.process.pid, resource.RLIMIT_AS, (taken, resource.RLIM_INFINITY))
             with contextlib.suppress(BrokenPipeError):
                 while "J2" not in run.said("", patience=0):
                     one.say(b"3 0\n3 1\n" * 50)
-            text = run.said("J2")
-            self.judge("says", "out of memory (J2): closed\n" in text, text)
+            self.says(run, "out of memory (J2): closed\n")
             resource.prlimit(run.process.pid, resource.RLIMIT_AS, (resource.RLIM_INFINITY, resource.RLIM_INFINITY))
             for each in (one, two):
                 each.close()
             answer = run.asks_until("neighbours", "^neighbours$")
             self.judge("none is left", answer == "neighbours", answer)
-            one.open()
-            one.greet()
+            one.come()
             answer = run.asks_until("neighbours", " 1:")
             self.judge("1 comes again", " 1:" in answer, answer)
             self.end(run)

@@ -79,8 +79,7 @@ class SizeRows(RunRows):
     def bring_up(self, run, size=SIZE):
         """All neighbours come up: each is told that the last node of the domain cannot be reached."""
         for neighbour in run.neighbours.values():
-            neighbour.open()
-            neighbour.greet(size=size)
+            neighbour.come(size)
             self.judge(f"{neighbour.node} is up", neighbour.hear(b"\n%d %d\n" % (size - 1, size)), neighbour.told)
 
     def row_comes_two_hundred_times(self):
@@ -89,8 +88,7 @@ class SizeRows(RunRows):
             self.serve_two(run)
             one = run.neighbours[1]
             for times in range(1, SESSIONS + 1):
-                one.open()
-                one.greet()
+                one.come()
                 one.say(b"1 0\n")
                 came = run.routes_until(1, "1:1")
                 one.close()
@@ -195,9 +193,7 @@ class SizeRows(RunRows):
             print(f"{count} links: {run.status('VmRSS')}, {run.status('Threads')} threads", file=sys.stderr)
             gone = count * 4 // 5
             run.neighbours[gone].close()
-            wanted = f"link {gone}: the neighbour ended its stream: closed\n"
-            text = run.said(wanted)
-            self.judge("says", text == wanted, text)
+            self.says(run, f"link {gone}: the neighbour ended its stream: closed\n", is_all=True)
             self.judge_heard(run, {**distances, gone: size}, gone)
             run.ask(FAR)
             answer = run.ask(f"export {count} far")

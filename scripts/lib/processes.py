@@ -28,6 +28,12 @@ class Process:
     def __init__(self, words, errors=None, **more):
         self.process = subprocess.Popen(words, stdin=subprocess.PIPE, stdout=subprocess.PIPE, stderr=errors, **more)
 
+    def __enter__(self):
+        return self
+
+    def __exit__(self, *_):
+        self.close()
+
     def say(self, text):
         self.process.stdin.write(text)
         self.process.stdin.flush()

@@ -69,6 +69,11 @@ class Neighbour:
     def greet(self, size=SIZE, node=None):
         self.say(b"netchange 1 %d %d\n" % (size, self.node if node is None else node))
 
+    def come(self, size=SIZE):
+        """Opens both files, and greets."""
+        self.open()
+        self.greet(size)
+
     def say(self, text):
         while text:
             text = text[os.write(self.writes, text):]
@@ -140,11 +145,8 @@ class Run(Router):
             super().__init__(program, size, node, links, history, more, errors=errors, preexec_fn=prepare,
                              env={**os.environ, **(environment or {}), **sleeps})
 
-    def __enter__(self):
-        return self
-
-    def __exit__(self, *_):
-        self.close()
+    def close(self):
+        super().close()
         for neighbour in self.neighbours.values():
             neighbour.close()
         shutil.rmtree(self.folder)
@@ -191,17 +193,24 @@ class RunRows:
     def serve_two(self, run):
         """Node 2 is served: it comes up, says that it is there, and hears of itself."""
         good = run.neighbours[2]
-        good.open()
-        good.greet()
+        good.come()
         good.say(b"2 0\n")
         self.judge("2 is served", run.routes_until(2, "1:2"))
         self.judge("2 hears", good.hear(b"2 1\n"), good.told)
 
+    def says(self, run, wanted, is_all=False):
+        """Standard error says this, among other things or alone."""
+        text = run.said(wanted)
+        self.judge("says", text == wanted if is_all else wanted in text, text)
+
+    def ends_well(self, run):
+        said = run.replays()
+        self.judge("replay", said.startswith("replay ok "), said)
+
     def end(self, run):
         answer = run.quit()
         self.judge("quit", answer == ("ok", 0), answer)
-        said = run.replays()
-        self.judge("replay", said.startswith("replay ok "), said)
+        self.ends_well(run)
 
     def run_row(self, name):
         """Runs a row. One that breaks has failed, and the others run."""
