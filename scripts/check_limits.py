@@ -2,11 +2,12 @@
 """Runs the program at its limits and one beyond, and compares every byte. Prints a line for each run that differs, and at last
 'N passed, M failed'.
 
-usage: NCROUTE=PATH scripts/check_limits.py [WORD..]     (PATH: the program as it is built; WORDs: only the rows whose name has one)
+usage: NCROUTE=PATH scripts/check_limits.py [ROW..]     (PATH: the program as it is built; ROWs: the functions below that are rows)
 
 No contract says when memory is refused, so these runs show that it is not, at the sizes that the documents name. What a router answers is
 worked out once more, in the plainest way, by `lib/netchange.py`.
 """
+import functools
 import itertools
 import os
 import pathlib
@@ -444,43 +445,19 @@ def hundred_tests():
     return tests_of(100)
 
 
-ROWS = [
-    ("run, a full history", "run", full_history),
-    ("run, a history to its last entry", "run", shown_routes),
-    ("run, 65,535 messages at once", "run", longest_queue),
-    ("run, the greatest domain", "run", greatest_domain),
-    ("run, a thousand names", "run", thousand_names),
-    ("run, lines at the limit", "run", longest_lines),
-    ("run, a text at the limit", "run", longest_text),
-    ("run, a code file at all limits", "run", longest_code),
-    ("run, a code file with the most sets of ints", "run", most_int_sets),
-    ("run, each number of patterns", "run", each_number_of_patterns),
-    ("run, each number of ranges", "run", each_number_of_ranges),
-    ("run, each number of instructions", "run", each_number_of_instructions),
-    ("run, each number of sets", "run", each_number_of_sets),
-    ("run, each number of statements", "run", each_number_of_statements),
-    ("run, each number of messages", "run", each_number_of_messages),
-    ("run, refused lines", "run --explain always", refused_lines),
-    ("run, an input at the limit", "run", longest_script),
-    ("run, an input over the limit", "run", longer_script),
-    ("domain, the greatest", "domain", greatest_plan),
-    ("domain, an input at the limit", "domain", longest_plan),
-    ("domain, an input over the limit", "domain", longer_plan),
-    ("eval, an input at the limit", "eval", longest_routes),
-    ("eval, an input over the limit", "eval", longer_routes),
-    ("eval, lines at the limit", "eval", longest_route_line),
-    ("check, an input at the limit", "check --size 250", longest_source),
-    ("check, an input over the limit", "check --size 250", longer_source),
-    ("check, a text at the limit", "check --size 250", longest_filter),
-    ("check, a code file at all limits", "check --size 250 --code", checked_code),
-    ("check, a code file with a byte more", "check --size 250 --code", checked_longer_code),
-    ("eval, a code file at all limits", "eval", evaluated_code),
-    ("check, the longest labels", "check --size 250", longest_labels),
-    ("test, a hundred tests", "test", hundred_tests),
-    ("check, too many ranges", "check --size 250", too_many_ranges),
-    ("replay, a full history", "replay", saved_history),
-    ("replay, an entry over the limit", "replay", longer_history),
-]
+# The rows by the words that they run.
+ROWS = {
+    "run": (full_history, shown_routes, longest_queue, greatest_domain, thousand_names, longest_lines, longest_text, longest_code, most_int_sets,
+            each_number_of_patterns, each_number_of_ranges, each_number_of_instructions, each_number_of_sets, each_number_of_statements,
+            each_number_of_messages, longest_script, longer_script),
+    "run --explain always": (refused_lines,),
+    "domain": (greatest_plan, longest_plan, longer_plan),
+    "eval": (longest_routes, longer_routes, longest_route_line, evaluated_code),
+    "check --size 250": (longest_source, longer_source, longest_filter, longest_labels, too_many_ranges),
+    "check --size 250 --code": (checked_code, checked_longer_code),
+    "test": (hundred_tests,),
+    "replay": (saved_history, longer_history),
+}
 
 
 def first_difference(wrote, wanted):
@@ -668,29 +645,24 @@ def million_routes(ncroute):
     return differs((wrote, ran.stderr, ran.returncode), (b"".join(b"accept %d\n" % (at % 16) for at in range(ROUTES)), 0))
 
 
-def main(wanted):
-    ncroute = built()
-    rows = [(name, lambda words=words, row=row: differs(run(ncroute, words, (made := row())[0]), made[1:])) for name, words, row in ROWS]
-    rows += [
-        (name, lambda row=row: row(ncroute))
-        for name, row in [
-            ("check, a hundred files", hundred_files),
-            ("check, a filter at all limits", full_filters),
-            ("check, each number of variables", variables_of_each_number),
-            ("diff, filters at all limits", compared_filters),
-            ("diff and lint, masks that are compared", undecided_filters),
-            ("diff, the limit that decides", decided_filters),
-            ("diff, filters of each length", filters_of_each_length),
-            ("test, files of 5,000 bytes", padded_tests),
-            ("filter, a million routes", million_routes),
-            ("router, a full history", full_router),
-            ("run, domains of each size", domains_of_each_size),
-        ]
-    ]
-    counts = Counts()
-    for name, row in rows:
-        if not wanted or any(word in name for word in wanted):
-            counts.judge(name, row())
+# Rows of several runs.
+SEVERAL = (hundred_files, full_filters, variables_of_each_number, compared_filters, undecided_filters, decided_filters, filters_of_each_length,
+           padded_tests, million_routes, full_router, domains_of_each_size)
+
+
+def judged(ncroute, words, row):
+    """How the run of a row differs from what it is to be, or nothing."""
+    given, *wanted = row()
+    return differs(run(ncroute, words, given), wanted)
+
+
+def main(names):
+    ncroute, counts = built(), Counts()
+    rows = [(row, functools.partial(judged, ncroute, words, row)) for words, rows in ROWS.items() for row in rows]
+    rows += [(row, functools.partial(row, ncroute)) for row in SEVERAL]
+    for row, judge in rows:
+        if not names or row.__name__ in names:
+            counts.judge(row.__name__, judge())
     counts.finish()
 
 
