@@ -29,6 +29,11 @@ MOST_TAKEN, MOST_MEMORY = 1 << 16, 4096
 STACK, BESIDE = 8 << 20, 4 << 20
 
 
+def saying(text):
+    """What a neighbour does that greets and says something."""
+    return lambda one: (one.greet(), one.say(text))
+
+
 class Rows(SizeRows):
     """What neighbours do, and what is to come of it."""
 
@@ -45,9 +50,12 @@ class Rows(SizeRows):
                 self.says(run, says)
             self.serve_two(run)
             if history:
-                found = run.asks_until("history 0", history)
-                self.judge("history", re.search(history, found), found)
+                self.has_history(run, history)
             self.end(run)
+
+    def has_history(self, run, wanted):
+        found = run.asks_until("history 0", wanted)
+        self.judge("history", re.search(wanted, found), found)
 
     def row_silent(self):
         self.with_one(lambda one: None, "")
@@ -85,8 +93,7 @@ class Rows(SizeRows):
         print(f"a gigabyte without a line feed: {more} kB more memory", file=sys.stderr)
         self.judge("memory", more <= MOST_MEMORY, more)
         self.serve_two(run)
-        found = run.asks_until("history 0", history)
-        self.judge("history", re.search(history, found), found)
+        self.has_history(run, history)
         self.end(run)
 
     def row_gigabyte_of_a_file(self):
@@ -104,16 +111,11 @@ class Rows(SizeRows):
             self.judge_too_long(run, 2, before, r"up 1 opened 1 .*down 1 done")
 
     def row_binary(self):
-        def behave(one):
-            one.greet()
-            one.say(bytes(range(256)))
-        self.with_one(behave, "link 1: line 2 is no message: closed\n")
+        self.with_one(saying(bytes(range(256))), "link 1: line 2 is no message: closed\n")
 
     def row_seventh_line(self):
-        def behave(one):
-            one.greet()
-            one.say(b"1 0\n3 1\n4 1\n5 1\n6 1\n7 01\n")
-        self.with_one(behave, "link 1: line 7 is no message: closed\n", history=r"recv 1 6 1 done 1(?!.*recv 1 7)")
+        says = saying(b"1 0\n3 1\n4 1\n5 1\n6 1\n7 01\n")
+        self.with_one(says, "link 1: line 7 is no message: closed\n", history=r"recv 1 6 1 done 1(?!.*recv 1 7)")
 
     def row_other_size(self):
         says = "line 1 is not its greeting: the neighbour's domain has 9 nodes: closed\n"
@@ -126,10 +128,7 @@ class Rows(SizeRows):
         self.with_one(lambda one: one.say(b"1 0\n"), "line 1 is not its greeting: this is no greeting of version 1: closed\n", history=r"^(?!.*up 1)")
 
     def row_too_far(self):
-        def behave(one):
-            one.greet()
-            one.say(b"3 9\n9 0\n3 1\n")
-        self.with_one(behave, "", history=r"recv (\d+) 3 9 refused N5 .*recv \1 9 0 refused N4 .*recv \1 3 1 done 1")
+        self.with_one(saying(b"3 9\n9 0\n3 1\n"), "", history=r"recv (\d+) 3 9 refused N5 .*recv \1 9 0 refused N4 .*recv \1 3 1 done 1")
 
     def row_closes_at_each_byte(self):
         text = b"netchange 1 8 1\n1 0\n"
