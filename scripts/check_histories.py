@@ -94,7 +94,7 @@ def main(runs=200, seed=1):
         # The first of them refuses no line, so that its status is 0. The last is the one that is killed.
         for kind in ("messages", "mixed"):
             with open(script, "wb") as it:
-                subprocess.run([sys.executable, "-B", TOP / "bench" / "script.py", kind, "16", str(LINES)], stdout=it, check=True)
+                subprocess.run([sys.executable, TOP / "bench" / "script.py", kind, "16", str(LINES)], stdout=it, check=True)
             counts.judge(f"{kind}, to its end", fault_at_end(program, script, whole))
         cut = 0
         for run in range(runs):
