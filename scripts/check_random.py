@@ -246,7 +246,8 @@ class Laws:
         return damaged(numbers, numbers.choice(texts), 4)
 
     def texts(self, size):
-        made = [self.random_text(self.numbers("text", number), worked("")) for number in range(TEXTS)]
+        texts = worked("")
+        made = [self.random_text(self.numbers("text", number), texts) for number in range(TEXTS)]
         said = self.check(f"--size {size}", made)
         parsed = [number for number, lines in enumerate(said) if not lines[0].startswith("refused P")]
         again = dict(zip(parsed, self.check(f"--size {size}", [spaced(made[number]) for number in parsed])))
