@@ -66,9 +66,9 @@ class Trial:
     def check(self, name, holds, told=""):
         self.counts.expect(name, holds, told)
 
-    def run(self, config, files=()):
+    def run(self, config):
         """What is printed, the exit status, and the text of each filter that was written, by its name."""
-        here, ran = self.imported([("bird.conf", config), *files])
+        here, ran = self.imported([("bird.conf", config)])
         return ran.stdout.decode(), ran.returncode, {path.stem: path.read_text() for path in here.glob("out/*")}
 
     def imported(self, files, folder="out", **more):
@@ -77,7 +77,6 @@ class Trial:
         here = pathlib.Path(self.folder, str(self.number))
         (here / folder).mkdir(parents=True)
         for name, text in files:
-            (here / name).parent.mkdir(exist_ok=True)
             (here / name).write_bytes(text.encode("utf-8", "surrogateescape"))
         words = [self.ncroute, "import", "--size", SIZE, "--out", folder, files[0][0]]
         return here, subprocess.run(words, cwd=here, capture_output=True, **more)

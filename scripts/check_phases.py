@@ -13,7 +13,9 @@ things are looked at, each in a copy:
 - rounds, as `settle` plays them: not more than either of both.
 - failures far away: some links come and go, some routers begin anew and some filters are replaced, and messages are lost anywhere. No distance
   below K changes where K is the least distance on which the state of rest with all of that and the one with nothing of it differ, nor a next hop
-  that both have. That a bound is never reached fails too.
+  that both have.
+
+That a bound is never reached fails too.
 """
 import copy
 import random
