@@ -4,7 +4,8 @@
 usage: scripts/check_domains.py [SCRIPTS [SEED]]        (100 scripts; NCROUTE=PATH: the program; without it, the sources as they are, by `rt try`)
 
 A script has 2 to 9 nodes and 20 to 80 lines: links, cuts, filters, questions about rest, `settle`, and now and then a node or a name that is none.
-Of `load` only the first word of the answer is compared: the slow program verifies no filter. A script that the two answer differently is written to
+Of `load` only the first word of the answer is compared: the slow program verifies no filter. Before each `settle` stands `reach`, and more rounds
+than it says phases are a failure. A script that the two answer differently is written to
 standard error with its number, and the exit status is 1.
 
 With NCROUTE=PATH two more things are looked at. Small plans of 2 to 4 nodes: of all distances that there could be, just one choice is a fixed point
@@ -36,7 +37,7 @@ FILTERS = (
     "if rip_metric = 1 then rip_metric = rip_metric + 4; accept;",
 )
 NAMES = ("a", "b", "c")
-QUESTIONS = ("route", "path", "table", "draw", "mark", "changes", "settle")
+QUESTIONS = ("route", "path", "table", "draw", "reach", "mark", "changes", "settle")
 
 
 class Lines:
@@ -65,7 +66,7 @@ class Lines:
             return f"prefix {self.node()} 10.{self.numbers.randrange(4)}.{self.numbers.randrange(3)}.0/24"
         verb = self.numbers.choice(QUESTIONS)
         words = {"route": 2, "path": 2, "table": 1, "draw": 1}.get(verb, 0)
-        return " ".join([verb, *(str(self.node()) for _ in range(words))])
+        return " ".join(["reach\nsettle" if verb == "settle" else verb, *(str(self.node()) for _ in range(words))])
 
     def script(self):
         yield from (f"prefix {self.node()} 10.{self.numbers.randrange(4)}.7.0/24" for _ in range(self.numbers.randrange(2)))
@@ -73,7 +74,7 @@ class Lines:
         yield from (f"prefix {v} 10.{v % 4}.{v}.0/24" for v in range(self.size) if self.numbers.randrange(4) == 0)
         yield f"load a filter a {{ {self.numbers.choice(FILTERS)} }}"
         yield from (self.line() for _ in range(self.numbers.randint(20, 80)))
-        yield "settle"
+        yield from ("reach", "settle")
         yield from (f"table {u}" for u in range(self.size))
 
 
@@ -196,7 +197,14 @@ def without_numbers(text):
 def row_of(nodes):
     """Nodes in a row, which take as many rounds to come to rest, and its last link cut, which takes as many again."""
     links = "".join(f"link {node} {node + 1}\n" for node in range(nodes - 1))
-    return f"domain {nodes}\n{links}settle\ncut 0 1\nsettle\n".encode()
+    return f"domain {nodes}\n{links}reach\nsettle\ncut 0 1\nreach\nsettle\n".encode()
+
+
+def late_rounds(output):
+    """The answers to `settle` that say more rounds than the answer to `reach` before them says phases."""
+    lines = output.decode().split("\n")
+    return [f"{before}: {line}" for before, line in zip(lines, lines[1:])
+            if line.startswith("settled ") and int(line.split()[1]) > int(before.removeprefix("reach ").split()[1])]
 
 
 def main(words):
@@ -211,7 +219,8 @@ def main(words):
     asked.close()
     for number, (script, (output, _)) in enumerate(zip(scripts, said)):
         answered, slow = without_numbers(output.decode()), "".join(domain_oracle.answers(script.decode().splitlines()))
-        counts.judge(f"script {number}", answered != slow and f"\n{script.decode()}\nanswered\n{answered}\nslowly\n{slow}")
+        is_wrong = answered != slow or late_rounds(output)
+        counts.judge(f"script {number}", is_wrong and f"\n{script.decode()}\nanswered\n{answered}\nslowly\n{slow}")
     if ncroute := named():
         for wrong in itertools.chain(small_plans(ncroute), (any_order(ncroute, number) for number in range(100))):
             counts.judge("routes", wrong)

@@ -152,6 +152,10 @@ class Script:
         arrows = [f"{u} -> {w};" for u, w in hops] + [f"{u} -> {w} [dir=none, style=dotted];" for u, w in idle]
         return "digraph { " + " ".join(nodes + arrows) + " }"
 
+    def reach(self):
+        size, dists = self.domain.size, [dist for routes in self.domain.all_routes() for dist, _ in routes]
+        return f"reach {max(dist for dist in dists if dist < size)} {min(max(dists) + 1, size)}"
+
     def mark(self):
         self.marked = self.domain.all_routes()
         return "ok"

@@ -59,6 +59,7 @@ module _ (answer : Answer) where
       either (nat_lt u plan.size) _ _ (λ q. like answer _ q.2 refl) (λ q. like answer _ q refl) h
   told (question.Draw v) plan marked number h =
       either (nat_lt v plan.size) _ _ (λ q. like answer _ q.2 refl) (λ q. like answer _ q refl) h
+  told question.Reach plan marked number h = like answer _ h.2 refl
   told question.Changes plan marked number h = like answer _ h.4 refl
   told question.Settle plan marked number h = settled number h
 

@@ -70,6 +70,7 @@ command_of (Some verb.Route) args text = made (λ p. Ask (question.Route p.0 p.1
 command_of (Some verb.Path) args text = made (λ p. Ask (question.Path p.0 p.1)) (nodes_in (two_of args))
 command_of (Some verb.Table) args text = made (λ u. Ask (question.Table u)) (node_in (one_of args))
 command_of (Some verb.Draw) args text = made (λ v. Ask (question.Draw v)) (node_in (one_of args))
+command_of (Some verb.Reach) args text = alone (Ask question.Reach) args
 command_of (Some verb.Mark) args text = alone Mark args
 command_of (Some verb.Changes) args text = alone (Ask question.Changes) args
 command_of (Some verb.Settle) args text = alone (Ask question.Settle) args

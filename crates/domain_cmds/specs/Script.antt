@@ -21,7 +21,7 @@ use Rattle.domain_cmds.specs.Commands.{Read, command_in}
 use Rattle.domain_cmds.specs.Faults.{state_code}
 use Rattle.domain_cmds.specs.Rests.{AreAllRoutes}
 use Rattle.domain_cmds.specs.State.{PlanningView, filter_named}
-use Rattle.domain_cmds.specs.Texts.{IsPathText, changes_text, draw_text, route_in, route_text, settled_text, table_text}
+use Rattle.domain_cmds.specs.Texts.{IsPathText, changes_text, draw_text, reach_text, route_in, route_text, settled_text, table_text}
 use Rattle.domain_cmds.specs.declared.command.Question.{Question}
 use Rattle.domain_cmds.specs.declared.command.Question.TheVariants as question
 use Rattle.domain_cmds.specs.declared.fault.StateFault.{StateFault}
@@ -142,6 +142,9 @@ IsToldDrawing plan number v answer = MatchBool (nat_lt v plan.size)
     ((routes : List Best) × AreRoutes (topology plan v) v routes × (answer ≡ answered (draw_text plan routes)))
     (answer ≡ refused (codes "D1") number)
 
+abbrev pub IsToldReach : PlanView → Answer → Type 0
+IsToldReach plan answer = (all : List (List Best)) × AreAllRoutes plan all × (answer ≡ answered (reach_text plan.size all))
+
 -- ---- `mark`, `changes` and `settle`
 
 abbrev pub AnswersMark : PlanningView → Answer → PlanningView → Type 0
@@ -170,6 +173,7 @@ AnswersQuestion (question.Route u v) plan marked number answer = IsToldRoute pla
 AnswersQuestion (question.Path u v) plan marked number answer = IsToldPath plan number u v answer
 AnswersQuestion (question.Table u) plan marked number answer = IsToldTable plan number u answer
 AnswersQuestion (question.Draw v) plan marked number answer = IsToldDrawing plan number v answer
+AnswersQuestion question.Reach plan marked number answer = IsToldReach plan answer
 AnswersQuestion question.Changes plan marked number answer = IsToldChanges plan marked answer
 AnswersQuestion question.Settle plan marked number answer = IsToldSettled number answer
 

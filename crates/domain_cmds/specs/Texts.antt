@@ -6,6 +6,7 @@ use Rattle.netchange_core.specs.declared.reply.Via.TheVariants.{Local, Node, Now
 use Rattle.operator_cmds.specs.Looks.{texts_below}
 use Rattle.operator_cmds.specs.Replies.{via_text}
 use Rattle.domain_routes.specs.PlanView.{PlanView, is_linked}
+use Rattle.domain_routes.specs.Reach.{longest, phases_to_rest}
 use Rattle.domain_routes.specs.Routes.{nowhere}
 use Rattle.domain_routes.specs.declared.best.Best.{Best}
 
@@ -150,6 +151,15 @@ all_changes size before now = texts_below size (changes_of size before now)
 
 abbrev pub changes_text : ℕ → List (List Best) → List (List Best) → List ℕ
 changes_text size before now = codes "changes" ++ all_changes size before now
+
+-- ---- how far, and how soon
+
+-- the distances of all routes, by destination and node
+abbrev pub distances : ℕ → List (List Best) → ℕ → ℕ → ℕ
+distances size all v u = (route_of size all u v).dist
+
+abbrev pub reach_text : ℕ → List (List Best) → List ℕ
+reach_text size all = codes "reach " ++ decimal (longest size (distances size all)) ++ 32 ∷ decimal (phases_to_rest size (distances size all))
 
 -- ---- settling
 

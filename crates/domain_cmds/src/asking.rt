@@ -11,7 +11,9 @@ use crate::fault::StateFault;
 use crate::playing::Playing;
 use crate::resting::RestingPlan;
 use crate::routes::{Column, all_columns, make_column};
-use crate::text::{push_changes, push_drawing, push_path, push_route, push_settled, push_table};
+use crate::text::{
+    push_changes, push_drawing, push_path, push_reach, push_route, push_settled, push_table,
+};
 use domain_routes::Plan;
 use line_protocol::LineReply;
 use operator_cmds::refuse;
@@ -115,6 +117,22 @@ fn answer_draw(
     end_line(out)
 }
 
+/// Answers `reach`: how far the routes at rest go, and after how many phases all of them are right.
+fn answer_reach(
+    alloc: Global,
+    domain: &mut RestingPlan,
+    out: &mut Vec<u8>,
+) -> Result<LineReply, AllocError>
+    ensures ok { IfOk result (Answers (spec.IsToldReach domain.old) out.old.items out.new.items) }
+    ensures err { OnErr result (StartsWith out.new.items out.old.items) }
+    ensures same { domain.new ≡ domain.old }
+{
+    let size = domain.size();
+    let all = domain.all_routes(alloc)?;
+    push_reach(out, size, all.as_slice())?;
+    end_line(out)
+}
+
 /// The routes at rest at the last `mark`. Before any, those of the domain without links.
 fn marks(
     alloc: Global,
@@ -191,6 +209,7 @@ pub(crate) fn answer_question(
         Question::Path(u, v) => answer_path(alloc, domain.plan(), number, u, v, out),
         Question::Table(u) => answer_table(alloc, domain, number, u, out),
         Question::Draw(v) => answer_draw(alloc, domain.plan(), number, v, out),
+        Question::Reach => answer_reach(alloc, domain, out),
         Question::Changes => answer_changes(alloc, domain, marked, out),
         Question::Settle => answer_settle(alloc, domain.plan(), playing, number, out),
     }

@@ -76,6 +76,8 @@ pub enum Question {
     Table(u16),
     /// `draw V`: a picture of all routes to a node.
     Draw(u16),
+    /// `reach`: how far routes go, and how soon all are right.
+    Reach,
     /// `changes`: the routes that are not what they were at the last `mark`.
     Changes,
     /// `settle`: the routers exchange messages until none is left.

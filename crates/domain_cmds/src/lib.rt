@@ -8,6 +8,7 @@ mod fault;
 mod filters;
 mod planning;
 mod playing;
+mod reach;
 mod read;
 mod resting;
 mod routes;

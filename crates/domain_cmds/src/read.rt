@@ -124,6 +124,7 @@ fn read_rest(alloc: Global, verb: Verb, rest: &[u8]) -> Result<Command<'_>, Comm
         }
         Verb::Table => Ok(Command::Ask(Question::Table(read_node(rest)?))),
         Verb::Draw => Ok(Command::Ask(Question::Draw(read_node(rest)?))),
+        Verb::Reach => read_alone(Command::Ask(Question::Reach), rest),
         Verb::Mark => read_alone(Command::Mark, rest),
         Verb::Changes => read_alone(Command::Ask(Question::Changes), rest),
         Verb::Settle => read_alone(Command::Ask(Question::Settle), rest),

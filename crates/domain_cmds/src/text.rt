@@ -5,6 +5,7 @@ ghost use Rattle.domain_routes.specs.Routes.{AreRoutes};
 ghost use Rattle.domain_routes.specs.Topology.{topology};
 ghost use Rattle.domain_cmds.specs.Texts as spec;
 
+use crate::reach::{longest, phases_to_rest};
 use crate::routes::{Column, route_of};
 use domain_routes::{Best, Plan};
 use line_protocol::push_decimal;
@@ -349,6 +350,17 @@ pub(crate) fn push_changes(
 {
     out.extend_from_slice(b"changes")?;
     push_all_changes(out, size, before, now)
+}
+
+/// Adds the answer to `reach`.
+pub(crate) fn push_reach(out: &mut Vec<u8>, size: u16, all: &[Column]) -> Result<(), AllocError>
+    ensures ok { OnOk result (out.new.items ≡ out.old.items ++ spec.reach_text size all.now) }
+    ensures err { OnErr result (StartsWith out.new.items out.old.items) }
+{
+    out.extend_from_slice(b"reach ")?;
+    push_decimal(out, u64::from(longest(size, all)))?;
+    out.push(b' ')?;
+    push_decimal(out, u64::from(phases_to_rest(size, all)))
 }
 
 /// Adds the answer to `settle`.

@@ -29,6 +29,8 @@ pub enum Verb {
     Table,
     /// `draw`
     Draw,
+    /// `reach`
+    Reach,
     /// `mark`
     Mark,
     /// `changes`
@@ -38,7 +40,7 @@ pub enum Verb {
 }
 
 /// All of them.
-pub static VERBS: [Verb; 15] = [
+pub static VERBS: [Verb; 16] = [
     Verb::Domain,
     Verb::Prefix,
     Verb::Load,
@@ -51,6 +53,7 @@ pub static VERBS: [Verb; 15] = [
     Verb::Path,
     Verb::Table,
     Verb::Draw,
+    Verb::Reach,
     Verb::Mark,
     Verb::Changes,
     Verb::Settle,
@@ -76,6 +79,7 @@ impl Verb {
             Verb::Path => "path",
             Verb::Table => "table",
             Verb::Draw => "draw",
+            Verb::Reach => "reach",
             Verb::Mark => "mark",
             Verb::Changes => "changes",
             Verb::Settle => "settle",

@@ -9,6 +9,7 @@ pub mod Offering
 pub mod One
 pub mod Places
 pub mod Quiet
+pub mod Reach
 pub mod Unlinked
 pub mod Values
 pub mod Waiting

@@ -2,6 +2,7 @@
 pub mod Edits
 pub mod OfDomain
 pub mod PlanView
+pub mod Reach
 pub mod Routes
 pub mod Topology
 -- What only the bodies of this crate are proved against.

@@ -1,10 +1,11 @@
 //! What plans and their routes come to: laws that hold whatever the code does.
 
-ghost use Rattle.std.specs.Prelude.{◌≡◌, ◌≢◌, ℕ, ◌<◌, ◌==◌, ◌&&◌, ◌||◌, if◌then◌else◌, Bool, List, length, true, false};
+ghost use Rattle.std.specs.Prelude.{◌≡◌, ◌≢◌, ℕ, ◌+◌, ◌<◌, ◌==◌, ◌&&◌, ◌||◌, if◌then◌else◌, Bool, List, length, true, false};
 ghost use Rattle.domain_routes.specs.declared.best.Best.{Best};
 ghost use Rattle.domain_routes.specs.Edits.{exporting, importing, linking, put, unlinked};
 ghost use Rattle.domain_routes.specs.OfDomain.{IsPlanOf};
 ghost use Rattle.domain_routes.specs.PlanView.{IsPlan, PeerView, PlanView, is_linked, peer};
+ghost use Rattle.domain_routes.specs.Reach.{greatest, phases_to_rest};
 ghost use Rattle.domain_routes.specs.Routes.{AreRoutes, route_at};
 ghost use Rattle.netchange_core.specs.Best.{best, distance};
 ghost use Rattle.domain_routes.specs.Topology.{topology};
@@ -16,6 +17,7 @@ ghost use Rattle.netchange_core.specs.declared.message.Message.{Message};
 ghost use Rattle.netchange_core.specs.OpeningView.{OpeningView};
 ghost use Rattle.routing_domain.specs.Domain.{AreOpenings, Domain, IsInOrder, IsQuiet, are_linked, opened_domain, topology as domain_topology};
 ghost use Rattle.routing_domain.specs.Events.{CanLink, cuts, enters, links};
+ghost use Rattle.routing_domain.specs.Phases.{AreWithin, Phases};
 ghost use Rattle.routing_domain.specs.Rest.{IsRest};
 ghost use Rattle.routing_domain.specs.Runs.{Runs};
 ghost use Rattle.routing_domain.specs.Steps.{receives, sends};
@@ -67,4 +69,13 @@ pub fn quiet_routers_have_the_routes()
         AreRoutes (topology p v) v routes → (u : ℕ) → u < p.size → (route_at p.size routes u).dist ≡ distance (d.router u) v }
     ensures vias { (d : Domain) → (p : PlanView) → IsInOrder d → IsQuiet d → IsPlanOf d p → (v : ℕ) → v < p.size → (routes : List Best) →
         AreRoutes (topology p v) v routes → (u : ℕ) → u < p.size → (route_at p.size routes u).via ≡ (best (d.router u) v).via }
+{}
+
+/// How far the routes of a plan go says how soon a domain in order with its links and filters is quiet, whatever was routed before.
+pub fn reach_bounds_phases()
+    ensures within { (d : Domain) → (p : PlanView) → (all : ℕ → List Best) → IsInOrder d → IsPlanOf d p →
+        ((v : ℕ) → v < p.size → AreRoutes (topology p v) v (all v)) → AreWithin (greatest p.size (p.size + 1) (λ v u. (route_at p.size (all v) u).dist)) d }
+    ensures quiet { (d e : Domain) → (p : PlanView) → (all : ℕ → List Best) → IsInOrder d → IsPlanOf d p →
+        ((v : ℕ) → v < p.size → AreRoutes (topology p v) v (all v)) →
+        Phases (phases_to_rest p.size (λ v u. (route_at p.size (all v) u).dist)) d e → IsQuiet e }
 {}

@@ -12,6 +12,6 @@ mod solving;
 pub use best::Best;
 pub use laws::{
     domains_follow_plans, edits_change_one_place, quiet_routers_have_the_routes,
-    rest_is_of_the_domain, routes_are_one,
+    reach_bounds_phases, rest_is_of_the_domain, routes_are_one,
 };
 pub use plan::Plan;

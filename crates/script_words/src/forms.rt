@@ -29,9 +29,9 @@ static ROUTER_VERBS: [&str; 15] = [
 ];
 
 /// The first words of the commands of a domain's script.
-static DOMAIN_VERBS: [&str; 15] = [
+static DOMAIN_VERBS: [&str; 16] = [
     "domain", "prefix", "load", "code", "link", "cut", "import", "export", "route", "path",
-    "table", "draw", "mark", "changes", "settle",
+    "table", "draw", "reach", "mark", "changes", "settle",
 ];
 
 /// The words that follow the first of a command.
@@ -204,7 +204,7 @@ static ROUTER_FORMS: [Form; 15] = [
 ];
 
 /// The words of the commands of a domain's script, in the order of `DOMAIN_VERBS`.
-static DOMAIN_FORMS: [Form; 15] = [
+static DOMAIN_FORMS: [Form; 16] = [
     DOMAIN,
     PREFIX,
     TEXT,
@@ -217,6 +217,7 @@ static DOMAIN_FORMS: [Form; 15] = [
     ROUTE,
     NODE,
     DESTINATION,
+    ALONE,
     ALONE,
     ALONE,
     ALONE,
