@@ -1,6 +1,6 @@
 -- Where a run ends quiet, it ends in the one rest of the topology that it began in.
 use mathlib.Core.Logic.{inl, inr}
-use Rattle.std.proofs.Common.{◌≡◌, ℕ, ◌<◌, zero, suc, sym, ap, subst, ◌∙◌, arith}
+use Rattle.std.proofs.Common.{◌≡◌, ℕ, ◌<◌, zero, suc, sym, ap, subst, arith}
 use Rattle.netchange_core.specs.Best.{best, distance}
 use Rattle.routing_domain.specs.Domain.{Domain, IsInOrder, IsQuiet, KeepsLinksAndFilters, topology}
 use Rattle.routing_domain.specs.Rest.{IsRest, Topology}

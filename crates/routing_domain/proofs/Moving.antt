@@ -1,6 +1,6 @@
 -- What a step makes of a link: more messages are on it, the first has come in, or one was left out; and how many are awaited on it then.
 use mathlib.Core.Logic.{inl, inr}
-use Rattle.std.proofs.Common.{◌≡◌, ◌⊎◌, ⊎_elim, ℕ, ◌-◌, ◌<◌, cond, nat_eq, All, Some, List, [], ◌∷◌, ◌++◌, length, slice_index, slice_set, take, drop}
+use Rattle.std.proofs.Common.{◌≡◌, ◌⊎◌, ⊎_elim, ℕ, ◌-◌, ◌<◌, cond, nat_eq, All, List, [], ◌∷◌, ◌++◌, length, slice_index, slice_set, take, drop}
 use Rattle.std.proofs.Common.{refl, sym, ap, subst, ◌∙◌, arith, append_assoc, take-append-drop, eq-eqb, ne_eqb, get_or-set_same, get_or-set_other}
 use Rattle.std.proofs.lemmas.Bool.{cases_eq}
 use Rattle.std.proofs.lemmas.List.{append-nil}
@@ -8,8 +8,8 @@ use Rattle.std.proofs.lemmas.List.Elements.{All-nil}
 use Rattle.netchange_core.specs.declared.message.Message.{Message}
 use Rattle.netchange_core.specs.Best.{distance}
 use Rattle.netchange_core.specs.FilteredDistance.{filtered_distance}
-use Rattle.netchange_core.specs.Next.{advertising, dequeued, receive}
-use Rattle.netchange_core.specs.World.{World, changed, neighbour_at, nobody}
+use Rattle.netchange_core.specs.Next.{advertising, dequeued}
+use Rattle.netchange_core.specs.World.{World, neighbour_at, nobody}
 use Rattle.netchange_core.proofs.Change.{changed_at}
 use Rattle.routing_domain.specs.Changes.{is_pair}
 use Rattle.routing_domain.specs.Domain.{Domain, IsInOrder, KeepsLinksAndFilters, exported, neighbour, pending}
@@ -21,9 +21,8 @@ use Rattle.routing_domain.proofs.Ending.{step_keeps}
 use Rattle.routing_domain.proofs.Order.{at_receiver, flight_from_other, flight_here, flight_to_other, wide}
 use Rattle.routing_domain.proofs.Order as order
 use Rattle.routing_domain.proofs.Places.{IsOther}
-use Rattle.routing_domain.proofs.Receives.{received_by, receiver_advertised}
+use Rattle.routing_domain.proofs.Receives.{receiver_advertised}
 use Rattle.routing_domain.proofs.Recomputed.{changed_other}
-use Rattle.routing_domain.proofs.Seen.{changed_seen, recomputed_seen}
 use Rattle.routing_domain.proofs.Sends as sending
 use Rattle.routing_domain.proofs.Telling.{Queues, queues_nothing, receiver_queues}
 use Rattle.routing_domain.proofs.Topologies.{pair_is, pair_not}

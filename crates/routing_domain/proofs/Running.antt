@@ -4,7 +4,7 @@ use Rattle.std.proofs.Common.{◌≡◌, ◌⊎◌, ⊎_elim, ℕ, ◌+◌, ◌<
 use Rattle.std.proofs.lemmas.Bool.{cases_eq}
 use Rattle.netchange_core.specs.declared.message.Message.{Message}
 use Rattle.routing_domain.specs.Domain.{Domain, IsInOrder, IsQuiet, neighbour}
-use Rattle.routing_domain.specs.Runs.{DropsOne, IsStep, ReceivesOne, Runs, SendsSome}
+use Rattle.routing_domain.specs.Runs.{IsStep, ReceivesOne, Runs, SendsSome}
 use Rattle.routing_domain.specs.Steps.{receives, sends}
 use Rattle.routing_domain.specs.Weight.{weight}
 use Rattle.routing_domain.proofs.Dropping.{drop_is_lighter, drop_keeps_order}

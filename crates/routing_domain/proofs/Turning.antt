@@ -1,8 +1,8 @@
 -- What was told over a link, and each message on it behind the first so many, is as a predicate says.
 use mathlib.Core.Logic.{inl, inr}
-use Rattle.std.proofs.Common.{◌≡◌, ◌⊎◌, ⊎_elim, ℕ, ◌+◌, ◌-◌, ◌<◌, ◌≤◌, zero, suc, max, cond, nat_eq, All, List, [], ◌∷◌, ◌++◌, length, refl, sym, ap, subst, ◌∙◌, arith, eq-eqb, le-ltb}
+use Rattle.std.proofs.Common.{◌≡◌, ◌⊎◌, ⊎_elim, ℕ, ◌+◌, ◌-◌, ◌<◌, ◌≤◌, zero, suc, max, cond, nat_eq, All, List, [], ◌∷◌, ◌++◌, length, sym, ap, subst, ◌∙◌, arith, eq-eqb, le-ltb}
 use Rattle.std.proofs.lemmas.Bool.{cases_lt, cond_both, eqb-true, lt-ltb}
-use Rattle.std.proofs.lemmas.List.Elements.{All-append, All-cons, All-head, All-nil, All-tail, All-weaker}
+use Rattle.std.proofs.lemmas.List.Elements.{All-append, All-cons, All-head, All-nil, All-tail}
 use Rattle.netchange_core.specs.declared.message.Message.{Message}
 use Rattle.routing_domain.specs.Domain.{last_told}
 use Rattle.routing_domain.specs.Phases.{awaited_without}

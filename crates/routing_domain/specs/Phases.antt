@@ -1,10 +1,10 @@
 -- Phases of a run: stretches in each of which all is received that waited or was on its way when it began.
 use mathlib.Core.Logic.{inl, inr}
-use Rattle.std.specs.Prelude.{◌≡◌, ◌⊎◌, ℕ, suc, zero, ◌+◌, ◌-◌, ◌<◌, ◌≤◌, max, nat_lt, if◌then◌else◌, length}
+use Rattle.std.specs.Prelude.{◌≡◌, ℕ, suc, zero, ◌+◌, ◌-◌, ◌<◌, ◌≤◌, max, nat_lt, if◌then◌else◌, length}
 use Rattle.routing_domain.specs.Changes.{is_pair}
 use Rattle.routing_domain.specs.Domain.{Domain, pending, topology}
 use Rattle.routing_domain.specs.Rest.{IsRest}
-use Rattle.routing_domain.specs.Runs.{DropsOne, IsStep, ReceivesOne, Runs, SendsSome}
+use Rattle.routing_domain.specs.Runs.{IsStep, Runs}
 
 -- Of the messages on a link the first so many are awaited. How many are, after one was left out that stood behind so many: where it was
 -- awaited, the later one about its node, behind so many more, is awaited in its place, and all before that.
