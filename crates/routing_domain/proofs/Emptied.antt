@@ -1,20 +1,20 @@
 -- In the last phase no distance changes any more, so nothing new is told, and after it the domain is quiet.
 use mathlib.Core.Logic.{inl, inr}
-use Rattle.std.proofs.Common.{◌≡◌, ◌⊎◌, ⊎_elim, ℕ, ◌+◌, ◌-◌, ◌<◌, ◌≤◌, zero, suc, List, [], ◌∷◌, ◌++◌, length, take, refl, sym, ap, subst, ◌∙◌, arith, length-append}
+use Rattle.std.proofs.Common.{◌≡◌, ◌⊎◌, ⊎_elim, ℕ, ◌+◌, ◌<◌, ◌≤◌, zero, suc, List, [], ◌∷◌, ◌++◌, length, take, refl, sym, ap, subst, ◌∙◌, arith, length-append}
 use Rattle.std.proofs.lemmas.List.{nil_from_length}
 use Rattle.netchange_core.specs.declared.message.Message.{Message}
 use Rattle.netchange_core.specs.Best.{distance, neighbour_distances}
 use Rattle.netchange_core.proofs.Opened.{best_within}
-use Rattle.routing_domain.specs.Domain.{Domain, IsInOrder, IsQuiet, neighbour, pending, topology}
+use Rattle.routing_domain.specs.Domain.{Domain, IsInOrder, IsQuiet, KeepsLinksAndFilters, neighbour, pending, topology}
 use Rattle.routing_domain.specs.Phases.{AreWithin, IsPhase, Phases, awaited, awaited_after}
 use Rattle.routing_domain.specs.Rest.{IsRest}
 use Rattle.routing_domain.specs.Runs.{IsStep, Runs}
-use Rattle.routing_domain.proofs.Ending.{end_of, end_rests, run_size, step_keeps}
-use Rattle.routing_domain.proofs.Moving.{Grows, GrowsBy, HearsBy, Moves, Skips, SkipsBy, step_moves}
+use Rattle.routing_domain.proofs.Ending.{end_of, end_rests, run_keeps, run_size, step_keeps}
+use Rattle.routing_domain.proofs.Moving.{Grows, Moves, Skips, step_moves}
 use Rattle.routing_domain.proofs.Nearing.{distance_right}
 use Rattle.routing_domain.proofs.Running.{ComesToRest, comes_to_rest, run_order, step_keeps_order}
+use Rattle.routing_domain.proofs.Topologies.{kept_itself, kept_on}
 use Rattle.routing_domain.proofs.Turned.{AreTold, all_right_below_none, are_heard, phase_told, step_told}
-use Rattle.routing_domain.proofs.Turning.{IsAwaited}
 
 pub step_size : (d e : Domain) → IsStep d e → e.size ≡ d.size
 step_size d e step = (step_keeps d e step).size
@@ -75,24 +75,30 @@ quiet_is_phase n d e o run q = record {
 abbrev pub AllTold : Domain → (ℕ → ℕ → ℕ) → ℕ → Type 0
 AllTold d a k = (v : ℕ) → v < d.size → AreTold d v (a v) k
 
--- in a domain of so many nodes a bound is enough where each distance at rest is within it, or it is one below the size
-abbrev pub IsEnough : ℕ → (ℕ → ℕ → ℕ) → ℕ → Type 0
-IsEnough n a k = (v x : ℕ) → v < n → x < n → (a v x ≤ k) ⊎ (n ≤ suc k)
+-- A bound is enough for a domain where each distance is that of rest as soon as all that was told is right below it, whatever messages are under way.
+abbrev pub Settles : Domain → (ℕ → ℕ → ℕ) → ℕ → Type 0
+Settles d a k = (c : Domain) → KeepsLinksAndFilters d c → IsInOrder c → AllTold c a k → (v x : ℕ) → v < c.size → x < c.size →
+    distance (c.router x) v ≡ a v x
 
--- where the bound is enough, each distance is that of rest
-pub at_rest : (d : Domain) (a : ℕ → ℕ → ℕ) (k n : ℕ) → IsInOrder d → AllTold d a k → IsEnough n a k → d.size ≡ n → (v x : ℕ) → v < d.size → x < d.size →
-    distance (d.router x) v ≡ a v x
-at_rest d a k n o all enough sized v x there short =
-    let t : AreTold d v (a v) k = all v there in
-    ⊎_elim
-    (λ (same : distance (d.router x) v ≡ a v x). same)
-    (λ (past : (suc k ≤ a v x) × (suc k ≤ distance (d.router x) v)).
-    ⊎_elim
-    (λ (few : a v x ≤ k). absurd (omega (arith, past.0, few)))
-    (λ (full : n ≤ suc k).
-    omega (arith, past.0, past.1, full, sized, t.rest.bounded x short, o.size x short, best_within (d.router x).opening v (neighbour_distances (d.router x) v)))
-    (enough v x (omega (arith, there, sized)) (omega (arith, short, sized))))
-    (distance_right d o v there (a v) t.rest k (are_heard d v (a v) k t) x short)
+settles_on : (d e : Domain) (a : ℕ → ℕ → ℕ) (k : ℕ) → KeepsLinksAndFilters d e → Settles d a k → Settles e a k
+settles_on d e a k kept settles = λ c more. settles c (kept_on d e c kept more)
+
+-- so it is where each distance at rest is within it, and where it is one below the size
+within_settles : (d : Domain) (a : ℕ → ℕ → ℕ) (k : ℕ) → ((v x : ℕ) → v < d.size → x < d.size → (a v x ≤ k) ⊎ (d.size ≤ suc k)) → Settles d a k
+within_settles d a k within = at_rest
+  where
+    at_rest : (c : Domain) → KeepsLinksAndFilters d c → IsInOrder c → AllTold c a k → (v x : ℕ) → v < c.size → x < c.size → distance (c.router x) v ≡ a v x
+    at_rest c kept o all v x there short =
+        let t : AreTold c v (a v) k = all v there in
+        ⊎_elim
+        (λ (same : distance (c.router x) v ≡ a v x). same)
+        (λ (past : (suc k ≤ a v x) × (suc k ≤ distance (c.router x) v)).
+        ⊎_elim
+        (λ (few : a v x ≤ k). absurd (omega (arith, past.0, few)))
+        (λ (full : d.size ≤ suc k).
+        omega (arith, past.0, past.1, full, kept.size, t.rest.bounded x short, o.size x short, best_within (c.router x).opening v (neighbour_distances (c.router x) v)))
+        (within v x (omega (arith, there, kept.size)) (omega (arith, short, kept.size))))
+        (distance_right c o v there (a v) t.rest k (are_heard c v (a v) k t) x short)
 
 step_all : (d e : Domain) (a : ℕ → ℕ → ℕ) (k : ℕ) → AllTold d a k → IsStep d e → AllTold e a k
 step_all d e a k all step = λ v there. step_told d e v (a v) k (all v (omega (arith, there, step_size d e step))) step
@@ -107,18 +113,21 @@ step_empties d e x y n left (inr (inr s)) nothing most =
     let l : Lengths (pending d x y) (pending e x y) (length (s.0).before) (length (s.0).between) = skips_lengths d e x y (s.0) in
     omega (arith, s.1 n, most, l.was, l.now)
 
-link_empties : (n : ℕ) (d e : Domain) (run : Runs n d e) (a : ℕ → ℕ → ℕ) (k l x y left : ℕ) → IsInOrder d → AllTold d a k → IsEnough l a k → d.size ≡ l →
+link_empties : (n : ℕ) (d e : Domain) (run : Runs n d e) (a : ℕ → ℕ → ℕ) (k x y left : ℕ) → IsInOrder d → AllTold d a k → Settles d a k →
     x < d.size → y < d.size → length (pending d x y) ≤ left → length (pending e x y) ≤ awaited n d e run x y left
-link_empties zero d e run a k l x y left o all enough sized from to most = omega (arith, most, ap (λ c. length (pending c x y)) run)
-link_empties (suc n) d e run a k l x y left o all enough sized from to most =
-    link_empties n c e (run.2) a k l x y (awaited_after d c (run.1) x y left) order after enough (size ∙ sized) here (omega (arith, to, size))
+link_empties zero d e run a k x y left o all settles from to most = omega (arith, most, ap (λ c. length (pending c x y)) run)
+link_empties (suc n) d e run a k x y left o all settles from to most =
+    link_empties n c e (run.2) a k x y (awaited_after d c (run.1) x y left) order after (settles_on d c a k kept settles) here (omega (arith, to, size))
     (step_empties d c x y left (awaited_after d c (run.1) x y) (step_moves d c o (run.1) x y from to) nothing most)
   where
     c : Domain
     c = run.0
 
+    kept : KeepsLinksAndFilters d c
+    kept = step_keeps d c (run.1)
+
     size : c.size ≡ d.size
-    size = step_size d c (run.1)
+    size = kept.size
 
     order : IsInOrder c
     order = step_keeps_order d c o (run.1)
@@ -131,8 +140,8 @@ link_empties (suc n) d e run a k l x y left o all enough sized from to most =
 
     nothing : (g : Grows d c x y) → g.more ≡ []
     nothing g = g.none (λ v below.
-        at_rest d a k l o all enough sized v x below from
-        ∙ sym (at_rest c a k l order after enough (size ∙ sized) v x (omega (arith, below, size)) here))
+        settles d (kept_itself d) o all v x below from
+        ∙ sym (settles c kept order after v x (omega (arith, below, size)) here))
 
 no_messages : (d : Domain) (x y : ℕ) → length (pending d x y) ≤ 0 → (d.flight x y ≡ []) × ((neighbour d x y).queue ≡ [])
 no_messages d x y none =
@@ -141,8 +150,8 @@ no_messages d x y none =
       nil_from_length (neighbour d x y).queue (omega (arith, both, none)),
     )
 
-last_phase : (d e : Domain) (a : ℕ → ℕ → ℕ) (k : ℕ) → IsInOrder d → AllTold d a k → IsEnough d.size a k → IsPhase d e → IsQuiet e
-last_phase d e a k o all enough p = record {
+last_phase : (d e : Domain) (a : ℕ → ℕ → ℕ) (k : ℕ) → IsInOrder d → AllTold d a k → Settles d a k → IsPhase d e → IsQuiet e
+last_phase d e a k o all settles p = record {
   queues = λ x y from to. (empty x y from to).1;
   flights = λ x y from to. (empty x y from to).0;
 }
@@ -158,7 +167,7 @@ last_phase d e a k o all enough p = record {
         (omega (
           arith,
           p.all x y below_x below_y,
-          link_empties p.steps d e p.run a k d.size x y (length (pending d x y)) o all enough refl below_x below_y (omega arith),
+          link_empties p.steps d e p.run a k x y (length (pending d x y)) o all settles below_x below_y (omega arith),
         ))
 
 -- nothing happens in a quiet domain
@@ -181,15 +190,16 @@ stays_quiet zero d e run q = subst IsQuiet run q
 stays_quiet (suc n) d e run q = absurd (no_step d (run.0) q (run.1))
 
 -- as many phases as are left
-quiet_within : (j : ℕ) (d e : Domain) (a : ℕ → ℕ → ℕ) (k l : ℕ) → IsInOrder d → AllTold d a k → k + j ≡ l → IsEnough d.size a l → Phases (suc j) d e → IsQuiet e
-quiet_within zero d e a k l o all sum enough p =
-    stays_quiet (p.2).0 (p.0) e (p.2).1 (last_phase d (p.0) a k o all (subst (IsEnough d.size a) (let same : l ≡ k = omega (arith, sum) in same) enough) (p.1))
-quiet_within (suc j) d e a k l o all sum enough p =
-    quiet_within j (p.0) e a (suc k) l (run_order (p.1).steps d (p.0) o (p.1).run) (λ v there. phase_told d (p.0) v (a v) k (all v (omega (arith, there, size))) (p.1))
-    (omega (arith, sum)) (subst (λ n. IsEnough n a l) (sym size) enough) (p.2)
+pub quiet_within : (j : ℕ) (d e : Domain) (a : ℕ → ℕ → ℕ) (k l : ℕ) → IsInOrder d → AllTold d a k → k + j ≡ l → Settles d a l → Phases (suc j) d e → IsQuiet e
+quiet_within zero d e a k l o all sum settles p =
+    stays_quiet (p.2).0 (p.0) e (p.2).1 (last_phase d (p.0) a k o all (subst (Settles d a) (let same : l ≡ k = omega (arith, sum) in same) settles) (p.1))
+quiet_within (suc j) d e a k l o all sum settles p =
+    quiet_within j (p.0) e a (suc k) l (run_order (p.1).steps d (p.0) o (p.1).run)
+    (λ v there. phase_told d (p.0) v (a v) k (all v (omega (arith, there, kept.size))) (p.1))
+    (omega (arith, sum)) (settles_on d (p.0) a l kept settles) (p.2)
   where
-    size : (p.0).size ≡ d.size
-    size = run_size (p.1).steps d (p.0) (p.1).run
+    kept : KeepsLinksAndFilters d (p.0)
+    kept = run_keeps (p.1).steps d (p.0) (p.1).run
 
 -- the distances of some end of it, which are those of rest
 pub ends_at : (d : Domain) → IsInOrder d → ℕ → ℕ → ℕ
@@ -205,11 +215,10 @@ pub all_told_at_first : (d : Domain) (o : IsInOrder d) → AllTold d (ends_at d 
 all_told_at_first d o = λ v there. all_right_below_none d v (ends_at d o v) o there (ends_rest d o v there)
 
 -- after one phase more than the longest distance at rest a domain is quiet
-pub within_enough : (j : ℕ) (d : Domain) (o : IsInOrder d) → AreWithin j d → IsEnough d.size (ends_at d o) j
-within_enough j d o within = λ v x there short. inl (within v there (ends_at d o v) (ends_rest d o v there) x short)
-
 pub quiet_soon : (j : ℕ) (d e : Domain) → IsInOrder d → AreWithin j d → Phases (suc j) d e → IsQuiet e
-quiet_soon j d e o within p = quiet_within j d e (ends_at d o) 0 j o (all_told_at_first d o) (omega arith) (within_enough j d o within) p
+quiet_soon j d e o within p =
+    quiet_within j d e (ends_at d o) 0 j o (all_told_at_first d o) (omega arith)
+    (within_settles d (ends_at d o) j (λ v x there short. inl (within v there (ends_at d o v) (ends_rest d o v there) x short))) p
 
 -- after as many phases as there are nodes it is
 pub quiet_after : (d e : Domain) → IsInOrder d → Phases d.size d e → IsQuiet e
@@ -220,4 +229,5 @@ quiet_after d e o p = by_size d.size refl p
         let size : e.size ≡ d.size = run_size (q.0) d e (q.1) in
         record { queues = λ x y from to. absurd (omega (arith, from, size, none)); flights = λ x y from to. absurd (omega (arith, from, size, none)) }
     by_size (suc j) some q =
-        quiet_within j d e (ends_at d o) 0 j o (all_told_at_first d o) (omega arith) (λ v x _ _. inr (omega (arith, some))) q
+        quiet_within j d e (ends_at d o) 0 j o (all_told_at_first d o) (omega arith)
+        (within_settles d (ends_at d o) j (λ v x _ _. inr (omega (arith, some)))) q

@@ -1,6 +1,6 @@
 -- While messages are sent, received and left out, what is told stays right below a bound, and after each phase it is right below the next one.
 use mathlib.Core.Logic.{inl, inr}
-use Rattle.std.proofs.Common.{◌≡◌, ⊎_elim, ℕ, ◌+◌, ◌-◌, ◌<◌, ◌≤◌, zero, suc, true, length, sym, ap, subst, ◌∙◌, arith}
+use Rattle.std.proofs.Common.{◌≡◌, ℕ, ◌+◌, ◌-◌, ◌<◌, ◌≤◌, zero, suc, true, length, sym, ap, subst, ◌∙◌, arith}
 use Rattle.std.proofs.lemmas.List.Elements.{All-weaker}
 use Rattle.netchange_core.specs.declared.message.Message.{Message}
 use Rattle.netchange_core.specs.Best.{distance, neighbour_distances}
@@ -10,7 +10,7 @@ use Rattle.routing_domain.specs.Phases.{IsPhase, Phases, awaited, awaited_after}
 use Rattle.routing_domain.specs.Rest.{IsRest}
 use Rattle.routing_domain.specs.Runs.{IsStep, Runs}
 use Rattle.routing_domain.proofs.Ending.{run_keeps, step_keeps}
-use Rattle.routing_domain.proofs.Moving.{GrowsBy, HearsBy, Moves, Says, SkipsBy, heard, step_exports, step_moves}
+use Rattle.routing_domain.proofs.Moving.{Moves, Says, heard, step_exports, step_moves}
 use Rattle.routing_domain.proofs.Nearing.{IsHeard, IsRight, distance_right, less_right, told_right}
 use Rattle.routing_domain.proofs.Running.{step_keeps_order}
 use Rattle.routing_domain.proofs.Topologies.{kept_on, kept_topology}

@@ -1,8 +1,8 @@
 -- Phases of a run: stretches in each of which all is received that waited or was on its way when it began.
 use mathlib.Core.Logic.{inl, inr}
-use Rattle.std.specs.Prelude.{◌≡◌, ℕ, suc, zero, ◌+◌, ◌-◌, ◌<◌, ◌≤◌, max, nat_lt, if◌then◌else◌, length}
+use Rattle.std.specs.Prelude.{◌≡◌, ◌⊎◌, ℕ, suc, zero, ◌+◌, ◌-◌, ◌<◌, ◌≤◌, max, nat_lt, if◌then◌else◌, true, length}
 use Rattle.routing_domain.specs.Changes.{is_pair}
-use Rattle.routing_domain.specs.Domain.{Domain, pending, topology}
+use Rattle.routing_domain.specs.Domain.{Domain, are_linked, imported, pending, topology}
 use Rattle.routing_domain.specs.Rest.{IsRest}
 use Rattle.routing_domain.specs.Runs.{IsStep, Runs}
 
@@ -35,3 +35,10 @@ Phases (suc j) d e = (c : Domain) × (IsPhase d c) × (Phases j c e)
 -- each distance at rest is at most so much
 abbrev pub AreWithin : ℕ → Domain → Type 0
 AreWithin j d = (v : ℕ) → v < d.size → (a : ℕ → ℕ) → IsRest (topology d v) v a → (u : ℕ) → u < d.size → a u ≤ j
+
+-- What is out of reach of a destination counts up to a bound and no farther: each route at rest is at most so long; and each neighbour of a
+-- node that is out of reach is nearer than that, or what it tells passes an import filter that lets through only what is nearer.
+pub record CountsUpTo (k : ℕ) (d : Domain) (v : ℕ) (a : ℕ → ℕ) : Type 0 where
+  pub routes : (u : ℕ) → u < d.size → (a u ≤ k) ⊎ (a u ≡ d.size)
+  pub limits : (u w : ℕ) → u < d.size → w < d.size → are_linked d u w ≡ true → a u ≡ d.size →
+      (a w < k) ⊎ ((x : ℕ) → x ≤ d.size → (imported d u w v x < k) ⊎ (imported d u w v x ≡ d.size))

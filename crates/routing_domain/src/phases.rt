@@ -1,11 +1,11 @@
 //! Laws of phases: when distances are right.
 
-ghost use Rattle.std.specs.Prelude.{◌≡◌, ℕ, suc, ◌<◌, ◌≤◌, List, length, take};
+ghost use Rattle.std.specs.Prelude.{◌≡◌, ◌⊎◌, ℕ, suc, ◌<◌, ◌≤◌, List, length, take, true};
 ghost use Rattle.netchange_core.specs.Best.{best, distance};
 ghost use Rattle.netchange_core.specs.declared.message.Message.{Message};
-ghost use Rattle.routing_domain.specs.Domain.{Domain, IsInOrder, IsQuiet, neighbour, topology};
+ghost use Rattle.routing_domain.specs.Domain.{Domain, IsInOrder, IsQuiet, are_linked, imported, neighbour, topology};
 ghost use Rattle.routing_domain.specs.Network.{IsOrderly, IsWhole, Network, gets, hands};
-ghost use Rattle.routing_domain.specs.Phases.{AreWithin, IsPhase, Phases};
+ghost use Rattle.routing_domain.specs.Phases.{AreWithin, CountsUpTo, IsPhase, Phases};
 ghost use Rattle.routing_domain.specs.Rest.{IsRest};
 ghost use Rattle.routing_domain.specs.Runs.{ReceivesOne, Runs, SendsSome};
 ghost use Rattle.routing_domain.specs.Steps.{IsNext};
@@ -29,6 +29,20 @@ pub fn near_routes_are_right_first()
 pub fn domains_rest_after_phases()
     ensures soon { (j : ℕ) → (d e : Domain) → IsInOrder d → AreWithin j d → Phases (suc j) d e → IsQuiet e }
     ensures quiet { (d e : Domain) → IsInOrder d → Phases d.size d e → IsQuiet e }
+{}
+
+/// What is out of reach is known to be so as soon as a bound on metrics says. Where all that is out of reach of a destination counts up to
+/// no more than a bound, each distance is that of rest after as many phases; and where that is so of each destination, all is quiet after
+/// one more. It is so with one more than a limit, if what neighbours tell passes import filters, at both ends of each link, that reject
+/// what they would accept beyond the limit.
+pub fn limits_end_counting()
+    ensures right { (j : ℕ) → (d e : Domain) → IsInOrder d → Phases j d e → (v : ℕ) → v < d.size → (a : ℕ → ℕ) → IsRest (topology d v) v a →
+        CountsUpTo j d v a → (u : ℕ) → u < d.size → distance (e.router u) v ≡ a u }
+    ensures quiet { (j : ℕ) → (d e : Domain) → IsInOrder d →
+        ((v : ℕ) → v < d.size → (a : ℕ → ℕ) → IsRest (topology d v) v a → CountsUpTo j d v a) → Phases (suc j) d e → IsQuiet e }
+    ensures limited { (limit : ℕ) → (d : Domain) → (v : ℕ) → IsInOrder d →
+        ((u w x : ℕ) → u < d.size → w < d.size → are_linked d u w ≡ true → x ≤ d.size → (imported d u w v x ≤ limit) ⊎ (imported d u w v x ≡ d.size)) →
+        (a : ℕ → ℕ) → IsRest (topology d v) v a → CountsUpTo (suc limit) d v a }
 {}
 
 /// A phase can always be had: each run that ends quiet is one, and there is one.
