@@ -20,8 +20,6 @@ from lib.counts import Counts
 from lib.program import TOP, built
 from lib.tokens import tokens
 
-INSTALL = os.path.join(TOP, "scripts", "install.sh")
-
 # The words of BIRD that are refused by name.
 LEFT_OUT = """function define print printn return include string pair quad ec lc bgppath bgpmask clist eclist lclist set from proto preference
 source""".split()
@@ -164,7 +162,7 @@ def fish_differs(prefix):
 
 def pages_missing(prefix):
     """One page for each command, and the one that each document is on; no others."""
-    said = subprocess.run([os.environ["NCROUTE"], "--help"], capture_output=True, text=True, check=True).stdout
+    said = subprocess.run([os.path.join(prefix, "bin", "ncroute"), "--help"], capture_output=True, text=True, check=True).stdout
     commands = re.findall(r"(?m)^  (\w+) ", said.partition("Commands:")[2].partition("Options:")[0])
     wanted = {("ncroute", 1)} | {(f"ncroute-{name}", 1) for name in commands if name != "help"} | set(manual.PAGES.values())
     if different := {f"man{section}/{name}.{section}" for name, section in wanted} ^ set(installed(prefix)):
@@ -340,11 +338,9 @@ CHECKS = (
 
 
 def main():
-    # `install.sh` reads it too.
-    os.environ["NCROUTE"] = built()
-    counts = Counts()
+    environment, counts = {**os.environ, "NCROUTE": built()}, Counts()
     with tempfile.TemporaryDirectory() as prefix:
-        subprocess.run([INSTALL, prefix], check=True, capture_output=True)
+        subprocess.run([TOP / "scripts" / "install.sh", prefix], env=environment, check=True, capture_output=True)
         for name, needed, differs in CHECKS:
             if needed and not shutil.which(needed):
                 counts.skip(name, f"there is no `{needed}` here")
