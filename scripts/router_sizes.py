@@ -45,7 +45,7 @@ LAST_ENTRIES = {
     "a message that changes nothing": lambda run: run.neighbours[2].say(b"3 9\n"),
     "the end of a session": lambda run: run.neighbours[1].close(),
     "a route that is asked for": lambda run: run.ask("show 2"),
-    "a neighbour without a link": lambda run: run.ask("up 5"),
+    "a down that is refused": lambda run: run.ask("down 5"),
     "an import filter": lambda run: run.ask("import 5 far"),
     "an export filter": lambda run: run.ask("export 5 far"),
 }

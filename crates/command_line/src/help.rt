@@ -306,7 +306,7 @@ neighbour is up, and each line is a message, `V D`: node V is at distance D. Whe
 ends or has another line, the neighbour is down, and standard error says why.
 
 Standard input has the operator's commands, as `ncroute run` answers them, without
-`network`, `prefix`, `recv` and `take`. `up` and `down` of a node with a link are refused
+`network`, `prefix`, `recv` and `take`. `up`, and `down` of a node with a link, are refused
 as O9. `quit` ends the router, and so does the end of standard input without --stay.
 
 Example, in two terminals after `mkfifo a b`:

@@ -107,13 +107,13 @@ A prefix is four numbers up to 255 joined by dots, `/` and a length up to 32.
     Page {
         code: "O9",
         text: "\
-O9: node W has a link, which alone brings it up and down
+O9: only a link brings a node up, and down where it has one
 Place: the number of the line
 
     $ echo 'up 1' | ncroute router --size 4 --node 0 --link 1=/dev/null,/dev/null 2>/dev/null
     refused O9 1
 
-Leave it to the link. `neighbours` lists the nodes that are up.
+Leave it to `--link`. `neighbours` lists the nodes that are up.
 ",
     },
     Page {

@@ -47,8 +47,7 @@ command before answer after number (Import node name) h =
     by_name before answer after (filter_of before.names name) (λ f. event.SetImport node f) number h
 command before answer after number (Export node name) h =
     by_name before answer after (filter_of before.names name) (λ f. event.SetExport node f) number h
-command before answer after number (Up node) h =
-    either (has_link before.links node) _ _ (λ p. like answer _ p.0 refl) (λ q. happening before answer after (event.Up node) q) h
+command before answer after number (Up node) h = like answer _ h.0 refl
 command before answer after number (Down node) h =
     either (has_link before.links node) _ _ (λ p. like answer _ p.0 refl)
     (λ q. happening q.0 answer after (event.Down (session_number (session_in (Open (journal_seen q.0)) node))) q.2) h

@@ -1,5 +1,5 @@
 -- An event that the router entered or did not, and what is answered.
-use Rattle.std.proofs.Common.{◌≡◌, ℕ, Bool, Result, Ok, Err, IfOk, IfErr, List, [], ◌∷◌, ◌++◌, length}
+use Rattle.std.proofs.Common.{◌≡◌, ℕ, Bool, Option, Result, Ok, Err, IfOk, IfErr, List, [], ◌∷◌, ◌++◌, length}
 use Rattle.std.proofs.Common.{refl, sym, subst, ap, ◌∙◌, append_assoc, append-nil, inl, inr}
 use Rattle.std.specs.Prelude.{codes}
 use Rattle.line_protocol.specs.Answers.{Answer}
@@ -23,6 +23,7 @@ use Rattle.slot_lock.specs.declared.answer.Answer.{Answer as CallAnswer}
 use Rattle.router_operator.specs.Looking.{AnswersCall}
 use Rattle.router_operator.specs.OperatorView.{IsAt, Names, OperatorView, journal_with}
 use Rattle.router_operator.specs.Operators.{AnswersEvent, BreaksOff, Enters, OnlyPass}
+use Rattle.router_operator.specs.Telling.{IsTold, exported_by}
 
 -- what stands before the last entry of a legal history is legal
 legal_front : (w : World) (es more : List Entry) → IsLegalFrom w (es ++ more) → IsLegalFrom w es
@@ -127,6 +128,14 @@ module _ (before : OperatorView) (happened : Event) (pass : PassView) (shares : 
   breaks_call (Err call_fault.Full) good bad = full_breaks before happened pass shares bad
   breaks_call (Err call_fault.Memory) good bad = failed_tries_break before pass bad.0 bad.1
 
+-- who listens was told of what was entered
+told_by : (is_told : Option ℕ → CallAnswer → Type 0) (r : RouterView) (old new : PassView) (happened : Event) (called : Result CallAnswer CallFault) →
+    IfOk called (λ a. Answered r old happened a new) → IfErr called (λ f. Refused f r old new) →
+    IfOk called (λ a. is_told (exported_by happened) a) → IsTold is_told r old happened new
+told_by is_told r old new happened (Ok a) good bad told = inr (a, good, told)
+told_by is_told r old new happened (Err call_fault.Full) good bad told = inl bad.mine
+told_by is_told r old new happened (Err call_fault.Memory) good bad told = inl (ap (λ (p : PassView). p.fragment.mine) bad.1)
+
 -- the same of an operator whose fields are these; `old` is how they were
 module _ (old : OperatorView) (router : RouterView) (was pass : PassView) (names : Names) (links : List ℕ) (quit : Bool) (size limit : ℕ)
     (is : record { router = router; pass = was; names = names; links = links; has_quit = quit } ≡ old) (at : IsAt router was size limit)
@@ -142,3 +151,9 @@ module _ (old : OperatorView) (router : RouterView) (was pass : PassView) (names
 
   pub call_breaks : BreaksOff old (record start { pass = pass })
   call_breaks = subst (λ (o : OperatorView). BreaksOff o (record start { pass = pass })) is (breaks_call start happened pass shares r good bad)
+
+  pub call_told : (is_told : Option ℕ → CallAnswer → Type 0) (exported : Option ℕ) → exported ≡ exported_by happened →
+      IfOk r (λ a. is_told exported a) → IsTold is_told old.router old.pass happened pass
+  call_told is_told exported by told =
+      subst (λ (o : OperatorView). IsTold is_told o.router o.pass happened pass) is
+      (told_by is_told router was pass happened r good bad (subst (λ node. IfOk r (λ a. is_told node a)) by told))

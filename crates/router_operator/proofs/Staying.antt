@@ -87,8 +87,7 @@ by_command before number (Import node name) answer after h =
     by_use (filter_of before.names name) (λ filter. event.SetImport node filter) number before answer after h
 by_command before number (Export node name) answer after h =
     by_use (filter_of before.names name) (λ filter. event.SetExport node filter) number before answer after h
-by_command before number (Up node) answer after h =
-    either (has_link before.links node) _ _ (λ p. by_same before after p.1) (λ q. by_event before (event.Up node) answer after q) h
+by_command before number (Up node) answer after h = by_same before after h.1
 by_command before number (Down node) answer after h =
     either (has_link before.links node) _ _ (λ p. by_same before after p.1) (λ q. by_down node before answer after q) h
 by_command before number (Receive node dest dist) answer after h = by_same before after h.1

@@ -2,6 +2,7 @@
 pub mod OperatorView
 pub mod Operators
 pub mod Running
+pub mod Telling
 -- what only bodies are proved against
 pub mod Looking
 pub mod Names

@@ -39,7 +39,7 @@ says_quit (Some word) = bytes_eq word (codes "quit")
 abbrev pub is_quit : List ℕ → Bool
 is_quit line = says_quit (one_of (words line))
 
--- the node has a link, which brings it up and down
+-- the node has a link
 abbrev pub has_link : List ℕ → ℕ → Bool
 has_link links node = list_any (λ linked. linked == node) links
 
@@ -102,7 +102,7 @@ AnswersUse None happens number before answer after = Refuses (codes "O6") number
 AnswersUse (Some f) happens number before answer after =
     (filter : Arc VerifiedView Global) × (filter.value ≡ f) × AnswersEvent before (happens filter) answer after
 
--- a node that has a link is brought up and down by the link alone
+-- a node that has a link is taken down by the link alone
 abbrev pub UnlessLinked : ℕ → ℕ → (Answer → OperatorView → Type 0) → OperatorView → Answer → OperatorView → Type 0
 UnlessLinked node number Otherwise before answer after =
     MatchBool (has_link before.links node) (Refuses (codes "O9") number before answer after) (Otherwise answer after)
@@ -136,8 +136,8 @@ AnswersCommand before number (Import node name) answer after =
     AnswersUse (filter_of before.names name) (λ filter. event.SetImport node filter) number before answer after
 AnswersCommand before number (Export node name) answer after =
     AnswersUse (filter_of before.names name) (λ filter. event.SetExport node filter) number before answer after
-AnswersCommand before number (Up node) answer after =
-    UnlessLinked node number (AnswersEvent before (event.Up node)) before answer after
+-- only links bring nodes up
+AnswersCommand before number (Up node) answer after = Refuses (codes "O9") number before answer after
 AnswersCommand before number (Down node) answer after = UnlessLinked node number (AnswersDown node before) before answer after
 -- only links hand out and take messages
 AnswersCommand before number (Receive node dest dist) answer after = Refuses (fault_code fault.Words) number before answer after

@@ -1,8 +1,9 @@
 //! What an operator is answered to a call of the router.
-ghost use Rattle.std.specs.Prelude.{IfOk, OnErr};
+ghost use Rattle.std.specs.Prelude.{◌≡◌, IfOk, OnErr};
 ghost use Rattle.std.specs.Io.{StartsWith};
 ghost use Rattle.operator_cmds.specs.Replies.{Answers};
 ghost use Rattle.router_operator.specs.Looking.{AnswersCall};
+ghost use Rattle.router_operator.specs.Telling as spec;
 
 use crate::listener::Listener;
 use line_protocol::LineReply;
@@ -15,7 +16,9 @@ use std::rt::Clock;
 use std::sync::Wait;
 
 /// The node whose export filter an event sets, if it sets one.
-pub(crate) fn exported_by(event: &Event) -> Option<u16> {
+pub(crate) fn exported_by(event: &Event) -> Option<u16>
+    ensures { result ≡ spec.exported_by event.now }
+{
     match event {
         Event::SetExport(node, _) => Some(*node),
         _ => None,
@@ -23,12 +26,9 @@ pub(crate) fn exported_by(event: &Event) -> Option<u16> {
 }
 
 /// Tells a listener of the answer to a call, which set the export filter of this node, if of any.
-fn tell<R: Wait + Clock, L: Listener>(
-    rt: &R,
-    listener: &L,
-    exported: Option<u16>,
-    answer: &Answer,
-) {
+fn tell<R: Wait + Clock, L: Listener>(rt: &R, listener: &L, exported: Option<u16>, answer: &Answer)
+    ensures { L.is_told exported answer.now }
+{
     match exported {
         Some(node) => listener.exported(rt, node, answer),
         None => listener.answered(rt, answer),
@@ -46,6 +46,7 @@ pub(crate) fn answer_call<R: Wait + Clock, L: Listener>(
 ) -> Result<LineReply, AllocError>
     ensures ok { IfOk result (Answers (AnswersCall limit called) out.old.items out.new.items) }
     ensures err { OnErr result (StartsWith out.new.items out.old.items) }
+    ensures told { IfOk called (λ answer. L.is_told exported answer) }
 {
     match called {
         Ok(answer) => {

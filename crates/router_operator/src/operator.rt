@@ -9,6 +9,7 @@ ghost use Rattle.router_operator.specs.Looking.{told};
 ghost use Rattle.router_operator.specs.OperatorView.{IsAt, filter_of};
 ghost use Rattle.router_operator.specs.Operators as spec;
 ghost use Rattle.router_operator.specs.Running.{IsBrokenOff, IsServed};
+ghost use Rattle.router_operator.specs.Telling.{IsTold};
 ghost use Rattle.slot_lock.specs.Passes.{IsPassOf};
 
 use crate::calls::{answer_call, exported_by};
@@ -41,7 +42,7 @@ const TOO_LATE: &str = "O5";
 /// The code of a name that no filter has.
 const UNKNOWN_FILTER: &str = "O6";
 
-/// The code of an `up` or a `down` of a node whose link does it.
+/// The code of an `up`, and of a `down` of a node that has a link: a link alone brings its node up and down.
 const LINK_DOES_IT: &str = "O9";
 
 /// The operator of a router that others call too. A contract sees it as an `OperatorView`.
@@ -211,7 +212,7 @@ impl<'a, R: Wait + Clock, L: Listener, J: Naming> Operator<'a, R, L, J> {
             Command::Export { node, name } => {
                 self.use_filter(number, Direction::Export, node, name, out)
             }
-            Command::Up(node) => self.bring_up(number, node, out),
+            Command::Up(_) => refuse(out, LINK_DOES_IT, u64::from(number)),
             Command::Down(node) => self.take_down(number, node, out),
             Command::Show(node) => self.enter(Event::Show(node), out),
             Command::Look(look) => self.look(alloc, number, Asked::Tables(look), out),
@@ -267,25 +268,7 @@ impl<'a, R: Wait + Clock, L: Listener, J: Naming> Operator<'a, R, L, J> {
         self.enter(event, out)
     }
 
-    /// Answers `up`. The link of a node brings it up itself.
-    fn bring_up(
-        &mut self,
-        number: u32,
-        node: u16,
-        out: &mut Vec<u8>,
-    ) -> Result<LineReply, AllocError>
-        ensures ok { IfOk result (Answers (λ answer. spec.UnlessLinked node number (spec.AnswersEvent self.old (event.Up node)) self.old
-            answer self.new) out.old.items out.new.items) }
-        ensures err { OnErr result (StartsWith out.new.items out.old.items) }
-        ensures left { OnErr result (spec.BreaksOff self.old self.new) }
-    {
-        if has_link(self.links, node) {
-            return refuse(out, LINK_DOES_IT, u64::from(number));
-        }
-        self.enter(Event::Up(node), out)
-    }
-
-    /// Answers `down`, likewise.
+    /// Answers `down`. The link of a node takes it down itself.
     fn take_down(
         &mut self,
         number: u32,
@@ -308,11 +291,12 @@ impl<'a, R: Wait + Clock, L: Listener, J: Naming> Operator<'a, R, L, J> {
         self.enter(Event::Down(session_number(finding.session)), out)
     }
 
-    /// Enters an event, and answers it by the router's reply.
+    /// Enters an event, and answers it by the router's reply, of which the listener is told.
     fn enter(&mut self, event: Event, out: &mut Vec<u8>) -> Result<LineReply, AllocError>
         ensures ok { IfOk result (Answers (λ answer. spec.AnswersEvent self.old event answer self.new) out.old.items out.new.items) }
         ensures err { OnErr result (StartsWith out.new.items out.old.items) }
         ensures left { OnErr result (spec.BreaksOff self.old self.new) }
+        ensures told { IsTold L.is_told self.old.router self.old.pass event self.new.pass }
     {
         let exported = exported_by(&event);
         let called = self.router.call(self.rt, &mut self.pass, event);

@@ -1,6 +1,6 @@
 -- The answer to the call is the answer to the event.
 use Rattle.operator_cmds.proofs.Answering.{answers}
-use Rattle.router_operator.proofs.Entering.{call_answers}
+use Rattle.router_operator.proofs.Entering.{call_answers, call_told}
 use Rattle.router_operator.proofs.operator.Operator.enter.Goals as goal
 
 pub returns-clause-ok : goal.returns-clause-ok
@@ -11,3 +11,10 @@ returns-clause-ok g c =
     c.self.view_is c.self.invariant.0 c.args.event c.call-called.result c.call-called.ensures.pass.1 c.call-called.ensures.answered
     c.call-called.ensures.refused)
     c.answer_call.ensures.ok
+
+pub returns-clause-told : goal.returns-clause-told
+returns-clause-told g c =
+    let i = c.self.inside in
+    call_told c.args.self.now i.router.now i.pass c.call-called.new.pass i.filters.entries i.links.now i.has_quit i.size i.limit
+    c.self.view_is c.self.invariant.0 c.args.event c.call-called.result c.call-called.ensures.pass.1 c.call-called.ensures.answered
+    c.call-called.ensures.refused g.L.Listener.is_told c.exported_by-exported.result c.exported_by-exported.ensures c.answer_call.ensures.told
