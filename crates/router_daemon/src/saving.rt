@@ -1,11 +1,12 @@
 //! Who saves the history.
-ghost use Rattle.std.specs.Prelude.{◌≡◌, IfOk, length, Some, None};
+ghost use Rattle.std.specs.Prelude.{◌≡◌, IfNone, IfOk, IsSome, length, Some, None};
 ghost use Rattle.history_saver.specs.Saved.{HasSaved, seen_by};
 ghost use Rattle.router_daemon.specs.Passes.{IsLegalPass};
 ghost use Rattle.router_daemon.specs.Running.{HasWhole};
 
 use crate::naming::{LegalTicket, Ticket};
 use crate::shared::Shared;
+use crate::signals::Closing;
 use crate::telling::tell_unsaved;
 use history_saver::{SaveFault, Saver};
 use router_operator::Naming;
@@ -77,22 +78,6 @@ impl<V: Write, J: Naming> Promise<Saved<V, J>> for IsIn<V> {
     ghost kept_by = { λ p s. s.saver.first ≡ V.contents p.0.value };
 }
 
-/// Sleeps until the history has more entries than are saved, or the router is being closed: whether it is.
-fn await_entries<R: Wait, J: Naming, E: Write>(
-    rt: &R,
-    shared: &Shared<J, E>,
-    saved: usize,
-) -> bool {
-    let mut board = shared.signals.board.lock(rt);
-    for _ in rt.forever() {
-        if !board.rest_saver(saved as u64) {
-            return board.is_closing();
-        }
-        board = shared.signals.saver_bell.wait(rt, board);
-    }
-    unreachable!()
-}
-
 /// Tells people that the history is not saved any more.
 fn tell<R: Wait, J: Naming, E: Write>(
     rt: &R,
@@ -104,33 +89,33 @@ fn tell<R: Wait, J: Naming, E: Write>(
     tell_unsaved(alloc, &mut *errors, fault);
 }
 
-/// Saves the history as it is made, until the router is closed or saving fails.
+/// Saves the history as it is made, until the router is being closed, or saving fails (None): for nothing else it ends.
 fn save_all<R: Wait + Clock, V: Write, J: Naming, E: Write>(
     rt: &R,
     alloc: Global,
     shared: &Shared<J, E>,
     saver: &mut Saver<V>,
     pass: &mut Pass,
-)
+) -> Option<Closing>
     requires legal { IsLegalPass J.router pass.old }
     requires saved { HasSaved saver.old (seen_by J.router pass.old) }
     ensures legal { IsLegalPass J.router pass.new }
     ensures saved { HasSaved saver.new (seen_by J.router pass.new) }
     ensures first { saver.new.first ≡ saver.old.first }
     ensures all { saver.new.fault ≡ None → saver.new.saved ≡ Some (length pass.new.fragment.seen) }
+    ensures failed { IfNone result (IsSome saver.new.fault) }
 {
-    let mut is_closing = false;
+    let mut closing = None;
     for _ in rt.forever() {
-        match saver.save(rt, alloc, &shared.router, pass) {
-            Ok(_) if is_closing => return,
-            Ok(_) => {}
-            Err(fault) => {
-                tell(rt, alloc, shared, fault);
-                return;
-            }
+        if let Err(fault) = saver.save(rt, alloc, &shared.router, pass) {
+            tell(rt, alloc, shared, fault);
+            return None;
+        }
+        if closing.is_some() {
+            return closing;
         }
         thread::sleep(rt, Duration::from_millis(REST));
-        is_closing = await_entries(rt, shared, saver.saved());
+        closing = shared.signals.await_entries(rt, saver.saved());
     }
     unreachable!()
 }

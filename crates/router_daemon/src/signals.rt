@@ -1,5 +1,5 @@
 //! How the threads of a router wake one another.
-ghost use Rattle.std.specs.Prelude.{◌≡◌, IfOk};
+ghost use Rattle.std.specs.Prelude.{◌≡◌, IfOk, is_some};
 ghost use Rattle.link_board.specs.Boards.{AllAwake};
 
 use link_board::{Board, Ending};
@@ -8,6 +8,12 @@ use slot_lock::Answer;
 use std::alloc::{AllocError, Global};
 use std::rt::Clock;
 use std::sync::{Condvar, Mutex, MutexGuard, Wait};
+
+/// The router is being closed. Only `Signals` makes one: who has it was told so.
+#[derive(Drop)]
+pub(crate) struct Closing {
+    of: (),
+}
 
 /// What the threads of a router know together, and how they wake one another.
 #[derive(Drop)]
@@ -22,6 +28,17 @@ pub(crate) struct Signals {
     settled: Condvar,
     /// For each link the session that is over, but whose Down is not entered, so that the router has it still.
     owed: Vec<Mutex<Option<u32>>>,
+}
+
+/// That the router is being closed, if a board says so.
+fn closing_of(board: &Board) -> Option<Closing>
+    ensures { is_some result ≡ board.now.closing }
+{
+    if board.is_closing() {
+        Some(Closing { of: () })
+    } else {
+        None
+    }
 }
 
 /// So many bells.
@@ -151,6 +168,18 @@ impl Signals {
             }
             board = self.settled.wait(rt, board);
         }
+    }
+
+    /// Sleeps until the history has more entries than are saved, or the router is being closed: that it is, if so.
+    pub(crate) fn await_entries<R: Wait>(&self, rt: &R, saved: usize) -> Option<Closing> {
+        let mut board = self.board.lock(rt);
+        for _ in rt.forever() {
+            if !board.rest_saver(saved as u64) {
+                return closing_of(&board);
+            }
+            board = self.saver_bell.wait(rt, board);
+        }
+        unreachable!()
     }
 
     /// Begins a session of a link, whose Up has this answer. False where one is there already or the router is being closed.
