@@ -16,3 +16,8 @@ pub record Ends (may_be_first : Bool → Type 0) (r : RouterView) (session : ℕ
   pub is_first : Bool
   pub told : may_be_first is_first
   pub done : MatchBool is_first (GoesDown r session why old result new) ((new ≡ old) × (result ≡ why))
+
+-- Nothing was entered; or Down was, and who leaves was told of its answer.
+abbrev pub TellsDown : (Answer → Type 0) → RouterView → ℕ → PassView → PassView → Type 0
+TellsDown is_told r session old new =
+    (new.fragment.mine ≡ old.fragment.mine) ⊎ ((a : Answer) × Closes r session old a new × is_told a)

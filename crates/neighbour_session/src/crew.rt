@@ -14,9 +14,18 @@ pub const READER: u32 = 0;
 pub const WRITER: u32 = 1;
 
 /// One of a crew who said that its session is over, and serves it no more.
+///
+/// A contract sees what a leaver says of what it was told: it can be had only by telling it.
 pub trait Leaver {
+    ghost use Rattle.std.specs.Prelude.{⊤};
+    ghost use Rattle.slot_lock.specs.declared.answer.Answer.{Answer as Told};
+
+    // That it was told of the answer to a Down.
+    ghost is_told: { Told → Type 0 } = { λ _. ⊤ };
+
     /// Down was entered, with this answer.
-    fn ended<R: Wait + Clock>(&mut self, rt: &R, answer: &Answer);
+    fn ended<R: Wait + Clock>(&mut self, rt: &R, answer: &Answer)
+        ensures { is_told answer.now };
 }
 
 /// Who serves one session of a link: who reads it and who writes it agree whether it is there, and on who ends it. Its gate lets the

@@ -1,6 +1,6 @@
 //! A session is ended.
 ghost use Rattle.std.specs.Prelude.{◌≡◌};
-ghost use Rattle.neighbour_session.specs.Ending.{Ends, GoesDown};
+ghost use Rattle.neighbour_session.specs.Ending.{Ends, GoesDown, TellsDown};
 ghost use Rattle.route_session.specs.Calls.{StaysSound};
 ghost use Rattle.slot_lock.specs.Passes.{IsPassOf};
 
@@ -11,7 +11,8 @@ use slot_lock::{Pass, Router};
 use std::rt::Clock;
 use std::sync::Wait;
 
-/// Ends a session for a reason: enters Down, if nobody ended it before. Why it is over, and what is left of who served it.
+/// Ends a session for a reason: enters Down, if nobody ended it before, and tells who served it of the answer. Why it is over, and what is
+/// left of who served it.
 pub(crate) fn end_session<R: Wait + Clock, C: Crew>(
     rt: &R,
     router: &Router,
@@ -24,6 +25,7 @@ pub(crate) fn end_session<R: Wait + Clock, C: Crew>(
     ensures pass { StaysSound router.now pass.old pass.new }
     ensures shares { pass.new.fragment.shares ≡ pass.old.fragment.shares }
     ensures ends { Ends (C.may_be_first crew) router.now session why pass.old result.0 pass.new }
+    ensures told { TellsDown C.Leaver.is_told router.now session pass.old pass.new }
 {
     let (is_first, mut leaver) = crew.end(rt);
     if !is_first {

@@ -66,15 +66,17 @@ ran_fails operates untouched answered fault.Memory served is = absurd is
 from_none : (r : RouterView) (entries : List Entry) (first : Option (Option (List ℕ))) (saved : Option SaverView) → SavesTo r entries first saved →
     SavesTo r [] first saved
 from_none r entries None None h = tt
-from_none r entries (Some first) (Some s) h = record {
-  log = h.log;
-  legal = h.legal;
-  begins = record { rest = h.log; is = refl };
-  first_is = h.first_is;
-  well = h.well;
-  whole = h.whole;
-  has = h.has;
-}
+from_none r entries (Some first) (Some s) (p, h) = (
+  p,
+  record {
+    legal = h.legal;
+    begins = record { rest = p.fragment.seen; is = refl };
+    first_is = h.first_is;
+    well = h.well;
+    whole = h.whole;
+    has = h.has;
+  },
+)
 from_none r entries None (Some s) h = absurd h
 from_none r entries (Some first) None h = absurd h
 

@@ -1,5 +1,5 @@
 -- What becomes of a link. (This project's own choice.)
-use Rattle.std.specs.Prelude.{◌≡◌, ◌⊎◌, ℕ, ◌≤◌, Bool, true, false, List, None, string_bytes, ⊤}
+use Rattle.std.specs.Prelude.{◌≡◌, ◌⊎◌, ℕ, ◌*◌, ◌≤◌, Bool, true, false, List, Option, None, Some, string_bytes, ⊤}
 use Rattle.message_streams.specs.Views.{ReaderView, WriterView}
 use Rattle.neighbour_session.specs.Calls.{Closes}
 use Rattle.neighbour_session.specs.Ending.{GoesDown}
@@ -74,3 +74,18 @@ IsUnopened may_read may_write files = IsUnreadable may_read (string_bytes files.
 abbrev pub KeepsOnce : (List ℕ → Bool → Type 0) → (List ℕ → Bool → Type 0) → RouterView → Domain → LinkFiles → PassView → Bool → PassView → Type 0
 KeepsOnce may_read may_write r d files old again new =
     Opens r d files.node old again new ⊎ (IsUnopened may_read may_write files × (again ≡ true) × (new ≡ old))
+
+-- after how many nanoseconds a link is opened again: never without `--retry`, nor after a session that says that it cannot be
+abbrev pub reopens : Option ℕ → Bool → Option ℕ
+reopens None again = None
+reopens (Some seconds) false = None
+reopens (Some seconds) true = Some (seconds * 1000000000)
+
+-- A link is opened once, and what that came to and `--retry` alone decide whether it is opened again, and after how long.
+abbrev pub KeepsTurn : (List ℕ → Bool → Type 0) → (List ℕ → Bool → Type 0) → RouterView → Domain → LinkFiles → Option ℕ → PassView → Option ℕ → Type 0
+KeepsTurn may_read may_write r d files retry old wait =
+    (again : Bool) × (mid : PassView) × KeepsOnce may_read may_write r d files old again mid × (wait ≡ reopens retry again)
+
+-- A link stays closed after such a turn.
+abbrev pub StaysClosed : (List ℕ → Bool → Type 0) → (List ℕ → Bool → Type 0) → RouterView → Domain → LinkFiles → Option ℕ → Type 0
+StaysClosed may_read may_write r d files retry = (old : PassView) × KeepsTurn may_read may_write r d files retry old None

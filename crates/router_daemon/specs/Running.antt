@@ -1,10 +1,9 @@
 -- How a router is run. (This project's own choice.)
 use Rattle.std.specs.Prelude.{◌≡◌, ℕ, false, List, [], length, map, Option, Some, None, Result, Ok, Err, ⊤}
-use Rattle.history_saver.specs.Saved.{HasSaved, SaverView}
+use Rattle.history_saver.specs.Saved.{HasSaved, SaverView, seen_by}
 use Rattle.history_saver.specs.declared.fault.SaveFault.{SaveFault}
 use Rattle.line_protocol.specs.declared.faults.StreamFault.{StreamFault}
 use Rattle.route_history.specs.Beginning.{Begins}
-use Rattle.route_history.specs.History.{IsLegal}
 use Rattle.route_history.specs.declared.entry.Entry.{Entry}
 use Rattle.router_operator.specs.OperatorView.{Names, OperatorView}
 use Rattle.router_operator.specs.Running.{IsBrokenOff, IsServed}
@@ -55,20 +54,19 @@ abbrev pub Operated : PlanView → Names → Result ℕ StreamFault → List ℕ
 Operated plan names answered input left held holds =
     (r : RouterView) × (now : PassView) × RunsOperator plan names answered input left held holds r now
 
--- A file that held `first` got the whole text of a legal history of the router, which begins with these entries.
-pub record HasWhole (r : RouterView) (entries : List Entry) (first : Option (List ℕ)) (s : SaverView) : Type 0 where
-  pub log : List Entry
-  pub legal : IsLegal r.opening log
-  pub begins : Begins entries log
+-- A file that held `first` got the whole text of what a pass of the router has seen: a legal history, which begins with these entries.
+pub record HasWhole (r : RouterView) (entries : List Entry) (first : Option (List ℕ)) (p : PassView) (s : SaverView) : Type 0 where
+  pub legal : IsLegalPass r p
+  pub begins : Begins entries p.fragment.seen
   pub first_is : s.first ≡ first
   pub well : s.fault ≡ None
-  pub whole : s.saved ≡ Some (length log)
-  pub has : HasSaved s (record { opening = r.opening; limit = r.limit; entries = log })
+  pub whole : s.saved ≡ Some (length p.fragment.seen)
+  pub has : HasSaved s (seen_by r p)
 
 -- a history is saved if and only if a file is given
 abbrev pub SavesTo : RouterView → List Entry → Option (Option (List ℕ)) → Option SaverView → Type 0
 SavesTo r entries None None = ⊤
-SavesTo r entries (Some first) (Some s) = HasWhole r entries first s
+SavesTo r entries (Some first) (Some s) = (p : PassView) × HasWhole r entries first p s
 SavesTo r entries _ _ = ⊥
 
 -- the history that is saved is of a router that was opened as a plan says

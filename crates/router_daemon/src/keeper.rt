@@ -1,7 +1,11 @@
 //! Who keeps a link.
-ghost use Rattle.std.specs.Prelude.{◌≡◌, ◌<◌, ⊤, false, IfErr, IfOk};
+ghost use Rattle.std.specs.Prelude.{◌≡◌, ◌<◌, ⊤, false, IfErr, IfNone, IfOk};
+ghost use Rattle.std.specs.Duration.{as_nanos};
+ghost use Rattle.std.specs.Option.{option_map};
 ghost use Rattle.slot_lock.specs.Passes.{IsPassOf};
-ghost use Rattle.router_daemon.specs.Links.{AreFresh, IsOver, IsUnopened, IsUnreadable, KeepsOnce, Serves, ServesNeighbour};
+ghost use Rattle.router_daemon.specs.Links.{AreFresh, IsOver, IsUnopened, IsUnreadable, KeepsOnce, KeepsTurn, Serves, ServesNeighbour};
+ghost use Rattle.router_daemon.specs.Links.{StaysClosed, reopens};
+ghost use Rattle.neighbour_session.specs.Ending.{GoesDown};
 ghost use Rattle.neighbour_session.specs.Reading.{Hears};
 
 use crate::closing::stay;
@@ -11,9 +15,10 @@ use crate::naming::{FreshTicket, Ticket};
 use crate::room::{Order, Room};
 use crate::settling::settle;
 use crate::shared::Shared;
+use crate::signals::Closing;
 use crate::telling::{tell_end, tell_unopened};
 use message_streams::{MessageReader, MessageWriter};
-use neighbour_session::{Domain, SessionEnd, abandon_session, enter_up, greet, serve_reader};
+use neighbour_session::{Domain, SessionEnd, enter_down, enter_up, greet, serve_reader};
 use router_operator::Naming;
 use router_options::LinkFiles;
 use slot_lock::{Answer, Pass};
@@ -168,6 +173,33 @@ fn serve_begun<R: Wait + Clock, I: Read + Drop, O: Write + Drop, J: Naming, E: W
     (why, room.await_done(rt))
 }
 
+/// Enters the Down of a session that nobody serves, and notes it. Why it is over. Where the Down is refused memory, it is owed.
+fn abandon<R: Wait, J: Naming, E: Write>(
+    rt: &R,
+    shared: &Shared<J, E>,
+    pass: &mut Pass,
+    link: usize,
+    session: u32,
+) -> SessionEnd
+    requires { IsPassOf J.router pass.old }
+    ensures of { IsPassOf J.router pass.new }
+    ensures shares { pass.new.fragment.shares ≡ pass.old.fragment.shares }
+    ensures down { GoesDown J.router session SessionEnd.NotStarted pass.old result pass.new }
+{
+    match enter_down(rt, &shared.router, pass, session) {
+        Ok(answer) => {
+            shared.signals.note(rt, &answer);
+            SessionEnd::NotStarted
+        }
+        Err(why) => {
+            if why == SessionEnd::Memory {
+                shared.signals.owe(rt, link, session);
+            }
+            why
+        }
+    }
+}
+
 /// Serves a session whose Up has this answer, until it is over and nobody uses the streams any more. Where the link has a session
 /// already, or the router is being closed, its Down is entered at once. Why it is over, and the pass of who was to write.
 fn serve_opened<R: Wait + Clock, I: Read + Drop, O: Write + Drop, J: Naming, E: Write>(
@@ -194,10 +226,7 @@ fn serve_opened<R: Wait + Clock, I: Read + Drop, O: Write + Drop, J: Naming, E: 
         ticket,
         ..
     } = order;
-    let why = abandon_session(rt, &shared.router, pass, session);
-    if why == SessionEnd::Memory {
-        shared.signals.owe(rt, link.index, session);
-    }
+    let why = abandon(rt, shared, pass, link.index, session);
     shared.signals.settle(rt, link.index);
     (why, Ticket::new(ticket.pass()))
 }
@@ -300,7 +329,45 @@ fn keep_once<
     }
 }
 
-/// Keeps a link: serves one session after another, if it is to be opened again.
+/// After how long a link is opened again, where its last session says whether it can be: never without `--retry`.
+fn reopening(retry: Option<u32>, again: bool) -> Option<Duration>
+    ensures { option_map as_nanos result ≡ reopens retry again }
+{
+    match retry {
+        Some(seconds) if again => Some(Duration::from_secs(u64::from(seconds))),
+        _ => None,
+    }
+}
+
+/// Opens a link, serves one session, and waits until its Down is no more owed. After how long it is to be opened again; None where it stays
+/// closed.
+fn keep_turn<
+    R: Wait + Clock,
+    I: Read + Drop,
+    O: Write + Drop,
+    D: LinkFolder<I, O>,
+    J: Naming,
+    E: Write,
+>(
+    rt: &R,
+    alloc: Global,
+    folder: &D,
+    shared: &Shared<J, E>,
+    room: &Room<O, J>,
+    link: &Link,
+    pass: &mut Pass,
+) -> Option<Duration>
+    requires { IsPassOf J.router pass.old }
+    ensures of { IsPassOf J.router pass.new }
+    ensures keeps { KeepsTurn (D.may_read folder.now) (D.may_write folder.now) J.router link.now.domain link.now.files link.now.retry pass.old
+        (option_map as_nanos result) }
+{
+    let again = keep_once::<R, I, O, D, J, E>(rt, alloc, folder, shared, room, link, pass);
+    settle(rt, shared, pass, link.index);
+    reopening(link.retry, again)
+}
+
+/// Keeps a link: serves one session after another, until it stays closed (None) or the router is being closed.
 pub(crate) fn keep_link<
     R: Wait + Clock + Drop,
     I: Read + Drop,
@@ -316,19 +383,18 @@ pub(crate) fn keep_link<
     room: Arc<Room<O, J>>,
     link: Link,
     ticket: Ticket<J>,
-) {
+) -> Option<Closing>
+    ensures { IfNone result (StaysClosed (D.may_read folder.value) (D.may_write folder.value) J.router link.domain link.files link.retry) }
+{
     let mut pass = ticket.pass();
     for _ in rt.forever() {
-        let again = keep_once::<R, I, O, D, J, E>(
+        let wait = keep_turn::<R, I, O, D, J, E>(
             &rt, alloc, &folder, &shared, &room, &link, &mut pass,
-        );
-        settle(&rt, &shared, &mut pass, link.index);
-        let Some(seconds) = link.retry else {
-            return;
-        };
-        if !again || shared.signals.is_closing(&rt) {
-            return;
+        )?;
+        if let Some(closing) = shared.signals.closing(&rt) {
+            return Some(closing);
         }
-        thread::sleep(&rt, Duration::from_secs(u64::from(seconds)));
+        thread::sleep(&rt, wait);
     }
+    unreachable!()
 }

@@ -77,7 +77,7 @@ fn end_saving<R: Threads + Wait, V: Write + Drop, J: Naming, E: Write>(
         return Ok(None);
     };
     match saving.join(rt).finish(rt, alloc, shared, ticket) {
-        Ok(saver) => Ok(Some(saver)),
+        Ok(saved) => Ok(Some(saved.saver())),
         Err(fault) => Err(fault),
     }
 }

@@ -42,15 +42,23 @@ impl<V: Write, J: Naming> Model for Saved<V, J> {
 }
 
 impl<V: Write + Drop, J: Naming> Saved<V, J> {
-    /// Saves the rest of the history, at least as far as another pass has seen it: the saver.
+    /// Who saved the history.
+    pub(crate) fn saver(self) -> Saver<V>
+        ensures { result ≡ self.saver }
+    {
+        let Saved { saver, .. } = self;
+        saver
+    }
+
+    /// Saves the rest of the history, at least as far as another pass has seen it.
     pub(crate) fn finish<R: Wait, E: Write>(
         self,
         rt: &R,
         alloc: Global,
         shared: &Shared<J, E>,
         other: Ticket<J>,
-    ) -> Result<Saver<V>, SaveFault>
-        ensures { IfOk result (HasWhole J.router other.pass.fragment.seen self.saver.first) }
+    ) -> Result<Saved<V, J>, SaveFault>
+        ensures { IfOk result (λ s. HasWhole J.router other.pass.fragment.seen self.saver.first s.pass s.saver) }
     {
         let Saved { mut saver, ticket } = self;
         let mut pass = ticket.pass();
@@ -59,7 +67,10 @@ impl<V: Write + Drop, J: Naming> Saved<V, J> {
         }
         shared.router.join(&mut pass, other.pass());
         match saver.save(rt, alloc, &shared.router, &mut pass) {
-            Ok(_) => Ok(saver),
+            Ok(_) => Ok(Saved {
+                saver,
+                ticket: LegalTicket::new(pass),
+            }),
             Err(fault) => {
                 tell(rt, alloc, shared, fault);
                 Err(fault)

@@ -142,6 +142,11 @@ impl Signals {
         self.board.lock(rt).is_closing()
     }
 
+    /// That the router is being closed, if it is.
+    pub(crate) fn closing<R: Wait>(&self, rt: &R) -> Option<Closing> {
+        closing_of(&self.board.lock(rt))
+    }
+
     /// Says that the Up or the Down of a session of a link is about to be entered. False, and it is not to be, where the router is being
     /// closed.
     pub(crate) fn open<R: Wait>(&self, rt: &R, link: usize) -> bool {
