@@ -1,8 +1,10 @@
 mod Balanced
 mod Below
+mod Bracketed
 mod Cutting
 mod Defining
 mod Ends
+mod FirstUnset
 mod Following
 mod Halted
 mod Including
@@ -16,11 +18,13 @@ mod Outside
 mod Pairs
 mod Placed
 mod Reached
+mod Ranges
 mod Rows
 mod Spelled
 mod Splits
 mod Stops
 mod Tests
+mod Unassigned
 mod Variables
 mod Walked
 mod Words

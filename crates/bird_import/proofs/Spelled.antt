@@ -8,7 +8,8 @@ use Rattle.filter_tokens.specs.Tokenization.{AreInOrder}
 use Rattle.filter_tokens.specs.declared.token.Token.{Token}
 use Rattle.bird_import.specs.Alike.{AreAlike}
 use Rattle.bird_import.specs.Spelling.{IsSpelled, IsWritten, LiesIn}
-use Rattle.bird_import.specs.Texts.{Fated}
+use Rattle.bird_import.specs.Texts.{Fated, IsTaken}
+use Rattle.bird_import.specs.Unassigned.{AreAssigned}
 use Rattle.bird_import.specs.declared.text.Fate.{Fate}
 use Rattle.bird_import.specs.declared.text.Fate.TheVariants as fates
 use Rattle.bird_import.specs.declared.word.Word.{Word}
@@ -82,13 +83,16 @@ lies_in from to zero (first ∷ tokens) token (low, some, rest) is =
     subst (λ (t : Token). LiesIn to t) same (record { order = omega (arith, some); within = behind })
 lies_in from to (suc k) (first ∷ tokens) token (low, some, rest) is = lies_in first.to to k tokens token rest is
 
--- a filter is written for its words
-pub written : (text : List ℕ) (words : List Word) (filter : FilterView) (tokens : List Token) → IsText text filter → tokens ≡ filter.tokens
-    → AreAlike (IsSpelled text) tokens words → IsWritten words text
-written text words filter tokens spells same alike = record {
-  filter = filter;
-  spells = spells;
-  same = subst (λ list. AreAlike (IsSpelled text) list words) same alike;
+-- a filter is written for its words, and reads no variable before it assigns it
+pub taken : (text : List ℕ) (words : List Word) (filter : FilterView) (tokens : List Token) → IsText text filter → tokens ≡ filter.tokens
+    → AreAlike (IsSpelled text) tokens words → AreAssigned filter → IsTaken words text
+taken text words filter tokens spells same alike assigned = record {
+  written = record {
+    filter = filter;
+    spells = spells;
+    same = subst (λ list. AreAlike (IsSpelled text) list words) same alike;
+  };
+  assigned = assigned;
 }
 
 -- and one whose tokens are others is not

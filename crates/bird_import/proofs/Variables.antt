@@ -40,7 +40,7 @@ either (y ∷ xs) ys x (suc k) is =
     ]
 
 -- there is an element below the length
-there : {A : Type 0} (xs : List A) (k : ℕ) → k < length xs → (x : A) × (slice_get xs k ≡ Some x)
+pub there : {A : Type 0} (xs : List A) (k : ℕ) → k < length xs → (x : A) × (slice_get xs k ≡ Some x)
 there [] k below = absurd (omega (arith, below))
 there (x ∷ xs) zero below = (x, refl)
 there (x ∷ xs) (suc k) below = there xs k (omega (arith, below))

@@ -1,10 +1,11 @@
 -- `case` of addresses: the commands of a label stand in an `if`, and the other labels in its `else`.
-use Rattle.std.specs.Prelude.{◌≡◌, ◌⊎◌, ℕ, zero, suc, Bool, true, false, List, [], ◌∷◌, ◌++◌, Some, All}
+use Rattle.std.specs.Prelude.{◌≡◌, ◌⊎◌, ℕ, zero, suc, ◌+◌, ◌≤◌, Bool, true, false, List, [], ◌∷◌, ◌++◌, Some, All, length, take}
 use Rattle.filter_tokens.specs.declared.symbol.Symbol.{Symbol}
 use Rattle.filter_tokens.specs.declared.symbol.Symbol.TheVariants as symbol
 use Rattle.bird_import.specs.Alike.{AreAlike}
 use Rattle.bird_import.specs.Blocks.{AreCommands}
 use Rattle.bird_import.specs.Functions.{IsBlock}
+use Rattle.bird_import.specs.Indices.{IsAt, kind_at}
 use Rattle.bird_import.specs.Rules.{Is, IsSame, open_behind}
 use Rattle.bird_import.specs.declared.word.Word.{Word}
 use Rattle.bird_import.specs.declared.word.WordKind.{WordKind}
@@ -155,6 +156,40 @@ pub record IsParted (parts before label commands after : List Word) : Type 0 whe
   pub earlier : IsElseOrNone before
   pub first : IsFirstPart rest label commands after
 
+-- behind a label's address or range comes a further one or the end of the label
+abbrev pub EndsRange : List Word → ℕ → Type 0
+EndsRange words k = (length words ≤ k) ⊎ (IsAt symbol.Comma words k ⊎ IsAt symbol.Colon words k)
+
+-- at an index stands an address, or a range of addresses: those from `low` to `high`
+pub record IsRangeAt (words : List Word) (k low high : ℕ) : Type 0 where
+  pub begins : kind_at words k ≡ kind.Address low
+  pub ends : (EndsRange words (k + 1) × (high ≡ low))
+      ⊎ (IsAt symbol.DotDot words (k + 1) × (kind_at words (k + 2) ≡ kind.Address high))
+
+-- an address is in a label of some words, outside of what is opened there
+pub record IsInLabel (address : ℕ) (words : List Word) : Type 0 where
+  pub k : ℕ
+  pub low : ℕ
+  pub high : ℕ
+  pub outside : open_behind 0 (take k words) ≡ Some 0
+  pub range : IsRangeAt words k low high
+  pub above : low ≤ address
+  pub below : address ≤ high
+
+-- no address of a label is in one of other parts
+abbrev pub AreDistinct : List Word → List Word → Type 0
+AreDistinct label parts = (address : ℕ) → IsInLabel address label → IsInLabel address parts → ⊥
+
+-- no address from `low` to `high` is in the range at an index
+abbrev pub IsFreeAt : ℕ → ℕ → List Word → ℕ → Type 0
+IsFreeAt low high words k =
+    (from to address : ℕ) → IsRangeAt words k from to → low ≤ address → address ≤ high → from ≤ address → address ≤ to → ⊥
+
+-- no address of a label's range at an index is in a label of other parts
+abbrev pub IsDistinctAt : List Word → List Word → ℕ → Type 0
+IsDistinctAt label parts k =
+    (low high address : ℕ) → IsRangeAt label k low high → low ≤ address → address ≤ high → IsInLabel address parts → ⊥
+
 -- no `else` is at the front
 abbrev pub HasNoElse : List Word → Type 0
 HasNoElse back = (word : Word) (others : List Word) → back ≡ word ∷ others → Is symbol.Else word → ⊥
@@ -209,7 +244,7 @@ pub record IsTested (words test block rest : List Word) : Type 0 where
   pub begins : Is symbol.If begin
   pub decides : Is symbol.Then decide
 
--- A `case` is written as `if TEST then { COMMANDS }`, by its first label, and the other parts in an `else`.
+-- A `case` is written as `if TEST then { COMMANDS }`, by its first label, and the other parts, which have other addresses, in an `else`.
 pub record IsCaseTaken (old new back : List Word) : Type 0 where
   pub subject : List Word
   pub parts : List Word
@@ -224,6 +259,7 @@ pub record IsCaseTaken (old new back : List Word) : Type 0 where
   pub rest : List Word
   pub written : IsTested new test block rest
   pub tested : AreSomeTests subject label test
+  pub distinct : AreDistinct label after
   pub is_block : IsBlock commands block
   pub otherwise : IsOtherwise subject before after rest back
 

@@ -21,6 +21,14 @@ kind_at words k = kind_of_word (slice_get words k)
 abbrev pub bytes_at : List Word → ℕ → List ℕ
 bytes_at words k = bytes_of_word (slice_get words k)
 
+abbrev pub place_of_word : Option Word → ℕ
+place_of_word (Some word) = word.at
+place_of_word None = 0
+
+-- its place in the configuration, if there is a word
+abbrev pub place_at : List Word → ℕ → ℕ
+place_at words k = place_of_word (slice_get words k)
+
 -- the word at an index is this keyword or punctuator
 abbrev pub IsAt : Symbol → List Word → ℕ → Type 0
 IsAt wanted words k = kind_at words k ≡ kind.Symbol wanted

@@ -1,6 +1,7 @@
 -- Which filters are left out, and what the others become.
-use Rattle.std.specs.Prelude.{◌≡◌, ◌⊎◌, ℕ, zero, suc, true, false, List, [], ◌∷◌, ◌++◌, Some, slice_get}
+use Rattle.std.specs.Prelude.{◌≡◌, ◌⊎◌, ℕ, zero, suc, ◌-◌, true, false, List, [], ◌∷◌, ◌++◌, Some, slice_get}
 use Rattle.bird_import.specs.Drafts.{BeginsAs, words_of}
+use Rattle.bird_import.specs.Indices.{place_at}
 use Rattle.bird_import.specs.Reasons.{AreKnown, HasLeftOpen, HaveNoValue, HaveUnknown, HaveValues, IsNamedBefore, is_nameable}
 use Rattle.bird_import.specs.Scopes.{AreInScope}
 use Rattle.bird_import.specs.Steps.{Becomes}
@@ -72,9 +73,12 @@ abbrev pub IsJudged : Config → Item → Outcome → Type 0
 IsJudged config one (outcome.Drafted words) = ComesOf config one words.items
 IsJudged config one (outcome.LeftOut reason) = HasReason config one reason.why
 
--- a draft is that of an item: it has its name, and says what becomes of it
-abbrev pub IsDraft : Config → Item → Draft → Type 0
-IsDraft config one draft = (draft.name.now ≡ one.name.items) × IsJudged config one draft.outcome
+-- a draft is that of an item: it has its name and the places of its first and its last word, and says what becomes of it
+pub record IsDraft (config : Config) (one : Item) (draft : Draft) : Type 0 where
+  pub named : draft.name.now ≡ one.name.items
+  pub begins : draft.at ≡ place_at config.words.now one.from
+  pub ends : draft.end ≡ place_at config.words.now (one.to - 1)
+  pub judged : IsJudged config one draft.outcome
 
 -- an item has no draft where it is a function, and otherwise one
 abbrev pub HasDraft : Config → ItemKind → Item → List Draft → List Draft → Type 0

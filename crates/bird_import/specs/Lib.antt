@@ -17,5 +17,6 @@ pub mod Spelling
 pub mod Steps
 pub mod Stuck
 pub mod Texts
+pub mod Unassigned
 -- What only the bodies of this crate are proved against.
 pub mod Drafts

@@ -1,7 +1,7 @@
 -- The rules by which words of a filter of BIRD's are written as others: each keeps what the filter does. As in the BIRD 2.0 User's Guide;
 -- that printing is left out, and where a `;` may be missing, is this project's own choice.
 use Rattle.std.specs.Prelude.{◌≡◌, ◌≢◌, ◌⊎◌, ℕ, ◌+◌, ◌-◌, ◌<◌, ◌==◌, ◌||◌, Bool, true, false, if◌then◌else◌}
-use Rattle.std.specs.Prelude.{List, [], ◌∷◌, ◌++◌, Option, Some, None, All, codes, drop, ⊤}
+use Rattle.std.specs.Prelude.{List, [], ◌∷◌, ◌++◌, Option, Some, None, All, codes, drop, length, ⊤}
 use Rattle.std.specs.Str.{bytes_eq}
 use Rattle.bird_import.specs.Alike.{AreAlike}
 use Rattle.bird_import.specs.Indices.{IsAt, IsNameAt, bytes_at}
@@ -27,6 +27,14 @@ IsNamed name word = (word.kind ≡ kind.Name) × (word.bytes.now ≡ name)
 abbrev pub IsSame : Word → Word → Type 0
 IsSame one other = (one.kind ≡ other.kind) × (one.bytes.now ≡ other.bytes.now)
 
+-- words between two symbols
+pub record IsEnclosed (left right : Symbol) (inner words : List Word) : Type 0 where
+  pub opening : Word
+  pub closing : Word
+  pub whole : words ≡ opening ∷ (inner ++ closing ∷ [])
+  pub is_opening : Is left opening
+  pub is_closing : Is right closing
+
 -- words in parentheses that are put in
 pub record IsGrouped (inner new : List Word) : Type 0 where
   pub opening : Word
@@ -37,9 +45,44 @@ pub record IsGrouped (inner new : List Word) : Type 0 where
   pub is_closing : Is symbol.RightParen closing
   pub whole : new ≡ opening ∷ (kept ++ closing ∷ [])
 
--- a value that is put in: as it is, or in parentheses
+-- whether a word opens, or closes, parentheses, brackets or braces
+abbrev pub opens : WordKind → Bool
+opens (kind.Symbol symbol.LeftParen) = true
+opens (kind.Symbol symbol.LeftBracket) = true
+opens (kind.Symbol symbol.LeftBrace) = true
+opens other = false
+
+abbrev pub closes : WordKind → Bool
+closes (kind.Symbol symbol.RightParen) = true
+closes (kind.Symbol symbol.RightBracket) = true
+closes (kind.Symbol symbol.RightBrace) = true
+closes other = false
+
+-- how many are open behind some words, where so many are before them; none where one is closed that is not open
+unfoldable pub open_behind : ℕ → List Word → Option ℕ
+open_behind depth [] = Some depth
+open_behind depth (word ∷ words) =
+    if opens word.kind then open_behind (depth + 1) words
+    else (if closes word.kind then (if depth == 0 then None else open_behind (depth - 1) words)
+    else open_behind depth words)
+
+-- `[ .. ]`
+pub record IsSet (words : List Word) : Type 0 where
+  pub opening : Word
+  pub inner : List Word
+  pub closing : Word
+  pub whole : words ≡ opening ∷ (inner ++ closing ∷ [])
+  pub is_opening : Is symbol.LeftBracket opening
+  pub is_closing : Is symbol.RightBracket closing
+  pub balanced : open_behind 0 inner ≡ Some 0
+
+-- a value that is the same beside any operator: one word, or a set
+abbrev pub IsOneOperand : List Word → Type 0
+IsOneOperand value = (length value ≡ 1) ⊎ IsSet value
+
+-- a value that is put in: one word or a set as it is, and any other in parentheses
 abbrev pub IsPlaced : List Word → List Word → Type 0
-IsPlaced value new = AreAlike IsSame value new ⊎ IsGrouped value new
+IsPlaced value new = (IsOneOperand value × AreAlike IsSame value new) ⊎ ((IsOneOperand value → ⊥) × IsGrouped value new)
 
 -- Words begin with the definition of a name, `define NAME = VALUE;`, which ends before the name, and the value is put in: that goes to the
 -- first `;`.
@@ -167,27 +210,6 @@ pub record IsTypeTest (old new : List Word) : Type 0 where
   pub answer : Word
   pub written : new ≡ answer ∷ []
   pub is : IsTest compare family answer
-
--- whether a word opens, or closes, parentheses, brackets or braces
-abbrev pub opens : WordKind → Bool
-opens (kind.Symbol symbol.LeftParen) = true
-opens (kind.Symbol symbol.LeftBracket) = true
-opens (kind.Symbol symbol.LeftBrace) = true
-opens other = false
-
-abbrev pub closes : WordKind → Bool
-closes (kind.Symbol symbol.RightParen) = true
-closes (kind.Symbol symbol.RightBracket) = true
-closes (kind.Symbol symbol.RightBrace) = true
-closes other = false
-
--- how many are open behind some words, where so many are before them; none where one is closed that is not open
-unfoldable pub open_behind : ℕ → List Word → Option ℕ
-open_behind depth [] = Some depth
-open_behind depth (word ∷ words) =
-    if opens word.kind then open_behind (depth + 1) words
-    else (if closes word.kind then (if depth == 0 then None else open_behind (depth - 1) words)
-    else open_behind depth words)
 
 -- a word with which no expression goes on
 abbrev pub is_separator : WordKind → Bool

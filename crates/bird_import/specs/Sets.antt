@@ -4,7 +4,7 @@ use Rattle.filter_tokens.specs.declared.symbol.Symbol.TheVariants as symbol
 use Rattle.bird_import.specs.Alike.{AreAlike}
 use Rattle.bird_import.specs.Blocks.{AreCommands}
 use Rattle.bird_import.specs.Functions.{StandsAlone}
-use Rattle.bird_import.specs.Rules.{Is, IsForeign, IsNamed, IsSame, closes, is_kind, open_behind}
+use Rattle.bird_import.specs.Rules.{Is, IsForeign, IsNamed, IsSame, IsSet, closes, is_kind}
 use Rattle.bird_import.specs.declared.word.Word.{Word}
 use Rattle.bird_import.specs.declared.word.WordKind.TheVariants as kind
 
@@ -41,16 +41,6 @@ AreOthers name words = All (λ word. IsNamed name word → ⊥) words
 abbrev pub AssignsOthers : List ℕ → List Word → Type 0
 AssignsOthers name words =
     (k : ℕ) (x y : Word) → slice_get words k ≡ Some x → slice_get words (k + 1) ≡ Some y → IsNamed name x → Is symbol.Equal y → ⊥
-
--- `[ .. ]`
-pub record IsSet (words : List Word) : Type 0 where
-  pub opening : Word
-  pub inner : List Word
-  pub closing : Word
-  pub whole : words ≡ opening ∷ (inner ++ closing ∷ [])
-  pub is_opening : Is symbol.LeftBracket opening
-  pub is_closing : Is symbol.RightBracket closing
-  pub balanced : open_behind 0 inner ≡ Some 0
 
 -- `= SET; LATER`
 pub record IsGiven (words set later : List Word) : Type 0 where

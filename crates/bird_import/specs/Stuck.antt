@@ -1,5 +1,5 @@
 -- Where the steps from the words of a filter go no further, so that it is left out.
-use Rattle.std.specs.Prelude.{◌≡◌, ◌⊎◌, ℕ, zero, suc, ◌+◌, ◌-◌, ◌<◌, ◌≤◌, List, ◌++◌, Some, true, codes, length, max, slice_get, ⊤}
+use Rattle.std.specs.Prelude.{◌≡◌, ◌⊎◌, ℕ, zero, suc, ◌+◌, ◌-◌, ◌<◌, ◌≤◌, List, ◌++◌, Some, true, codes, length, max, slice_get}
 use Rattle.filter_tokens.specs.declared.symbol.Symbol.TheVariants as symbol
 use Rattle.bird_import.specs.Drafts.{words_of}
 use Rattle.bird_import.specs.Indices.{IsAt, IsBehind, IsForeignAt, IsNamedAt, kind_at}
@@ -125,11 +125,12 @@ module _ (config : Config) where
   abbrev pub AreApart : List Word → Type 0
   AreApart words = (name : List ℕ) → IsVariable name words → IsDefinedName name → ⊥
 
-  -- what is found of a name among so many definitions
+  -- what is found of a name among so many definitions: its only one, two of them, or that there is none
   abbrev pub IsFound : List ℕ → ℕ → Found → Type 0
   IsFound name n (found.Once definition) = (i : ℕ) × (i < n) × IsDefinition name i definition
+      × ((j : ℕ) (other : Definition) → j < n → IsDefinition name j other → j ≡ i)
   IsFound name n found.Twice = (i : ℕ) × (j : ℕ) × (one : Definition) × (other : Definition) × (i < j) × IsDefinition name i one × IsDefinition name j other
-  IsFound name n found.Never = ⊤
+  IsFound name n found.Never = (j : ℕ) (other : Definition) → j < n → IsDefinition name j other → ⊥
 
   -- it is defined by more than one word
   abbrev pub IsDefinedLonger : List ℕ → Type 0

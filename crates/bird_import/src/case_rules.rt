@@ -1,11 +1,13 @@
 //! `case` of addresses: whether what is written for one means the same.
-ghost use Rattle.std.specs.Prelude.{◌≡◌, All, IfSome, IsTrue, true};
+ghost use Rattle.std.specs.Prelude.{◌≡◌, ◌⊎◌, ◌↔◌, ◌<◌, ◌≤◌, ℕ, All, IfSome, IsTrue, length, true};
 ghost use Rattle.bird_import.specs.Cases as spec;
+ghost use Rattle.bird_import.specs.Indices.{kind_at};
+ghost use Rattle.bird_import.specs.declared.word.WordKind.TheVariants as kind;
 
 use crate::blocks::{are_commands, depth_behind};
 use crate::functions::is_block;
 use crate::rules::{are_balanced, are_same, is_same, split, until};
-use crate::word::{Word, WordKind, is_at};
+use crate::word::{Word, WordKind, depth_past, is_at, kind_at};
 use filter_tokens::Symbol;
 
 /// Whether an expression of such words may be computed for each label again.
@@ -47,35 +49,110 @@ fn is_address(kind: WordKind) -> bool
     matches!(kind, WordKind::Address(_))
 }
 
-/// The number of an address.
-fn number_of(word: &Word<'_>) -> u32 {
-    match word.kind {
-        WordKind::Address(number) => number,
-        _ => 0,
+/// The addresses of a label between two, both among them.
+#[derive(Clone, Copy)]
+struct AddressRange {
+    /// The first one.
+    low: u32,
+    /// The last one.
+    high: u32,
+}
+
+/// The address at an index, if there is one.
+fn address_at(words: &[Word<'_>], at: usize) -> Option<u32>
+    ensures { (address : ℕ) → kind_at words.now at ≡ kind.Address address → result ≡ Some address }
+{
+    match kind_at(words, at) {
+        WordKind::Address(number) => Some(number),
+        _ => None,
     }
 }
 
-/// Whether the address or the range at the front of some words is in a label, and not apart from another range.
-fn touches(low: &Word<'_>, high: &Word<'_>, words: &[Word<'_>]) -> bool {
-    let (from, to) = match words {
-        [first, dots, last, ..] if dots.is(Symbol::DotDot) => (first, last),
-        [first, next, ..] if next.is(Symbol::Comma) || next.is(Symbol::Colon) => (first, first),
-        _ => return false,
-    };
-    is_address(from.kind)
-        && is_address(to.kind)
-        && number_of(from) <= number_of(high)
-        && number_of(low) <= number_of(to)
+/// Whether a label's address or range ends before an index.
+fn ends_range(words: &[Word<'_>], at: usize) -> bool
+    ensures { IsTrue result ↔ spec.EndsRange words.now at }
+{
+    at >= words.len() || is_at(words, at, Symbol::Comma) || is_at(words, at, Symbol::Colon)
+}
+
+/// The address of a label, or the range of them, that stands at an index.
+fn range_at(words: &[Word<'_>], at: usize) -> Option<AddressRange>
+    requires { at < length words.now }
+    ensures { (low : ℕ) (high : ℕ) → spec.IsRangeAt words.now at low high → result ≡ Some (record { low = low; high = high }) }
+{
+    let low = address_at(words, at)?;
+    if is_at(words, at + 1, Symbol::DotDot) {
+        let high = address_at(words, at + 2)?;
+        Some(AddressRange { low, high })
+    } else if ends_range(words, at + 1) {
+        Some(AddressRange { low, high: low })
+    } else {
+        None
+    }
+}
+
+/// Whether no address is in both of two ranges, since one ends before the other begins.
+fn are_apart(one: AddressRange, other: AddressRange) -> bool
+    ensures { IsTrue result ↔ ((one.high < other.low) ⊎ (other.high < one.low)) }
+{
+    one.high < other.low || other.high < one.low
+}
+
+/// Whether a range has no address of the label's one that stands at an index.
+fn is_free_at(range: AddressRange, words: &[Word<'_>], at: usize) -> bool
+    requires { at < length words.now }
+    ensures { IsTrue result → spec.IsFreeAt range.low range.high words.now at }
+{
+    match range_at(words, at) {
+        Some(other) => are_apart(range, other),
+        None => true,
+    }
+}
+
+/// The same at an index before which so many parentheses, brackets and braces are open: within them no label is.
+fn is_free_behind(range: AddressRange, words: &[Word<'_>], at: usize, depth: usize) -> bool
+    requires { at < length words.now }
+    ensures { IsTrue result → depth ≡ 0 → spec.IsFreeAt range.low range.high words.now at }
+{
+    depth > 0 || is_free_at(range, words, at)
 }
 
 /// Whether no label of some parts of a `case` has an address of a range.
-fn is_free(low: &Word<'_>, high: &Word<'_>, parts: &[Word<'_>]) -> bool {
+fn is_free(range: AddressRange, parts: &[Word<'_>]) -> bool
+    ensures { IsTrue result → (address : ℕ) → range.low ≤ address → address ≤ range.high → spec.IsInLabel address parts.now → ⊥ }
+{
     let mut depth = 0usize;
     for at in 0..parts.len() {
-        if depth == 0 && touches(low, high, &parts[at..]) {
+        if !is_free_behind(range, parts, at, depth) {
             return false;
         }
-        depth = depth_behind(depth, parts[at].kind).unwrap_or(0);
+        depth = match depth_past(depth, kind_at(parts, at)) {
+            Some(after) => after,
+            None => return false,
+        };
+    }
+    true
+}
+
+/// Whether no address of the label's range at an index is in a label of other parts.
+fn is_distinct_at(label: &[Word<'_>], at: usize, parts: &[Word<'_>]) -> bool
+    requires { at < length label.now }
+    ensures { IsTrue result → spec.IsDistinctAt label.now parts.now at }
+{
+    match range_at(label, at) {
+        Some(range) => is_free(range, parts),
+        None => true,
+    }
+}
+
+/// Whether no address of a label is in a label of other parts.
+fn are_distinct(label: &[Word<'_>], parts: &[Word<'_>]) -> bool
+    ensures { IsTrue result → spec.AreDistinct label.now parts.now }
+{
+    for at in 0..label.len() {
+        if !is_distinct_at(label, at, parts) {
+            return false;
+        }
     }
     true
 }
@@ -184,21 +261,6 @@ fn are_tests<'w, 'a>(subject: &[Word<'_>], label: &'w [Word<'a>], test: &'w [Wor
         tests = left;
     }
     false
-}
-
-/// Whether no address of a label is in a label of other parts.
-fn is_apart(label: &[Word<'_>], parts: &[Word<'_>]) -> bool {
-    for at in 0..label.len() {
-        let is_range = is_at(label, at.saturating_add(1), Symbol::DotDot);
-        let to = if is_range { at.saturating_add(2) } else { at };
-        let (Some(low), Some(high)) = (label.get(at), label.get(to)) else {
-            return false;
-        };
-        if is_address(low.kind) && !is_free(low, high, parts) {
-            return false;
-        }
-    }
-    true
 }
 
 /// The commands of the part of a `case` for all other values.
@@ -456,10 +518,10 @@ pub fn is_case_taken<'w, 'a>(old: &'w [Word<'a>], new: &'w [Word<'a>], back: &[W
     let Some((test, block, rest)) = tested(new, made.commands.len()) else {
         return false;
     };
-    are_tests(subject, made.label, test)
-        && is_apart(made.label, made.after)
-        && is_block(made.commands, block)
-        && is_otherwise(subject, made.before, made.after, rest, back)
+    if !are_tests(subject, made.label, test) || !are_distinct(made.label, made.after) {
+        return false;
+    }
+    is_block(made.commands, block) && is_otherwise(subject, made.before, made.after, rest, back)
 }
 
 /// Whether a `case` is put in braces.

@@ -1,8 +1,8 @@
 //! Defined names: the definition stands where the name is used.
-ghost use Rattle.std.specs.Prelude.{◌≡◌, ◌↔◌, ◌<◌, ℕ, [], ◌∷◌, List, IfErr, IfOk, IfSome, IsTrue, None, OnOk, Some, length, slice_get};
+ghost use Rattle.std.specs.Prelude.{◌≡◌, ◌≢◌, ◌↔◌, ◌<◌, ℕ, [], ◌∷◌, List, IfErr, IfOk, IfSome, IsTrue, None, OnOk, Some, length, slice_get};
 ghost use Rattle.bird_import.specs.Indices.{IsNameAt};
 ghost use Rattle.bird_import.specs.Reasons.{IsVariable, IsVariableAt, why_of_plan};
-ghost use Rattle.bird_import.specs.Rules.{IsDefined};
+ghost use Rattle.bird_import.specs.Rules.{IsDefined, IsPlaced};
 ghost use Rattle.bird_import.specs.Steps.{Becomes};
 ghost use Rattle.bird_import.specs.Drafts.{IsDefinedHere};
 ghost use Rattle.bird_import.specs.Stuck.{AreApart, Hinders, IsDefinedName, IsDefinition, IsFound, IsUsed, StandsBefore};
@@ -10,11 +10,10 @@ ghost use Rattle.bird_import.specs.Stuck.{AreApart, Hinders, IsDefinedName, IsDe
 use crate::config::Config;
 use crate::items::Definition;
 use crate::reason::{Reason, Why};
-use crate::rules::{is_defined, is_kind};
+use crate::rules::{is_defined, is_kind, is_one_operand};
 use crate::step::{Plan, Rule, Step, enclosed, joined};
 use crate::word::{
-    Word, WordKind, closing, is_at, is_before, is_foreign_at, is_name_at, is_named_at, kind_at,
-    word_at,
+    Word, WordKind, is_at, is_before, is_foreign_at, is_name_at, is_named_at, kind_at, word_at,
 };
 use filter_tokens::Symbol;
 use std::alloc::{AllocError, Global};
@@ -106,6 +105,17 @@ enum Found {
     Never,
 }
 
+/// What is found of a name with a further definition of it.
+fn found_again(found: Found, definition: Definition) -> Found
+    ensures first { found ≡ Found.Never → result ≡ Found.Once definition }
+    ensures second { found ≢ Found.Never → result ≡ Found.Twice }
+{
+    match found {
+        Found::Never => Found::Once(definition),
+        Found::Once(_) | Found::Twice => Found::Twice,
+    }
+}
+
 /// The definition of a name.
 fn look_up(config: &Config<'_>, name: &[u8]) -> Found
     ensures { IsFound config.now name.now (length config.now.definitions.now) result }
@@ -113,31 +123,23 @@ fn look_up(config: &Config<'_>, name: &[u8]) -> Found
     let mut found = Found::Never;
     for definition in config.definitions {
         if is_named_at(config.words, definition.name, name) {
-            if matches!(found, Found::Once(_)) {
-                return Found::Twice;
-            }
-            found = Found::Once(*definition);
+            found = found_again(found, *definition);
         }
     }
     found
 }
 
-/// Whether a value needs no parentheses round it: it is one word or a set.
-fn is_closed_value(value: &[Word<'_>]) -> bool
-    ensures { length value.now ≡ 1 → IsTrue result }
-{
-    value.len() == 1
-        || (is_at(value, 0, Symbol::LeftBracket) && closing(value, 1) == value.len().checked_sub(1))
-}
-
 /// The words of a value where a word stood.
+#[tactic(auto, using(crate::proofs::Placed::as_it_is, crate::proofs::Placed::in_parentheses))]
 fn placed<'a>(
     alloc: Global,
     value: &[Word<'a>],
     word: Word<'a>,
-) -> Result<Vec<Word<'a>>, AllocError> {
+) -> Result<Vec<Word<'a>>, AllocError>
+    ensures { IfOk result (λ words. IsPlaced value.now words.items) }
+{
     match value {
-        [first, others @ ..] if is_closed_value(value) => {
+        [first, others @ ..] if is_one_operand(value) => {
             joined(alloc, &[first.after(word.gap)], others, &[])
         }
         _ => enclosed(alloc, Symbol::LeftParen, value, Symbol::RightParen, word),
@@ -224,7 +226,7 @@ fn value_for<'a>(
     }
     match config.words.get(definition.from..definition.to) {
         None | Some([]) => Err(Why::Unknown(word.bytes)),
-        Some(value) if is_closed_value(value) || !wants_one_word(words, at, is_in_brackets) => {
+        Some(value) if is_one_operand(value) || !wants_one_word(words, at, is_in_brackets) => {
             Ok(value)
         }
         Some(_) => Err(Why::OneWord(word.bytes)),

@@ -3,6 +3,7 @@ ghost use Rattle.std.specs.List.{list_all};
 ghost use Rattle.std.specs.Prelude.{◌≡◌, ◌↔◌, ◌⊎◌, ◌+◌, ◌<◌, ◌≤◌, false, [], ◌∷◌, List, IfErr, IfOk, IfSome, IsTrue, None, OnOk, Some, length, max};
 ghost use Rattle.bird_import.specs.Drafts.{BeginsAs, IfDrafted, IsCallee, IsNext, kinds_of, words_of};
 ghost use Rattle.bird_import.specs.Functions.{IsCallOf};
+ghost use Rattle.bird_import.specs.Indices.{place_at};
 ghost use Rattle.bird_import.specs.Judged.{AreJudged, HasDraft, HaveDrafts, IsDraft, IsFilter, IsJudged, IsNoFilter};
 ghost use Rattle.bird_import.specs.Reasons.{AreKnown, HasNameBefore, HaveUnknown, IsLeftOpen, IsNamedBefore, is_nameable, is_spelled_name, why_of, why_of_next, why_of_plan};
 ghost use Rattle.bird_import.specs.Scopes.{AreInScope};
@@ -588,7 +589,9 @@ fn rewritten<'a>(
 }
 
 /// The place of the word at an index.
-fn place_of(config: &Config<'_>, index: usize) -> usize {
+fn place_of(config: &Config<'_>, index: usize) -> usize
+    ensures { result ≡ place_at config.now.words.now index }
+{
     match config.words.get(index) {
         Some(word) => word.at,
         None => 0,

@@ -1,6 +1,6 @@
 //! Whether words are written as others by the rules that look at few of them.
 ghost use Rattle.bird_import.specs.Alike.{AreAlike};
-ghost use Rattle.std.specs.Prelude.{◌≡◌, ◌≢◌, ◌∷◌, ◌++◌, ◌<◌, false, length, All, IfSome, IsTrue, Some};
+ghost use Rattle.std.specs.Prelude.{◌≡◌, ◌↔◌, ◌≢◌, ◌∷◌, ◌++◌, ◌<◌, false, length, All, IfSome, IsTrue, Some};
 ghost use Rattle.bird_import.specs.Rules as spec;
 ghost use Rattle.bird_import.specs.declared.word.WordKind.TheVariants as kind;
 
@@ -39,11 +39,75 @@ pub fn is_grouped(inner: &[Word<'_>], new: &[Word<'_>]) -> bool
     open.is(Symbol::LeftParen) && close.is(Symbol::RightParen) && are_same(inner, kept)
 }
 
-/// Whether a value is put in: as it is, or in parentheses.
+/// Whether a word opens parentheses, brackets or braces.
+pub fn opens(kind: WordKind) -> bool
+    ensures { result ≡ spec.opens kind }
+{
+    matches!(
+        kind,
+        WordKind::Symbol(Symbol::LeftParen | Symbol::LeftBracket | Symbol::LeftBrace)
+    )
+}
+
+/// Whether a word closes them.
+pub fn closes(kind: WordKind) -> bool
+    ensures { result ≡ spec.closes kind }
+{
+    matches!(
+        kind,
+        WordKind::Symbol(Symbol::RightParen | Symbol::RightBracket | Symbol::RightBrace)
+    )
+}
+
+/// Whether all that is opened among some words is closed among them, and nothing else.
+#[tactic(auto, unfolding(crate::specs::Rules::open_behind))]
+pub fn are_balanced(words: &[Word<'_>]) -> bool
+    ensures { IsTrue result ↔ (spec.open_behind 0 words.now ≡ Some 0) }
+{
+    let mut depth = 0usize;
+    for word in words {
+        if opens(word.kind) {
+            depth = match depth.checked_add(1) {
+                Some(deeper) => deeper,
+                None => return false,
+            };
+        } else if closes(word.kind) {
+            if depth == 0 {
+                return false;
+            }
+            depth -= 1;
+        }
+    }
+    depth == 0
+}
+
+/// Whether words are a set.
+#[tactic(auto, using(crate::proofs::Bracketed::set_is, crate::proofs::Bracketed::set_is_long))]
+pub fn is_set(words: &[Word<'_>]) -> bool
+    ensures { IsTrue result ↔ spec.IsSet words.now }
+{
+    let [opening, inner @ .., closing] = words else {
+        return false;
+    };
+    opening.is(Symbol::LeftBracket) && closing.is(Symbol::RightBracket) && are_balanced(inner)
+}
+
+/// Whether a value is the same beside any operator: it is one word or a set.
+pub fn is_one_operand(value: &[Word<'_>]) -> bool
+    ensures { IsTrue result ↔ spec.IsOneOperand value.now }
+{
+    value.len() == 1 || is_set(value)
+}
+
+/// Whether a value is put in: one word or a set as it is, and any other in parentheses.
 fn is_placed(value: &[Word<'_>], new: &[Word<'_>]) -> bool
     ensures { IsTrue result → spec.IsPlaced value.now new.now }
 {
-    are_same(value, new) || is_grouped(value, new)
+    if is_one_operand(value) {
+        are_same(value, new)
+    } else {
+        is_grouped(value, new)
+    }
 }
 
 /// Whether none of some words is this keyword or punctuator.
@@ -247,48 +311,6 @@ pub fn is_type_test(old: &[Word<'_>], new: &[Word<'_>]) -> bool
         }
         _ => false,
     }
-}
-
-/// Whether a word opens parentheses, brackets or braces.
-pub fn opens(kind: WordKind) -> bool
-    ensures { result ≡ spec.opens kind }
-{
-    matches!(
-        kind,
-        WordKind::Symbol(Symbol::LeftParen | Symbol::LeftBracket | Symbol::LeftBrace)
-    )
-}
-
-/// Whether a word closes them.
-pub fn closes(kind: WordKind) -> bool
-    ensures { result ≡ spec.closes kind }
-{
-    matches!(
-        kind,
-        WordKind::Symbol(Symbol::RightParen | Symbol::RightBracket | Symbol::RightBrace)
-    )
-}
-
-/// Whether all that is opened among some words is closed among them, and nothing else.
-#[tactic(auto, unfolding(crate::specs::Rules::open_behind))]
-pub fn are_balanced(words: &[Word<'_>]) -> bool
-    ensures { IsTrue result → (spec.open_behind 0 words.now ≡ Some 0) }
-{
-    let mut depth = 0usize;
-    for word in words {
-        if opens(word.kind) {
-            depth = match depth.checked_add(1) {
-                Some(deeper) => deeper,
-                None => return false,
-            };
-        } else if closes(word.kind) {
-            if depth == 0 {
-                return false;
-            }
-            depth -= 1;
-        }
-    }
-    depth == 0
 }
 
 /// Whether no expression goes on with a word.

@@ -4,7 +4,7 @@ ghost use Rattle.bird_import.specs.Sets as spec;
 
 use crate::blocks::are_commands;
 use crate::functions::stands_alone;
-use crate::rules::{are_balanced, are_same, closes, is_kind, is_same, split, until};
+use crate::rules::{are_same, closes, is_kind, is_same, is_set, split, until};
 use crate::word::Word;
 use filter_tokens::Symbol;
 
@@ -93,16 +93,6 @@ fn assigns_others(name: &[u8], words: &[Word<'_>]) -> bool
         }
     }
     true
-}
-
-/// Whether words are a set.
-fn is_set(words: &[Word<'_>]) -> bool
-    ensures { IsTrue result → spec.IsSet words.now }
-{
-    let [opening, inner @ .., closing] = words else {
-        return false;
-    };
-    opening.is(Symbol::LeftBracket) && closing.is(Symbol::RightBracket) && are_balanced(inner)
 }
 
 /// The set of `= SET; LATER`, and what is behind it.

@@ -2,6 +2,7 @@
 ghost use Rattle.std.specs.Prelude.{◌≡◌, ◌++◌, IfOk, IfSome, Some};
 ghost use Rattle.bird_import.specs.Functions.{IsCallOf};
 ghost use Rattle.bird_import.specs.Reasons.{why_of_plan};
+ghost use Rattle.bird_import.specs.Rules.{IsEnclosed};
 ghost use Rattle.bird_import.specs.Steps.{Fits, Replaces};
 
 use crate::fits::fits;
@@ -180,13 +181,15 @@ pub fn joined<'a>(
 /// Words between two symbols, in the place of a word.
 pub fn enclosed<'a>(
     alloc: Global,
-    open: Symbol,
+    left: Symbol,
     inner: &[Word<'a>],
-    close: Symbol,
+    right: Symbol,
     word: Word<'a>,
-) -> Result<Vec<Word<'a>>, AllocError> {
-    let front = Word::made(open, word.at).after(word.gap);
-    joined(alloc, &[front], inner, &[Word::made(close, word.at)])
+) -> Result<Vec<Word<'a>>, AllocError>
+    ensures { IfOk result (λ words. IsEnclosed left right inner.now words.items) }
+{
+    let front = Word::made(left, word.at).after(word.gap);
+    joined(alloc, &[front], inner, &[Word::made(right, word.at)])
 }
 
 /// Puts words behind others, part by part.

@@ -160,7 +160,6 @@ fn index_of_name(tokens: &[Token], words: &[Word<'_>], name: &[u8], byte: usize)
 }
 
 /// What becomes of a text that was written for some words.
-#[tactic(auto, using(crate::proofs::Spelled::written))]
 fn judge(alloc: Global, text: &[u8], words: &[Word<'_>]) -> Result<Fate, AllocError>
     ensures { IfOk result (Fated words.now text.now) }
 {

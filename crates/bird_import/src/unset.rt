@@ -1,15 +1,13 @@
 //! Variables that are read before they are assigned: they are 0 here, and void in BIRD.
 
-ghost use Rattle.std.specs.Prelude.{◌<◌, IfErr, IfSome, length};
+ghost use Rattle.std.specs.Prelude.{◌≡◌, ◌⊎◌, ◌<◌, ◌||◌, IfSome, IsTrue, None, Some, is_some, length, map, not, true};
+ghost use Rattle.expression_parser.specs.Syntax.{view, view_more};
 ghost use Rattle.filter_parser.specs.Places.{decls_of};
+ghost use Rattle.filter_parser.specs.SyntaxCommands.{DeclView, commands_of, has_ranges, parts_of, view_command, view_label, view_part, view_target};
+ghost use Rattle.filter_parser.specs.SyntaxText.{view_filter};
+ghost use Rattle.bird_import.specs.Unassigned as spec;
 
-use filter_parser::{Command, Decl, Expr, Filter, Label, Op, Target};
-
-/// The most variables that are followed. A filter has 16 at most.
-const FOLLOWED: usize = 32;
-
-/// What is known where a filter has ended: nothing is read behind it.
-const ALL: u32 = u32::MAX;
+use filter_parser::{Command, Expr, Filter, Label, Op, Target};
 
 /// A variable that may be read before it is assigned.
 #[derive(Clone, Copy)]
@@ -20,167 +18,229 @@ pub struct Unset {
     pub at: usize,
 }
 
-/// Which of the variables that are followed has this name, if one has.
-fn variable_of(variables: &[Decl], name: &[u8]) -> Option<usize>
-    ensures { IfSome result (λ variable. variable < length variables.now) }
-{
-    variables
-        .iter()
-        .take(FOLLOWED)
-        .position(|variable| variable.name.as_slice() == name)
-}
-
-/// The bit of a variable.
-fn bit_of(variable: usize) -> u32 {
-    1u32.checked_shl(variable.min(FOLLOWED) as u32).unwrap_or(0)
-}
-
-/// These variables and the one of this name, if it is followed.
-fn with_name(variables: &[Decl], name: &[u8], known: u32) -> u32 {
-    match variable_of(variables, name) {
-        Some(variable) => known | bit_of(variable),
-        None => known,
-    }
-}
-
-/// The variable of this name, if it is followed and is not one of these. It is read at this place.
-fn unset_name(variables: &[Decl], name: &[u8], at: usize, known: u32) -> Option<Unset>
-    ensures { IfSome result (λ unset. unset.variable < length variables.now) }
-{
-    let variable = variable_of(variables, name)?;
-    if bit_of(variable) & !known == 0 {
-        None
-    } else {
-        Some(Unset { variable, at })
-    }
-}
-
-/// A variable that an expression reads where only these are assigned, if there is one.
+/// The place at which an expression reads a variable first, if it does.
 #[cycle(reading)]
-fn unset_in(variables: &[Decl], expr: &Expr, known: u32) -> Option<Unset>
-    ensures { IfSome result (λ unset. unset.variable < length variables.now) }
+fn read_by(variable: &[u8], expr: &Expr) -> Option<usize>
+    ensures { is_some result ≡ spec.reads variable.now (view expr.now) }
 {
     match expr {
-        Expr::Name(at, name) => unset_name(variables, name.as_slice(), *at, known),
-        Expr::Group(_, inner) => unset_in(variables, inner, known),
-        Expr::Not(_, inner) => unset_in(variables, inner, known),
-        Expr::Member(_, left, _) => unset_in(variables, left, known),
-        Expr::Suffixed(inner, _) => unset_in(variables, inner, known),
-        Expr::Binary(parts) => unset_in_binary(variables, parts, known),
-        Expr::GroupedBinary(_, parts) => unset_in_binary(variables, parts, known),
-        Expr::Chain(left, others) => match unset_in(variables, left, known) {
-            Some(unset) => Some(unset),
-            None => unset_among(variables, others.as_slice(), known),
+        Expr::Name(at, name) => {
+            if name.as_slice() == variable {
+                Some(*at)
+            } else {
+                None
+            }
+        }
+        Expr::Group(_, inner) => read_by(variable, inner),
+        Expr::Not(_, inner) => read_by(variable, inner),
+        Expr::Member(_, left, _) => read_by(variable, left),
+        Expr::Suffixed(inner, _) => read_by(variable, inner),
+        Expr::Binary(parts) => read_by_either(variable, parts),
+        Expr::GroupedBinary(_, parts) => read_by_either(variable, parts),
+        Expr::Chain(left, others) => match read_by(variable, left) {
+            Some(at) => Some(at),
+            None => read_among(variable, others.as_slice()),
         },
-        _ => None,
+        Expr::Number(_, _)
+        | Expr::Address(_, _)
+        | Expr::Prefix(_, _)
+        | Expr::Truth(_, _)
+        | Expr::Attribute(_, _)
+        | Expr::Defined(_, _)
+        | Expr::AttributePart(_, _, _) => None,
     }
 }
 
 /// The same of two operands.
 #[cycle(reading)]
-fn unset_in_binary(variables: &[Decl], parts: &(Expr, usize, Op, Expr), known: u32) -> Option<Unset>
-    ensures { IfSome result (λ unset. unset.variable < length variables.now) }
+fn read_by_either(variable: &[u8], parts: &(Expr, usize, Op, Expr)) -> Option<usize>
+    ensures { is_some result ≡ (spec.reads variable.now (view parts.now.0) || spec.reads variable.now (view parts.now.3)) }
 {
     let (left, _, _, right) = parts;
-    match unset_in(variables, left, known) {
-        Some(unset) => Some(unset),
-        None => unset_in(variables, right, known),
+    match read_by(variable, left) {
+        Some(at) => Some(at),
+        None => read_by(variable, right),
     }
 }
 
 /// The same of the further operands of a chain.
 #[cycle(reading)]
-fn unset_among(variables: &[Decl], operands: &[(usize, Op, Expr)], known: u32) -> Option<Unset>
-    ensures { IfSome result (λ unset. unset.variable < length variables.now) }
+fn read_among(variable: &[u8], operands: &[(usize, Op, Expr)]) -> Option<usize>
+    ensures { is_some result ≡ spec.reads_among variable.now (view_more operands.now) }
 {
     for operand in operands {
-        if let Some(unset) = unset_in(variables, &operand.2, known) {
-            return Some(unset);
+        if let Some(at) = read_by(variable, &operand.2) {
+            return Some(at);
         }
     }
     None
 }
 
-/// Which variables are assigned behind a command, where these are before it; or one that is read and is not.
-#[cycle(assigning)]
-fn behind(variables: &[Decl], command: &Command, known: u32) -> Result<u32, Unset>
-    ensures { IfErr result (λ unset. unset.variable < length variables.now) }
+/// Whether a variable is what an assignment sets.
+fn is_set_by(variable: &[u8], target: &Target) -> bool
+    ensures { result ≡ spec.is_set_by variable.now (view_target target.now) }
 {
-    match command {
-        Command::Empty(_) => Ok(known),
-        Command::Block(_, commands) => behind_all(variables, commands, known),
-        Command::If(_, condition, then, other) => {
-            set_in(variables, condition, known)?;
-            let first = behind(variables, then, known)?;
-            let second = match other {
-                Some(other) => behind(variables, other, known)?,
-                None => known,
-            };
-            Ok(first & second)
-        }
-        Command::Case(_, subject, parts) => {
-            set_in(variables, subject, known)?;
-            behind_parts(variables, parts, known)
-        }
-        Command::Assign(_, Target::Name(name), value) => {
-            set_in(variables, value, known)?;
-            Ok(with_name(variables, name.as_slice(), known))
-        }
-        Command::Assign(_, _, value) => {
-            set_in(variables, value, known)?;
-            Ok(known)
-        }
-        Command::Accept(_, _) | Command::Reject(_, _) => Ok(ALL),
+    match target {
+        Target::Name(name) => name.as_slice() == variable,
+        Target::RipMetric | Target::Net => false,
     }
 }
 
-/// The same of commands, in order.
-#[cycle(assigning)]
-fn behind_all(variables: &[Decl], commands: &[Command], known: u32) -> Result<u32, Unset>
-    ensures { IfErr result (λ unset. unset.variable < length variables.now) }
+/// Whether one of the parts of a `case` is that of `else`.
+fn has_else(parts: &[(Label, Vec<Command>)]) -> bool
+    ensures { result ≡ spec.has_else (parts_of (map view_part parts.now)) }
 {
-    let mut known = known;
-    for command in commands {
-        known = behind(variables, command, known)?;
+    for (label, _) in parts {
+        if is_else(label) {
+            return true;
+        }
     }
-    Ok(known)
+    false
+}
+
+/// Whether a label is `else`.
+fn is_else(label: &Label) -> bool
+    ensures { result ≡ not (has_ranges (view_label label.now)) }
+{
+    match label {
+        Label::Ranges(_) => false,
+        Label::Else(_) => true,
+    }
+}
+
+/// Whether a variable is assigned on each way through a command that goes on behind it.
+#[cycle(assigning)]
+fn assigns(variable: &[u8], command: &Command) -> bool
+    ensures { result ≡ spec.assigns variable.now (view_command command.now) }
+{
+    match command {
+        Command::Empty(_) => false,
+        Command::Block(_, commands) => assigns_in(variable, commands),
+        Command::If(_, _, chosen, other) => match other {
+            None => false,
+            Some(other) => assigns(variable, chosen) && assigns(variable, other),
+        },
+        Command::Case(_, _, parts) => has_else(parts) && assigns_in_parts(variable, parts),
+        Command::Assign(_, target, _) => is_set_by(variable, target),
+        Command::Accept(_, _) | Command::Reject(_, _) => true,
+    }
+}
+
+/// The same of commands one after another.
+#[cycle(assigning)]
+fn assigns_in(variable: &[u8], commands: &[Command]) -> bool
+    ensures { result ≡ spec.assigns_in variable.now (commands_of (map view_command commands.now)) }
+{
+    for command in commands {
+        if assigns(variable, command) {
+            return true;
+        }
+    }
+    false
+}
+
+/// The same of each part of a `case`.
+#[cycle(assigning)]
+fn assigns_in_parts(variable: &[u8], parts: &[(Label, Vec<Command>)]) -> bool
+    ensures { result ≡ spec.assigns_in_parts variable.now (parts_of (map view_part parts.now)) }
+{
+    for (_, commands) in parts {
+        if !assigns_in(variable, commands) {
+            return false;
+        }
+    }
+    true
+}
+
+/// The place at which a command first reads a variable that is not assigned before, on some way through it, if it does.
+#[cycle(following)]
+fn unset_by(variable: &[u8], command: &Command) -> Option<usize>
+    ensures { is_some result ≡ spec.reads_first variable.now (view_command command.now) }
+{
+    match command {
+        Command::Empty(_) | Command::Accept(_, _) | Command::Reject(_, _) => None,
+        Command::Block(_, commands) => unset_in(variable, commands),
+        Command::If(_, test, chosen, other) => {
+            if let Some(at) = read_by(variable, test) {
+                return Some(at);
+            }
+            if let Some(at) = unset_by(variable, chosen) {
+                return Some(at);
+            }
+            match other {
+                None => None,
+                Some(other) => unset_by(variable, other),
+            }
+        }
+        Command::Case(_, argument, parts) => match read_by(variable, argument) {
+            Some(at) => Some(at),
+            None => unset_in_parts(variable, parts),
+        },
+        Command::Assign(_, _, value) => read_by(variable, value),
+    }
+}
+
+/// The same of commands one after another.
+#[cycle(following)]
+fn unset_in(variable: &[u8], commands: &[Command]) -> Option<usize>
+    ensures { is_some result ≡ spec.reads_first_in variable.now (commands_of (map view_command commands.now)) }
+{
+    for command in commands {
+        if let Some(at) = unset_by(variable, command) {
+            return Some(at);
+        }
+        if assigns(variable, command) {
+            return None;
+        }
+    }
+    None
 }
 
 /// The same of the parts of a `case`.
-#[cycle(assigning)]
-fn behind_parts(
-    variables: &[Decl],
-    parts: &[(Label, Vec<Command>)],
-    known: u32,
-) -> Result<u32, Unset>
-    ensures { IfErr result (λ unset. unset.variable < length variables.now) }
+#[cycle(following)]
+fn unset_in_parts(variable: &[u8], parts: &[(Label, Vec<Command>)]) -> Option<usize>
+    ensures { is_some result ≡ spec.reads_first_in_parts variable.now (parts_of (map view_part parts.now)) }
 {
-    let mut all = ALL;
-    let mut has_else = false;
-    for (label, commands) in parts {
-        let part = behind_all(variables, commands, known)?;
-        all = all & part;
-        has_else = has_else || matches!(label, Label::Else(_));
+    for (_, commands) in parts {
+        if let Some(at) = unset_in(variable, commands) {
+            return Some(at);
+        }
     }
-    Ok(if has_else { all } else { all & known })
+    None
 }
 
-/// Refuses an expression that reads a variable which is not assigned.
-fn set_in(variables: &[Decl], expr: &Expr, known: u32) -> Result<(), Unset>
-    ensures { IfErr result (λ unset. unset.variable < length variables.now) }
+/// Whether a place comes before that of what was found, if there is such.
+fn is_earlier(at: usize, found: Option<Unset>) -> bool
+    ensures { found ≡ None → IsTrue result }
 {
-    match unset_in(variables, expr, known) {
-        Some(unset) => Err(unset),
-        None => Ok(()),
+    match found {
+        Some(unset) => at < unset.at,
+        None => true,
     }
 }
 
-/// A variable that a filter may read before it is assigned, if there is one.
+/// What was found so far, or a further variable that may be read before it is assigned, if that is read at an earlier place.
+fn earlier(found: Option<Unset>, variable: usize, at: Option<usize>) -> Option<Unset>
+    ensures none { result ≡ None → (found ≡ None) × (at ≡ None) }
+    ensures some { IfSome result (λ unset. (found ≡ Some unset) ⊎ ((unset.variable ≡ variable) × (is_some at ≡ true))) }
+{
+    match at {
+        Some(at) if is_earlier(at, found) => Some(Unset { variable, at }),
+        _ => found,
+    }
+}
+
+/// A variable that a filter may read before it assigns it, if there is one: the one that is read so at the first place.
 pub fn first_unset(filter: &Filter) -> Option<Unset>
-    ensures { IfSome result (λ unset. unset.variable < length (decls_of filter.now)) }
+    ensures within { IfSome result (λ unset. unset.variable < length (decls_of filter.now)) }
+    ensures some { IfSome result (λ unset. (decl : DeclView) × spec.MayReadUnset (view_filter filter.now) unset.variable decl) }
+    ensures none { result ≡ None → spec.AreAssigned (view_filter filter.now) }
 {
-    match behind_all(filter.decls(), filter.body(), 0) {
-        Ok(_) => None,
-        Err(unset) => Some(unset),
+    let (variables, body) = (filter.decls(), filter.body());
+    let mut found = None;
+    for variable in 0..variables.len() {
+        let at = unset_in(variables[variable].name.as_slice(), body);
+        found = earlier(found, variable, at);
     }
+    found
 }

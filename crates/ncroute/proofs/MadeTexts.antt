@@ -3,8 +3,7 @@ use Rattle.std.proofs.Common.{◌≡◌, ◌<◌, ℕ, zero, suc, false, List, [
 use Rattle.std.proofs.Common.{IfOk, Result, Ok, Err, arith, get_or, length, slice_get, subst, sym}
 use Rattle.std.proofs.lemmas.Option.{slice_get-get_or}
 use Rattle.bird_import.specs.Indices.{IsNameAt}
-use Rattle.bird_import.specs.Spelling.{IsWritten}
-use Rattle.bird_import.specs.Texts.{Fated}
+use Rattle.bird_import.specs.Texts.{Fated, IsTaken}
 use Rattle.bird_import.specs.declared.reason.Why.TheVariants as why
 use Rattle.bird_import.specs.declared.text.Fate.{Fate}
 use Rattle.bird_import.specs.declared.text.Fate.TheVariants as fate
@@ -22,10 +21,10 @@ use Rattle.ncroute.specs.declared.importing.Made.{Made}
 
 -- the text is taken
 pub of_taken : (size at : ℕ) (words : List Word) (text : List ℕ) (origins : List Origin) (made : Made) (kept : Option (List ℕ))
-    → IsWritten words text → KeepsText size at text origins made kept → KeepsWords size at words text origins made kept
-of_taken size at words text origins made None written refused = record { fate = fate.Taken; fated = written; left = refused }
-of_taken size at words text origins made (Some kept) written (same, verified, place) =
-    record { same = same; written = written; verified = verified; place = place }
+    → IsTaken words text → KeepsText size at text origins made kept → KeepsWords size at words text origins made kept
+of_taken size at words text origins made None taken refused = record { fate = fate.Taken; fated = taken; left = refused }
+of_taken size at words text origins made (Some kept) taken (same, verified, place) =
+    record { same = same; taken = taken; verified = verified; place = place }
 
 -- what is told of a failure that is a refusal
 pub told_of : {A : Type 0} (size : ℕ) (text : List ℕ) (r : Result A Failure) (why : Failure) (told : Diagnosis)
@@ -51,10 +50,10 @@ of_told size at text origins told (Ok made) none words place is =
 of_told size at text origins told (Err e) none words place is = tt
 
 -- what came of words follows from what came of a text
-pub of_text : {E : Type 0} (size at : ℕ) (words : List Word) (text : List ℕ) (origins : List Origin) (r : Result Made E) → IsWritten words text
+pub of_text : {E : Type 0} (size at : ℕ) (words : List Word) (text : List ℕ) (origins : List Origin) (r : Result Made E) → IsTaken words text
     → IfOk r (IsMadeOfText size at text origins) → IfOk r (IsMadeOfWords size at words text origins)
-of_text size at words text origins (Ok made) written is = of_taken size at words text origins made (text_in made) written is
-of_text size at words text origins (Err e) written is = tt
+of_text size at words text origins (Ok made) taken is = of_taken size at words text origins made (text_in made) taken is
+of_text size at words text origins (Err e) taken is = tt
 
 -- a filter of which no text is kept is left out for this
 pub of_left : {E : Type 0} (size at : ℕ) (words : List Word) (text : List ℕ) (origins : List Origin) (others : Fate) (r : Result Made E)

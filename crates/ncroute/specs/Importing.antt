@@ -13,8 +13,7 @@ use Rattle.bird_import.specs.Items.{definitions_in, items_in, view_of_item}
 use Rattle.bird_import.specs.Judged.{HaveDrafts}
 use Rattle.bird_import.specs.Laying.{origin_of, origins_of, text_of}
 use Rattle.bird_import.specs.Reasons.{AreReasonWords}
-use Rattle.bird_import.specs.Spelling.{IsWritten}
-use Rattle.bird_import.specs.Texts.{Fated}
+use Rattle.bird_import.specs.Texts.{Fated, IsTaken}
 use Rattle.bird_import.specs.declared.config.Config.{Config}
 use Rattle.bird_import.specs.declared.cut.Cut.{Cut}
 use Rattle.bird_import.specs.declared.drafts.Draft.{Draft}
@@ -100,10 +99,11 @@ KeepsText size at text origins made (Some kept) = (kept ≡ text) × IsVerifiedT
 abbrev pub IsMadeOfText : ℕ → ℕ → List ℕ → List Origin → Made → Type 0
 IsMadeOfText size at text origins made = KeepsText size at text origins made (text_in made)
 
--- What is kept of a draft is the text that was written for its words, and it is verified for domains of a size; the place is that of the draft.
+-- What is kept of a draft is the text that was written for its words, which reads no variable before it assigns it, and it is verified for
+-- domains of a size; the place is that of the draft.
 pub record IsOfWords (size at : ℕ) (words : List Word) (text : List ℕ) (made : Made) (kept : List ℕ) : Type 0 where
   pub same : kept ≡ text
-  pub written : IsWritten words text
+  pub taken : IsTaken words text
   pub verified : IsVerifiedText size text made.words.items
   pub place : made.at ≡ at
 
@@ -121,7 +121,7 @@ IsToldUnset None made = ⊥
 IsToldUnset (Some word) made = IsToldFor word.at (why.Unset word.bytes) made
 
 -- Why none is kept of a draft: the text for its words is refused, and so it is told; or the words could not be written, or one of them is a
--- variable that may be read before it is assigned, as the import judges, and its place is told.
+-- variable that may be read before it is assigned, and its place is told.
 abbrev pub IsLeftFor : ℕ → ℕ → List Word → List ℕ → List Origin → Made → Fate → Type 0
 IsLeftFor size at words text origins made fate.Taken = IsRefusedText size at text origins made
 IsLeftFor size at words text origins made (fate.Refused fault) = IsRefusedText size at text origins made

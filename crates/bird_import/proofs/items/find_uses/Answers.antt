@@ -1,4 +1,4 @@
-use Rattle.std.proofs.Common.{◌≡◌, ◌+◌, refl, sym, ◌∙◌, ap, append-nil}
+use Rattle.std.proofs.Common.{◌≡◌, ◌+◌, sym, ◌∙◌, ap, append-nil}
 use Rattle.bird_import.specs.Items.{blocks_past, blocks_round, uses_before}
 use Rattle.bird_import.proofs.Walked.{one_used, round_further}
 use Rattle.bird_import.proofs.items.find_uses.Goals as goal

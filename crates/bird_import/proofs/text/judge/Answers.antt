@@ -1,13 +1,15 @@
-use Rattle.std.proofs.Common.{◌∙◌, ◌<◌, ℕ, List, ap, length, subst, sym}
-use Rattle.filter_parser.specs.SyntaxCommands.{view_decl}
+use Rattle.std.proofs.Common.{◌≡◌, ◌∙◌, ◌<◌, ℕ, List, ap, length, slice_get, subst, sym, true}
+use Rattle.filter_parser.specs.SyntaxCommands.{DeclView, view_decl}
 use Rattle.filter_parser.specs.SyntaxText.{view_filter}
 use Rattle.filter_parser.specs.declared.tree.decl.Decl.{Decl}
 use Rattle.filter_tokens.specs.declared.token.Token.{Token}
 use Rattle.bird_import.specs.Alike.{AreAlike}
 use Rattle.bird_import.specs.Indices.{IsNamedAt}
 use Rattle.bird_import.specs.Spelling.{IsSpelled}
+use Rattle.bird_import.specs.Unassigned.{reads_first_in}
+use Rattle.bird_import.proofs.Below.{same_some}
 use Rattle.bird_import.proofs.Variables.{decl_at, has_variable}
-use Rattle.bird_import.proofs.Spelled.{false_not_true, not_written, of_fault}
+use Rattle.bird_import.proofs.Spelled.{false_not_true, not_written, of_fault, taken}
 use Rattle.bird_import.proofs.text.judge.Goals as goal
 
 pub returns-in-Err : goal.returns-in-Err
@@ -33,7 +35,7 @@ index_of_name-requires c =
     let decl = c.index-decls-unset.result in
     let alike = subst (λ (tokens : List Token). AreAlike (IsSpelled c.args.text.now) tokens c.args.words.now) c.tokens.ensures
     (c.are_words.ensures.0 c.if-not-are_words.false) in
-    let below = subst (λ (decls : List Decl). c.in-Some.unset.variable < length decls) (sym c.decls.ensures.value) c.in-Some.ensures in
+    let below = subst (λ (decls : List Decl). c.in-Some.unset.variable < length decls) (sym c.decls.ensures.value) c.in-Some.ensures.within in
     let is = decl_at c.decls.result.now filter.decls c.in-Some.unset.variable decl c.decls.ensures.view below c.index-decls-unset.is in
     let same = c.as_slice-name.ensures.value ∙ ap (λ (d : Decl). d.name.items) (sym c.index-decls-unset.is) in
     let has = has_variable c.args.text.now c.args.words.now filter c.in-Ok.ensures.found alike (view_decl decl) c.in-Some.unset.variable is in
@@ -45,12 +47,20 @@ returns-in-Some c =
     let decl = c.index-decls-unset.result in
     let alike = subst (λ (tokens : List Token). AreAlike (IsSpelled c.args.text.now) tokens c.args.words.now) c.tokens.ensures
     (c.are_words.ensures.0 c.if-not-are_words.false) in
-    let below = subst (λ (decls : List Decl). c.in-Some.unset.variable < length decls) (sym c.decls.ensures.value) c.in-Some.ensures in
+    let below = subst (λ (decls : List Decl). c.in-Some.unset.variable < length decls) (sym c.decls.ensures.value) c.in-Some.ensures.within in
     let is = decl_at c.decls.result.now filter.decls c.in-Some.unset.variable decl c.decls.ensures.view below c.index-decls-unset.is in
     let same = c.as_slice-name.ensures.value ∙ ap (λ (d : Decl). d.name.items) (sym c.index-decls-unset.is) in
+    let found = c.in-Some.ensures.some in
+    let one : found.0 ≡ view_decl decl = same_some (slice_get filter.decls c.in-Some.unset.variable) found.0 (view_decl decl) found.1.0 is in
+    let unset = subst (λ (d : DeclView). reads_first_in d.name filter.body ≡ true) one found.1.1 in
     record {
       written = record { filter = filter; spells = c.in-Ok.ensures.found; same = alike };
       variable = view_decl decl;
-      declared = (c.in-Some.unset.variable, is);
+      unset = (c.in-Some.unset.variable, (is, unset));
       named = subst (λ (name : List ℕ). IsNamedAt name c.args.words.now c.index_of_name.result) same c.index_of_name.ensures;
     }
+
+pub returns : goal.returns
+returns c =
+    taken c.args.text.now c.args.words.now (view_filter c.in-Ok.filter) c.tokens.result.now c.in-Ok.ensures.found c.tokens.ensures
+    (c.are_words.ensures.0 c.if-not-are_words.false) (c.first_unset.ensures.none c.in-None.is)
