@@ -552,7 +552,7 @@ def undecided_filters(ncroute):
         return f"wrote {lines[:1]} to {lines[-1:]}, and ended with {status}"
     never = b"filter f { if net.ip.mask(24) = net.ip && net.len > 32 then reject; accept; }"
     wanted = b"0.filter: undecided: not all routes were tried, so W1, W2 and W8 were not looked for\n"
-    return differs(on_filters(ncroute, "lint --size 250 --limit 50000", [never]), (wanted, 0))
+    return differs(on_filters(ncroute, "lint --size 250 --limit 50000", [never]), (wanted, 3))
 
 
 def padded_tests(ncroute):

@@ -149,7 +149,8 @@ Where CLASSES are not enough for W1, W2 and W8, the line `FILE: undecided: ..` s
 Example:
   echo 'filter f { if net.len > 32 then reject; accept; }' | ncroute lint
 The exit status is 0 if nothing is said of any filter; 1 if there is a warning, or a filter was
-refused or not read; 2 if the command line is wrong; 3 if a fault ended the run.
+refused; 2 if the command line is wrong; 3 if nothing is said but a filter is undecided or was
+not read, or a fault ended the run.
 ";
 
 /// Of `list`.

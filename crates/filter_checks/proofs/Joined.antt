@@ -1,5 +1,5 @@
 -- Parts that are joined are parts of the same codes.
-use Rattle.std.proofs.Common.{◌≡◌, ◌⊎◌, inl, inr, ℕ, List, Result, Ok, Err, IfOk, Vec, Global}
+use Rattle.std.proofs.Common.{◌⊎◌, inl, inr, ℕ, List, Result, Ok, Err, IfOk, Vec, Global}
 use Rattle.filter_code.specs.CodeView.{CodeView}
 use Rattle.filter_code.specs.RouteView.{RouteView}
 use Rattle.filter_diff.specs.Joins.{StandFor}
@@ -12,15 +12,17 @@ same_or_joined : (old new : CodeView) (route : RouteView) (parts others : List R
 same_or_joined old new route parts others f (inl same) = inl same
 same_or_joined old new route parts others f (inr among) = inr (f among)
 
-pub parts_joined : (old new : CodeView) (size : ℕ) (parts others : List RoutePart) → StandFor parts others → AreParts old new size others
-    → AreParts old new size parts
-parts_joined old new size parts others stand are = record {
+pub parts_joined : (old new : CodeView) (size limit : ℕ) (parts others : List RoutePart) → StandFor parts others
+    → AreParts old new size limit others → AreParts old new size limit parts
+parts_joined old new size limit parts others stand are = record {
   complete = λ route is_in. same_or_joined old new route parts others (stand.routes route) (are.complete route is_in);
   sound = stand.true_of old new size are.sound;
   real = stand.real size are.real;
+  decided = λ enough. stand.decided (are.decided enough);
 }
 
-pub all_joined : {E : Type 0} (old new : CodeView) (size : ℕ) (others : List RoutePart) (r : Result (Vec RoutePart Global) E)
-    → IfOk r (λ joined. StandFor joined.items others) → AreParts old new size others → IfOk r (λ joined. AreParts old new size joined.items)
-all_joined old new size others (Ok joined) stand are = parts_joined old new size joined.items others stand are
-all_joined old new size others (Err why) stand are = tt
+pub all_joined : {E : Type 0} (old new : CodeView) (size limit : ℕ) (others : List RoutePart) (r : Result (Vec RoutePart Global) E)
+    → IfOk r (λ joined. StandFor joined.items others) → AreParts old new size limit others
+    → IfOk r (λ joined. AreParts old new size limit joined.items)
+all_joined old new size limit others (Ok joined) stand are = parts_joined old new size limit joined.items others stand are
+all_joined old new size limit others (Err why) stand are = tt

@@ -3,3 +3,4 @@ pub mod Comparisons
 pub mod FirstLine
 pub mod MoreTests
 pub mod Meant
+pub mod TestFiles

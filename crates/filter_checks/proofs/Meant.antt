@@ -1,8 +1,8 @@
 -- What parts and tests say of codes they say of the filters that the codes are of.
-use Rattle.std.proofs.Common.{◌≡◌, ◌⊎◌, inl, inr, ℕ, Bool, true, false, List, [], ◌∷◌, All, refl, sym, ◌∙◌, ap, subst, if◌then◌else◌}
-use Rattle.std.specs.Prelude.{◌≢◌, Option}
+use Rattle.std.proofs.Common.{◌≡◌, ◌⊎◌, inl, inr, ℕ, Bool, true, false, List, [], ◌∷◌, All, refl, sym, ◌∙◌, subst, if◌then◌else◌}
+use Rattle.std.specs.Prelude.{◌≢◌, ◌||◌, Option}
 use Rattle.std.specs.List.{list_any}
-use Rattle.std.proofs.lemmas.List.Elements.{All-weaker}
+use Rattle.std.proofs.lemmas.List.Elements.{All-head, All-weaker}
 use Rattle.std.proofs.lemmas.List.Folds.{Any-from_list_any}
 use Rattle.filter_code.specs.CodeView.{CodeView}
 use Rattle.filter_code.specs.Machine.{outcome_of}
@@ -13,7 +13,7 @@ use Rattle.filter_compiler.specs.Verdicts.{Verdict, meaning}
 use Rattle.filter_diff.proofs.Witness.{has_route}
 use Rattle.filter_diff.specs.Answers.{answer_of, differs}
 use Rattle.filter_diff.specs.Endings.{outcome_at}
-use Rattle.filter_diff.specs.Parts.{Has, HasRoute, Holds, InOne, IsIn, IsReal, IsSame, IsTrueOf, is_difference}
+use Rattle.filter_diff.specs.Parts.{Has, HasRoute, Holds, InOne, IsIn, IsDecided, IsEnough, IsReal, IsSame, IsTrueOf, is_difference, is_undecided}
 use Rattle.filter_diff.specs.declared.answer.Answer.{Answer}
 use Rattle.filter_diff.specs.declared.route_part.Finding.{Finding}
 use Rattle.filter_diff.specs.declared.route_part.RoutePart.{RoutePart}
@@ -72,9 +72,9 @@ module _ (f g : FilterView) (p q : CodeView) (size : ℕ) (of_f : SaysTheSame f 
         (subst (Says (meaning g route)) is.new_is (of_g.says route h)));
   }
 
-pub of_filters : (f g : FilterView) (p q : CodeView) (size : ℕ) (parts : List RoutePart) → SaysTheSame f p size → SaysTheSame g q size
-    → AreParts p q size parts → ArePartsOf f g size parts
-of_filters f g p q size parts of_f of_g are = record {
+pub of_filters : (f g : FilterView) (p q : CodeView) (size limit : ℕ) (parts : List RoutePart) → SaysTheSame f p size → SaysTheSame g q size
+    → AreParts p q size limit parts → ArePartsOf f g size parts
+of_filters f g p q size limit parts of_f of_g are = record {
   complete = λ route h. same_or_in f g p q size of_f of_g route parts h (are.complete route (in_domain size route h));
   sound = All-weaker (IsTrueOf p q size) (λ part. (route : RouteView) → IsRouteOf size route → Has part route → HoldsOf f g part.finding route)
       (λ part is route h has. holds f g p q size of_f of_g part.finding route h (is route (in_domain size route h) has)) parts are.sound;
@@ -147,6 +147,25 @@ shown_otherwise f program size expected shown says is expected_said =
     (one_outcome (meaning f (route_of size shown)) shown.outcome (outcome_at (route_of size shown) expected.ending)
     (shown_verdict f program size expected shown says is) expected_said)
 
+-- parts that are decided come to something
+first_differs : (found : Finding) → is_undecided found ≡ false → is_difference found ≡ true
+first_differs finding.Undecided e = let no : ⊥ = cc in absurd no
+first_differs (finding.Differ before after) e = refl
+
+or_true : (a b : Bool) → a ≡ true → (a || b) ≡ true
+or_true a b e = rw e refl
+
+chosen_other : (b : Bool) → b ≡ true → (if b then answer.Differ else answer.Undecided) ≡ answer.Undecided → ⊥
+chosen_other true e is = cc
+chosen_other false e is = cc
+
+pub all_decided : (parts : List RoutePart) → All IsDecided parts → answer_of parts ≡ answer.Undecided → ⊥
+all_decided [] all e = cc
+all_decided (part ∷ parts) all e =
+    chosen_other (list_any differs (part ∷ parts))
+    (or_true (is_difference part.finding) (list_any differs parts)
+    (first_differs part.finding (All-head IsDecided part parts all))) e
+
 -- what the comparison of two texts comes to
 compared_same : (found : Answer) → compared.Same ≡ compared_as found → found ≡ answer.Same
 compared_same answer.Same e = refl
@@ -158,17 +177,22 @@ compared_differ answer.Same e = let no : ⊥ = cc in absurd no
 compared_differ answer.Differ e = refl
 compared_differ answer.Undecided e = let no : ⊥ = cc in absurd no
 
+compared_undecided : (found : Answer) → compared.Undecided ≡ compared_as found → found ≡ answer.Undecided
+compared_undecided answer.Same e = let no : ⊥ = cc in absurd no
+compared_undecided answer.Differ e = let no : ⊥ = cc in absurd no
+compared_undecided answer.Undecided e = refl
+
 -- the code of a text says what its filter says
 of_text : (text : List ℕ) (size : ℕ) (f : FilterView) (is_f : IsFilterOf text size f) → SaysTheSame f is_f.program size
 of_text text size f is_f = says_the_same f is_f.program size is_f.translates.means is_f.safe
 
-module _ (size : ℕ) (is_explained : Bool) (old new : Named) (held holds tells told : Option (List ℕ)) where
+module _ (size limit : ℕ) (is_explained : Bool) (old new : Named) (held holds tells told : Option (List ℕ)) where
   parts_of : (f g : FilterView) (is_f : IsFilterOf old.text size f) (is_g : IsFilterOf new.text size g) (parts : List RoutePart)
-      → AreParts is_f.program is_g.program size parts → ArePartsOf f g size parts
+      → AreParts is_f.program is_g.program size limit parts → ArePartsOf f g size parts
   parts_of f g is_f is_g parts are =
-      of_filters f g is_f.program is_g.program size parts (of_text old.text size f is_f) (of_text new.text size g is_g) are
+      of_filters f g is_f.program is_g.program size limit parts (of_text old.text size f is_f) (of_text new.text size g is_g) are
 
-  pub filters_same : ComparesNamed size is_explained old new held holds tells told compared.Same
+  pub filters_same : ComparesNamed size limit is_explained old new held holds tells told compared.Same
       → (f : FilterView) × (g : FilterView) × IsText old.text f × IsText new.text g
       × ((route : RouteView) → IsRouteOf size route → meaning f route ≡ meaning g route)
   filters_same (inl refused) = let is = refused.0 in let no : ⊥ = cc in absurd no
@@ -181,7 +205,7 @@ module _ (size : ℕ) (is_explained : Bool) (old new : Named) (held holds tells 
         (compared_same (answer_of writes.parts) writes.comes_to),
   )
 
-  pub filters_differ : ComparesNamed size is_explained old new held holds tells told compared.Differ
+  pub filters_differ : ComparesNamed size limit is_explained old new held holds tells told compared.Differ
       → (f : FilterView) × (g : FilterView) × IsText old.text f × IsText new.text g
       × (route : RouteView) × IsRouteOf size route × (meaning f route ≢ meaning g route)
   filters_differ (inl refused) = let is = refused.0 in let no : ⊥ = cc in absurd no
@@ -189,3 +213,8 @@ module _ (size : ℕ) (is_explained : Bool) (old new : Named) (held holds tells 
       let one = one_differs f g size writes.parts (parts_of f g is_f is_g writes.parts writes.are_parts)
       (compared_differ (answer_of writes.parts) writes.comes_to) in
       (f, g, is_f.translates.spelled, is_g.translates.spelled, one.0, one.1, one.2)
+
+  pub filters_decided : IsEnough size limit → ComparesNamed size limit is_explained old new held holds tells told compared.Undecided → ⊥
+  filters_decided enough (inl refused) = let is = refused.0 in let no : ⊥ = cc in absurd no
+  filters_decided enough (inr (keeps, f, is_f, g, is_g, writes)) =
+      all_decided writes.parts (writes.are_parts.decided enough) (compared_undecided (answer_of writes.parts) writes.comes_to)

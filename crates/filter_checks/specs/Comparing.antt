@@ -5,7 +5,7 @@ use Rattle.filter_code.specs.CodeView.{CodeView}
 use Rattle.filter_reports.specs.Checking.{IsDiagnosis}
 use Rattle.filter_reports.specs.Cuts.{IsCut}
 use Rattle.filter_diff.specs.Answers.{answer_of}
-use Rattle.filter_diff.specs.Parts.{Cover, IsReal, IsTrueOf}
+use Rattle.filter_diff.specs.Parts.{Cover, IsDecided, IsEnough, IsReal, IsTrueOf}
 use Rattle.filter_diff.specs.declared.answer.Answer.{Answer}
 use Rattle.filter_diff.specs.declared.answer.Answer.TheVariants as answer
 use Rattle.filter_diff.specs.declared.route_part.RoutePart.{RoutePart}
@@ -26,11 +26,12 @@ IsJudged size text None = (filter : FilterView) × IsFilterOf text size filter
 IsJudged size text (Some told) = IsDiagnosis size false text told
 
 -- These are parts of the routes outside of which the two codes have the same outcome; each has a route, and on each of its routes holds
--- what is found of it.
-pub record AreParts (old new : CodeView) (size : ℕ) (parts : List RoutePart) : Type 0 where
+-- what is found of it. None is undecided where the limit leaves out no class of routes.
+pub record AreParts (old new : CodeView) (size limit : ℕ) (parts : List RoutePart) : Type 0 where
   pub complete : Cover old new size parts
   pub sound : All (IsTrueOf old new size) parts
   pub real : All (IsReal size) parts
+  pub decided : IsEnough size limit → All IsDecided parts
 
 -- what the comparison comes to
 abbrev pub compared_as : Answer → Compared
@@ -39,17 +40,17 @@ compared_as answer.Differ = compared.Differ
 compared_as answer.Undecided = compared.Undecided
 
 -- The lines of such parts were written. `held` and `holds` are what the writer held before and holds now.
-pub record WritesParts (old new : CodeView) (size : ℕ) (held holds : Option (List ℕ)) (end : Compared) : Type 0 where
+pub record WritesParts (old new : CodeView) (size limit : ℕ) (held holds : Option (List ℕ)) (end : Compared) : Type 0 where
   pub parts : List RoutePart
-  pub are_parts : AreParts old new size parts
+  pub are_parts : AreParts old new size limit parts
   pub written : Appends held holds (parts_text parts)
   pub comes_to : end ≡ compared_as (answer_of parts)
 
 -- a fault cut them
-abbrev pub IsCutParts : StreamFault → CodeView → CodeView → ℕ → Option (List ℕ) → Option (List ℕ) → Type 0
-IsCutParts fault old new size held holds =
+abbrev pub IsCutParts : StreamFault → CodeView → CodeView → ℕ → ℕ → Option (List ℕ) → Option (List ℕ) → Type 0
+IsCutParts fault old new size limit held holds =
     ((fault ≡ Memory) × Appends held holds [])
-    ⊎ ((parts : List RoutePart) × AreParts old new size parts × IsCut fault held holds (parts_text parts))
+    ⊎ ((parts : List RoutePart) × AreParts old new size limit parts × IsCut fault held holds (parts_text parts))
 
 -- Standard error got what is told of one text, and then of another. `tells` and `told` are what it held before and holds now.
 pub record TellsBoth (is_explained : Bool) (old new : Named) (before after : Option Diagnosis) (tells told : Option (List ℕ)) : Type 0 where
@@ -72,19 +73,19 @@ pub record AreRefused (size : ℕ) (old new : Named) (before after : Option Diag
 
 -- The texts spell filters, and the lines of the comparison of their codes were written, and nothing told; or a text is refused, which was
 -- told, and nothing written.
-abbrev pub ComparesNamed : ℕ → Bool → Named → Named → Option (List ℕ) → Option (List ℕ) → Option (List ℕ) → Option (List ℕ) → Compared → Type 0
-ComparesNamed size is_explained old new held holds tells told end =
+abbrev pub ComparesNamed : ℕ → ℕ → Bool → Named → Named → Option (List ℕ) → Option (List ℕ) → Option (List ℕ) → Option (List ℕ) → Compared → Type 0
+ComparesNamed size limit is_explained old new held holds tells told end =
     ((end ≡ compared.Refused) × Keeps held holds × (before : Option Diagnosis) × (after : Option Diagnosis)
     × AreRefused size old new before after × TellsBoth is_explained old new before after tells told)
     ⊎ (Keeps tells told × (f : FilterView) × (is_f : IsFilterOf old.text size f) × (g : FilterView) × (is_g : IsFilterOf new.text size g)
-    × WritesParts is_f.program is_g.program size held holds end)
+    × WritesParts is_f.program is_g.program size limit held holds end)
 
 -- A fault ended it: before anything was written or told, for want of memory; while a refusal was told; or while the lines were written.
-abbrev pub ComparesNamedOff : StreamFault → ℕ → Bool → Named → Named → Option (List ℕ) → Option (List ℕ) → Option (List ℕ)
+abbrev pub ComparesNamedOff : StreamFault → ℕ → ℕ → Bool → Named → Named → Option (List ℕ) → Option (List ℕ) → Option (List ℕ)
     → Option (List ℕ) → Type 0
-ComparesNamedOff fault size is_explained old new held holds tells told =
+ComparesNamedOff fault size limit is_explained old new held holds tells told =
     ((fault ≡ Memory) × Appends held holds [] × Keeps tells told)
     ⊎ ((Keeps held holds × (before : Option Diagnosis) × (after : Option Diagnosis) × AreRefused size old new before after
     × IsCutTellingBoth fault is_explained old new before after tells told)
     ⊎ (Keeps tells told × (f : FilterView) × (is_f : IsFilterOf old.text size f) × (g : FilterView) × (is_g : IsFilterOf new.text size g)
-    × IsCutParts fault is_f.program is_g.program size held holds))
+    × IsCutParts fault is_f.program is_g.program size limit held holds))

@@ -8,6 +8,7 @@ use Rattle.filter_checks.specs.declared.test_file.TestFileFault.TheVariants as f
 abbrev pub code_and_place : TestFileFault → List ℕ × ℕ
 code_and_place (fault.Line at) = (codes "O1", at)
 code_and_place fault.Ended = (codes "O1", 0)
+code_and_place fault.NoTest = (codes "O1", 0)
 code_and_place fault.Name = (codes "O1", 0)
 code_and_place fault.TooLong = (codes "O7", 1)
 code_and_place fault.Memory = (codes "E3", 0)
@@ -25,6 +26,7 @@ line_words = codes ": this line is none of `filter FILE`, `size N`, `PREFIX METR
 abbrev pub fault_words : TestFileFault → List ℕ
 fault_words (fault.Line at) = codes ":" ++ decimal at ++ line_words
 fault_words fault.Ended = codes ": it ends before its `filter FILE` and `size N` (O1)"
+fault_words fault.NoTest = codes ": it has no test (O1)"
 fault_words fault.Name = codes ": the name of its filter is not UTF-8 (O1)"
 fault_words fault.TooLong = codes ": longer than 1048576 bytes (O7)"
 fault_words fault.Memory = codes ": out of memory (E3)"

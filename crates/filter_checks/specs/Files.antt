@@ -76,9 +76,10 @@ abbrev pub tests_in : ℕ → List Line → Result (List TestView) TestFileFault
 tests_in size [] = Ok []
 tests_in size (line ∷ lines) = with_test (test_in size (words line.1)) line (tests_in size lines)
 
--- all tests
+-- all tests, of which there is one at least: a file that lost its tests is not one whose tests hold
 abbrev pub with_tests : List ℕ → ℕ → Result (List TestView) TestFileFault → Result FileView TestFileFault
-with_tests name size (Ok tests) = Ok (record { filter = name; size = size; tests = tests })
+with_tests name size (Ok []) = Err fault.NoTest
+with_tests name size (Ok (test ∷ tests)) = Ok (record { filter = name; size = size; tests = test ∷ tests })
 with_tests name size (Err why) = Err why
 
 -- the size, and the tests behind it

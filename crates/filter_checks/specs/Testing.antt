@@ -1,9 +1,11 @@
 -- What comes of the tests of a file. (This project's own choice.)
-use Rattle.std.specs.Prelude.{◌≡◌, ◌⊎◌, ℕ, Bool, false, List, [], ◌∷◌, Option, Some, count_by, ⊤}
+use Rattle.std.specs.Prelude.{◌≡◌, ◌≢◌, ◌⊎◌, ℕ, Bool, false, List, [], ◌∷◌, Option, Some, count_by, ⊤}
 use Rattle.std.specs.Io.KnownBytes.{Appends, Keeps}
 use Rattle.filter_code.specs.CodeView.{CodeView}
 use Rattle.filter_reports.specs.Checking.{IsDiagnosis}
 use Rattle.filter_diff.specs.Expectations.{IsFoundOf}
+use Rattle.filter_diff.specs.Parts.{IsEnough}
+use Rattle.filter_diff.specs.declared.checking.Checked.TheVariants as checked
 use Rattle.filter_parser.specs.SyntaxText.{FilterView}
 use Rattle.filter_source.specs.declared.diagnosis.Diagnosis.{Diagnosis}
 use Rattle.filter_reports.specs.VerifiedFilters.{IsFilterOf}
@@ -17,36 +19,37 @@ use Rattle.filter_checks.specs.declared.testing.Ran.{Ran}
 use Rattle.filter_checks.specs.declared.testing.Tested.{Tested}
 use Rattle.filter_checks.specs.declared.testing.Tested.TheVariants as tested
 
--- what is found of a test by the code of the filter
-pub record IsRun (program : CodeView) (size : ℕ) (test : TestView) (ran : Ran) : Type 0 where
+-- what is found of a test by the code of the filter; something, where the limit leaves out no class of routes
+pub record IsRun (program : CodeView) (size limit : ℕ) (test : TestView) (ran : Ran) : Type 0 where
   pub number : ran.number ≡ test.number
   pub line : ran.line.items ≡ test.line
   pub found : IsFoundOf program size test.expected ran.checked
+  pub decided : IsEnough size limit → ran.checked ≢ checked.Undecided
 
 -- and of each of some tests, in order
-abbrev pub AreRun : CodeView → ℕ → List TestView → List Ran → Type 0
-AreRun program size [] [] = ⊤
-AreRun program size (test ∷ tests) (ran ∷ others) = IsRun program size test ran × AreRun program size tests others
-AreRun program size [] (ran ∷ others) = ⊥
-AreRun program size (test ∷ tests) [] = ⊥
+abbrev pub AreRun : CodeView → ℕ → ℕ → List TestView → List Ran → Type 0
+AreRun program size limit [] [] = ⊤
+AreRun program size limit (test ∷ tests) (ran ∷ others) = IsRun program size limit test ran × AreRun program size limit tests others
+AreRun program size limit [] (ran ∷ others) = ⊥
+AreRun program size limit (test ∷ tests) [] = ⊥
 
 -- What is found of the tests of a file by the code of the filter, in lines and in words, and how many do not hold. `before` is the number of
 -- tests before these in the stream.
-pub record IsReport (program : CodeView) (before : ℕ) (is_explained : Bool) (name : List ℕ) (file : FileView) (lines words : List ℕ) (failed : ℕ)
+pub record IsReport (program : CodeView) (before limit : ℕ) (is_explained : Bool) (name : List ℕ) (file : FileView) (lines words : List ℕ) (failed : ℕ)
     : Type 0 where
   pub all : List Ran
-  pub are_run : AreRun program file.size file.tests all
+  pub are_run : AreRun program file.size limit file.tests all
   pub lines_are : lines ≡ all_lines before all
   pub words_are : words ≡ told_of_all is_explained name all
   pub counted : failed ≡ count_by is_failure all
 
 -- The tests were run, and what is found was written and told. `held` and `holds` are what the writer held before and holds now, `tells` and
 -- `told` the same of standard error.
-pub record RunsTests (program : CodeView) (before : ℕ) (is_explained : Bool) (name : List ℕ) (file : FileView)
+pub record RunsTests (program : CodeView) (before limit : ℕ) (is_explained : Bool) (name : List ℕ) (file : FileView)
     (held holds tells told : Option (List ℕ)) (failed : ℕ) : Type 0 where
   pub lines : List ℕ
   pub words : List ℕ
-  pub report : IsReport program before is_explained name file lines words failed
+  pub report : IsReport program before limit is_explained name file lines words failed
   pub written : Appends held holds lines
   pub told_words : Appends tells told words
 
@@ -56,27 +59,27 @@ CutsReport lines words held holds tells told = (AppendsFront held holds lines ×
     ⊎ (Appends held holds lines × AppendsFront tells told words)
 
 -- A fault ended that: memory was refused, and nothing written or told; or the report was cut.
-abbrev pub StopsTests : StreamFault → CodeView → ℕ → Bool → List ℕ → FileView → Option (List ℕ) → Option (List ℕ) → Option (List ℕ)
+abbrev pub StopsTests : StreamFault → CodeView → ℕ → ℕ → Bool → List ℕ → FileView → Option (List ℕ) → Option (List ℕ) → Option (List ℕ)
     → Option (List ℕ) → Type 0
-StopsTests fault program before is_explained name file held holds tells told =
+StopsTests fault program before limit is_explained name file held holds tells told =
     ((fault ≡ Memory) × Keeps held holds × Keeps tells told)
-    ⊎ ((lines : List ℕ) × (words : List ℕ) × (failed : ℕ) × IsReport program before is_explained name file lines words failed
+    ⊎ ((lines : List ℕ) × (words : List ℕ) × (failed : ℕ) × IsReport program before limit is_explained name file lines words failed
     × (fault ≡ Write) × CutsReport lines words held holds tells told)
 
 -- The filter's text spells a filter, and the tests of its code were run; or it is refused, which was told, and nothing written.
-abbrev pub TestsNamed : ℕ → Bool → List ℕ → FileView → Named → Option (List ℕ) → Option (List ℕ) → Option (List ℕ) → Option (List ℕ)
+abbrev pub TestsNamed : ℕ → ℕ → Bool → List ℕ → FileView → Named → Option (List ℕ) → Option (List ℕ) → Option (List ℕ) → Option (List ℕ)
     → Tested → Type 0
-TestsNamed before is_explained name file filter held holds tells told tested.Refused = (why : Diagnosis)
+TestsNamed before limit is_explained name file filter held holds tells told tested.Refused = (why : Diagnosis)
     × IsDiagnosis file.size false filter.text why × Keeps held holds × TellsOf is_explained filter.name filter.text (Some why) tells told
-TestsNamed before is_explained name file filter held holds tells told (tested.Ran failed) = (f : FilterView)
-    × (is_f : IsFilterOf filter.text file.size f) × RunsTests is_f.program before is_explained name file held holds tells told failed
+TestsNamed before limit is_explained name file filter held holds tells told (tested.Ran failed) = (f : FilterView)
+    × (is_f : IsFilterOf filter.text file.size f) × RunsTests is_f.program before limit is_explained name file held holds tells told failed
 
 -- A fault ended it: before anything was written or told, for want of memory; while a refusal was told; or while tests were run.
-abbrev pub TestsNamedOff : StreamFault → ℕ → Bool → List ℕ → FileView → Named → Option (List ℕ) → Option (List ℕ) → Option (List ℕ)
+abbrev pub TestsNamedOff : StreamFault → ℕ → ℕ → Bool → List ℕ → FileView → Named → Option (List ℕ) → Option (List ℕ) → Option (List ℕ)
     → Option (List ℕ) → Type 0
-TestsNamedOff fault before is_explained name file filter held holds tells told =
+TestsNamedOff fault before limit is_explained name file filter held holds tells told =
     ((fault ≡ Memory) × Keeps held holds × Keeps tells told)
     ⊎ (((why : Diagnosis) × IsDiagnosis file.size false filter.text why × Keeps held holds
     × IsCutTelling fault is_explained filter.name filter.text why tells told)
     ⊎ ((f : FilterView) × (is_f : IsFilterOf filter.text file.size f)
-    × StopsTests fault is_f.program before is_explained name file held holds tells told))
+    × StopsTests fault is_f.program before limit is_explained name file held holds tells told))

@@ -51,7 +51,7 @@ fn find_parts(
     limit: u64,
 ) -> Result<Vec<RoutePart>, AllocError>
     requires { size ≤ largest_size }
-    ensures { IfOk result (λ parts. spec.AreParts old.now new.now size parts.items) }
+    ensures { IfOk result (λ parts. spec.AreParts old.now new.now size limit parts.items) }
 {
     let parts = compare(alloc, old, new, size, limit)?;
     join_all(alloc, parts)
@@ -78,9 +78,9 @@ fn write_parts<W: Write>(
     writer: &mut W,
 ) -> Result<Compared, ProgramFault>
     requires { size ≤ largest_size }
-    ensures finished { IfOk result (spec.WritesParts old.now new.now size (W.contents writer.old) (W.contents writer.new)) }
+    ensures finished { IfOk result (spec.WritesParts old.now new.now size limit (W.contents writer.old) (W.contents writer.new)) }
     ensures broken_off { IfErr result (λ fault.
-        spec.IsCutParts (stream_fault fault) old.now new.now size (W.contents writer.old) (W.contents writer.new)) }
+        spec.IsCutParts (stream_fault fault) old.now new.now size limit (W.contents writer.old) (W.contents writer.new)) }
 {
     let parts = find_parts(alloc, old, new, size, limit)?;
     let text = parts_text(alloc, parts.as_slice())?;
@@ -96,9 +96,9 @@ fn write_comparison<W: Write>(
     limit: u64,
     writer: &mut W,
 ) -> Result<Compared, ProgramFault>
-    ensures finished { IfOk result (spec.WritesParts old.now.program new.now.program old.now.size (W.contents writer.old) (W.contents writer.new)) }
+    ensures finished { IfOk result (spec.WritesParts old.now.program new.now.program old.now.size limit (W.contents writer.old) (W.contents writer.new)) }
     ensures broken_off { IfErr result (λ fault.
-        spec.IsCutParts (stream_fault fault) old.now.program new.now.program old.now.size (W.contents writer.old) (W.contents writer.new)) }
+        spec.IsCutParts (stream_fault fault) old.now.program new.now.program old.now.size limit (W.contents writer.old) (W.contents writer.new)) }
 {
     write_parts(alloc, old.code(), new.code(), old.size(), limit, writer)
 }
@@ -124,7 +124,8 @@ fn tell_both<E: Write>(
 }
 
 /// Compares the filters that two texts spell on all routes of domains of `size` nodes, and writes a line for each part of the routes
-/// on which they differ or on which it is not decided, then one line on all other routes. It tries at most `limit` classes of routes.
+/// on which they differ or on which it is not decided, then one line on all other routes. It tries at most `limit` classes of routes, and
+/// decides all where these are all.
 /// A text that is refused is told on `errors` under its name, in words where `is_explained` says so, and then nothing is compared.
 pub fn compare_named<W: Write, E: Write>(
     alloc: Global,
@@ -136,9 +137,9 @@ pub fn compare_named<W: Write, E: Write>(
     writer: &mut W,
     errors: &mut E,
 ) -> Result<Compared, ProgramFault>
-    ensures finished { IfOk result (spec.ComparesNamed size is_explained (named old.now) (named new.now)
+    ensures finished { IfOk result (spec.ComparesNamed size limit is_explained (named old.now) (named new.now)
         (W.contents writer.old) (W.contents writer.new) (E.contents errors.old) (E.contents errors.new)) }
-    ensures broken_off { IfErr result (λ fault. spec.ComparesNamedOff (stream_fault fault) size is_explained (named old.now)
+    ensures broken_off { IfErr result (λ fault. spec.ComparesNamedOff (stream_fault fault) size limit is_explained (named old.now)
         (named new.now) (W.contents writer.old) (W.contents writer.new) (E.contents errors.old) (E.contents errors.new)) }
 {
     let before = judge(alloc, old.text, size)?;

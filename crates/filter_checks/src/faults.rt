@@ -15,7 +15,7 @@ impl TestFileFault {
     {
         match self {
             TestFileFault::Line(at) => ("O1", at),
-            TestFileFault::Ended | TestFileFault::Name => ("O1", 0),
+            TestFileFault::Ended | TestFileFault::NoTest | TestFileFault::Name => ("O1", 0),
             TestFileFault::TooLong => ("O7", 1),
             TestFileFault::Memory => ("E3", 0),
         }
@@ -57,6 +57,7 @@ fn push_words(out: &mut Vec<u8>, why: TestFileFault) -> Result<(), AllocError>
         TestFileFault::Ended => {
             out.extend_from_slice(b": it ends before its `filter FILE` and `size N` (O1)")
         }
+        TestFileFault::NoTest => out.extend_from_slice(b": it has no test (O1)"),
         TestFileFault::Name => {
             out.extend_from_slice(b": the name of its filter is not UTF-8 (O1)")
         }

@@ -6,6 +6,7 @@ ghost use Rattle.filter_reports.specs.Saying.{Says, SaysTheSame};
 ghost use Rattle.filter_compiler.specs.Verdicts.{meaning};
 ghost use Rattle.filter_diff.specs.Answers.{answer_of};
 ghost use Rattle.filter_diff.specs.Endings.{outcome_at};
+ghost use Rattle.filter_diff.specs.Parts.{IsEnough};
 ghost use Rattle.filter_diff.specs.Expectations.{IsCovered, IsMet, IsShown, route_of};
 ghost use Rattle.filter_diff.specs.declared.answer.Answer.TheVariants as answer;
 ghost use Rattle.filter_diff.specs.declared.checking.Counterexample.{Counterexample as TheCounterexample};
@@ -20,8 +21,8 @@ ghost use Rattle.filter_checks.specs.Filters.{ArePartsOf};
 
 /// What parts say of two codes they say of two filters, where the codes say of each route what the filters say, as verified code does.
 pub fn parts_are_of_filters()
-    ensures { (f g : FilterView) (p q : CodeView) (size : ℕ) (parts : List RoutePartView) → SaysTheSame f p size → SaysTheSame g q size
-        → AreParts p q size parts → ArePartsOf f g size parts }
+    ensures { (f g : FilterView) (p q : CodeView) (size limit : ℕ) (parts : List RoutePartView) → SaysTheSame f p size → SaysTheSame g q size
+        → AreParts p q size limit parts → ArePartsOf f g size parts }
 {}
 
 /// Two filters say the same of every route in a domain of the size if the comparison comes to `Same`, and not of every one if it comes
@@ -56,12 +57,14 @@ pub fn shown_routes_are_of_filters()
 /// Two texts of which `compare_named` answers `Same` spell filters of one meaning: the two say the same of every route in a domain of the
 /// size. Where it answers `Differ` they do not say the same of every route.
 pub fn compared_filters_mean_the_same()
-    ensures same { (size : ℕ) (is_explained : Bool) (old new : Named) (held holds tells told : Option (List ℕ))
-        → ComparesNamed size is_explained old new held holds tells told compared.Same
+    ensures same { (size limit : ℕ) (is_explained : Bool) (old new : Named) (held holds tells told : Option (List ℕ))
+        → ComparesNamed size limit is_explained old new held holds tells told compared.Same
         → (f : FilterView) × (g : FilterView) × IsText old.text f × IsText new.text g
         × ((route : RouteView) → IsRouteOf size route → meaning f route ≡ meaning g route) }
-    ensures differ { (size : ℕ) (is_explained : Bool) (old new : Named) (held holds tells told : Option (List ℕ))
-        → ComparesNamed size is_explained old new held holds tells told compared.Differ
+    ensures differ { (size limit : ℕ) (is_explained : Bool) (old new : Named) (held holds tells told : Option (List ℕ))
+        → ComparesNamed size limit is_explained old new held holds tells told compared.Differ
         → (f : FilterView) × (g : FilterView) × IsText old.text f × IsText new.text g
         × (route : RouteView) × IsRouteOf size route × (meaning f route ≢ meaning g route) }
+    ensures decided { (size limit : ℕ) (is_explained : Bool) (old new : Named) (held holds tells told : Option (List ℕ)) → IsEnough size limit
+        → ComparesNamed size limit is_explained old new held holds tells told compared.Undecided → ⊥ }
 {}

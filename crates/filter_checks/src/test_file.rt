@@ -44,6 +44,8 @@ pub enum TestFileFault {
     Line(usize),
     /// The text ends before its filter and its size are said.
     Ended,
+    /// It has no test.
+    NoTest,
     /// The name of the filter's file is not UTF-8.
     Name,
     /// It is longer than its limit.
@@ -151,7 +153,29 @@ fn read_all(alloc: Global, size: u32, text: &[u8], first: usize) -> Result<Vec<T
     Ok(tests)
 }
 
-/// The test file with this filter, whose size and tests follow in a text whose lines are numbered from `first`.
+/// The test file with these tests, if there are any.
+fn with_tests(
+    alloc: Global,
+    filter: &[u8],
+    size: u32,
+    tests: Vec<Test>,
+) -> Result<TestFile, TestFileFault>
+    ensures { MatchResult result
+        (λ file. spec.with_tests filter.now size (Ok (map spec.test_view tests.items)) ≡ Ok (spec.file_view file))
+        (spec.IsFault (spec.with_tests filter.now size (Ok (map spec.test_view tests.items)))) }
+{
+    if tests.is_empty() {
+        return Err(TestFileFault::NoTest);
+    }
+    let filter = Vec::from_slice(alloc, filter)?;
+    Ok(TestFile {
+        filter,
+        size,
+        tests,
+    })
+}
+
+/// The test file with this filter, whose size and tests, at least one, follow in a text whose lines are numbered from `first`.
 fn read_named(
     alloc: Global,
     filter: &[u8],
@@ -170,12 +194,7 @@ fn read_named(
         return Err(TestFileFault::Line(at));
     };
     let tests = read_all(alloc, size, later, at + 1)?;
-    let filter = Vec::from_slice(alloc, filter)?;
-    Ok(TestFile {
-        filter,
-        size,
-        tests,
-    })
+    with_tests(alloc, filter, size, tests)
 }
 
 /// Reads a test file.

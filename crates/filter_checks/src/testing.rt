@@ -49,7 +49,7 @@ fn run_test(
     test: &Test,
 ) -> Result<Ran, AllocError>
     requires { size ≤ largest_size }
-    ensures { IfOk result (λ ran. spec.IsRun code.now size (test_view test.now) ran) }
+    ensures { IfOk result (λ ran. spec.IsRun code.now size limit (test_view test.now) ran) }
 {
     let checked = check_expectation(alloc, code, &test.expected, size, limit)?;
     Ok(Ran {
@@ -68,7 +68,7 @@ fn run_all(
     tests: &[Test],
 ) -> Result<Vec<Ran>, AllocError>
     requires { size ≤ largest_size }
-    ensures run { IfOk result (λ all. spec.AreRun code.now size (map test_view tests.now) all.items) }
+    ensures run { IfOk result (λ all. spec.AreRun code.now size limit (map test_view tests.now) all.items) }
     ensures count { IfOk result (λ all. vec_len all ≡ length tests.now) }
 {
     let mut all = Vec::new(alloc);
@@ -124,7 +124,7 @@ fn report_of(
 ) -> Result<Report, AllocError>
     requires size { code.now.size ≡ file.now.size }
     requires fits { before + length file.now.tests.items < 2 ^ 64 }
-    ensures { IfOk result (λ report. spec.IsReport code.now.program before is_explained name.now (file_view file.now)
+    ensures { IfOk result (λ report. spec.IsReport code.now.program before limit is_explained name.now (file_view file.now)
         report.lines.items report.words.items report.failed) }
 {
     let tests = file.tests.as_slice();
@@ -162,9 +162,9 @@ fn run_tests<W: Write, E: Write>(
 ) -> Result<usize, ProgramFault>
     requires size { code.now.size ≡ file.now.size }
     requires fits { before + length file.now.tests.items < 2 ^ 64 }
-    ensures finished { IfOk result (spec.RunsTests code.now.program before is_explained name.now (file_view file.now)
+    ensures finished { IfOk result (spec.RunsTests code.now.program before limit is_explained name.now (file_view file.now)
         (W.contents writer.old) (W.contents writer.new) (E.contents errors.old) (E.contents errors.new)) }
-    ensures broken_off { IfErr result (λ fault. spec.StopsTests (stream_fault fault) code.now.program before is_explained name.now (file_view file.now)
+    ensures broken_off { IfErr result (λ fault. spec.StopsTests (stream_fault fault) code.now.program before limit is_explained name.now (file_view file.now)
         (W.contents writer.old) (W.contents writer.new) (E.contents errors.old) (E.contents errors.new)) }
 {
     let report = report_of(alloc, code, before, limit, is_explained, name, file)?;
@@ -187,9 +187,9 @@ pub fn test_named<W: Write, E: Write>(
     errors: &mut E,
 ) -> Result<Tested, ProgramFault>
     requires { before + length file.now.tests.items < 2 ^ 64 }
-    ensures finished { IfOk result (spec.TestsNamed before is_explained name.now (file_view file.now) (named filter.now)
+    ensures finished { IfOk result (spec.TestsNamed before limit is_explained name.now (file_view file.now) (named filter.now)
         (W.contents writer.old) (W.contents writer.new) (E.contents errors.old) (E.contents errors.new)) }
-    ensures broken_off { IfErr result (λ fault. spec.TestsNamedOff (stream_fault fault) before is_explained name.now (file_view file.now)
+    ensures broken_off { IfErr result (λ fault. spec.TestsNamedOff (stream_fault fault) before limit is_explained name.now (file_view file.now)
         (named filter.now) (W.contents writer.old) (W.contents writer.new) (E.contents errors.old) (E.contents errors.new)) }
 {
     match verified_filter(alloc, filter.text, file.size) {

@@ -1,6 +1,6 @@
 -- How many classes a search tries at most.
 use Rattle.std.proofs.Common.{◌≡◌, ℕ, zero, suc, ◌+◌, ◌-◌, ◌*◌, ◌^◌, ◌<◌, ◌≤◌, Bool, true, false, Option, Some, None, List, [], ◌∷◌, ◌++◌, length}
-use Rattle.std.proofs.Common.{refl, sym, ◌∙◌, ap, subst, arith, length-append}
+use Rattle.std.proofs.Common.{refl, ◌∙◌, ap, arith, length-append}
 use Rattle.std.proofs.Math.Nat.{pow-suc}
 use Rattle.filter_diff.specs.Searches.{HasBit, by_metric, most_tried, most_tried_of, split_by_bits}
 use Rattle.filter_diff.specs.declared.class.Class.{Class}

@@ -1,6 +1,6 @@
 -- What the run on one route comes to, step by step.
-use Rattle.std.proofs.Common.{◌≡◌, ◌⊎◌, inl, inr, ℕ, ◌+◌, ◌<◌, Bool, true, false, not, Option, Some, None, List, [], ◌∷◌, length}
-use Rattle.std.proofs.Common.{refl, sym, ◌∙◌, ap, subst, arith}
+use Rattle.std.proofs.Common.{◌≡◌, ◌⊎◌, inl, inr, ℕ, ◌+◌, Bool, true, false, Some, None, List, [], ◌∷◌}
+use Rattle.std.proofs.Common.{refl, sym, ◌∙◌, ap, subst}
 use Rattle.std.specs.Prelude.{slice_get}
 use Rattle.filter_code.specs.declared.instruction.Instr.{Instr}
 use Rattle.filter_code.specs.declared.instruction.Instr.TheVariants as instr
@@ -14,7 +14,7 @@ use Rattle.filter_code.specs.CodeView.{CodeView}
 use Rattle.filter_code.specs.RouteView.{RouteView}
 use Rattle.filter_code.specs.Machine.{Config, State, Ended, Going, after, carry_out, next, start, step}
 use Rattle.filter_code.proofs.Runs.{after-suc, begun_in}
-use Rattle.filter_diff.specs.Marking.{AreAllMarked, AreSound, Extend, IsAdded, IsMarked, IsSeen, IsUnseen, ShowsAt, joined}
+use Rattle.filter_diff.specs.Marking.{AreAllMarked, AreSound, Extend, IsSeen, IsUnseen, joined}
 use Rattle.filter_diff.specs.Parts.{IsIn}
 use Rattle.filter_diff.specs.Reaching.{AreOnTop, Comes, IsCondition, IsMax, IsOnTop, IsSound, NeverFaultsOn, has_truth}
 use Rattle.filter_diff.specs.declared.mark.Mark.{Mark}

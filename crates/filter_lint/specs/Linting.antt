@@ -1,7 +1,8 @@
 -- What comes of a filter that is linted. (This project's own choice.)
-use Rattle.std.specs.Prelude.{◌≡◌, ◌⊎◌, ℕ, ◌+◌, Bool, false, List, All, Option, Some, length}
+use Rattle.std.specs.Prelude.{◌≡◌, ◌⊎◌, ℕ, ◌+◌, Bool, true, false, List, All, Option, Some, length}
 use Rattle.std.specs.Io.KnownBytes.{Appends, Keeps}
 use Rattle.filter_code.specs.CodeView.{CodeView}
+use Rattle.filter_diff.specs.Parts.{IsEnough}
 use Rattle.filter_reports.specs.Checking.{IsDiagnosis}
 use Rattle.filter_parser.specs.SyntaxText.{FilterView}
 use Rattle.filter_source.specs.TextPlaces.{ArePlacesOf}
@@ -20,58 +21,73 @@ use Rattle.filter_lint.specs.declared.linting.Linted.{Linted}
 use Rattle.filter_lint.specs.declared.linting.Linted.TheVariants as linted
 use Rattle.filter_lint.specs.declared.rules.Warnings.{Warnings}
 
--- These are the lines of the warnings of a filter's code and of the prefixes of its text that have host bits, and so many there are. Each
--- of the warnings is true of the code.
-pub record IsReport (program : CodeView) (size : ℕ) (places : List ℕ) (source : Named) (lines : List ℕ) (count : ℕ) : Type 0 where
+-- what comes of a filter of which so many warnings are said: all routes were tried, or not
+abbrev pub linted_as : Bool → ℕ → Linted
+linted_as true count = linted.Warned count
+linted_as false count = linted.Undecided count
+
+-- These are the lines of the warnings of a filter's code and of the prefixes of its text that have host bits, and this comes of the filter.
+-- Each of the warnings is true of the code. All routes were tried where the limit leaves out no class of them.
+pub record IsReport (program : CodeView) (size limit : ℕ) (places : List ℕ) (source : Named) (lines : List ℕ) (found : Linted) : Type 0 where
   pub all : Warnings
   pub are_found : AreFound program source.text places size all
   pub are_true : All (IsTrueOf program size places) all.found.items
+  pub decided : IsEnough size limit → all.is_complete ≡ true
   pub host_bits : List HostBits
   pub are_host_bits : AreHostBits source.text host_bits
   pub lines_are : lines ≡ warnings_text source.name source.text program.sets all.found.items host_bits all.is_complete
-  pub counted : count ≡ length all.found.items + length host_bits
+  pub comes_to : found ≡ linted_as all.is_complete (length all.found.items + length host_bits)
 
 -- They were written. `held` and `holds` are what the writer held before and holds now.
-pub record WritesWarnings (program : CodeView) (size : ℕ) (places : List ℕ) (source : Named) (held holds : Option (List ℕ)) (count : ℕ) : Type 0 where
+pub record WritesWarnings (program : CodeView) (size limit : ℕ) (places : List ℕ) (source : Named) (held holds : Option (List ℕ)) (found : Linted)
+    : Type 0 where
   pub lines : List ℕ
-  pub report : IsReport program size places source lines count
+  pub report : IsReport program size limit places source lines found
   pub written : Appends held holds lines
 
 -- A fault kept them from being written whole: memory was refused, and nothing was written; or they were cut.
-abbrev pub CutsWarnings : StreamFault → CodeView → ℕ → List ℕ → Named → Option (List ℕ) → Option (List ℕ) → Type 0
-CutsWarnings fault program size places source held holds =
+abbrev pub CutsWarnings : StreamFault → CodeView → ℕ → ℕ → List ℕ → Named → Option (List ℕ) → Option (List ℕ) → Type 0
+CutsWarnings fault program size limit places source held holds =
     ((fault ≡ Memory) × Keeps held holds)
-    ⊎ ((lines : List ℕ) × (count : ℕ) × IsReport program size places source lines count × (fault ≡ Write) × AppendsFront held holds lines)
+    ⊎ ((lines : List ℕ) × (found : Linted) × IsReport program size limit places source lines found × (fault ≡ Write)
+    × AppendsFront held holds lines)
 
--- The text is refused, which was told, and nothing written; or it spells a filter whose code never goes wrong in domains of the size, and
--- the warnings of this code were written, each at the place of the text that its instruction comes from, and nothing told.
-abbrev pub LintsNamed : ℕ → Bool → Named → Option (List ℕ) → Option (List ℕ) → Option (List ℕ) → Option (List ℕ) → Linted → Type 0
-LintsNamed size is_explained source held holds tells told linted.Refused = (why : Diagnosis)
-    × IsDiagnosis size false source.text why × Keeps held holds × TellsOf is_explained source.name source.text (Some why) tells told
-LintsNamed size is_explained source held holds tells told (linted.Warned count) = (f : FilterView)
+-- It spells a filter whose code never goes wrong in domains of the size, and the warnings of this code were written, each at the place of
+-- the text that its instruction comes from, and nothing told.
+abbrev pub LintsFilter : ℕ → ℕ → Named → Option (List ℕ) → Option (List ℕ) → Option (List ℕ) → Option (List ℕ) → Linted → Type 0
+LintsFilter size limit source held holds tells told found = (f : FilterView)
     × (is_f : IsFilterOf source.text size f) × (places : List ℕ) × ArePlacesOf source.text places
-    × WritesWarnings is_f.program size places source held holds count × Keeps tells told
+    × WritesWarnings is_f.program size limit places source held holds found × Keeps tells told
+
+-- The text is refused, which was told, and nothing written; or its warnings were written.
+abbrev pub LintsNamed : ℕ → ℕ → Bool → Named → Option (List ℕ) → Option (List ℕ) → Option (List ℕ) → Option (List ℕ) → Linted → Type 0
+LintsNamed size limit is_explained source held holds tells told linted.Refused = (why : Diagnosis)
+    × IsDiagnosis size false source.text why × Keeps held holds × TellsOf is_explained source.name source.text (Some why) tells told
+LintsNamed size limit is_explained source held holds tells told (linted.Warned count) =
+    LintsFilter size limit source held holds tells told (linted.Warned count)
+LintsNamed size limit is_explained source held holds tells told (linted.Undecided count) =
+    LintsFilter size limit source held holds tells told (linted.Undecided count)
 
 -- A fault ended it: before anything was written or told, for want of memory; while a refusal was told; or while warnings were written.
-abbrev pub LintsNamedOff : StreamFault → ℕ → Bool → Named → Option (List ℕ) → Option (List ℕ) → Option (List ℕ) → Option (List ℕ) → Type 0
-LintsNamedOff fault size is_explained source held holds tells told =
+abbrev pub LintsNamedOff : StreamFault → ℕ → ℕ → Bool → Named → Option (List ℕ) → Option (List ℕ) → Option (List ℕ) → Option (List ℕ) → Type 0
+LintsNamedOff fault size limit is_explained source held holds tells told =
     ((fault ≡ Memory) × Keeps held holds × Keeps tells told)
     ⊎ (((why : Diagnosis) × IsDiagnosis size false source.text why × Keeps held holds
     × IsCutTelling fault is_explained source.name source.text why tells told)
     ⊎ ((f : FilterView) × (is_f : IsFilterOf source.text size f) × (places : List ℕ) × ArePlacesOf source.text places
-    × CutsWarnings fault is_f.program size places source held holds × Keeps tells told))
+    × CutsWarnings fault is_f.program size limit places source held holds × Keeps tells told))
 
 -- The text is refused, and nothing was told; or the warnings of the filter that it spells were told.
-abbrev pub WarnsNamed : ℕ → Named → Option (List ℕ) → Option (List ℕ) → Type 0
-WarnsNamed size source tells told = ((why : Diagnosis) × IsDiagnosis size false source.text why × Keeps tells told)
-    ⊎ ((count : ℕ) × (f : FilterView) × (is_f : IsFilterOf source.text size f) × (places : List ℕ) × ArePlacesOf source.text places
-    × WritesWarnings is_f.program size places source tells told count)
+abbrev pub WarnsNamed : ℕ → ℕ → Named → Option (List ℕ) → Option (List ℕ) → Type 0
+WarnsNamed size limit source tells told = ((why : Diagnosis) × IsDiagnosis size false source.text why × Keeps tells told)
+    ⊎ ((found : Linted) × (f : FilterView) × (is_f : IsFilterOf source.text size f) × (places : List ℕ) × ArePlacesOf source.text places
+    × WritesWarnings is_f.program size limit places source tells told found)
 
 -- A fault ended it: before anything was told, for want of memory; or while they were told.
-abbrev pub WarnsNamedOff : StreamFault → ℕ → Named → Option (List ℕ) → Option (List ℕ) → Type 0
-WarnsNamedOff fault size source tells told = ((fault ≡ Memory) × Keeps tells told)
+abbrev pub WarnsNamedOff : StreamFault → ℕ → ℕ → Named → Option (List ℕ) → Option (List ℕ) → Type 0
+WarnsNamedOff fault size limit source tells told = ((fault ≡ Memory) × Keeps tells told)
     ⊎ ((f : FilterView) × (is_f : IsFilterOf source.text size f) × (places : List ℕ) × ArePlacesOf source.text places
-    × CutsWarnings fault is_f.program size places source tells told)
+    × CutsWarnings fault is_f.program size limit places source tells told)
 
 -- These are the lines of the prefixes of a text that have host bits, as they are among those of its warnings.
 pub record AreHostBitsLines (source : Named) (lines : List ℕ) : Type 0 where

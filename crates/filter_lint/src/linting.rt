@@ -1,8 +1,9 @@
 //! `ncroute lint`: what is plainly wrong with a filter that is verified.
-ghost use Rattle.std.specs.Prelude.{◌≡◌, ◌+◌, ◌≤◌, All, IfErr, IfOk, OnOk, length};
+ghost use Rattle.std.specs.Prelude.{◌≡◌, ◌+◌, ◌≤◌, All, IfErr, IfOk, OnOk, length, true};
 ghost use Rattle.std.specs.Io.KnownBytes.{Appends};
 ghost use Rattle.filter_reports.specs.Faults.{stream_fault};
 ghost use Rattle.filter_reports.specs.Naming.{named};
+ghost use Rattle.filter_diff.specs.Parts.{IsEnough};
 ghost use Rattle.filter_tokens.specs.Tokenization.{IsTokenization};
 ghost use Rattle.line_protocol.specs.Runs.{AppendsFront};
 ghost use Rattle.filter_lint.specs.Linting as spec;
@@ -26,15 +27,28 @@ use std::io::Write;
 pub enum Linted {
     /// It is refused, which is told.
     Refused,
-    /// It is verified, and so many warnings are said of it.
+    /// It is verified, all routes were tried, and so many warnings are said of it.
     Warned(usize),
+    /// It is verified, but not all routes were tried, which a line says. So many warnings are said of it, by rules that try no route.
+    Undecided(usize),
 }
 
-/// The lines of the warnings of a filter, and how many there are.
+/// The lines of the warnings of a filter, and what comes of it.
 #[derive(Drop)]
 struct Report {
     lines: Vec<u8>,
-    count: usize,
+    found: Linted,
+}
+
+/// What comes of a filter of which so many warnings are said.
+fn linted_as(is_complete: bool, count: usize) -> Linted
+    ensures { result ≡ spec.linted_as is_complete count }
+{
+    if is_complete {
+        Linted::Warned(count)
+    } else {
+        Linted::Undecided(count)
+    }
 }
 
 /// The warnings of verified code, for domains of the size that it was verified for.
@@ -47,11 +61,12 @@ fn warnings_of(
 ) -> Result<Warnings, AllocError>
     ensures found { IfOk result (AreFound verified.now.program text.now places.now verified.now.size) }
     ensures sound { IfOk result (λ all. All (IsTrueOf verified.now.program verified.now.size places.now) all.found.items) }
+    ensures decided { IsEnough verified.now.size limit → IfOk result (λ all. all.is_complete ≡ true) }
 {
     find_warnings(alloc, verified.code(), text, places, verified.size(), limit)
 }
 
-/// The lines of warnings of a code, and how many there are.
+/// The lines of warnings of a code, and what comes of it.
 fn report_on(
     alloc: Global,
     verified: &Verified,
@@ -61,7 +76,7 @@ fn report_on(
 ) -> Result<Report, AllocError>
     ensures lines { IfOk result (λ report. report.lines.items
         ≡ warnings_text_of source.now.name.now source.now.text.now verified.now.program.sets all.now.found.items host_bits.now all.now.is_complete) }
-    ensures counted { IfOk result (λ report. report.count ≡ length all.now.found.items + length host_bits.now) }
+    ensures comes_to { IfOk result (λ report. report.found ≡ spec.linted_as all.now.is_complete (length all.now.found.items + length host_bits.now)) }
 {
     let warnings = all.found.as_slice();
     let lines = warnings_text(
@@ -75,7 +90,7 @@ fn report_on(
     )?;
     Ok(Report {
         lines,
-        count: warnings.len() + host_bits.len(),
+        found: linted_as(all.is_complete, warnings.len() + host_bits.len()),
     })
 }
 
@@ -87,8 +102,8 @@ fn report_of(
     limit: u64,
 ) -> Result<Report, AllocError>
     requires { IsTokenization placed.now.tokens.items 0 source.now.text.now }
-    ensures { IfOk result (λ report. spec.IsReport placed.now.verified.program placed.now.verified.size placed.now.places.items
-        (named source.now) report.lines.items report.count) }
+    ensures { IfOk result (λ report. spec.IsReport placed.now.verified.program placed.now.verified.size limit placed.now.places.items
+        (named source.now) report.lines.items report.found) }
 {
     let all = warnings_of(
         alloc,
@@ -118,16 +133,16 @@ fn write_warnings<W: Write>(
     source: &NamedText<'_>,
     limit: u64,
     writer: &mut W,
-) -> Result<usize, ProgramFault>
+) -> Result<Linted, ProgramFault>
     requires { IsTokenization placed.now.tokens.items 0 source.now.text.now }
-    ensures finished { IfOk result (spec.WritesWarnings placed.now.verified.program placed.now.verified.size placed.now.places.items
+    ensures finished { IfOk result (spec.WritesWarnings placed.now.verified.program placed.now.verified.size limit placed.now.places.items
         (named source.now) (W.contents writer.old) (W.contents writer.new)) }
     ensures broken_off { IfErr result (λ fault. spec.CutsWarnings (stream_fault fault) placed.now.verified.program placed.now.verified.size
-        placed.now.places.items (named source.now) (W.contents writer.old) (W.contents writer.new)) }
+        limit placed.now.places.items (named source.now) (W.contents writer.old) (W.contents writer.new)) }
 {
     let report = report_of(alloc, placed, source, limit)?;
     write_report(&report, writer)?;
-    Ok(report.count)
+    Ok(report.found)
 }
 
 /// Writes the warnings of the filter that a text spells, for domains of `size` nodes, a line for each. At most `limit` classes of
@@ -142,15 +157,15 @@ pub fn lint_named<W: Write, E: Write>(
     writer: &mut W,
     errors: &mut E,
 ) -> Result<Linted, ProgramFault>
-    ensures finished { IfOk result (spec.LintsNamed size is_explained (named source.now)
+    ensures finished { IfOk result (spec.LintsNamed size limit is_explained (named source.now)
         (W.contents writer.old) (W.contents writer.new) (E.contents errors.old) (E.contents errors.new)) }
-    ensures broken_off { IfErr result (λ fault. spec.LintsNamedOff (stream_fault fault) size is_explained (named source.now)
+    ensures broken_off { IfErr result (λ fault. spec.LintsNamedOff (stream_fault fault) size limit is_explained (named source.now)
         (W.contents writer.old) (W.contents writer.new) (E.contents errors.old) (E.contents errors.new)) }
 {
     match placed_code(alloc, source.text, size) {
         Ok(placed) => {
-            let count = write_warnings(alloc, &placed, source, limit, writer)?;
-            Ok(Linted::Warned(count))
+            let found = write_warnings(alloc, &placed, source, limit, writer)?;
+            Ok(found)
         }
         Err(Failure::Refused(told)) => {
             tell_refusal(
@@ -175,8 +190,8 @@ pub fn warn_named<E: Write>(
     limit: u64,
     errors: &mut E,
 ) -> Result<(), ProgramFault>
-    ensures finished { OnOk result (spec.WarnsNamed size (named source.now) (E.contents errors.old) (E.contents errors.new)) }
-    ensures broken_off { IfErr result (λ fault. spec.WarnsNamedOff (stream_fault fault) size (named source.now)
+    ensures finished { OnOk result (spec.WarnsNamed size limit (named source.now) (E.contents errors.old) (E.contents errors.new)) }
+    ensures broken_off { IfErr result (λ fault. spec.WarnsNamedOff (stream_fault fault) size limit (named source.now)
         (E.contents errors.old) (E.contents errors.new)) }
 {
     match placed_code(alloc, source.text, size) {

@@ -1,6 +1,8 @@
 //! All rules, one after another.
-ghost use Rattle.std.specs.Prelude.{◌≡◌, ◌≤◌, All, IfOk};
+ghost use Rattle.std.specs.Prelude.{◌≡◌, ◌≤◌, All, IfOk, true};
 ghost use Rattle.filter_code.specs.Limits.{largest_size};
+ghost use Rattle.filter_diff.specs.Parts.{IsEnough};
+ghost use Rattle.filter_diff.specs.Reaching.{NeverFaults};
 ghost use Rattle.filter_lint.specs.Rules as spec;
 ghost use Rattle.filter_lint.specs.Truths.{IsTrueOf};
 
@@ -73,6 +75,7 @@ fn find_in(alloc: Global, source: &SurveyedFilter, limit: u64) -> Result<Warning
     requires { source.now.size ≤ largest_size }
     ensures found { IfOk result (spec.AreFound source.now.program source.now.text source.now.places source.now.size) }
     ensures sound { IfOk result (λ all. All (IsTrueOf source.now.program source.now.size source.now.places) all.found.items) }
+    ensures decided { IsEnough source.now.size limit → NeverFaults source.now.program source.now.size → IfOk result (λ all. all.is_complete ≡ true) }
 {
     let watched = watched_places(alloc, source)?;
     let reached = reach(
@@ -101,6 +104,7 @@ pub(crate) fn find_warnings(
     requires { size ≤ largest_size }
     ensures found { IfOk result (spec.AreFound code.now text.now places.now size) }
     ensures sound { IfOk result (λ all. All (IsTrueOf code.now size places.now) all.found.items) }
+    ensures decided { IsEnough size limit → NeverFaults code.now size → IfOk result (λ all. all.is_complete ≡ true) }
 {
     let survey = survey_code(alloc, code, size)?;
     let source = SurveyedFilter::new(text, code, places, size, &survey);

@@ -9,6 +9,7 @@ mod Gathered
 mod HostBits
 mod Imported
 mod JoinedRead
+mod Linted
 mod Loaded
 mod MadeTexts
 mod PlanAdded

@@ -1,36 +1,54 @@
 -- What the program does with filters that are linted. (This project's own choice.)
-use Rattle.std.specs.Prelude.{◌≡◌, ◌⊎◌, ℕ, Bool, true, nat_lt, not, ◌&&◌, if◌then◌else◌, List, Option, Some, None, Result}
+use Rattle.std.specs.Prelude.{◌≡◌, ◌⊎◌, ℕ, zero, suc, Bool, nat_lt, not, ◌&&◌, if◌then◌else◌, List, Option, Some, None, Result, length, slice_get}
 use Rattle.std.specs.declared.io.Error.{Error}
 use Rattle.filter_source.specs.Limits.{source_limit}
 use Rattle.filter_lint.specs.Linting.{CutsHostBits, LintsNamed, LintsNamedOff, TellsHostBits, WarnsNamed, WarnsNamedOff}
 use Rattle.filter_lint.specs.declared.linting.Linted.{Linted}
-use Rattle.filter_lint.specs.declared.linting.Linted.TheVariants.{Refused, Warned}
+use Rattle.filter_lint.specs.declared.linting.Linted.TheVariants.{Refused, Undecided, Warned}
 use Rattle.filter_reports.specs.Naming.{Named}
 use Rattle.line_protocol.specs.declared.faults.StreamFault.{StreamFault}
 use Rattle.command_line.specs.declared.requests.Checking.{Checking}
 use Rattle.command_line.specs.declared.requests.Source.{Source}
 use Rattle.command_line.specs.declared.lint_words.Linting.{Linting}
-use Rattle.ncroute.specs.Following.{CutsLater, DoesAll}
 use Rattle.ncroute.specs.Reading.{Reads, SkipsUnread, StopsReading, name_of}
 use Rattle.ncroute.specs.Streaming.{Streams}
+use Rattle.ncroute.specs.declared.linting.Said.{Said}
+use Rattle.ncroute.specs.declared.linting.Said.TheVariants as said
 use Rattle.ncroute.specs.declared.linting.Wanted.{Wanted}
 use Rattle.ncroute.specs.declared.linting.Wanted.TheVariants as wanted
 
--- whether something is said of a filter: why it is refused, or a warning
-abbrev pub is_said : Linted → Bool
-is_said Refused = true
-is_said (Warned count) = nat_lt 0 count
+-- what is said of a filter: something, as why it is refused, or a warning; and where nothing is, whether all was looked for
+abbrev pub said_if : Bool → Said → Said
+said_if is_any otherwise = if is_any then said.Something else otherwise
 
--- The warnings of a text were written, or its refusal told, and it is said whether there are any.
-pub record LintsText (how : Linting) (source : Named) (before after : Streams) (found : Bool) : Type 0 where
+abbrev pub said_of : Linted → Said
+said_of Refused = said.Something
+said_of (Warned count) = said_if (nat_lt 0 count) said.Nothing
+said_of (Undecided count) = said_if (nat_lt 0 count) said.Unknown
+
+-- what is said of several: something where something is said of one
+abbrev pub both_said : Said → Said → Said
+both_said said.Something later = said.Something
+both_said said.Nothing later = later
+both_said said.Unknown said.Something = said.Something
+both_said said.Unknown later = said.Unknown
+
+-- the exit status
+abbrev pub status_of_said : Said → ℕ
+status_of_said said.Nothing = 0
+status_of_said said.Something = 1
+status_of_said said.Unknown = 3
+
+-- The warnings of a text were written, or its refusal told.
+pub record LintsText (how : Linting) (source : Named) (before after : Streams) (found : Said) : Type 0 where
   pub linted : Linted
-  pub named : LintsNamed how.size how.is_explained source before.holds after.holds before.tells after.tells linted
-  pub judged : found ≡ is_said linted
+  pub named : LintsNamed how.size how.limit how.is_explained source before.holds after.holds before.tells after.tells linted
+  pub judged : found ≡ said_of linted
   pub reads : after.reads ≡ before.reads
 
 -- A fault cut that.
 pub record CutsLintText (fault : StreamFault) (how : Linting) (source : Named) (before after : Streams) : Type 0 where
-  pub named : LintsNamedOff fault how.size how.is_explained source before.holds after.holds before.tells after.tells
+  pub named : LintsNamedOff fault how.size how.limit how.is_explained source before.holds after.holds before.tells after.tells
   pub reads : after.reads ≡ before.reads
 
 -- which warnings are told of a filter where they are not asked for: where words are told, those of its prefixes with host bits
@@ -48,14 +66,14 @@ wanted_of how is_refused =
     if is_refused then wanted.Nothing else wanted_with how.warning_limit (wanted_unasked how.is_explained how.is_code)
 
 -- The warnings of a text that was checked were told.
-pub record WarnsText (size : ℕ) (source : Named) (before after : Streams) : Type 0 where
-  pub named : WarnsNamed size source before.tells after.tells
+pub record WarnsText (size limit : ℕ) (source : Named) (before after : Streams) : Type 0 where
+  pub named : WarnsNamed size limit source before.tells after.tells
   pub reads : after.reads ≡ before.reads
   pub holds : after.holds ≡ before.holds
 
 -- A fault cut that.
-pub record CutsWarningText (fault : StreamFault) (size : ℕ) (source : Named) (before after : Streams) : Type 0 where
-  pub named : WarnsNamedOff fault size source before.tells after.tells
+pub record CutsWarningText (fault : StreamFault) (size limit : ℕ) (source : Named) (before after : Streams) : Type 0 where
+  pub named : WarnsNamedOff fault size limit source before.tells after.tells
   pub reads : after.reads ≡ before.reads
   pub holds : after.holds ≡ before.holds
 
@@ -75,22 +93,22 @@ pub record CutsHostBitsText (fault : StreamFault) (source : Named) (before after
 abbrev pub Warns : Wanted → ℕ → Named → Streams → Streams → Type 0
 Warns wanted.Nothing size source before after = after ≡ before
 Warns wanted.HostBits size source before after = WarnsOfHostBits source before after
-Warns (wanted.All limit) size source before after = WarnsText size source before after
+Warns (wanted.All limit) size source before after = WarnsText size limit source before after
 
 -- A fault cut that.
 abbrev pub CutsWarning : Wanted → StreamFault → ℕ → Named → Streams → Streams → Type 0
 CutsWarning wanted.Nothing fault size source before after = ⊥
 CutsWarning wanted.HostBits fault size source before after = CutsHostBitsText fault source before after
-CutsWarning (wanted.All limit) fault size source before after = CutsWarningText fault size source before after
+CutsWarning (wanted.All limit) fault size source before after = CutsWarningText fault size limit source before after
 
 -- `opens name` says what may come of opening a file of this name.
 module _ (opens : List ℕ → Result (Option (List ℕ)) Error → Type 0) where
-  -- A source was read and linted; or it was not read, which counts as a warning.
-  abbrev pub LintsOne : Linting → Source → Streams → Streams → Bool → Type 0
+  -- A source was read and linted; or it was not read, and nothing is known of it.
+  abbrev pub LintsOne : Linting → Source → Streams → Streams → Said → Type 0
   LintsOne how source before after found =
       ((text : List ℕ) × (mid : Streams) × Reads opens source_limit source text before mid
       × LintsText how (record { name = name_of source; text = text }) mid after found)
-      ⊎ (SkipsUnread opens source_limit source before after × (found ≡ true))
+      ⊎ (SkipsUnread opens source_limit source before after × (found ≡ said.Unknown))
 
   -- A fault cut that: its text was not read, or the warnings or what is told was cut.
   abbrev pub CutsLint : StreamFault → Linting → Source → Streams → Streams → Type 0
@@ -98,10 +116,25 @@ module _ (opens : List ℕ → Result (Option (List ℕ)) Error → Type 0) wher
       ⊎ ((text : List ℕ) × (mid : Streams) × Reads opens source_limit source text before mid
       × CutsLintText fault how (record { name = name_of source; text = text }) mid after)
 
-  -- Each of the sources was linted, in order, and the exit status says whether something was said of one of them.
-  abbrev pub LintsAll : Linting → List Source → Streams → Streams → ℕ → Type 0
-  LintsAll how sources before after status = DoesAll (LintsOne how) sources before after status
+  -- The first n of the sources were linted, in order.
+  unfoldable pub LintsFirst : Linting → List Source → ℕ → Streams → Streams → Said → Type 0
+  LintsFirst how sources zero before after found = (after ≡ before) × (found ≡ said.Nothing)
+  LintsFirst how sources (suc n) before after found = (source : Source) × (mid : Streams) × (earlier : Said) × (one : Said)
+      × (slice_get sources n ≡ Some source) × LintsFirst how sources n before mid earlier × LintsOne how source mid after one
+      × (found ≡ both_said earlier one)
 
-  -- A fault ended that.
-  abbrev pub StopsLinting : StreamFault → Linting → List Source → Streams → Streams → Type 0
-  StopsLinting fault how sources before after = CutsLater (LintsOne how) (CutsLint fault how) sources before after
+  -- Each of them was, and the exit status says what is said of them.
+  pub record LintsAll (how : Linting) (sources : List Source) (before after : Streams) (status : ℕ) : Type 0 where
+    pub found : Said
+    pub done : LintsFirst how sources (length sources) before after found
+    pub ends : status ≡ status_of_said found
+
+  -- A fault ended that, behind the first of them.
+  pub record StopsLinting (fault : StreamFault) (how : Linting) (sources : List Source) (before after : Streams) : Type 0 where
+    pub n : ℕ
+    pub source : Source
+    pub is_source : slice_get sources n ≡ Some source
+    pub mid : Streams
+    pub found : Said
+    pub first : LintsFirst how sources n before mid found
+    pub cut : CutsLint fault how source mid after

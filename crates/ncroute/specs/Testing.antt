@@ -1,5 +1,5 @@
 -- What the program does with test files. (This project's own choice; the lines are those of the Test Anything Protocol.)
-use Rattle.std.specs.Prelude.{◌≡◌, ◌⊎◌, ◌||◌, ◌+◌, ℕ, zero, suc, false, if◌then◌else◌, List, [], ◌∷◌, ◌++◌, Option, Some, None, Result, Ok, Err}
+use Rattle.std.specs.Prelude.{◌≡◌, ◌≤◌, ◌⊎◌, ◌||◌, ◌+◌, ◌^◌, ℕ, zero, suc, false, if◌then◌else◌, List, [], ◌∷◌, ◌++◌, Option, Some, None, Result, Ok, Err}
 use Rattle.std.specs.Prelude.{IsUtf8, codes, length, nat_lt, slice_get, string_bytes}
 use Rattle.std.specs.declared.io.Error.{Error}
 use Rattle.filter_checks.specs.Faults.{fault_text}
@@ -52,20 +52,20 @@ status_of_tests (Some tally) = if tally.has_failed then 1 else 0
 pub record RunsBy (how : Testing) (name : List ℕ) (file : FileView) (filter : Named) (tally : Tally) (before after : Streams)
     (found : Option Tally) : Type 0 where
   pub tested : Tested
-  pub tests : TestsNamed tally.count how.is_explained name file filter before.holds after.holds before.tells after.tells tested
+  pub tests : TestsNamed tally.count how.limit how.is_explained name file filter before.holds after.holds before.tells after.tells tested
   pub counted : found ≡ tally_after tally (length file.tests) tested
   pub reads : after.reads ≡ before.reads
 
 -- A fault ended it.
 pub record StopsCounted (fault : StreamFault) (how : Testing) (name : List ℕ) (file : FileView) (filter : Named) (tally : Tally)
     (before after : Streams) : Type 0 where
-  pub tests : TestsNamedOff fault tally.count how.is_explained name file filter before.holds after.holds before.tells after.tells
+  pub tests : TestsNamedOff fault tally.count how.limit how.is_explained name file filter before.holds after.holds before.tells after.tells
   pub reads : after.reads ≡ before.reads
 
 -- Or tests that a number of 64 bits cannot count are not run.
 unfoldable pub StopsBy : StreamFault → Testing → List ℕ → FileView → Named → Tally → Streams → Streams → Type 0
 StopsBy fault how name file filter tally before after =
-    ((fault ≡ TooLong) × (after ≡ before)) ⊎ StopsCounted fault how name file filter tally before after
+    ((2 ^ 64 ≤ tally.count + length file.tests) × (fault ≡ TooLong) × (after ≡ before)) ⊎ StopsCounted fault how name file filter tally before after
 
 -- Standard error was told why a text is no test file, and nothing more is run.
 pub record TellsFault (how : Testing) (name : List ℕ) (why : TestFileFault) (before after : Streams) (found : Option Tally) : Type 0 where

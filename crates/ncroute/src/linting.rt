@@ -5,11 +5,10 @@ ghost use Rattle.filter_reports.specs.Faults.{stream_fault};
 ghost use Rattle.filter_reports.specs.Naming.{named};
 ghost use Rattle.filter_tokens.specs.Tokenization.{IsTokenization};
 ghost use Rattle.ncroute.specs.Linting.{CutsHostBitsText, CutsLint, CutsLintText, CutsWarning, CutsWarningText, LintsAll, LintsOne, LintsText};
-ghost use Rattle.ncroute.specs.Linting.{StopsLinting, Warns, WarnsOfHostBits, WarnsText, is_said, wanted_of};
+ghost use Rattle.ncroute.specs.Linting.{StopsLinting, Warns, WarnsOfHostBits, WarnsText, both_said, said_of, status_of_said, wanted_of};
 
-use crate::checking::is_any;
 use crate::console::{Console, Loaded};
-use crate::ending::status_of_found;
+use crate::ending::{FAILED, FAULT};
 use crate::texts::{Folder, name_of};
 use command_line::{Checking, Linting, Source};
 use filter_lint::{Linted, lint_named, tell_host_bits, warn_named};
@@ -30,23 +29,59 @@ pub enum Wanted {
     All(u64),
 }
 
-/// Whether something is said of a filter: why it is refused, or a warning.
-fn is_said(linted: Linted) -> bool
-    ensures { result ≡ is_said linted }
+/// What is said of filters.
+#[derive(Clone, Copy)]
+pub enum Said {
+    /// Nothing, and all was looked for.
+    Nothing,
+    /// Something: why one is refused, or a warning.
+    Something,
+    /// Nothing so far: not all routes were tried, or a file was not read.
+    Unknown,
+}
+
+/// What is said of a filter.
+fn said_of(linted: Linted) -> Said
+    ensures { result ≡ said_of linted }
 {
     match linted {
-        Linted::Refused => true,
-        Linted::Warned(count) => count > 0,
+        Linted::Refused => Said::Something,
+        Linted::Warned(0) => Said::Nothing,
+        Linted::Undecided(0) => Said::Unknown,
+        Linted::Warned(_) | Linted::Undecided(_) => Said::Something,
     }
 }
 
-/// Writes the warnings of a text, and returns whether something is said of it.
+/// What is said of some filters and of those after them.
+fn both_said(earlier: Said, later: Said) -> Said
+    ensures { result ≡ both_said earlier later }
+{
+    match (earlier, later) {
+        (Said::Something, _) => Said::Something,
+        (Said::Nothing, _) => later,
+        (Said::Unknown, Said::Something) => Said::Something,
+        (Said::Unknown, _) => Said::Unknown,
+    }
+}
+
+/// The exit status.
+fn status_of_said(found: Said) -> u8
+    ensures { result ≡ status_of_said found }
+{
+    match found {
+        Said::Nothing => 0,
+        Said::Something => FAILED,
+        Said::Unknown => FAULT,
+    }
+}
+
+/// Writes the warnings of a text, and returns what is said of it.
 fn lint_text<R: Read, W: Write, E: Write>(
     alloc: Global,
     how: Linting,
     source: &NamedText<'_>,
     console: &mut Console<R, W, E>,
-) -> Result<bool, ProgramFault>
+) -> Result<Said, ProgramFault>
     ensures finished { IfOk result (LintsText how (named source.now) console.old console.new) }
     ensures cut { IfErr result (λ fault. CutsLintText (stream_fault fault) how (named source.now) console.old console.new) }
 {
@@ -59,7 +94,7 @@ fn lint_text<R: Read, W: Write, E: Write>(
         &mut console.writer,
         &mut console.errors,
     ) {
-        Ok(linted) => Ok(is_said(linted)),
+        Ok(linted) => Ok(said_of(linted)),
         Err(fault) => Err(fault),
     }
 }
@@ -85,8 +120,8 @@ fn warn_of_all<R: Read, W: Write, E: Write>(
     source: &NamedText<'_>,
     console: &mut Console<R, W, E>,
 ) -> Result<(), ProgramFault>
-    ensures told { OnOk result (WarnsText size (named source.now) console.old console.new) }
-    ensures cut { IfErr result (λ fault. CutsWarningText (stream_fault fault) size (named source.now) console.old console.new) }
+    ensures told { OnOk result (WarnsText size limit (named source.now) console.old console.new) }
+    ensures cut { IfErr result (λ fault. CutsWarningText (stream_fault fault) size limit (named source.now) console.old console.new) }
 {
     match warn_named(alloc, source, size, limit, &mut console.errors) {
         Ok(()) => Ok(()),
@@ -134,14 +169,14 @@ pub fn warn<R: Read, W: Write, E: Write>(
     }
 }
 
-/// Writes the warnings of a source, and returns whether something is said of it; of a file that cannot be read it is.
+/// Writes the warnings of a source, and returns what is said of it. Of a file that cannot be read nothing is known.
 fn lint_one<F: Folder, R: Read, W: Write, E: Write>(
     files: &F,
     alloc: Global,
     how: Linting,
     source: &Source,
     console: &mut Console<R, W, E>,
-) -> Result<bool, ProgramFault>
+) -> Result<Said, ProgramFault>
     ensures finished { IfOk result (LintsOne (F.opens files.now) how source.now console.old console.new) }
     ensures cut { IfErr result (λ fault. CutsLint (F.opens files.now) (stream_fault fault) how source.now console.old console.new) }
 {
@@ -150,12 +185,13 @@ fn lint_one<F: Folder, R: Read, W: Write, E: Write>(
             let (name, text) = (name_of(source), text.as_slice());
             lint_text(alloc, how, &NamedText { name, text }, console)
         }
-        Loaded::Skipped => Ok(true),
+        Loaded::Skipped => Ok(Said::Unknown),
         Loaded::Stopped(fault) => Err(fault),
     }
 }
 
-/// Writes the warnings of each of some sources, in order, and returns the exit status: 1 where something is said of one of them.
+/// Writes the warnings of each of some sources, in order, and returns the exit status: 1 where something is said of one of them, and
+/// otherwise 3 where not all was looked for in one.
 pub fn lint_sources<F: Folder, R: Read, W: Write, E: Write>(
     files: &F,
     alloc: Global,
@@ -166,10 +202,10 @@ pub fn lint_sources<F: Folder, R: Read, W: Write, E: Write>(
     ensures finished { IfOk result (LintsAll (F.opens files.now) how sources.now console.old console.new) }
     ensures cut { IfErr result (λ fault. StopsLinting (F.opens files.now) (stream_fault fault) how sources.now console.old console.new) }
 {
-    let mut is_any_said = false;
+    let mut found = Said::Nothing;
     for source in sources {
         let one = lint_one(files, alloc, how, source, console)?;
-        is_any_said = is_any(is_any_said, one);
+        found = both_said(found, one);
     }
-    Ok(status_of_found(is_any_said))
+    Ok(status_of_said(found))
 }

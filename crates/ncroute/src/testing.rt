@@ -79,7 +79,8 @@ fn run_by<R: Read, W: Write, E: Write>(
         console.old console.new) }
 {
     let count = file.tests.len();
-    if count as u64 > u64::MAX - tally.count {
+    let room = u64::MAX - tally.count;
+    if count as u64 > room {
         return Err(ProgramFault::Stream(StreamFault::TooLong));
     }
     match test_named(

@@ -1,5 +1,7 @@
-use Rattle.std.proofs.Common.{◌∙◌, ap, length, refl, sym}
+use Rattle.std.proofs.Common.{ℕ, ◌∙◌, ap, length, refl, sym, subst}
 use Rattle.filter_code.specs.CodeView.{CodeView}
+use Rattle.filter_diff.specs.Parts.{IsEnough}
+use Rattle.filter_diff.specs.Reaching.{NeverFaults}
 use Rattle.filter_lint.specs.Watching.{is_watched, watched_places}
 use Rattle.filter_lint.proofs.Tried.{said_is_so, same_reach}
 use Rattle.filter_lint.proofs.Watched.{length-watched}
@@ -29,3 +31,10 @@ returns-clause-sound c =
     (same_reach c.code.result.now source.program c.size.result source.size c.as_slice.result.now c.as_slice.result.now
     c.in_ok-reached.reached c.code.ensures c.size.ensures refl c.in_ok-reached.ensures.found)
     c.in_ok-found.found.items c.in_ok-found.ensures
+
+pub returns-clause-decided : goal.returns-clause-decided
+returns-clause-decided c enough never =
+    let source = c.args.source.now in
+    c.in_ok-reached.ensures.decided (subst (λ (n : ℕ). IsEnough n c.args.limit) (sym c.size.ensures) enough)
+    (subst (λ (p : CodeView). NeverFaults p c.size.result) (sym c.code.ensures)
+    (subst (λ (n : ℕ). NeverFaults source.program n) (sym c.size.ensures) never))
