@@ -37,7 +37,8 @@ MODULES = ("memory", "memory_routers", "lock")
 
 # The calls that these tests make and that answer refused memory. `close` is made too, and asks for none.
 CALLS = """build read_code write_code parse check compile compile_mapped verify compile_text read_file read_hexadecimal verify_code Tables::open
-Tables::apply Journal::open Journal::apply replay answer_lines run_script run_saved_script Router::open try_call call run_sessions""".split()
+Tables::restore Tables::apply Journal::open Journal::apply replay answer_lines run_script run_saved_script Router::open try_call call
+run_sessions""".split()
 
 # How a program ends that was refused memory: in any call of most commands, and in `net` also in those of a lock, a session or a channel.
 # Each of these ends has to come about.

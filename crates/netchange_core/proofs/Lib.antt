@@ -3,6 +3,7 @@ pub mod Change
 pub mod Goes
 pub mod Good
 pub mod Holders
+pub mod Inserted
 pub mod Listed
 pub mod Lists
 pub mod Mapped
@@ -11,6 +12,7 @@ pub mod Opened
 pub mod Presence
 pub mod Queued
 pub mod Received
+pub mod Reached
 pub mod Recomputed
 pub mod Replaced
 pub mod Rooms

@@ -1,16 +1,15 @@
 -- The tables of an opening.
-use Rattle.std.proofs.Common.{◌≡◌, ℕ, ◌+◌, ◌<◌, ◌≤◌, get_or, sym, subst, zero, suc, min, cond, nat_eq}
-use Rattle.std.proofs.Common.{List, replicate, refl, ap, ◌∙◌, arith, eq-eqb, ne_eqb, le-ltb}
+use Rattle.std.proofs.Common.{◌≡◌, ℕ, ◌<◌, ◌≤◌, sym, subst, cond, nat_eq}
+use Rattle.std.proofs.Common.{List, replicate, ap, arith, eq-eqb, ne_eqb}
 use Rattle.std.proofs.lemmas.Bool.{cond_both}
 use Rattle.std.proofs.lemmas.List.{length-replicate, get_or-replicate}
-use Rattle.netchange_core.specs.declared.reply.Via.TheVariants.{Local, Node, Nowhere}
-use Rattle.netchange_core.specs.Best.{best_by, least, nearest, neighbour_distance, first_at, route_of}
-use Rattle.netchange_core.specs.declared.destination.Destination.{Destination}
+use Rattle.netchange_core.specs.declared.reply.Via.TheVariants.{Local}
+use Rattle.netchange_core.specs.Best.{best_by, nearest, route_of}
 use Rattle.netchange_core.specs.Calls.{newcomer}
-use Rattle.netchange_core.specs.Kept.{AreDestinations, AreKept, AreNeighbours, IsNeighbour}
+use Rattle.netchange_core.specs.Kept.{AreNeighbours, IsNeighbour}
 use Rattle.netchange_core.specs.World.{NeighbourView}
 use Rattle.netchange_core.proofs.Nearest.{nearest_within}
-use Rattle.netchange_core.proofs.Lists.{below_repeated, map_replicate}
+use Rattle.netchange_core.proofs.Lists.{below_repeated}
 use Rattle.netchange_core.specs.OpeningView.{OpeningView}
 
 -- the router's own node, and others
@@ -22,18 +21,7 @@ pub other_route : (o : OpeningView) (v : ℕ) (xs : List ℕ) → (v ≡ o.me �
 unfolding best_by
 other_route o v xs e = ap (λ b. cond b (route_of 0 Local) (nearest o.size xs)) (ne_eqb v o.me e)
 
-least_none : (n size : ℕ) → least size (replicate n size) ≡ size
-least_none zero size = refl
-least_none (suc n) size = ap (λ m. min size m) (least_none n size) ∙ omega arith
-
--- where no neighbour is up no node is reached
-pub none_near : (n size : ℕ) → nearest size (replicate n size) ≡ route_of size Nowhere
-none_near n size =
-    let d = least size (replicate n size) in
-    let e : d ≡ size = least_none n size in
-    ap (λ b. cond b (route_of (d + 1) (Node (first_at d (replicate n size)))) (route_of size Nowhere)) (le-ltb (d + 1) size (omega (arith, e)))
-
-new_neighbour : (o : OpeningView) → IsNeighbour o.size (newcomer o)
+pub new_neighbour : (o : OpeningView) → IsNeighbour o.size (newcomer o)
 new_neighbour o = record {
   one_a_node = length-replicate o.size o.size;
   reachable = below_repeated o.size o.size;
@@ -49,19 +37,6 @@ new_neighbours o = record {
       let Q : NeighbourView → Type 0 = IsNeighbour o.size in
       subst Q (sym (get_or-replicate o.size k (newcomer o) d short)) (new_neighbour o);
 }
-
--- what the tables keep while no neighbour was ever up
-pub kept_first : (o : OpeningView) (ns : List NeighbourView) (ds : List Destination) → ns ≡ replicate o.size (newcomer o) →
-    AreDestinations o ds →
-    ((v : ℕ) (d : Destination) → v < o.size → (get_or ds v d).distances.items ≡ replicate o.size o.size) →
-    AreKept o ns ds
-kept_first o ns ds e right none =
-    let P : List NeighbourView → Type 0 = λ ms. AreKept o ms ds in
-    subst P (sym e) (record {
-      neighbours = new_neighbours o;
-      destinations = right;
-      distances = λ v d h. none v d h ∙ sym (map_replicate (neighbour_distance o v) o.size (newcomer o));
-    })
 
 -- no route is longer than the size
 pub best_within : (o : OpeningView) (v : ℕ) (xs : List ℕ) → (best_by o v xs).dist ≤ o.size

@@ -54,6 +54,17 @@ module _ (ps : List Present) (rising : AreRising ps) (s : ℕ) where
         ],
   )
 
+  -- where one that is not among them belongs
+  pub place : (i : ℕ) → IsSearchInRange (Err i) (length ps) → IsBinarySearchResult (λ p. nat_cmp p.session s) ps (Err i) →
+      (i ≤ length ps) × ((k : ℕ) (d : Present) → k < i → (get_or ps k d).session < s)
+      × ((k : ℕ) (d : Present) → i ≤ k → k < length ps → s < (get_or ps k d).session)
+  place i in_range parted =
+      let halves = parted comparisons_rise in (
+        in_range,
+        λ k d before. ranked _ s _ (sym (halves.0 k d (omega arith) before)),
+        λ k d behind h. ranked _ s _ (sym (halves.1 k d behind h)),
+      )
+
 -- the session of a neighbour
 pub session_at : (ns : List NeighbourView) (k : ℕ) → session_in (sessions_of ns) k ≡ (neighbour_at ns k).session
 session_at [] k = refl

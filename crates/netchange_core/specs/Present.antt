@@ -1,6 +1,7 @@
 -- The present sessions, as the tables keep them.
-use Rattle.std.specs.Prelude.{◌≡◌, ◌≢◌, ℕ, ◌<◌, ◌≤◌, All, Contains, IsSome, Option, Some, None, List, length, map, slice_index_or}
-use Rattle.std.specs.List.{AllPairs, HoldsAt}
+use Rattle.std.specs.Prelude.{◌≡◌, ◌≢◌, ℕ, ◌<◌, ◌≤◌, Bool, true, false, All, Contains, IsSome, Option, Some, None, List, length}
+use Rattle.std.specs.Prelude.{map, slice_index_or}
+use Rattle.std.specs.List.{AllPairs, HoldsAt, insert}
 use Rattle.netchange_core.specs.declared.sessions.Present.{Present}
 use Rattle.netchange_core.specs.World.{NeighbourView}
 
@@ -37,3 +38,16 @@ pub record AreListed (sessions : List (Option ℕ)) (ps : List Present) : Type 0
   pub up : All (λ p. IsSome (session_in sessions p.node)) ps
   pub apart : AllPairs (λ p q. p.node ≢ q.node) ps
   pub listed : (k : ℕ) → IsSome (session_in sessions k) → (i : ℕ) × (i < length ps) × HoldsAt (λ p. p.node ≡ k) ps i
+
+-- a session was inserted where its number says
+pub record IsInserted (p : Present) (old new : List Present) : Type 0 where
+  pub at : ℕ
+  pub within : at ≤ length old
+  pub below : (i : ℕ) (d : Present) → i < at → (slice_index_or old i d).session < p.session
+  pub above : (i : ℕ) (d : Present) → at ≤ i → i < length old → p.session < (slice_index_or old i d).session
+  pub is : new ≡ insert old at p
+
+-- it was, if its number is a new one, else one of the sessions has it
+abbrev pub Inserts : Present → List Present → List Present → Bool → Type 0
+Inserts p old new true = IsInserted p old new
+Inserts p old new false = (i : ℕ) × (i < length old) × HoldsAt (λ q. q.session ≡ p.session) old i

@@ -8,6 +8,7 @@ ghost use Rattle.netchange_core.specs.Best.{best_by, nearest, route_of};
 ghost use Rattle.netchange_core.specs.Leading.{LeadsListed, ListsReachable};
 ghost use Rattle.netchange_core.specs.OpeningView.{OpeningView};
 
+use crate::opening::Opening;
 use crate::reply::Via;
 use crate::sessions::Present;
 
@@ -152,4 +153,24 @@ pub(crate) fn best_after(
         }
         Via::Local => unreachable!(),
     }
+}
+
+/// The best route to a node.
+pub(crate) fn best_by(
+    opening: &Opening,
+    present: &[Present],
+    node: u16,
+    distances: &[u16],
+) -> BestRoute
+    requires some { 0 < length distances.now }
+    requires listed { ListsReachable opening.now.size distances.now present.now }
+    ensures { result ≡ best_by opening.now node distances.now }
+{
+    if node == opening.me() {
+        return BestRoute {
+            dist: 0,
+            via: Via::Local,
+        };
+    }
+    nearest_after(opening.size(), present, distances, 0, distances[0])
 }

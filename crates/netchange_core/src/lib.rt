@@ -3,6 +3,7 @@
 
 mod best_route;
 mod changing;
+mod consistent;
 mod destination;
 mod down;
 mod event;
@@ -29,6 +30,7 @@ pub use event::Event;
 pub use filter::filtered_distance;
 pub use laws::best_route_leads;
 pub use message::{Message, Messages};
+pub use neighbour::Neighbour;
 pub use opening::Opening;
 pub use reply::{EventRefusal, Reply, ReplyRef, Via};
 pub use tables::Tables;

@@ -13,18 +13,20 @@ use std::collections::VecDeque;
 use std::sync::Arc;
 
 /// A node as a neighbour.
+///
+/// A contract sees it by `view_of`, as a `NeighbourView`.
 #[derive(Drop)]
-pub(crate) struct Neighbour {
+pub struct Neighbour {
     /// Its present session, if it is up.
-    pub(crate) session: Option<u32>,
+    pub session: Option<u32>,
     /// The distance to each node that it advertised last in this session.
-    pub(crate) advertised: Vec<u16>,
+    pub advertised: Vec<u16>,
     /// The filter of what it tells.
-    pub(crate) imports: Option<Arc<Verified>>,
+    pub imports: Option<Arc<Verified>>,
     /// The filter of what it is told.
-    pub(crate) exports: Option<Arc<Verified>>,
+    pub exports: Option<Arc<Verified>>,
     /// The messages that wait to be sent to it, the oldest first.
-    pub(crate) queue: VecDeque<Message>,
+    pub queue: VecDeque<Message>,
 }
 
 /// A neighbour that never was up.

@@ -1,9 +1,15 @@
 //! The sessions of a router.
 
-ghost use Rattle.std.specs.Prelude.{◌≡◌, ◌≢◌, ℕ, ◌<◌, All, IfNone, IfSome, List, Option, Some, None, length, position, slice_set};
+ghost use Rattle.std.specs.Prelude.{◌≡◌, ◌≢◌, ℕ, ◌<◌, ◌≤◌, ◌^◌, All, IfNone, IfOk, IfSome, List, Option, Some, None, length};
+ghost use Rattle.std.specs.Prelude.{map, position, slice_set};
 ghost use Rattle.std.specs.List.{HoldsAt};
-ghost use Rattle.netchange_core.specs.Present.{ArePresent, AreRising, session_in, sessions_of};
+ghost use Rattle.netchange_core.specs.Consistent.{AreSessions};
+ghost use Rattle.netchange_core.specs.Kept.{view_of};
+ghost use Rattle.netchange_core.specs.Present.{ArePresent, AreRising, Inserts, present, session_in, sessions_of};
 ghost use Rattle.netchange_core.specs.World.{NeighbourView, has_session};
+
+use crate::neighbour::Neighbour;
+use std::alloc::{AllocError, Global};
 
 /// A present session.
 #[derive(Clone, Copy)]
@@ -67,4 +73,42 @@ pub(crate) fn close(present: &mut Vec<Present>, session: u32)
     if let Some(index) = find(present, session) {
         present.remove(index);
     }
+}
+
+/// Inserts a session among others, in the order of their numbers. Answers whether its number is a new one.
+fn insert(others: &mut Vec<Present>, session: u32, node: u16) -> Result<bool, AllocError>
+    requires { AreRising others.old.items }
+    ensures { IfOk result (Inserts (present session node) others.old.items others.new.items) }
+{
+    match others.binary_search_by_key(&session, |p| p.session) {
+        Ok(_) => Ok(false),
+        Err(at) => {
+            others.insert(at, Present { session, node })?;
+            Ok(true)
+        }
+    }
+}
+
+/// The present sessions of the neighbours, of so many that were opened. None exactly where one was not opened, or two neighbours have the same one.
+pub(crate) fn list_present(
+    alloc: Global,
+    count: u32,
+    neighbours: &[Neighbour],
+) -> Result<Option<Vec<Present>>, AllocError>
+    requires { length neighbours.now ≤ 2 ^ 16 }
+    ensures some { IfOk result (λ o. IfSome o (λ ps. ArePresent count (sessions_of (map view_of neighbours.now)) ps.items)) }
+    ensures none { IfOk result (λ o. IfNone o (AreSessions count (sessions_of (map view_of neighbours.now)) → ⊥)) }
+{
+    let mut present = Vec::with_capacity(alloc, neighbours.len())?;
+    for node in 0..neighbours.len() {
+        if let Some(session) = neighbours[node].session {
+            if session == 0 || count < session {
+                return Ok(None);
+            }
+            if !insert(&mut present, session, node as u16)? {
+                return Ok(None);
+            }
+        }
+    }
+    Ok(Some(present))
 }

@@ -1,13 +1,15 @@
 //! The state of a router, which the events change.
 
-ghost use Rattle.std.specs.Prelude.{◌≡◌, true, IfSome, Some};
-ghost use Rattle.netchange_core.specs.Kept.{AreTables, views_of, world_of};
+ghost use Rattle.std.specs.Prelude.{◌≡◌, true, IfOk, IfSome, Some, map};
+ghost use Rattle.netchange_core.specs.Kept.{AreNeighbours, AreTables, view_of, views_of, world_of};
+ghost use Rattle.netchange_core.specs.Present.{ArePresent, sessions_of};
 ghost use Rattle.netchange_core.specs.World.{holder, is_up, neighbour_at};
 
-use crate::destination::Destination;
+use crate::destination::{Destination, make_destinations};
 use crate::neighbour::Neighbour;
 use crate::opening::Opening;
 use crate::sessions::{Sessions, holder};
+use std::alloc::{AllocError, Global};
 
 /// The state of a router. The tables keep it right; the methods of an event say so of the state before and after it.
 #[derive(Drop)]
@@ -23,6 +25,27 @@ pub(crate) struct State {
 }
 
 impl State {
+    /// The state with these neighbours and their sessions.
+    pub(crate) fn new(
+        alloc: Global,
+        opening: Opening,
+        sessions: Sessions,
+        neighbours: Vec<Neighbour>,
+    ) -> Result<State, AllocError>
+        requires neighbours { AreNeighbours opening.size (map view_of neighbours.items) }
+        requires present { ArePresent sessions.count (sessions_of (map view_of neighbours.items)) sessions.present.items }
+        ensures right { IfOk result AreTables }
+        ensures world { IfOk result (λ s. world_of s ≡ record { opening = opening; sessions = sessions.count; neighbours = map view_of neighbours.items }) }
+    {
+        let destinations = make_destinations(alloc, &opening, &sessions.present, &neighbours)?;
+        Ok(State {
+            opening,
+            sessions,
+            neighbours,
+            destinations,
+        })
+    }
+
     /// The up neighbour whose present session this is.
     #[inline(always)]
     pub(crate) fn holder(&self, session: u32) -> Option<usize>

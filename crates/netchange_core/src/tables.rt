@@ -1,18 +1,21 @@
 //! The tables of a router.
 
-ghost use Rattle.std.specs.Prelude.{◌≡◌, ◌<◌, ◌≤◌, IfOk, IfSome, None, OnErr, OnSome, length, slice_index};
+ghost use Rattle.std.specs.Prelude.{◌≡◌, ◌<◌, ◌≤◌, IfOk, IfSome, None, OnErr, OnSome, length, map, slice_index};
+ghost use Rattle.std.specs.Option.{SomeIff};
 ghost use Rattle.netchange_core.specs.Best.{best, neighbour_distance};
 ghost use Rattle.netchange_core.specs.Calls.{MayNeedMemory, carried, opened, queued_of, room_of, session_of};
+ghost use Rattle.netchange_core.specs.Consistent.{IsConsistent};
+ghost use Rattle.netchange_core.specs.Kept.{view_of};
 ghost use Rattle.netchange_core.specs.Next.{answered, next};
-ghost use Rattle.netchange_core.specs.World.{neighbour_at};
+ghost use Rattle.netchange_core.specs.World.{World, neighbour_at};
 
 use crate::best_route::BestRoute;
-use crate::destination::make_destinations;
+use crate::consistent::are_consistent;
 use crate::event::Event;
-use crate::neighbour::make_newcomers;
+use crate::neighbour::{Neighbour, make_newcomers};
 use crate::opening::Opening;
 use crate::reply::Reply;
-use crate::sessions::Sessions;
+use crate::sessions::{Sessions, list_present};
 use crate::state::State;
 use std::alloc::{AllocError, Global};
 use std::marker::Model;
@@ -40,18 +43,38 @@ impl Tables {
         ensures { IfOk result (λ t. t ≡ opened opening) }
     {
         let neighbours = make_newcomers(alloc, &opening)?;
-        let destinations = make_destinations(alloc, &opening)?;
         let sessions = Sessions {
             count: 0,
             present: Vec::new(alloc),
         };
-        let state = State {
-            opening,
-            sessions,
-            neighbours,
-            destinations,
-        };
+        let state = State::new(alloc, opening, sessions, neighbours)?;
         Ok(Tables { state })
+    }
+
+    /// The tables of a world: of what the router was opened with, how many sessions there were, and each node as a neighbour.
+    /// None exactly where that world is not consistent, and the parts are then dropped. Each world that a router comes to is
+    /// consistent.
+    pub fn restore(
+        alloc: Global,
+        opening: Opening,
+        sessions: u32,
+        neighbours: Vec<Neighbour>,
+    ) -> Result<Option<Tables>, AllocError>
+        ensures { let world : World = record { opening = opening; sessions = sessions; neighbours = map view_of neighbours.items } in
+            IfOk result (λ t. SomeIff t (IsConsistent world) world) }
+    {
+        if !are_consistent(&opening, &neighbours) {
+            return Ok(None);
+        }
+        let Some(present) = list_present(alloc, sessions, &neighbours)? else {
+            return Ok(None);
+        };
+        let sessions = Sessions {
+            count: sessions,
+            present,
+        };
+        let state = State::new(alloc, opening, sessions, neighbours)?;
+        Ok(Some(Tables { state }))
     }
 
     /// Applies an event. After an error nothing is changed, since all growth is made before the first change.
@@ -121,6 +144,21 @@ impl Tables {
         ensures { result ≡ neighbour_distance self.now.opening dest (neighbour_at self.now.neighbours node) }
     {
         self.state.destinations[usize::from(dest)].distances[usize::from(node)]
+    }
+
+    /// A node as a neighbour: its session, what it advertised, its filters, and what waits to be sent to it.
+    pub fn neighbour(&self, node: u16) -> &Neighbour
+        requires { node < self.now.opening.size }
+        ensures { view_of result.now ≡ neighbour_at self.now.neighbours node }
+    {
+        &self.state.neighbours[usize::from(node)]
+    }
+
+    /// How many sessions there were so far.
+    pub fn sessions(&self) -> u32
+        ensures { result ≡ self.now.sessions }
+    {
+        self.state.sessions.count
     }
 
     /// What the router was opened with.

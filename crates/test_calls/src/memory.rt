@@ -9,7 +9,7 @@ use crate::memory_code::{CodeSource, built, read, sourced, verified, verified_so
 use crate::memory_filters::{compiled, judged, judged_plainly, mapped, parsed};
 use crate::memory_lines::{answered, run, saved};
 use crate::memory_routers::{called, started};
-use crate::memory_tables::{Change, applied, entered, kept, opened, replayed};
+use crate::memory_tables::{Change, applied, entered, kept, opened, replayed, restored};
 
 /// What a call answered: whether that is what it answers with ample memory, or the code of its refusal.
 pub type Answered = Result<bool, &'static str>;
@@ -29,6 +29,7 @@ enum Call {
     Source(CodeSource),
     VerifyCode,
     OpenTables,
+    RestoreTables,
     Apply(Change),
     OpenJournal,
     Enter,
@@ -41,7 +42,7 @@ enum Call {
 }
 
 /// Each call, its name, and how it tells that memory was refused. Those that need none tell nothing.
-const CALLS: [(Call, &str, &str); 30] = [
+const CALLS: [(Call, &str, &str); 31] = [
     (Call::Build(2), "build", "S2"),
     (Call::Build(20), "build", "S2"),
     (Call::Read, "read_code", "C7"),
@@ -65,6 +66,7 @@ const CALLS: [(Call, &str, &str); 30] = [
     ),
     (Call::VerifyCode, "verify_code", "Memory"),
     (Call::OpenTables, "Tables::open", "AllocError"),
+    (Call::RestoreTables, "Tables::restore", "AllocError"),
     (Call::Apply(Change::Up), "Tables::apply", "AllocError"),
     (Call::Apply(Change::Down), "Tables::apply", "AllocError"),
     (Call::Apply(Change::Receive), "Tables::apply", "AllocError"),
@@ -97,6 +99,7 @@ fn made<R: RouterHost>(rt: &R, call: Call) -> Answered {
         Call::Source(source) => sourced(rt.alloc(), source),
         Call::VerifyCode => verified_source(rt),
         Call::OpenTables => opened(rt),
+        Call::RestoreTables => restored(rt),
         Call::Apply(change) => applied(rt, change),
         Call::OpenJournal => kept(rt),
         Call::Enter => entered(rt),

@@ -6,8 +6,10 @@ use crate::callers::opening;
 use crate::events::small_filter;
 use crate::memory::Answered;
 use filter_code::Instr;
-use netchange_core::{Event, Message, Reply, Tables};
+use netchange_core::{Event, Message, Neighbour, Reply, Tables, Via};
 use route_history::{Journal, ReplayFault, replay};
+use std::alloc::{AllocError, Global};
+use std::collections::VecDeque;
 
 /// Opens tables.
 pub fn opened<R: Host>(rt: &R) -> Answered {
@@ -15,6 +17,63 @@ pub fn opened<R: Host>(rt: &R) -> Answered {
         Ok(tables) => Ok(tables.opening().size() == 4),
         Err(_) => Err("AllocError"),
     }
+}
+
+/// A node of four as a neighbour: node 1 is up in session 2, is at distance 0 from itself, and is owed a message; the others are down.
+fn neighbour(alloc: Global, node: u16) -> Result<Neighbour, AllocError> {
+    let mut advertised = vec![in alloc; 4; 4]?;
+    let mut queue = VecDeque::new(alloc);
+    let session = if node == 1 {
+        advertised[1] = 0;
+        queue.push_back(Message { dest: 1, dist: 1 })?;
+        Some(2)
+    } else {
+        None
+    };
+    Ok(Neighbour {
+        session,
+        advertised,
+        imports: None,
+        exports: None,
+        queue,
+    })
+}
+
+/// The four nodes as neighbours.
+fn neighbours(alloc: Global) -> Result<Vec<Neighbour>, AllocError> {
+    let mut neighbours = Vec::with_capacity(alloc, 4)?;
+    for node in 0..4 {
+        neighbours.push(neighbour(alloc, node)?)?;
+    }
+    Ok(neighbours)
+}
+
+/// Whether tables have those neighbours, after so many sessions.
+fn are_restored(tables: &mut Tables) -> Result<bool, AllocError> {
+    let route = tables.apply(&Event::Show(1))?;
+    let is_near = matches!(
+        route,
+        Reply::Route {
+            dist: 1,
+            via: Via::Node(1)
+        }
+    );
+    let is_whole = 1 < tables.opening().size() && tables.neighbour(1).queue.len() == 1;
+    Ok(is_near && is_whole && tables.sessions() == 2 && tables.queued(2) == 1)
+}
+
+/// Restores tables of those neighbours.
+fn restore<R: Host>(rt: &R) -> Result<bool, AllocError> {
+    let neighbours = neighbours(rt.alloc())?;
+    match Tables::restore(rt.alloc(), opening(rt, 4), 2, neighbours)? {
+        Some(mut tables) => are_restored(&mut tables),
+        None => Ok(false),
+    }
+}
+
+/// Restores tables.
+pub fn restored<R: Host>(rt: &R) -> Answered {
+    restore(rt).map_err(|_| "AllocError")
 }
 
 /// An event that changes the tables of a router whose neighbours 1 and 2 are up.
