@@ -17,9 +17,9 @@ pub const LARGEST_LIMIT: u32 = 1_000_000;
 /// A router's tables, with its whole history of events and replies. A contract sees it as a `JournalView`.
 #[derive(Drop)]
 pub struct Journal {
-    limit: u32,
-    entries: Entries,
-    tables: Tables,
+    pub(crate) limit: u32,
+    pub(crate) entries: Entries,
+    pub(crate) tables: Tables,
 }
 
 impl Model for Journal {
