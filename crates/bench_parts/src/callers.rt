@@ -1,7 +1,7 @@
 //! Events through a router that callers call, each in a thread of its own, and through a journal under a `Mutex`, which threads lock in turn: what
 //! the passes of a router are compared with.
 
-ghost use Rattle.std.specs.Prelude.{IfSome};
+ghost use Rattle.std.specs.Prelude.{◌≡◌, false, IfSome};
 ghost use Rattle.slot_lock.specs.Passes.{IsFirst};
 
 use crate::accounts::Account;
@@ -155,7 +155,8 @@ fn checked(account: Option<Account>, journal: &Journal) -> Option<Account> {
 
 /// A router that nobody has called, and its first pass.
 fn open(alloc: Global, work: &Work) -> Option<(Router, Pass)>
-    ensures { IfSome result (λ r. IsFirst r.0 r.1) }
+    ensures first { IfSome result (λ r. IsFirst r.0 r.1) }
+    ensures whole { IfSome result (λ r. r.0.endless ≡ false) }
 {
     Router::open(alloc, journal_of(alloc, work)?).ok()
 }

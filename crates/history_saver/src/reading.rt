@@ -1,9 +1,10 @@
 //! What is not saved of a journal is read.
-ghost use Rattle.std.specs.Prelude.{◌≡◌, ◌≤◌, IfOk, false, length};
+ghost use Rattle.std.specs.Prelude.{◌≡◌, ◌+◌, ◌≤◌, IfOk, length};
+ghost use Rattle.route_history.specs.Long.{OfHistory};
 ghost use Rattle.history_saver.specs.Adding as spec;
 
 use history_file::{write_entry, write_opening};
-use route_history::{Entries, Journal, LARGEST_LIMIT};
+use route_history::{LARGEST_LIMIT, LongJournal};
 use slot_lock::Observer;
 use std::alloc::{AllocError, Global};
 
@@ -14,49 +15,54 @@ pub const MOST_AT_ONCE: usize = 256;
 fn push_entries(
     alloc: Global,
     out: &mut Vec<u8>,
-    entries: &Entries,
+    journal: &LongJournal,
     saved: usize,
 ) -> Result<usize, AllocError>
-    // A position is less than the limit of a journal.
-    requires { length entries.now ≤ 4294967295 }
-    ensures count { IfOk result (λ to. to ≡ spec.next_count saved (length entries.now)) }
-    ensures added { IfOk result (λ to. spec.AddsEntries out.old.items entries.now saved to out.new.items) }
+    requires none_missed { journal.now.first ≤ saved }
+    requires positions { journal.now.first + length journal.now.entries ≤ 4294967295 }
+    ensures count { IfOk result (λ to. to ≡ spec.next_count saved (journal.now.first + length journal.now.entries)) }
+    ensures added { IfOk result (λ to. OfHistory journal.now (λ h. spec.AddsEntries out.old.items h.entries saved to out.new.items)) }
 {
-    let end = entries.len().min(saved.saturating_add(MOST_AT_ONCE));
+    let first = journal.first() as usize;
+    let end = (first + journal.kept() as usize).min(saved.saturating_add(MOST_AT_ONCE));
     for at in saved..end {
-        write_entry(alloc, out, at as u32, entries.entry(at))?;
+        write_entry(alloc, out, at as u32, journal.entry(at - first))?;
     }
     Ok(saved.max(end))
 }
 
 /// Adds the first lines of a journal, of which nothing is saved: of how many entries.
-fn push_first(alloc: Global, out: &mut Vec<u8>, journal: &Journal) -> Result<usize, AllocError>
-    ensures { IfOk result (λ to. spec.AddsNext out.old.items journal.now None to out.new.items) }
+fn push_first(alloc: Global, out: &mut Vec<u8>, journal: &LongJournal) -> Result<usize, AllocError>
+    requires none_missed { journal.now.first ≤ 0 }
+    requires positions { journal.now.first + length journal.now.entries ≤ 4294967295 }
+    ensures { IfOk result (λ to. OfHistory journal.now (λ h. spec.AddsNext out.old.items h None to out.new.items)) }
 {
-    let limit = journal.limit();
+    let limit = journal.bounds().limit;
     // No router is opened with another limit.
     if limit == 0 || limit > LARGEST_LIMIT {
         return Err(AllocError);
     }
     write_opening(alloc, out, journal.opening(), limit)?;
-    push_entries(alloc, out, journal.entries(), 0)
+    push_entries(alloc, out, journal, 0)
 }
 
 /// Adds the next lines of a journal, of which so many entries are saved: how many are then. The opening comes before the first.
 fn push_next(
     alloc: Global,
     out: &mut Vec<u8>,
-    journal: &Journal,
+    journal: &LongJournal,
     saved: Option<usize>,
 ) -> Result<usize, AllocError>
-    ensures { IfOk result (λ to. spec.AddsNext out.old.items journal.now saved to out.new.items) }
+    ensures { IfOk result (λ to. OfHistory journal.now (λ h. spec.AddsNext out.old.items h saved to out.new.items)) }
 {
+    // An entry that is not saved was forgotten; or a position has no line.
+    if journal.first() > saved.unwrap_or(0) as u64
+        || journal.first() > u64::from(u32::MAX - journal.kept())
+    {
+        return Err(AllocError);
+    }
     match saved {
-        Some(count) => {
-            // For the proof alone, which needs what its contract says.
-            let _limit = journal.limit();
-            push_entries(alloc, out, journal.entries(), count)
-        }
+        Some(count) => push_entries(alloc, out, journal, count),
         None => push_first(alloc, out, journal),
     }
 }
@@ -76,9 +82,9 @@ pub(crate) struct Reading {
 impl Observer for Reading {
     ghost use Rattle.history_saver.specs.Adding.{Reads};
 
-    ghost sees = { λ before j after. Reads after.is_short before.text.items before.saved j after.text.items after.saved };
+    ghost sees = { λ before _ j after. Reads after.is_short before.text.items before.saved j after.text.items after.saved };
 
-    fn see(&mut self, journal: &Journal) {
+    fn see(&mut self, journal: &LongJournal) {
         match push_next(self.alloc, &mut self.text, journal, self.saved) {
             Ok(saved) => {
                 self.saved = Some(saved);

@@ -18,10 +18,10 @@ use std::marker::Model;
 #[derive(Drop)]
 pub struct Board {
     links: Vec<Link>,
-    /// The least number of entries that the history is known to have.
-    entries: u64,
+    /// The least number of entries that the history is known to have. It is one more than a position, and so may not fit 64 bits.
+    entries: u128,
     /// How many it had with the last one that is known to have changed a distance.
-    changed: u64,
+    changed: u128,
     /// Who saves the history sleeps until it has more entries than that.
     awaited: Option<u64>,
     /// The router is being closed: no session begins any more.
@@ -81,7 +81,7 @@ impl Board {
 
     /// Begins a session of a link, whose Up was entered and has this position. False, and only the entry is noted, where a session is
     /// there already, there is no such link, or the router is being closed.
-    pub fn begin(&mut self, index: usize, session: u32, at: u32) -> bool
+    pub fn begin(&mut self, index: usize, session: u32, at: u64) -> bool
         ensures { spec.BeginsAt index session at (spec.with_entry at self.old) result self.new }
     {
         self.note_entry(at);
@@ -135,22 +135,22 @@ impl Board {
     }
 
     /// The entry at this position is there.
-    fn note_entry(&mut self, at: u32)
+    fn note_entry(&mut self, at: u64)
         ensures { self.new ≡ spec.with_entry at self.old }
     {
-        self.entries = self.entries.max(u64::from(at) + 1);
+        self.entries = self.entries.max(u128::from(at) + 1);
     }
 
     /// The entry at this position changed a distance: something waits for each neighbour.
-    fn note_changed(&mut self, at: u32)
+    fn note_changed(&mut self, at: u64)
         ensures { self.new ≡ spec.with_change at self.old }
     {
         self.note_entry(at);
-        self.changed = self.changed.max(u64::from(at) + 1);
+        self.changed = self.changed.max(u128::from(at) + 1);
     }
 
     /// The entry at this position queued something for the neighbour of a link.
-    fn note_queued(&mut self, index: usize, at: u32)
+    fn note_queued(&mut self, index: usize, at: u64)
         ensures { spec.QueuesAt index at self.old self.new }
     {
         self.note_entry(at);
@@ -160,7 +160,7 @@ impl Board {
     }
 
     /// The entry at this position is a Take for a link, of at most `most` messages, and brought `taken` of them.
-    fn note_taken(&mut self, index: usize, at: u32, taken: usize, most: usize)
+    fn note_taken(&mut self, index: usize, at: u64, taken: usize, most: usize)
         ensures { spec.TakesAt index at taken most self.old self.new }
     {
         self.note_entry(at);
@@ -170,7 +170,7 @@ impl Board {
     }
 
     /// The entry at this position has this reply: where it changed a distance, something waits for each neighbour. Whether it did.
-    pub fn note(&mut self, at: u32, reply: &Reply) -> bool
+    pub fn note(&mut self, at: u64, reply: &Reply) -> bool
         ensures changed { result ≡ tells_all reply.now }
         ensures noted { self.new ≡ spec.noted at reply.now self.old }
     {
@@ -188,7 +188,7 @@ impl Board {
 
     /// The entry at this position is a call of those who serve a session of a link, with this reply. A Take is one of `MOST_TAKEN` messages:
     /// where it brought fewer, nothing is left in the queue. Whether a distance changed.
-    pub fn note_served(&mut self, index: usize, at: u32, reply: &Reply) -> bool
+    pub fn note_served(&mut self, index: usize, at: u64, reply: &Reply) -> bool
         ensures changed { result ≡ tells_all reply.now }
         ensures noted { spec.Serves index at reply.now self.old self.new }
     {
@@ -205,7 +205,7 @@ impl Board {
     }
 
     /// The entry at this position set the export filter of a node, with this reply: unless it was refused, something waits for the node.
-    pub fn note_exported(&mut self, node: u16, at: u32, reply: &Reply)
+    pub fn note_exported(&mut self, node: u16, at: u64, reply: &Reply)
         ensures { spec.Exports node at reply.now self.old self.new }
     {
         match (reply, self.link_to(node)) {
@@ -250,7 +250,7 @@ impl Board {
         ensures rests { result ≡ spec.can_rest saved self.old }
         ensures board { self.new ≡ record self.old { awaited = spec.awaits (spec.can_rest saved self.old) saved } }
     {
-        let rests = self.entries <= saved && !self.closing;
+        let rests = self.entries <= u128::from(saved) && !self.closing;
         self.awaited = if rests { Some(saved) } else { None };
         rests
     }
@@ -262,7 +262,7 @@ impl Board {
         let Some(saved) = self.awaited else {
             return false;
         };
-        let wakes = self.entries > saved || self.closing;
+        let wakes = self.entries > u128::from(saved) || self.closing;
         if wakes {
             self.awaited = None;
         }

@@ -48,7 +48,7 @@ impl Link {
     }
 
     /// Begins a session, whose Up was entered and has this position. False, and nothing is done, where a session is there already.
-    pub fn begin(&mut self, session: u32, at: u32) -> bool
+    pub fn begin(&mut self, session: u32, at: u64) -> bool
         ensures { spec.Begins session at self.old result self.new }
     {
         if self.session.is_some() {
@@ -74,7 +74,7 @@ impl Link {
 
     /// Whether the writer is to be woken, where the last entry that changed a distance left so many in the history: it sleeps, and
     /// something waits or no session is there. It counts as awake then.
-    pub fn wakes(&mut self, changed: u64) -> bool
+    pub fn wakes(&mut self, changed: u128) -> bool
         ensures { spec.Wakes changed self.old result self.new }
     {
         let wakes = self.is_asleep && (self.waiting.is_some(changed) || self.session.is_none());

@@ -5,25 +5,30 @@ use lib.ListN.{get_elem?}
 use Rattle.atomic_table.specs.Table.{Splits}
 use Rattle.atomic_table.proofs.Lists.{at_longer, at_set, at_snoc, set_else}
 use Rattle.netchange_core.specs.OpeningView.{OpeningView}
+use Rattle.route_history.specs.declared.bounds.Bounds.{Bounds}
 use Rattle.route_history.specs.declared.entry.Entry.{Entry}
 use Rattle.lock_rule.specs.declared.rule.View.{View}
-use Rattle.lock_rule.specs.Views.{empty_fragment, incoming_alone, shares_of, split_left, split_right, times_in_view, without_incoming}
-use Rattle.lock_rule.specs.Rule.{AreKnown, Fits, IsKept, Sees}
+use Rattle.lock_rule.specs.Views.{empty_fragment, incoming_alone, right_of, shares_of, split_left, split_right, times_in_view, without_incoming}
+use Rattle.lock_rule.specs.Rule.{AreKnown, Fits, IsKept, Knows, Sees}
 use Rattle.lock_rule.proofs.Totals.{total_append, total_set}
 use Rattle.lock_rule.proofs.Prefixes.{nothing}
 use Rattle.lock_rule.proofs.Acquiring.{not_holder}
+use Rattle.lock_rule.proofs.Keeping.{knows_set}
 
 -- what two views have to show that one is split into
 pub record MaySplit (v a b : View) : Type 0 where
   pub held : v.held ≡ None
   pub first_held : a.held ≡ None
   pub second_held : b.held ≡ None
-  pub first : (o : OpeningView) (l : ℕ) (log : List Entry) → Fits o l log v → Fits o l log a
-  pub second : (o : OpeningView) (l : ℕ) (log : List Entry) → Fits o l log v → Fits o l log b
+  pub first : (o : OpeningView) (l : Bounds) (log : List Entry) → Fits o l log v → Fits o l log a
+  pub second : (o : OpeningView) (l : Bounds) (log : List Entry) → Fits o l log v → Fits o l log b
   pub shares : shares_of a + shares_of b ≡ shares_of v
   pub once : (x : ℕ) → times_in_view x a + times_in_view x b ≡ times_in_view x v
+  pub right : right_of a + right_of b ≡ right_of v
+  pub first_knows : (first : ℕ) → Knows first v → Knows first a
+  pub second_knows : (first : ℕ) → Knows first v → Knows first b
 
-known_split : (o : OpeningView) (l : ℕ) (log : List Entry) (views : List View) (k : ℕ) (v a b : View) → MaySplit v a b →
+known_split : (o : OpeningView) (l : Bounds) (log : List Entry) (views : List View) (k : ℕ) (v a b : View) → MaySplit v a b →
     get_elem? views k ≡ some v → AreKnown o l log views → AreKnown o l log (set views k a ++ b ∷ [])
 known_split o l log views k v a b may at known = let fits = known.fits k v at in record {
   fits = λ j u there. ⊎_elim
@@ -45,13 +50,17 @@ none_holds_after views k a b first second j u there before = ⊎_elim
     (λ t. ap (λ (z : View). z.held) (sym t) ∙ second)
     (at_snoc (set views k a) b u j there)
 
-pub splitting : (o : OpeningView) (l id : ℕ) (v a b : View) → MaySplit v a b → Splits (IsKept o l) id v a b
+pub splitting : (o : OpeningView) (l : Bounds) (id : ℕ) (v a b : View) → MaySplit v a b → Splits (IsKept o l) id v a b
 splitting o l id v a b may s kept at = record {
   log = kept.log;
+  first = kept.first;
   lock = ⊎_elim
       (λ is_free. inl (record {
         words = is_free.words;
+        journal = is_free.journal;
+        first_is = is_free.first_is;
         homes = is_free.homes;
+        window = is_free.window;
         none_holds = λ k u there. none_holds_after s.views id a b may.first_held may.second_held k u there (λ t. is_free.none_holds k u t);
       }))
       (λ is_held. inr (record {
@@ -62,18 +71,25 @@ splitting o l id v a b may s kept at = record {
         there = at_longer (set s.views id a) (b ∷ []) is_held.holder is_held.who
             (set_else s.views id is_held.holder a (not_holder s kept.log is_held id v at may.held) ∙ is_held.there);
         held = is_held.held;
+        first_is = is_held.first_is;
         others = λ k u there other. none_holds_after s.views id a b may.first_held may.second_held k u there (λ t. is_held.others k u t other);
       }))
       kept.lock;
   legal = kept.legal;
-  room = kept.room;
   known = known_split o l kept.log s.views id v a b may at kept.known;
+  forgot = λ k u there. ⊎_elim
+      (λ t. knows_set kept.first s.views id a (may.first_knows kept.first (kept.forgot id v at)) kept.forgot k u t)
+      (λ t. subst (λ (z : View). Knows kept.first z) t (may.second_knows kept.first (kept.forgot id v at)))
+      (at_snoc (set s.views id a) b u k there);
+  right =
+      let first = total_set right_of s.views id v a at in let more = total_append right_of (set s.views id a) b in
+      let sum = may.right in let most = kept.right in omega arith;
 }
 
 pub sees_nothing : (log : List Entry) → Sees log empty_fragment
 sees_nothing log = record { begins = nothing log; within = λ x there. absurd (omega arith) }
 
-pub splitting_shares : (o : OpeningView) (l id n : ℕ) (v : View) → v.held ≡ None → v.incoming ≡ empty_fragment → 0 < n → n < v.fragment.shares →
+pub splitting_shares : (o : OpeningView) (l : Bounds) (id n : ℕ) (v : View) → v.held ≡ None → v.incoming ≡ empty_fragment → 0 < n → n < v.fragment.shares →
     Splits (IsKept o l) id v (split_left n v) (split_right n v)
 splitting_shares o l id n v held alone some_shares fewer = splitting o l id v (split_left n v) (split_right n v) (record {
   held = held;
@@ -93,9 +109,12 @@ splitting_shares o l id n v held alone some_shares fewer = splitting o l id v (s
   };
   shares = omega arith;
   once = λ x. omega arith;
+  right = omega arith;
+  first_knows = λ first h. h;
+  second_knows = λ first h. let a = h.0 in (omega arith, omega arith, λ has. absurd (omega arith));
 })
 
-pub splitting_incoming : (o : OpeningView) (l id : ℕ) (v : View) → v.held ≡ None → 0 < v.fragment.shares → 0 < v.incoming.shares →
+pub splitting_incoming : (o : OpeningView) (l : Bounds) (id : ℕ) (v : View) → v.held ≡ None → 0 < v.fragment.shares → 0 < v.incoming.shares →
     Splits (IsKept o l) id v (without_incoming v) (incoming_alone v)
 splitting_incoming o l id v held first_shares second_shares = splitting o l id v (without_incoming v) (incoming_alone v) (record {
   held = held;
@@ -115,4 +134,7 @@ splitting_incoming o l id v held first_shares second_shares = splitting o l id v
   };
   shares = omega arith;
   once = λ x. omega arith;
+  right = omega arith;
+  first_knows = λ first h. let a = h.0 in (omega arith, omega arith, h.2);
+  second_knows = λ first h. let b = h.1 in (omega arith, omega arith, λ has. absurd (omega arith));
 })

@@ -2,16 +2,18 @@
 //! and no others.
 
 ghost use Rattle.std.specs.Prelude.{◌≡◌, ◌≢◌, ◌<◌, IfErr, IfNone, IfOk, IfSome, MatchBool, None, []};
-ghost use Rattle.lock_rule.specs.Closing.{Closed};
-ghost use Rattle.lock_rule.specs.Entering.{Enters, EntersNot, IsHolding, IsMet, Observes};
+ghost use Rattle.lock_rule.specs.Closing.{ClosedLong};
+ghost use Rattle.lock_rule.specs.Entering.{Enters, EntersNot, Forgets, IsHolding, IsMet, Observes};
+ghost use Rattle.lock_rule.specs.RouterView.{bounds_of};
 ghost use Rattle.lock_rule.specs.Steps.{Acquired, FoundHeld, Merges};
+ghost use Rattle.route_history.specs.Long.{window};
 ghost use Rattle.lock_rule.specs.Views.{all_shares, empty_fragment, first_view, shares_of, split_left, split_right, with_incoming};
 
 use crate::observer::Observer;
 use crate::rule::{LockTable, TableSeat};
-use crate::steps::{close, enter, meet, merge, observe, split, try_acquire};
+use crate::steps::{close, enter, forget, meet, merge, observe, split, try_acquire};
 use netchange_core::{Event, Reply};
-use route_history::{CallFault, Journal};
+use route_history::{CallFault, LongJournal};
 use std::alloc::{AllocError, Global};
 use std::hint::spin_loop;
 use std::marker::{Brand, Model};
@@ -37,7 +39,7 @@ impl Model for JournalLock {
 
     ghost Value = { RouterView };
 
-    ghost view = { λ l. router_view l.table.shared.table_id l.table.shared.key.value.opening l.table.shared.key.value.limit };
+    ghost view = { λ l. router_view l.table.shared.table_id l.table.shared.key.value.tables.opening l.table.shared.key.value.bounds };
 
     ghost invariant = { λ l. (l.table.shared.table_id.words ≡ 1) × (l.table.shared.table_id.slots ≡ 1) };
 }
@@ -58,12 +60,12 @@ impl Model for LockSeat {
 }
 
 impl JournalLock {
-    /// The lock round this journal, which is empty, and the first seat, which has all shares. The journal is dropped where memory was
-    /// refused.
-    pub fn open(alloc: Global, journal: Journal) -> Result<(JournalLock, LockSeat), AllocError>
-        requires { journal.entries ≡ [] }
-        ensures lock { IfOk result (λ r. (r.0.opening ≡ journal.opening) × (r.0.limit ≡ journal.limit)) }
-        ensures seat { IfOk result (λ r. (r.1.table ≡ r.0.table) × (r.1.me ≡ (first_view journal.opening journal.limit, []))) }
+    /// The lock round this journal, which is empty, and the first seat, which has all shares and the right to forget. The journal is
+    /// dropped where memory was refused.
+    pub fn open(alloc: Global, journal: LongJournal) -> Result<(JournalLock, LockSeat), AllocError>
+        requires { journal ≡ window journal.tables.opening journal.bounds 0 [] }
+        ensures lock { IfOk result (λ r. (r.0.opening ≡ journal.tables.opening) × (bounds_of r.0 ≡ journal.bounds)) }
+        ensures seat { IfOk result (λ r. (r.1.table ≡ r.0.table) × (r.1.me ≡ (first_view journal.tables.opening journal.bounds, []))) }
     {
         let key = Snapshot::of(&journal);
         let mut slots = Vec::with_capacity(alloc, 1)?;
@@ -99,7 +101,7 @@ impl JournalLock {
     }
 
     /// Enters an event in the journal of a seat that holds the lock, and releases it: the entry's position, and its reply.
-    pub fn enter(&self, seat: &mut LockSeat, event: Event) -> Result<(u32, Reply), CallFault>
+    pub fn enter(&self, seat: &mut LockSeat, event: Event) -> Result<(u64, Reply), CallFault>
         requires at { seat.old.table ≡ self.now.table }
         requires holding { IsHolding seat.old.me }
         ensures at { seat.new.table ≡ seat.old.table }
@@ -117,6 +119,18 @@ impl JournalLock {
         ensures observed { Observes O.sees seat.old.me observer.old observer.new seat.new.me }
     {
         observe(&self.table, &mut seat.inner, observer);
+    }
+
+    /// Forgets entries below a position in the journal of a seat that holds the lock and has the right to, if the router is endless, and
+    /// releases the lock: how many are forgotten in all.
+    pub fn forget(&self, seat: &mut LockSeat, upto: u64) -> u64
+        requires at { seat.old.table ≡ self.now.table }
+        requires holding { IsHolding seat.old.me }
+        requires right { 0 < seat.old.me.0.right }
+        ensures at { seat.new.table ≡ seat.old.table }
+        ensures forgot { Forgets seat.old.me upto result seat.new.me }
+    {
+        forget(&self.table, &mut seat.inner, upto)
     }
 
     /// Splits a seat: the new one has this many of its shares.
@@ -157,10 +171,10 @@ impl JournalLock {
     }
 
     /// Ends the lock, and returns its journal; `None` where another seat holds the lock.
-    pub fn close(self, seat: LockSeat) -> Option<Journal>
+    pub fn close(self, seat: LockSeat) -> Option<LongJournal>
         requires at { seat.table ≡ self.table }
         requires not_holding { (seat.me.0.held ≡ None) × (seat.me.0.incoming ≡ empty_fragment) }
-        ensures closed { IfSome result (λ j. Closed self seat.me.0.fragment j) }
+        ensures closed { IfSome result (λ j. ClosedLong self seat.me.0.fragment j) }
         ensures held { IfNone result (seat.me.0.fragment.shares ≢ all_shares) }
     {
         close(self.table, seat.inner)

@@ -2,26 +2,31 @@
 
 use atomic_table::{Join, Play, Seat, Split, Table, TableRule};
 use netchange_core::Opening;
-use route_history::{Entry, Journal};
+use route_history::{Bounds, Entry, LongJournal};
 use std::alloc::Global;
 use std::collections::LinkedList;
 use std::marker::{Brand, PhantomData};
 use std::snapshot::Snapshot;
 
 /// What one caller knows, a fragment of what is known in all: a beginning of the history, the positions of its own calls there, how
-/// often it tried to acquire the lock and found it held, and its shares of the router, of 65,536 in all.
+/// often it tried to acquire the lock and found it held, its shares of the router, of 65,536 in all, and how many entries it knows to be
+/// forgotten.
 pub struct Fragment {
     pub seen: LinkedList<Entry>,
-    pub mine: LinkedList<u32>,
+    pub mine: LinkedList<u64>,
     pub failed_tries: u64,
     pub shares: u32,
+    pub forgot: u64,
 }
 
-/// What a seat at the table knows: the router's opening and limit, the history that it acquired if it holds the lock, its caller's
-/// fragment, and that of a caller that is being merged into it.
+/// What a seat at the table knows: the router's opening and bounds; the history that it acquired if it holds the lock, and how many of
+/// its entries were forgotten; whether it has the right to forget, as 1 or 0; its caller's fragment, and that of a caller that is being
+/// merged into it.
 pub struct View {
-    pub about: Option<(Opening, u32)>,
+    pub about: Option<(Opening, Bounds)>,
     pub held: Option<LinkedList<Entry>>,
+    pub held_first: u64,
+    pub right: u32,
     pub fragment: Fragment,
     pub incoming: Fragment,
 }
@@ -29,25 +34,25 @@ pub struct View {
 /// The rule of the lock.
 pub struct LockRule;
 
-impl TableRule<Journal, View, Snapshot<Journal>> for LockRule {
+impl TableRule<LongJournal, View, Snapshot<LongJournal>> for LockRule {
     ghost use Rattle.lock_rule.specs.Rule.{IsKept};
     ghost use Rattle.lock_rule.specs.Views.{first_view};
 
-    ghost holds = { λ key. IsKept key.value.opening key.value.limit };
+    ghost holds = { λ key. IsKept key.value.tables.opening key.value.bounds };
 
-    ghost first = { λ key. first_view key.value.opening key.value.limit };
+    ghost first = { λ key. first_view key.value.tables.opening key.value.bounds };
 }
 
 /// The table of a router: the word is 1 while a seat holds the lock, and the journal is the one slot.
-pub(crate) type LockTable = Table<Journal, View, Snapshot<Journal>, LockRule, Global>;
+pub(crate) type LockTable = Table<LongJournal, View, Snapshot<LongJournal>, LockRule, Global>;
 
 /// A caller's seat at the table.
-pub(crate) type TableSeat = Seat<Journal, View>;
+pub(crate) type TableSeat = Seat<LongJournal, View>;
 
 /// A try to acquire the lock.
 pub struct TryAcquire;
 
-impl Play<Journal, View> for TryAcquire {
+impl Play<LongJournal, View> for TryAcquire {
     ghost use Rattle.lock_rule.specs.Steps.{TriesAcquire};
 
     ghost then = { λ _ m n w. TriesAcquire m n w };
@@ -56,17 +61,17 @@ impl Play<Journal, View> for TryAcquire {
 /// The lock is released, and the journal has one entry more.
 pub struct ReleaseEntered;
 
-impl Play<Journal, View> for ReleaseEntered {
+impl Play<LongJournal, View> for ReleaseEntered {
     ghost use Rattle.std.specs.Prelude.{◌≡◌};
     ghost use Rattle.lock_rule.specs.Steps.{after_release_entered};
 
     ghost then = { λ _ m _ w. w ≡ after_release_entered m };
 }
 
-/// The lock is released, the journal is as it was, and the seat has seen its history.
+/// The lock is released, the history is as it was, and the seat has seen it. The journal may have forgotten entries.
 pub struct ReleaseSeen;
 
-impl Play<Journal, View> for ReleaseSeen {
+impl Play<LongJournal, View> for ReleaseSeen {
     ghost use Rattle.std.specs.Prelude.{◌≡◌};
     ghost use Rattle.lock_rule.specs.Steps.{after_release_seen};
 
@@ -76,7 +81,7 @@ impl Play<Journal, View> for ReleaseSeen {
 /// The lock is released, the journal is as it was, and nothing is told.
 pub struct Release;
 
-impl Play<Journal, View> for Release {
+impl Play<LongJournal, View> for Release {
     ghost use Rattle.std.specs.Prelude.{◌≡◌};
     ghost use Rattle.lock_rule.specs.Steps.{after_release};
 
@@ -86,7 +91,7 @@ impl Play<Journal, View> for Release {
 /// The incoming fragment is merged into the seat's own.
 pub struct Merge;
 
-impl Play<Journal, View> for Merge {
+impl Play<LongJournal, View> for Merge {
     ghost use Rattle.lock_rule.specs.Steps.{Merges};
 
     ghost then = { λ _ m _ w. Merges m w };
@@ -95,7 +100,7 @@ impl Play<Journal, View> for Merge {
 /// The seat's fragment and the incoming one have both seen the longer history.
 pub struct Meet;
 
-impl Play<Journal, View> for Meet {
+impl Play<LongJournal, View> for Meet {
     ghost use Rattle.lock_rule.specs.Steps.{Meets};
 
     ghost then = { λ _ m _ w. Meets m w };

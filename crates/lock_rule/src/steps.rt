@@ -2,9 +2,9 @@
 //! tables and seats are out of their reach.
 
 ghost use Rattle.std.specs.Prelude.{◌≡◌, ◌≢◌, ◌<◌, IfErr, IfNone, IfOk, IfSome, MatchBool, None, []};
-ghost use Rattle.lock_rule.specs.Closing.{Closed};
+ghost use Rattle.lock_rule.specs.Closing.{ClosedLong};
 ghost use Rattle.lock_rule.specs.RouterView.{router_view};
-ghost use Rattle.lock_rule.specs.Entering.{Enters, EntersNot, IsAtTable, IsHolding, IsMet, Observes};
+ghost use Rattle.lock_rule.specs.Entering.{Enters, EntersNot, Forgets, IsAtTable, IsHolding, IsMet, Observes};
 ghost use Rattle.lock_rule.specs.Steps.{Acquired, FoundHeld, Merges};
 ghost use Rattle.lock_rule.specs.Views.{all_shares, empty_fragment, shares_of, split_left, split_right, with_incoming};
 
@@ -14,7 +14,7 @@ use crate::rule::{
     SplitIncoming, SplitShares, TableSeat, TryAcquire,
 };
 use netchange_core::{Event, Reply};
-use route_history::{CallFault, Journal};
+use route_history::{CallFault, LongJournal};
 
 /// Tries once to acquire the lock, and says whether it did.
 pub(crate) fn try_acquire(table: &LockTable, seat: &mut TableSeat) -> bool
@@ -31,7 +31,7 @@ pub(crate) fn enter(
     table: &LockTable,
     seat: &mut TableSeat,
     event: Event,
-) -> Result<(u32, Reply), CallFault>
+) -> Result<(u64, Reply), CallFault>
     requires table { IsAtTable table.now.shared.table_id seat.old.table_id }
     requires holding { IsHolding seat.old.me }
     ensures same { (seat.new.table_id ≡ seat.old.table_id) × (seat.new.id ≡ seat.old.id) }
@@ -63,10 +63,22 @@ pub(crate) fn observe<O: Observer>(table: &LockTable, seat: &mut TableSeat, obse
     ensures observed { Observes O.sees seat.old.me observer.old observer.new seat.new.me }
 {
     let shown = seat.slot_mut(&table.shared, 0);
-    // What a journal says of its entries, it says of those that are shown.
-    let _entries = shown.entries();
     observer.see(shown);
     table.shared.store::<ReleaseSeen>(seat, 0, 0);
+}
+
+/// Forgets entries of the journal of a seat that holds the lock and has the right to, and releases it: how many are forgotten in all.
+pub(crate) fn forget(table: &LockTable, seat: &mut TableSeat, upto: u64) -> u64
+    requires table { IsAtTable table.now.shared.table_id seat.old.table_id }
+    requires holding { IsHolding seat.old.me }
+    requires right { 0 < seat.old.me.0.right }
+    ensures same { (seat.new.table_id ≡ seat.old.table_id) × (seat.new.id ≡ seat.old.id) }
+    ensures forgot { Forgets seat.old.me upto result seat.new.me }
+{
+    let lent = seat.slot_mut(&table.shared, 0);
+    let first = lent.forget(upto);
+    table.shared.store::<ReleaseSeen>(seat, 0, 0);
+    first
 }
 
 /// Splits a seat: the new one has this many of its shares.
@@ -110,11 +122,11 @@ pub(crate) fn meet(table: &LockTable, seat: &mut TableSeat, other: TableSeat) ->
 }
 
 /// Closes the table, and returns its journal, unless a seat still holds the lock.
-pub(crate) fn close(table: LockTable, seat: TableSeat) -> Option<Journal>
+pub(crate) fn close(table: LockTable, seat: TableSeat) -> Option<LongJournal>
     requires table { IsAtTable table.shared.table_id seat.table_id }
     requires not_holding { (seat.me.0.held ≡ None) × (seat.me.0.incoming ≡ empty_fragment) }
     ensures closed { IfSome result (λ j.
-        Closed (router_view table.shared.table_id table.shared.key.value.opening table.shared.key.value.limit) seat.me.0.fragment j) }
+        ClosedLong (router_view table.shared.table_id table.shared.key.value.tables.opening table.shared.key.value.bounds) seat.me.0.fragment j) }
     ensures held { IfNone result (seat.me.0.fragment.shares ≢ all_shares) }
 {
     let mut closed = table.close_with(seat);

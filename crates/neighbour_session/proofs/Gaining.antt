@@ -111,7 +111,7 @@ cause_after cause.Stale r xs ys new fresh h = record {
   stale_at_last = h.stale_at_last;
   fresh_before = All-append IsFresh xs h.before fresh h.fresh_before;
 }
-cause_after cause.Full r xs ys new fresh h = (All-append IsFresh xs ys fresh h.0, h.1)
+cause_after cause.Full r xs ys new fresh h = (All-append IsFresh xs ys fresh h.0, h.1, h.2)
 cause_after cause.Memory r xs ys new fresh h = All-append IsFresh xs ys fresh h
 
 pub told_after : (c : Cause) (t m u : Told) → m.ended ≡ t.ended → m.failures ≡ t.failures → IsCauseAt c m u → IsCauseAt c t u

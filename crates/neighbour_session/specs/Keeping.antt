@@ -17,7 +17,7 @@ one_less p = record p { fragment = record p.fragment { shares = p.fragment.share
 
 -- the part that was given away: it has that share, has seen the same, and nothing was called by it
 abbrev pub part_of : PassView → Fragment
-part_of p = record { seen = p.fragment.seen; mine = []; failed_tries = 0; shares = 1 }
+part_of p = record { seen = p.fragment.seen; mine = []; failed_tries = 0; shares = 1; forgot = p.fragment.forgot }
 
 -- the pass has no share that it could give to a writer: no session is begun
 pub record LacksShares (old : PassView) (result : SessionEnd) (new : PassView) : Type 0 where

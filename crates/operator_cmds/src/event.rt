@@ -55,7 +55,7 @@ pub fn enter(
     ensures err { OnErr result (StartsWith out.new.items out.old.items) }
 {
     match journal.apply(event) {
-        Ok((at, reply)) => answer_reply(out, at, reply.as_ref()),
+        Ok((at, reply)) => answer_reply(out, u64::from(at), reply.as_ref()),
         Err(CallFault::Full) => {
             let entries = journal.entries().len() as u64;
             refuse(out, CallFault::Full.code(), entries)

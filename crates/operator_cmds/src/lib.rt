@@ -22,7 +22,7 @@ pub use event::{Direction, enter, session_number};
 pub use fault::{CommandFault, StateFault};
 pub use filter::{FilterSource, NamedFilters, give_name, name_source, verify_text};
 pub use laws::{one_line_one_entry, two_runs_are_answered_alike};
-pub use look::{answer_history, answer_look};
+pub use look::{answer_entries, answer_history, answer_look};
 pub use name::is_name;
 pub use plain::{PlainCommand, read_plain};
 pub use read::{read_code, read_command, read_load, read_node, read_node_prefix, read_small};

@@ -181,7 +181,20 @@ pub fn answer_history(
 {
     // For the proof alone, which needs what its contract says.
     let _limit = journal.limit();
-    let entries = journal.entries();
+    answer_entries(alloc, out, journal.entries(), from)
+}
+
+/// Answers a line that looks at these entries, a whole history, from a position on.
+pub fn answer_entries(
+    alloc: Global,
+    out: &mut Vec<u8>,
+    entries: &Entries,
+    from: u32,
+) -> Result<LineReply, AllocError>
+    requires numbered { length entries.now ≤ 2 ^ 32 }
+    ensures ok { IfOk result (Adds (answered (spec.history_text entries.now from)) out.old.items out.new.items) }
+    ensures err { OnErr result (StartsWith out.new.items out.old.items) }
+{
     let count = count_told(entries, from);
     out.extend_from_slice(b"history")?;
     push_entries(alloc, out, from, entries, count)?;

@@ -262,7 +262,7 @@ fn push_done(out: &mut Vec<u8>, changed: u16) -> Result<(), AllocError>
 #[inline(always)]
 pub fn answer_reply(
     out: &mut Vec<u8>,
-    at: u32,
+    at: u64,
     reply: ReplyRef<'_>,
 ) -> Result<LineReply, AllocError>
     ensures ok { IfOk result (spec.Adds (spec.reply_answer at (whole_reply reply.entry)) out.old.items out.new.items) }
@@ -273,7 +273,7 @@ pub fn answer_reply(
         ReplyRef::Done { changed } => push_done(out, changed)?,
         ReplyRef::Messages(messages) => push_messages(out, messages)?,
         ReplyRef::Route { dist, via } => push_route(out, dist, via)?,
-        ReplyRef::Refused(why) => return refuse(out, why.code(), u64::from(at)),
+        ReplyRef::Refused(why) => return refuse(out, why.code(), at),
     }
     Ok(LineReply::Answered)
 }

@@ -1,6 +1,6 @@
 //! One node of a ring.
 
-ghost use Rattle.std.specs.Prelude.{◌≡◌, ◌+◌, ◌<◌, IfOk, vec_len};
+ghost use Rattle.std.specs.Prelude.{◌≡◌, ◌+◌, ◌<◌, false, IfOk, vec_len};
 ghost use Rattle.ring_network.specs.Ring.{IsJournalOf, node_prefix, ring_opening};
 ghost use Rattle.route_session.specs.Jobs.{AreFor};
 ghost use Rattle.slot_lock.specs.Passes.{IsPassOf, all_shares};
@@ -85,6 +85,7 @@ fn prefix_of(node: u32) -> Prefix
 fn open(alloc: Global, me: u16) -> Result<(Router, Pass), NetworkFault>
     requires { me < 3 }
     ensures router { IfOk result (λ r. (r.0.opening ≡ ring_opening me) × (r.0.limit ≡ 1000000)) }
+    ensures whole { IfOk result (λ r. r.0.endless ≡ false) }
     ensures pass { IfOk result (λ r. IsPassOf r.0 r.1 × (r.1.fragment.shares ≡ all_shares)) }
 {
     let prefixes = vec![in alloc; prefix_of(0), prefix_of(1), prefix_of(2)]?;

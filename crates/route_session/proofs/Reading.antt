@@ -204,7 +204,7 @@ ends_refused r session old t n p q u v m fault.Full i g h k = record {
   reads = lost_one r session old t n p q u v m fault.Full i g h k;
   entered = i.entered;
   loses = record { message = m; is_told = refl; alone = refl };
-  in_history = (i.fresh, h.full);
+  in_history = (i.fresh, h.full, h.whole);
   at_link = (ap (λ (w : Told). w.ended) g.1 ∙ i.ended, ap (λ (w : Told). w.failures) g.1 ∙ i.failures);
 }
 ends_refused r session old t n p q u v m fault.Memory i g h k = record {

@@ -197,7 +197,7 @@ ends_full r session old t n p q u i h k = record {
   writes = refused_one r session old t n p q u fault.Full i h k;
   sent = i.sent;
   leaves = refl;
-  in_history = (i.fresh, h.full);
+  in_history = (i.fresh, h.full, h.whole);
   at_link = (i.ended, i.failures);
 }
 

@@ -1,5 +1,5 @@
 -- What the calls of a session add to what its pass knows, and why a session ends. (This project's own choice.)
-use Rattle.std.specs.Prelude.{◌≡◌, ℕ, ◌<◌, ◌≤◌, All, AllPairs, Some, List, [], ◌∷◌, ◌++◌, length, slice_get}
+use Rattle.std.specs.Prelude.{◌≡◌, ℕ, ◌+◌, ◌<◌, ◌≤◌, All, AllPairs, false, Some, List, [], ◌∷◌, ◌++◌, length, slice_get}
 use Rattle.std.specs.List.{AllZip}
 use Rattle.netchange_core.specs.declared.event.Event.{Event}
 use Rattle.netchange_core.specs.declared.event.Event.TheVariants as event
@@ -63,7 +63,7 @@ pub record EndsStale (calls : List Entry) : Type 0 where
 -- what a cause says of the calls, and of the history that the pass has seen
 abbrev pub IsCauseIn : Cause → RouterView → List Entry → Fragment → Type 0
 IsCauseIn cause.Stale r calls new = EndsStale calls
-IsCauseIn cause.Full r calls new = All IsFresh calls × (length new.seen ≡ r.limit)
+IsCauseIn cause.Full r calls new = All IsFresh calls × (length new.seen ≡ new.forgot + r.limit) × (r.endless ≡ false → new.forgot ≡ 0)
 IsCauseIn _ r calls new = All IsFresh calls
 
 -- what a cause says of the link: it answered that it has ended, or it failed, or neither

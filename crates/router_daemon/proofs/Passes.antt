@@ -1,5 +1,5 @@
 -- What the passes of a router have seen stays legal.
-use Rattle.std.proofs.Common.{sym, subst, Bool, true, false, if◌then◌else◌, nat_lt, List, length}
+use Rattle.std.proofs.Common.{◌≡◌, sym, subst, Bool, true, false, if◌then◌else◌, nat_lt, List, length}
 use Rattle.netchange_core.specs.OpeningView.{OpeningView}
 use Rattle.route_history.specs.History.{IsLegal}
 use Rattle.route_history.specs.declared.entry.Entry.{Entry}
@@ -20,12 +20,12 @@ legal_merged o p q new j lp lq = subst (λ (x : Fragment). IsLegal o x.seen) (sy
 -- a pass that took another one in
 pub legal_after_merge : (r : RouterView) (p q new : PassView) → IsLegalPass r p → IsLegalPass r q → IsPassOf r new
     → Merged p.fragment q.fragment new.fragment → IsLegalPass r new
-legal_after_merge r p q new hp hq of j = record { of = of; legal = legal_merged r.opening p.fragment q.fragment new.fragment j hp.legal hq.legal }
+legal_after_merge r p q new hp hq of j = record { of = of; whole = hp.whole; legal = legal_merged r.opening p.fragment q.fragment new.fragment j hp.legal hq.legal }
 
 -- what a session does to a pass
 pub legal_sound : (r : RouterView) (old new : PassView) → IsLegalPass r old → StaysSound r old new → IsLegalPass r new
-legal_sound r old new h s = record { of = s.of; legal = s.legal h.legal }
+legal_sound r old new h s = record { of = s.of; whole = h.whole; legal = s.legal h.legal }
 
 -- the first pass has seen nothing
-pub legal_first : (r : RouterView) (p : PassView) → IsFirst r p → IsLegalPass r p
-legal_first r p h = record { of = h.of; legal = subst (λ (x : Fragment). IsLegal r.opening x.seen) (sym h.fragment) tt }
+pub legal_first : (r : RouterView) (p : PassView) → r.endless ≡ false → IsFirst r p → IsLegalPass r p
+legal_first r p whole h = record { of = h.of; whole = whole; legal = subst (λ (x : Fragment). IsLegal r.opening x.seen) (sym h.fragment) tt }

@@ -1,12 +1,13 @@
 -- The passes that the threads of a router have. (This project's own choice.)
-use Rattle.std.specs.Prelude.{◌≡◌, ◌⊎◌, []}
+use Rattle.std.specs.Prelude.{◌≡◌, ◌⊎◌, false, []}
 use Rattle.route_history.specs.History.{IsLegal}
 use Rattle.slot_lock.specs.Calls.{Merged}
 use Rattle.slot_lock.specs.Passes.{Fragment, IsPassOf, PassView, RouterView}
 
--- a pass of the router, which has seen a legal history
+-- a pass of the router, which forgets nothing; it has seen a legal history
 pub record IsLegalPass (r : RouterView) (p : PassView) : Type 0 where
   pub of : IsPassOf r p
+  pub whole : r.endless ≡ false
   pub legal : IsLegal r.opening p.fragment.seen
 
 -- a pass of the router by which nothing was called

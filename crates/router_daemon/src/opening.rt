@@ -1,5 +1,5 @@
 //! A router is opened.
-ghost use Rattle.std.specs.Prelude.{◌≡◌, IfErr, IfOk};
+ghost use Rattle.std.specs.Prelude.{◌≡◌, false, IfErr, IfOk};
 ghost use Rattle.router_daemon.specs.Passes.{IsLegalPass};
 ghost use Rattle.router_daemon.specs.Running.{IsEarly};
 ghost use Rattle.router_daemon.specs.Uses.{BeginsWithFilters};
@@ -17,6 +17,7 @@ use std::sync::Wait;
 /// The router of a plan, with an empty history.
 fn open_empty(alloc: Global, plan: &RouterPlan) -> Result<(Router, Pass), DaemonFault>
     ensures router { IfOk result (λ r. (r.0.opening ≡ plan.now.opening) × (r.0.limit ≡ plan.now.limit)) }
+    ensures whole { IfOk result (λ r. r.0.endless ≡ false) }
     ensures first { IfOk result (λ r. IsFirst r.0 r.1) }
     ensures early { IfErr result IsEarly }
 {

@@ -1,6 +1,7 @@
 mod Answering
 mod Entering
 mod Seeing
+mod Showing
 mod NamingFilters
 mod Staying
 mod Ending

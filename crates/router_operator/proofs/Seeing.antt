@@ -1,5 +1,5 @@
 -- A look, and an event after it.
-use Rattle.std.proofs.Common.{◌≡◌, ℕ, Option, List, Result, IfOk, subst, ap, ◌∙◌, inl}
+use Rattle.std.proofs.Common.{◌≡◌, ℕ, false, Option, List, Result, IfOk, length, subst, ap, ◌∙◌, inl}
 use Rattle.line_protocol.specs.Answers.{Answer}
 use Rattle.line_protocol.specs.declared.answers.LineReply.{LineReply}
 use Rattle.netchange_core.specs.declared.event.Event.TheVariants as event
@@ -8,17 +8,19 @@ use Rattle.operator_cmds.specs.Stages.{Open, session_in, session_number}
 use Rattle.route_history.specs.JournalView.{JournalView}
 use Rattle.slot_lock.specs.Calls.{Observed}
 use Rattle.slot_lock.specs.Passes.{PassView}
+use Rattle.slot_lock.proofs.Whole.{room_whole}
 use Rattle.router_operator.specs.OperatorView.{OperatorView, journal_seen}
 use Rattle.router_operator.specs.Operators.{AnswersDown, AnswersEvent, AnswersLook, BreaksOff, GrowsByOne, Looks}
 use Rattle.operator_cmds.proofs.Answering.{added}
 use Rattle.router_operator.proofs.Entering.{begins_then, keeps_shares}
 
-module _ {Seer : Type 0} (sees : Seer → JournalView → Seer → Type 0) (before : OperatorView) (pass : PassView) (old new : Seer)
-    (shares : pass.fragment.shares ≡ before.pass.fragment.shares) (h : Observed sees before.router before.pass old new pass) where
+module _ {Seer : Type 0} (sees : Seer → ℕ → JournalView → Seer → Type 0) (before : OperatorView) (pass : PassView) (old new : Seer)
+    (shares : pass.fragment.shares ≡ before.pass.fragment.shares) (whole : before.router.endless ≡ false)
+    (h : Observed sees before.router before.pass old new pass) where
   pub seen : Looks before (record before { pass = pass })
   seen = record {
     found = record { begins = h.begins; legal = h.legal };
-    room = h.room;
+    room = room_whole before.router pass.fragment.forgot (length pass.fragment.seen) h.room whole;
     mine = h.mine;
     only = keeps_shares before pass shares;
   }

@@ -1,8 +1,8 @@
 //! Looks at a router that others call: the journal is shown, and nothing is entered.
 
 use line_protocol::LineReply;
-use operator_cmds::{Look, answer_history, answer_look};
-use route_history::Journal;
+use operator_cmds::{Look, answer_entries, answer_look};
+use route_history::LongJournal;
 use slot_lock::Observer;
 use std::alloc::{AllocError, Global};
 
@@ -32,18 +32,28 @@ impl Looking {
     ghost use Rattle.std.specs.Prelude.{IfOk, OnErr};
     ghost use Rattle.std.specs.Io.{StartsWith};
     ghost use Rattle.operator_cmds.specs.Replies.{Adds};
+    ghost use Rattle.route_history.specs.Long.{OfHistory};
     ghost use Rattle.router_operator.specs.Looking.{told};
 
     /// Answers the look, behind what is written so far.
-    fn answer(&mut self, journal: &Journal) -> Result<LineReply, AllocError>
-        ensures ok { IfOk result (Adds (told self.old.asked self.old.number journal.now) self.old.text.items self.new.text.items) }
+    fn answer(&mut self, journal: &LongJournal) -> Result<LineReply, AllocError>
+        ensures ok { OfHistory journal.now (λ history.
+            IfOk result (Adds (told self.old.asked self.old.number history) self.old.text.items self.new.text.items)) }
         ensures err { OnErr result (StartsWith self.new.text.items self.old.text.items) }
     {
         match self.asked {
             Asked::Tables(look) => {
                 answer_look(&mut self.text, journal.tables(), self.number, look)
             }
-            Asked::Entries(from) => answer_history(self.alloc, &mut self.text, journal, from),
+            Asked::Entries(from) => {
+                // For the proof alone, which needs what its contract says.
+                let _kept = journal.kept();
+                match journal.all_entries() {
+                    Some(entries) => answer_entries(self.alloc, &mut self.text, entries, from),
+                    // Nobody operates a router that may forget entries.
+                    None => Err(AllocError),
+                }
+            }
         }
     }
 }
@@ -51,9 +61,9 @@ impl Looking {
 impl Observer for Looking {
     ghost use Rattle.router_operator.specs.Looking.{Tells};
 
-    ghost sees = { Tells };
+    ghost sees = { λ before _ history after. Tells before history after };
 
-    fn see(&mut self, journal: &Journal) {
+    fn see(&mut self, journal: &LongJournal) {
         self.reply = self.answer(journal);
     }
 }
@@ -68,9 +78,9 @@ pub(crate) struct FindingSession {
 impl Observer for FindingSession {
     ghost use Rattle.router_operator.specs.Looking.{Finds};
 
-    ghost sees = { Finds };
+    ghost sees = { λ before _ history after. Finds before history after };
 
-    fn see(&mut self, journal: &Journal) {
-        self.session = journal.present_session(self.node);
+    fn see(&mut self, journal: &LongJournal) {
+        self.session = journal.tables().present_session(self.node);
     }
 }

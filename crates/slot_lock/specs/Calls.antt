@@ -1,5 +1,5 @@
 -- What the calls of a router do. (This project's own choice.)
-use Rattle.std.specs.Prelude.{◌≡◌, ◌≢◌, ℕ, ◌+◌, ◌≤◌, List, [], ◌∷◌, ◌++◌, length}
+use Rattle.std.specs.Prelude.{◌≡◌, ◌≢◌, ℕ, ◌+◌, ◌<◌, ◌≤◌, false, List, [], ◌∷◌, ◌++◌, length}
 use Rattle.netchange_core.specs.declared.event.Event.{Event}
 use Rattle.route_history.specs.declared.entry.Entry.{Entry}
 use Rattle.route_history.specs.declared.fault.CallFault.{CallFault}
@@ -8,13 +8,15 @@ use Rattle.route_history.specs.Beginning.{Begins}
 use Rattle.route_history.specs.Calls.{entry}
 use Rattle.route_history.specs.History.{IsLegal}
 use Rattle.route_history.specs.JournalView.{JournalView}
+use Rattle.route_history.specs.Long.{IsForgotten, IsWindow, IsWithin, LongView}
 use Rattle.slot_lock.specs.declared.answer.Answer.{Answer}
 use Rattle.slot_lock.specs.declared.fault.TryFault.{TryFault}
 use Rattle.slot_lock.specs.declared.fault.TryFault.TheVariants as try_fault
 use Rattle.slot_lock.specs.Passes.{PassView}
 use Rattle.lock_rule.specs.declared.rule.Fragment.{Fragment}
-pub use Rattle.lock_rule.specs.Closing.{Closed}
-use Rattle.lock_rule.specs.RouterView.{RouterView}
+pub use Rattle.lock_rule.specs.Closing.{ClosedLong}
+use Rattle.lock_rule.specs.Closing.{HasEachOnce}
+use Rattle.lock_rule.specs.RouterView.{RouterView, bounds_of}
 use Rattle.lock_rule.specs.Steps.{Agree, merged, with_seen}
 use Rattle.lock_rule.specs.Views.{all_shares, longer}
 
@@ -25,18 +27,22 @@ pub record Answered (r : RouterView) (old : PassView) (event : Event) (a : Answe
   pub log : List Entry
   pub begins : Begins old.fragment.seen log
   pub position : a.at ≡ length log
+  pub below : a.at < 18446744073709551615
   pub seen : new.fragment.seen ≡ log ++ entry event a.reply ∷ []
   pub legal : IsLegal r.opening new.fragment.seen
   pub mine : new.fragment.mine ≡ old.fragment.mine ++ a.at ∷ []
   pub shares : new.fragment.shares ≡ old.fragment.shares
+  pub forgot : new.fragment.forgot ≡ old.fragment.forgot
   pub alone : old.fragment.shares ≡ all_shares → log ≡ old.fragment.seen
 
--- the pass has seen a whole history, with as many entries as the limit; none of the caller's calls was entered, and none at all where it
--- has all shares
+-- the pass has seen a whole history, of which all but as many entries as the limit are forgotten, and none where the router is not endless;
+-- none of the caller's calls was entered, and none at all where it has all shares
 pub record IsAtLimit (r : RouterView) (old new : PassView) : Type 0 where
   pub begins : Begins old.fragment.seen new.fragment.seen
   pub legal : IsLegal r.opening new.fragment.seen
-  pub full : length new.fragment.seen ≡ r.limit
+  pub full : length new.fragment.seen ≡ new.fragment.forgot + r.limit
+  pub whole : r.endless ≡ false → new.fragment.forgot ≡ 0
+  pub on : old.fragment.forgot ≤ new.fragment.forgot
   pub mine : new.fragment.mine ≡ old.fragment.mine
   pub shares : new.fragment.shares ≡ old.fragment.shares
   pub alone : old.fragment.shares ≡ all_shares → new.fragment.seen ≡ old.fragment.seen
@@ -64,15 +70,42 @@ Refused fault.Memory r old new = (n : ℕ) × (new ≡ pass_with_failed_tries n 
 
 -- the observer saw a journal of the router, whose history goes on from what the pass had seen, and which the pass has seen now; none of
 -- the caller's calls was entered, and none at all where the pass has all shares
-pub record Observed {Seer : Type 0} (sees : Seer → JournalView → Seer → Type 0) (r : RouterView) (old : PassView) (before after : Seer)
+pub record Observed {Seer : Type 0} (sees : Seer → ℕ → JournalView → Seer → Type 0) (r : RouterView) (old : PassView) (before after : Seer)
     (new : PassView) : Type 0 where
   pub begins : Begins old.fragment.seen new.fragment.seen
   pub legal : IsLegal r.opening new.fragment.seen
-  pub room : length new.fragment.seen ≤ r.limit
-  pub saw : sees before (record { opening = r.opening; limit = r.limit; entries = new.fragment.seen }) after
+  pub room : IsWithin (bounds_of r) new.fragment.forgot (length new.fragment.seen)
+  pub saw : sees before new.fragment.forgot (record { opening = r.opening; limit = r.limit; entries = new.fragment.seen }) after
+  pub on : old.fragment.forgot ≤ new.fragment.forgot
   pub mine : new.fragment.mine ≡ old.fragment.mine
   pub shares : new.fragment.shares ≡ old.fragment.shares
   pub alone : old.fragment.shares ≡ all_shares → new.fragment.seen ≡ old.fragment.seen
+
+-- who forgets has seen a whole history, of whose journal entries below upto are forgotten, behind those that they knew to be, and none where
+-- the router is not endless; so many are forgotten in all
+pub record Forgot (r : RouterView) (old : PassView) (upto count : ℕ) (new : PassView) : Type 0 where
+  pub begins : Begins old.fragment.seen new.fragment.seen
+  pub legal : IsLegal r.opening new.fragment.seen
+  pub journal : LongView
+  pub window : IsWindow r.opening (bounds_of r) new.fragment.seen journal
+  pub after : LongView
+  pub forgotten : IsForgotten journal after upto
+  pub counted : count ≡ after.first
+  pub forgot : new.fragment.forgot ≡ count
+  pub exact : journal.first ≡ old.fragment.forgot
+  pub mine : new.fragment.mine ≡ old.fragment.mine
+  pub shares : new.fragment.shares ≡ old.fragment.shares
+  pub alone : old.fragment.shares ≡ all_shares → new.fragment.seen ≡ old.fragment.seen
+
+-- the journal of a router that is closed: it has the router's opening and limit, is legal, and goes on from what the pass
+-- has seen; if the pass has all shares, each position of the journal is one of the pass's own, once
+pub record Closed (r : RouterView) (p : Fragment) (j : JournalView) : Type 0 where
+  pub opening : j.opening ≡ r.opening
+  pub limit : j.limit ≡ r.limit
+  pub legal : IsLegal j.opening j.entries
+  pub room : length j.entries ≤ j.limit
+  pub begins : Begins p.seen j.entries
+  pub once : p.shares ≡ all_shares → HasEachOnce (length j.entries) p.mine
 
 -- two passes in one: the shares and the failed tries add up, the second's positions follow the first's, and the
 -- longer history is kept

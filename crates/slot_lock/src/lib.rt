@@ -6,6 +6,7 @@ mod answer;
 mod fault;
 mod laws;
 mod pass;
+mod right;
 mod router;
 
 pub use answer::Answer;
@@ -13,4 +14,5 @@ pub use fault::{LockFault, TryFault};
 pub use laws::{counts_add_up, each_position_is_there, none_is_twice};
 pub use lock_rule::Observer;
 pub use pass::Pass;
+pub use right::Right;
 pub use router::{ALL_SHARES, Router};

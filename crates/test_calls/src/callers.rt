@@ -1,6 +1,6 @@
 //! Who calls a router in a test.
 
-ghost use Rattle.std.specs.Prelude.{◌<◌};
+ghost use Rattle.std.specs.Prelude.{◌≡◌, ◌<◌, false};
 ghost use Rattle.slot_lock.specs.Passes.{IsFirst, IsPassOf};
 
 use crate::asserts::{Host, RouterHost, done, some};
@@ -26,7 +26,8 @@ pub fn opening<R: Host>(rt: &R, size: u16) -> Opening {
 
 /// The router of node 0 of so many, with a history of so many entries at most, and its first pass.
 pub fn open<R: Host>(rt: &R, size: u16, limit: u32) -> (Router, Pass)
-    ensures { IsFirst result.0 result.1 }
+    ensures first { IsFirst result.0 result.1 }
+    ensures whole { result.0.endless ≡ false }
 {
     let opening = opening(rt, size);
     let journal = Journal::open(rt.alloc(), opening, limit.clamp(1, 1_000_000));
@@ -35,7 +36,8 @@ pub fn open<R: Host>(rt: &R, size: u16, limit: u32) -> (Router, Pass)
 
 /// Closes a router.
 pub fn close<R: Host>(rt: &R, router: Router, pass: Pass) -> Journal
-    requires { IsPassOf router pass }
+    requires of { IsPassOf router pass }
+    requires whole { router.endless ≡ false }
 {
     done(rt, router.close(pass))
 }

@@ -18,6 +18,8 @@ mod crews;
 #[cfg(test)]
 mod embedding_tests;
 #[cfg(test)]
+mod endless;
+#[cfg(test)]
 mod ends;
 #[cfg(test)]
 mod events;

@@ -29,7 +29,7 @@ fn enter_at<R: RouterHost>(
     caller: &mut Caller<'_>,
     way: Way,
     at: u32,
-) -> Result<u32, &'static str> {
+) -> Result<u64, &'static str> {
     match way {
         Way::Call => match caller.call(rt, event(at)) {
             Ok(answer) => Ok(answer.at),
@@ -46,10 +46,10 @@ fn enter_at<R: RouterHost>(
 fn enter_all<R: RouterHost>(rt: &R, mut caller: Caller<'_>, way: Way) -> Answered {
     for at in 0..3u32 {
         match enter_at(rt, &mut caller, way, at) {
-            Ok(place) => must(rt, place == at, "an event is entered"),
+            Ok(place) => must(rt, place == u64::from(at), "an event is entered"),
             Err(code) => {
                 let again = enter_at(rt, &mut caller, way, at);
-                must(rt, again == Ok(at), "an event is entered again");
+                must(rt, again == Ok(u64::from(at)), "an event is entered again");
                 return Err(code);
             }
         }

@@ -1,5 +1,5 @@
 -- The reply to the event is the world's, it stands in the journal's new last entry, and the journal has no other new one.
-use Rattle.std.proofs.Common.{IfOk, subst}
+use Rattle.std.proofs.Common.{ℕ, IfOk, subst}
 use Rattle.netchange_core.specs.declared.reply.Reply.{Reply}
 use Rattle.operator_cmds.proofs.Entering.{answered}
 use Rattle.operator_cmds.specs.Replies.{Adds, reply_answer}
@@ -7,7 +7,9 @@ use Rattle.operator_cmds.proofs.event.enter.Goals as goal
 
 pub returns-in-Ok-clause-ok : goal.returns-in-Ok-clause-ok
 returns-in-Ok-clause-ok c =
-    let told = subst (λ (r : Reply). IfOk c.answer_reply.result (Adds (reply_answer c.in-Ok.at r) c.args.out.now.items c.answer_reply.new.out.items))
-    c.as_ref.ensures c.answer_reply.ensures.ok in
+    let told = subst (λ (at : ℕ). IfOk c.answer_reply.result (Adds (reply_answer at c.in-Ok.reply) c.args.out.now.items c.answer_reply.new.out.items))
+    c.from.ensures
+    (subst (λ (r : Reply). IfOk c.answer_reply.result (Adds (reply_answer c.from.result r) c.args.out.now.items c.answer_reply.new.out.items))
+    c.as_ref.ensures c.answer_reply.ensures.ok) in
     answered c.args.journal.now c.apply.new.self c.args.event c.in-Ok.at c.in-Ok.reply c.in-Ok.ensures.same c.in-Ok.ensures.entered
     c.in-Ok.ensures.legal c.answer_reply.result c.args.out.now.items c.answer_reply.new.out.items told
