@@ -605,12 +605,11 @@ def hundred_files(ncroute):
 
 
 def full_router(ncroute):
-    """A router of the largest domain, whose operator types events about its last node, up to the last entry and one beyond: 200,000 sessions. All of
-    it is saved, and replays."""
-    turns, last = ENTRIES // 5, NODES - 1
-    lines = b"load f " + FILTER + b"\n" + b"up %d\nimport %d f\nexport %d f\nshow %d\ndown %d\n".replace(b"%d", b"%d" % last) * turns + b"show 0\n"
-    turn = f"opened {{}}\ndone 0\ndone 0\nroute {NODES} none\ndone 0\n"
-    wanted = VERIFIED + "".join(map(turn.format, range(1, turns + 1))).encode() + b"refused J1 %d\n" % ENTRIES
+    """A router of the largest domain, whose operator types events about its last node, up to the last entry and one beyond. All of it is saved, and
+    replays."""
+    turns, last = ENTRIES // 4, NODES - 1
+    lines = b"load f " + FILTER + b"\n" + b"import %d f\nexport %d f\nshow %d\nshow 0\n".replace(b"%d", b"%d" % last) * turns + b"show 0\n"
+    wanted = VERIFIED + b"done 0\ndone 0\nroute %d none\nroute 0 local\n" % NODES * turns + b"refused J1 %d\n" % ENTRIES
     with tempfile.TemporaryDirectory() as folder:
         kept = os.path.join(folder, "history")
         wrong = differs(run(ncroute, f"router --size {NODES} --node 0 --save {kept}", lines), (wanted, 0))

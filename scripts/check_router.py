@@ -245,8 +245,9 @@ class Rows(SizeRows):
         with Run(self.program, more=("--prefix", "3=192.168.0.0/24")) as run:
             self.serve_two(run)
             rows = (
-                ("up 1", "refused O9 "), ("down 2", "refused O9 "), ("up 3", "refused O9 "), ("down 3", "refused N3 "), ("network 4 0", "refused O5 "),
-                ("prefix 3 10.0.0.0/8", "refused O5 "), ("recv 2 3 0", "refused O1 "), ("take 2", "refused O1 "), ("jump", "refused O1 "),
+                ("up 1", "refused O9 "), ("down 2", "refused O9 "), ("up 3", "refused O9 "), ("down 3", "refused N3 "),
+                ("network 4 0", "refused O5 "), ("prefix 3 10.0.0.0/8", "refused O5 "),
+                ("recv 2 3 0", "refused O1 "), ("take 2", "refused O1 "), ("jump", "refused O1 "),
                 ("load far filter far { if net = 192.168.0.0/24 then rip_metric = rip_metric + 4; accept; }", "verified "),
                 ("import 2 far", "done 0"), ("import 2 nobody", "refused O6 "), ("neighbours", "neighbours 2:1"), ("told 2", "told 0:8 1:8 2:0 "),
             )
