@@ -5,19 +5,25 @@ nothing of the program. The last line is 'N passed, M failed'.
 usage: scripts/check_phases.py [DOMAINS [SEED]]        (600 domains; 100000 take some minutes)
 
 A model has 2 to 7 nodes, one destination, and filters that are any tables of metrics that never lower one. Each domain is brought into a random
-state by links that come and go, by new filters, and by messages that are sent and received in a random order. Then nothing else happens, and three
+state by links that come and go, by new filters, and by messages that are sent and received in a random order. Then nothing else happens, and four
 things are looked at, each in a copy:
 - phases: in a phase all is received that waited or was on its way at its start, in a random order; and now and then a link leaves out a message
   that a later one follows, which is then awaited in its place. After j phases each node that is at most j away has its distance and its next hop,
   and every other one is farther than j; after D + 1 phases, D being the longest distance, and after as many as there are nodes, nothing waits.
 - rounds, as `settle` plays them: not more than either of both.
+- limits: import filters let through nothing beyond a metric. After one phase more than that each distance is that of rest, and after one more
+  nothing waits.
 - failures far away: some links come and go, some routers begin anew and some filters are replaced, and messages are lost anywhere. No distance
   below K changes where K is the least distance on which the state of rest with all of that and the one with nothing of it differ, nor a next hop
   that both have.
 
+In a domain of its own whose filters keep order links are added, while messages are sent, received and left out: no distance rises, and what is
+forwarded arrives. The same with any filters shows that it needs them.
+
 That a bound is never reached fails too.
 """
 import copy
+import itertools
 import random
 import sys
 
@@ -28,8 +34,9 @@ from lib.counts import Counts
 class Domain(netchange.Domain):
     """One destination, node 0, and any filters between each two nodes."""
 
-    def __init__(self, numbers, size):
+    def __init__(self, numbers, size, keeps_order=False):
         super().__init__(size, nodes=(0,))
+        self.keeps_order = keeps_order
         self.numbers, self.pairs = numbers, [(u, w) for u in range(size) for w in range(u + 1, size)]
         for u, router in enumerate(self.routers):
             for w in range(size):
@@ -37,11 +44,13 @@ class Domain(netchange.Domain):
                     router.imports[w], router.exports[w] = self.any_filter(), self.any_filter()
 
     def any_filter(self):
-        """What each metric becomes: never less, and at most the size."""
+        """What each metric becomes: never less, and at most the size; where filters keep order, never less than a lesser one does."""
         kind = self.numbers.randrange(3)
         if kind == 0:
             return None
         become = [x if kind == 1 and self.numbers.randrange(3) else self.numbers.randint(x, self.size) for x in range(self.size + 1)]
+        if self.keeps_order:
+            become = list(itertools.accumulate(become, max))
         return lambda _, dist: become[dist]
 
     def dists(self):
@@ -104,22 +113,31 @@ class Reached:
     """How often a bound was reached."""
 
     def __init__(self):
-        self.counts = dict.fromkeys(("routes", "longest route", "number of nodes", "rounds", "far failures"), 0)
+        bounds = "routes", "longest route", "number of nodes", "rounds", "limits", "far failures", "filters that do not keep order"
+        self.counts = dict.fromkeys(bounds, 0)
 
     def count(self, bound, when=True):
         self.counts[bound] += bool(when)
+
+
+def leave_one_out(domain):
+    """Leaves out a message that a later one follows, if there are two on some link: its link, its place and that of the later one."""
+    flying = [way for way, ms in domain.flight.items() if len(ms) > 1]
+    if not flying:
+        return None
+    way = domain.numbers.choice(flying)
+    at = domain.numbers.randrange(len(domain.flight[way]) - 1)
+    later = domain.numbers.randrange(at + 1, len(domain.flight[way]))
+    domain.flight[way].pop(at)
+    return way, at, later
 
 
 def phase(domain, drops):
     """Steps until all is received, or replaced by what is received, that was pending at the start."""
     awaited = {way: domain.pending(*way) for way in domain.ways()}
     while any(awaited.values()):
-        flying = [way for way, ms in domain.flight.items() if len(ms) > 1]
-        if drops and flying and domain.numbers.randrange(4) == 0:
-            way = domain.numbers.choice(flying)
-            at = domain.numbers.randrange(len(domain.flight[way]) - 1)
-            later = domain.numbers.randrange(at + 1, len(domain.flight[way]))
-            domain.flight[way].pop(at)
+        if drops and domain.numbers.randrange(4) == 0 and (left_out := leave_one_out(domain)):
+            way, at, later = left_out
             if at < awaited[way]:
                 awaited[way] = max(awaited[way] - 1, later)
             continue
@@ -158,6 +176,60 @@ def check_rounds(domain, reached):
         domain.play_round()
     reached.count("rounds", rounds == bound)
     return None if rounds <= bound else f"{rounds} rounds, the longest distance {longest}"
+
+
+def check_limits(domain, drops, reached):
+    """Each router rejects what it would take in at more than a limit."""
+    limit = domain.numbers.randrange(domain.size)
+    for u, w in itertools.permutations(range(domain.size), 2):
+        domain.routers[u].set_import(w, limited(domain.routers[u].imports.get(w), limit, domain.size))
+    dists = [dist for dist, _ in domain.rest(domain.ways())]
+    for number in range(limit + 3):
+        if number == limit and domain.dists() != dists:
+            reached.count("limits")
+        if number > limit and domain.dists() != dists:
+            return f"after {number} phases with limit {limit} {domain.dists()}, and not {dists}"
+        if number == limit + 2 and not domain.is_quiet():
+            return f"not quiet after {number} phases with limit {limit}"
+        phase(domain, drops)
+    return None
+
+
+def limited(used, limit, size):
+    def filtered(node, dist):
+        become = used(node, dist) if used else dist
+        return become if become <= limit else size
+    return filtered
+
+
+def check_gains(numbers, keeps_order):
+    """A domain at rest gains links; which node's distance rose, or what looped."""
+    domain = Domain(numbers, numbers.randint(3, 7), keeps_order)
+    for u, w in domain.pairs:
+        if numbers.randrange(3) == 0:
+            domain.up(u, w)
+            domain.up(w, u)
+    while domain.random_step()[1]:
+        pass
+    before = domain.dists()
+    for _ in range(80):
+        u, w = numbers.choice(domain.pairs)
+        if numbers.randrange(12) == 0 and not domain.are_up(u, w):
+            domain.up(u, w)
+            domain.up(w, u)
+        elif numbers.randrange(6) or not leave_one_out(domain):
+            domain.random_step()
+        dists, routes = domain.dists(), domain.routes()
+        if risen := [node for node, (now, then) in enumerate(zip(dists, before)) if now > then]:
+            return f"new links raise the distances of {risen} from {before} to {dists}"
+        for node in range(domain.size):
+            at, hops = node, 0
+            while dists[at] < domain.size and at != 0 and hops <= dists[node]:
+                at, hops = routes[at][1], hops + 1
+            if dists[node] < domain.size and (at != 0 or hops > dists[node]):
+                return f"what {node} forwards does not arrive: {routes}"
+        before = dists
+    return None
 
 
 def check_failures(domain, reached):
@@ -214,6 +286,9 @@ def check_domain(seed, number, reached):
     domain = random_domain(numbers)
     return (check_phases(copy.deepcopy(domain), number % 2 == 1, reached)
             or check_rounds(copy.deepcopy(domain), reached)
+            or check_limits(copy.deepcopy(domain), number % 2 == 1, reached)
+            or check_gains(numbers, keeps_order=True)
+            or reached.count("filters that do not keep order", check_gains(numbers, keeps_order=False))
             or check_failures(copy.deepcopy(domain), reached))
 
 
