@@ -54,11 +54,16 @@ module _ {V : Type 0} (answers : V → ℕ → List ℕ → Answer → V → Typ
       let rest = subst (λ (b : Bool). MatchBool b ((more ≡ []) × (after ≡ h.0)) (Runs answers h.0 ls more after)) goes h.2 in
       ap (λ (b : Bool). b || is_over more) goes ∙ not_over h.0 ls more after rest
 
+  pub carried_out_as : (first before after : V) (input : List ℕ) (left held holds : Option (List ℕ)) (n : ℕ) → before ≡ first
+      → Finishes answers input_limit before after input left held holds n
+      → (ends : EndsWithInput answers first input left held holds n) × (after ≡ ends.after)
+  carried_out_as first before after input left held holds n e f =
+      let g = subst (λ (s : V). Finishes answers input_limit s after input left held holds n) e f in
+      (record { after = after; finishes = g; to_end = g.to_end (not_over first (numbered input) g.given after g.run) }, refl)
+
   pub carried_out : (first before after : V) (input : List ℕ) (left held holds : Option (List ℕ)) (n : ℕ) → before ≡ first
       → Finishes answers input_limit before after input left held holds n → EndsWithInput answers first input left held holds n
-  carried_out first before after input left held holds n e f =
-      let g = subst (λ (s : V). Finishes answers input_limit s after input left held holds n) e f in
-      record { after = after; finishes = g; to_end = g.to_end (not_over first (numbered input) g.given after g.run) }
+  carried_out first before after input left held holds n e f = (carried_out_as first before after input left held holds n e f).0
 
   pub broken_off : (fault : StreamFault) (first before now : V) (input : List ℕ) (left held holds : Option (List ℕ)) → before ≡ first
       → Stops answers (λ _ _. ⊤) input_limit fault before now input left held holds → EndsEarly answers first fault input left held holds

@@ -1,8 +1,9 @@
 -- The entries that the lines of a script make. Who keeps the history writes each of them as it is made. (This project's own choice.)
-use Rattle.std.specs.Prelude.{◌≡◌, ◌⊎◌, List, [], ◌∷◌, ◌++◌, Option, Some, None}
+use Rattle.std.specs.Prelude.{◌≡◌, ◌⊎◌, ℕ, List, [], ◌∷◌, ◌++◌, Option, Some, None}
 use Rattle.route_history.specs.JournalView.{JournalView}
 use Rattle.route_history.specs.declared.entry.Entry.{Entry}
-use Rattle.operator_cmds.specs.Stages.{StageView, Empty, Setting, Open}
+use Rattle.operator_cmds.specs.Script.{ScriptView}
+use Rattle.operator_cmds.specs.Stages.{StageView, Empty, Setting, Open, journal_in}
 
 -- the journal, once the first event opened it
 abbrev pub open_journal : StageView → Option JournalView
@@ -31,3 +32,16 @@ StaysOpen (Open journal) after =
 pub record GoesOn (before after : StageView) : Type 0 where
   pub entries : GrowsByOne (entries_in before) (entries_in after)
   pub opening : StaysOpen before after
+
+-- what an event leaves of a journal, whether it was entered or not
+pub record GrowsIn (before after : JournalView) : Type 0 where
+  pub entries : GrowsByOne before.entries after.entries
+  pub opening : after.opening ≡ before.opening
+  pub limit : after.limit ≡ before.limit
+
+-- What a line that was refused memory may leave of a script: the script as it was, or the journal that an event finds, with at most one
+-- entry more. No domain was set up, no prefix changed, and no name.
+pub record BreaksOff (before after : ScriptView) : Type 0 where
+  pub stage : (after.stage ≡ before.stage)
+      ⊎ ((found later : JournalView) × (journal_in before.stage ≡ Some found) × (after.stage ≡ Open later) × GrowsIn found later)
+  pub filters : (name : List ℕ) → after.filters name ≡ before.filters name

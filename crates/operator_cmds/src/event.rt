@@ -1,6 +1,7 @@
 //! The events of a script's router.
 ghost use Rattle.std.specs.Prelude.{◌≡◌, IfOk, OnErr};
 ghost use Rattle.std.specs.Io.{StartsWith};
+ghost use Rattle.operator_cmds.specs.Entries.{GrowsIn};
 ghost use Rattle.operator_cmds.specs.Script.{AnswersIn};
 ghost use Rattle.operator_cmds.specs.Stages.{session_number};
 ghost use Rattle.operator_cmds.specs.Replies.{Answers};
@@ -53,6 +54,7 @@ pub fn enter(
 ) -> Result<LineReply, AllocError>
     ensures ok { IfOk result (Answers (λ answer. AnswersIn journal.old event answer journal.new) out.old.items out.new.items) }
     ensures err { OnErr result (StartsWith out.new.items out.old.items) }
+    ensures left { GrowsIn journal.old journal.new }
 {
     match journal.apply(event) {
         Ok((at, reply)) => answer_reply(out, u64::from(at), reply.as_ref()),

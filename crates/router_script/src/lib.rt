@@ -6,4 +6,4 @@ mod stage;
 mod watch;
 
 pub use script::{Script, ScriptFault, run_script};
-pub use watch::run_watched_script;
+pub use watch::{answer_script, run_watched_script};

@@ -35,13 +35,13 @@ pub struct Script {
 }
 
 impl Service for Script {
-    ghost use Rattle.std.specs.Prelude.{⊤};
+    ghost use Rattle.operator_cmds.specs.Entries.{BreaksOff};
     ghost use Rattle.operator_cmds.specs.Script.{AnswersLine};
     ghost use Rattle.router_script.specs.State.{script_of};
 
     ghost answers = { λ before number line answer after. AnswersLine (script_of before) number line answer (script_of after) };
 
-    ghost refuses = { λ _ _. ⊤ };
+    ghost refuses = { λ before after. BreaksOff (script_of before) (script_of after) };
 
     fn answer(
         &mut self,
@@ -62,7 +62,7 @@ impl Script {
     ghost use Rattle.std.specs.Prelude.{OnErr, OnOk, Some};
     ghost use Rattle.std.specs.Io.{StartsWith};
     ghost use Rattle.operator_cmds.specs.CommandView.{view_of};
-    ghost use Rattle.operator_cmds.specs.Entries.{open_journal};
+    ghost use Rattle.operator_cmds.specs.Entries.{BreaksOff, open_journal};
     ghost use Rattle.operator_cmds.specs.Looks.{history_text, looked};
     ghost use Rattle.operator_cmds.specs.PlainLines.{plain_view};
     ghost use Rattle.operator_cmds.specs.Replies.{Answers, answered};
@@ -170,6 +170,7 @@ impl Script {
         ensures ok { IfOk result (Answers (λ answer. spec.AnswersCommand (script_of self.old) number (plain_view plain) answer
             (script_of self.new)) out.old.items out.new.items) }
         ensures err { OnErr result (StartsWith out.new.items out.old.items) }
+        ensures left { OnErr result (BreaksOff (script_of self.old) (script_of self.new)) }
     {
         match plain {
             PlainCommand::Receive(node, dest, dist) => {
@@ -196,6 +197,7 @@ impl Script {
         ensures ok { IfOk result (Answers (λ answer. spec.AnswersLine (script_of self.old) number line.now answer
             (script_of self.new)) out.old.items out.new.items) }
         ensures err { OnErr result (StartsWith out.new.items out.old.items) }
+        ensures left { OnErr result (BreaksOff (script_of self.old) (script_of self.new)) }
     {
         match read_command(alloc, line) {
             Ok(command) => self.carry_out(alloc, number, command, out),
@@ -215,6 +217,7 @@ impl Script {
         ensures ok { IfOk result (Answers (λ answer. spec.AnswersCommand (script_of self.old) number (view_of command.entry) answer
             (script_of self.new)) out.old.items out.new.items) }
         ensures err { OnErr result (StartsWith out.new.items out.old.items) }
+        ensures left { OnErr result (BreaksOff (script_of self.old) (script_of self.new)) }
     {
         match command {
             Command::Network(network) => self.set_up(alloc, number, network, out),
@@ -267,11 +270,14 @@ impl Script {
         ensures ok { IfOk result (Answers (λ answer. spec.AnswersNetwork (stage_of self.old.stage) number network.size network.me
             network.limit (script_of self.old) answer (script_of self.new)) out.old.items out.new.items) }
         ensures err { OnErr result (StartsWith out.new.items out.old.items) }
+        ensures left { OnErr result (BreaksOff (script_of self.old) (script_of self.new)) }
     {
         match self.stage {
             Stage::Empty => {
-                self.stage = Stage::Setting(Setup::new(alloc, network)?);
-                confirm(out)
+                let setup = Setup::new(alloc, network)?;
+                let reply = confirm(out)?;
+                self.stage = Stage::Setting(setup);
+                Ok(reply)
             }
             Stage::Setting(_) | Stage::Open(_) => {
                 refuse(out, StateFault::TooLate.code(), u64::from(number))
@@ -290,6 +296,7 @@ impl Script {
         ensures ok { IfOk result (Answers (λ answer. spec.AnswersPrefix (stage_of self.old.stage) number node prefix
             (script_of self.old) answer (script_of self.new)) out.old.items out.new.items) }
         ensures err { OnErr result (StartsWith out.new.items out.old.items) }
+        ensures left { OnErr result (BreaksOff (script_of self.old) (script_of self.new)) }
     {
         match &mut self.stage {
             Stage::Empty => refuse(out, StateFault::NoNetwork.code(), u64::from(number)),
@@ -297,8 +304,9 @@ impl Script {
                 if node >= setup.opening.size() {
                     return refuse(out, CommandFault::Numbers.code(), u64::from(number));
                 }
+                let reply = confirm(out)?;
                 setup.set_prefix(node, prefix);
-                confirm(out)
+                Ok(reply)
             }
             Stage::Open(_) => refuse(out, StateFault::TooLate.code(), u64::from(number)),
         }
@@ -319,6 +327,7 @@ impl Script {
             spec.TellsSource (spec.diagnoses source.entry size) number (told_of self.old) answer (told_of self.new))
             out.old.items out.new.items)) }
         ensures err { OnErr result (StartsWith out.new.items out.old.items) }
+        ensures left { OnErr result (BreaksOff (script_of self.old) (script_of self.new)) }
     {
         match self.stage.size() {
             Some(size) => name_source(
@@ -348,6 +357,7 @@ impl Script {
         ensures ok { IfOk result (Answers (λ answer. spec.AnswersUse (filter_at self.old.filters name.now)
             (spec.setting direction node) number (script_of self.old) answer (script_of self.new)) out.old.items out.new.items) }
         ensures err { OnErr result (StartsWith out.new.items out.old.items) }
+        ensures left { OnErr result (BreaksOff (script_of self.old) (script_of self.new)) }
     {
         match self.filters.get(name) {
             Some(filter) => {
@@ -428,6 +438,7 @@ impl Script {
         ensures ok { IfOk result (Answers (λ answer. spec.AnswersEvent (stage_of self.old.stage) number event
             (script_of self.old) answer (script_of self.new)) out.old.items out.new.items) }
         ensures err { OnErr result (StartsWith out.new.items out.old.items) }
+        ensures left { OnErr result (BreaksOff (script_of self.old) (script_of self.new)) }
     {
         match &mut self.stage {
             Stage::Open(journal) => enter(journal, event, out),
@@ -447,6 +458,7 @@ impl Script {
         ensures ok { IfOk result (Answers (λ answer. spec.AnswersEvent (stage_of self.old.stage) number event
             (script_of self.old) answer (script_of self.new)) out.old.items out.new.items) }
         ensures err { OnErr result (StartsWith out.new.items out.old.items) }
+        ensures left { OnErr result (BreaksOff (script_of self.old) (script_of self.new)) }
     {
         self.stage.open(alloc)?;
         match &mut self.stage {

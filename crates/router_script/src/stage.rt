@@ -1,5 +1,5 @@
 //! How far a script has come: whether a domain is set up, and whether its router runs.
-ghost use Rattle.std.specs.Prelude.{◌≡◌, ◌<◌, ◌≤◌, IfOk, OnOk, length, slice_set};
+ghost use Rattle.std.specs.Prelude.{◌≡◌, ◌<◌, ◌≤◌, IfOk, OnErr, OnOk, length, slice_set};
 ghost use Rattle.operator_cmds.specs.Domain as spec;
 ghost use Rattle.operator_cmds.specs.Limits.{largest_limit};
 
@@ -91,7 +91,8 @@ impl Stage {
 
     /// Opens the journal if a domain is set up and none is open.
     pub fn open(&mut self, alloc: Global) -> Result<(), AllocError>
-        ensures { OnOk result (stage_of self.new ≡ opened_stage (stage_of self.old)) }
+        ensures ok { OnOk result (stage_of self.new ≡ opened_stage (stage_of self.old)) }
+        ensures err { OnErr result (stage_of self.new ≡ stage_of self.old) }
     {
         if let Stage::Setting(setup) = self {
             *self = Stage::Open(setup.open(alloc)?);
