@@ -12,8 +12,8 @@ NODES = 250
 # Seconds: what was answered so long ago is saved, and what is to be told is told.
 PROMPT = 1.0
 
-# How often a neighbour comes and goes, and how many times less long a router sleeps meanwhile: a second then takes 20 milliseconds.
-SESSIONS, QUICKER = 200, 50
+# How often a neighbour comes and goes, and how many times less long a router sleeps meanwhile: a second then takes 4 milliseconds.
+SESSIONS, QUICKER = 1_010, 250
 
 # How many lines a link carries in each direction.
 LINES = 70_000
@@ -54,7 +54,7 @@ LAST_ENTRIES = {
 class SizeRows(RunRows):
     """Rows of sizes and times."""
 
-    WAITING = ("comes_two_hundred_times", "killed", "retries")
+    WAITING = ("comes_a_thousand_times", "killed", "retries")
 
     def row_killed(self):
         """A router is killed a second after its last entry, whichever that is: its file has all that it answered of its history."""
@@ -82,8 +82,8 @@ class SizeRows(RunRows):
             neighbour.come(size)
             self.judge(f"{neighbour.node} is up", neighbour.hear(b"\n%d %d\n" % (size - 1, size)), neighbour.told)
 
-    def row_comes_two_hundred_times(self):
-        """Node 1 comes and goes, 200 times: each session begins and ends, with its routes."""
+    def row_comes_a_thousand_times(self):
+        """Node 1 comes and goes, 1,010 times: each session begins and ends, with its routes."""
         with Run(self.program, more=("--retry", "1"), quicker=QUICKER) as run:
             self.serve_two(run)
             one = run.neighbours[1]
