@@ -13,12 +13,14 @@ usage: scripts/check_documents.py        (NCROUTE=PATH: the program; without it,
 - Each listing of docs/VERIFIER.md (`    0 METRIC`, `    1 INT 2`, ..), as a code file with as many variables and sets as it names: `check --code`
   refuses it as the listing says (`V3 at 6`), or verifies it. If a line of hexadecimal follows, it is that file.
 - Each link of a document to a file of the repository, or to a heading of a document, leads there.
+- docs/CALLS.md is what `list_calls.py` makes of the sources.
 """
 import collections
 import os
 import re
 import shutil
 
+import list_calls
 from lib import documents, terminals
 from lib.counts import Counts
 from lib.documents import examples, read
@@ -205,6 +207,7 @@ def main():
         rows = list(linked(name))
         if rows:
             tell(name, "links", rows)
+    tell("docs/CALLS.md", "page", [("docs/CALLS.md", read("docs/CALLS.md") != list_calls.page() and "scripts/list_calls.py prints another one")])
     explained(ncroute, tell)
     played(ncroute, tell, counts)
     ncroute.close()

@@ -23,7 +23,7 @@ PAGES = {
     "OPERATORS": ("ncroute-operators", 7), "ROUTER": ("ncroute-tables", 7), "SESSIONS": ("ncroute-sessions", 7), "VERIFIER": ("ncroute-verifier", 7),
 }
 # Those for people who change the program or build on it.
-NO_PAGES = {"ARCHITECTURE", "DECISIONS", "EMBEDDING", "LOCK", "PROMISES", "WRONG_BODIES"}
+NO_PAGES = {"ARCHITECTURE", "CALLS", "DECISIONS", "EMBEDDING", "LOCK", "PROMISES"}
 
 # The columns that a table can take: 80, less the page's indentation and what `man` keeps free at the right.
 COLUMNS = 71
