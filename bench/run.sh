@@ -2,7 +2,7 @@
 # Builds the proved programs and the plain one, checks that they answer the same, and prints their times and ratios:
 # of `ncroute eval`, `run`, `domain` and `check` as a whole, of the machines alone, or of the router alone.
 #
-# usage: bench/run.sh [table|eval|check|machines|instructions|bird|router|callers|script|save|domain|lookup|diff|names|imports]     (without a word: eval and machines)
+# usage: bench/run.sh [table|eval|check|machines|instructions|bird|router|callers|script|save|domain|lookup|diff|names|imports|library]     (without a word: eval and machines)
 #   table prints the first table of README.md: the instructions of eval, check and run on all inputs; with ROUNDS=N their times too.
 #     A second word, eval, check or run, has it print the rows of that command alone
 #   instructions counts instructions of the machines with valgrind, in place of their time
@@ -13,6 +13,7 @@
 #   diff times `ncroute diff` and `ncroute lint` on lists of 290 and 1,024 patterns
 #   names counts instructions of scripts with names that would collide in a table by std's hash, beside other names
 #   imports counts instructions of `ncroute import` for configurations of 100 to 800 filters
+#   library times calls of the library for C beside the same runs in Rattle; FILTER_C=PATH names an archive that is built already
 #   NCROUTE=PATH       a proved `ncroute` that is built already: then none is built here
 #   BENCH_PARTS=PATH   the same for `bench_parts`
 #   ROUNDS=N           how often each program is run on each input (7)
@@ -21,7 +22,7 @@ set -eu
 bench="$(cd "$(dirname "$0")" && pwd)"
 wanted="${1:-both}"
 case "$wanted" in
-    both | table | eval | check | machines | instructions | bird | router | callers | script | save | domain | lookup | diff | names | imports) ;;
+    both | table | eval | check | machines | instructions | bird | router | callers | script | save | domain | lookup | diff | names | imports | library) ;;
     *)
         sed -n '/^# usage/,/^set /{/^#/s/^# \{0,1\}//p}' "$0" >&2
         exit 2
@@ -151,6 +152,12 @@ elif [ "$wanted" = names ]; then
 elif [ "$wanted" = imports ]; then
     need_ncroute
     "$bench/imports.py" "$NCROUTE"
+elif [ "$wanted" = library ]; then
+    need_ncroute
+    need_bench_parts
+    "$bench/../scripts/install.sh" --library "$folder/prefix" >&2
+    "${CC:-cc}" -O2 -o "$folder/library" "$bench/library.c" -I"$folder/prefix/include" "$folder/prefix/lib/libgomthau_filter.a"
+    "$bench/library.py" "$folder/library" "$BENCH_PARTS" "$NCROUTE" "${ROUNDS:-7}"
 elif [ "$wanted" = bird ]; then
     need_ncroute
     need_bench_parts

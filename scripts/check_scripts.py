@@ -1,5 +1,5 @@
 #!/usr/bin/env python3
-"""Has `pyflakes3` and `pycodestyle` read each Python file of `scripts/` and `bench/`, and `shellcheck` each shell script; `setup.cfg` says how.
+"""Has `pyflakes3` and `pycodestyle` read each Python file of the repository, and `shellcheck` each shell script; `setup.cfg` says how.
 Prints what they find, and at last 'N passed, M failed', where each file counts with each linter. A linter that is not there is not run: a line says
 so, and it counts as skipped.
 
@@ -12,7 +12,8 @@ import subprocess
 from lib.counts import Counts
 from lib.program import TOP
 
-PYTHON, SHELL = ("scripts/**/*.py", "bench/*.py"), ("scripts/*.sh", "bench/*.sh", ".ci/run")
+PYTHON = ("scripts/**/*.py", "bench/*.py", "bindings/**/*.py", "examples/**/*.py", "tests/**/*.py")
+SHELL = ("scripts/*.sh", "bench/*.sh", ".ci/run")
 
 # What each linter is called by, and the files that it reads. It begins a line with the name of the file in which it finds something.
 LINTERS = ((["pyflakes3"], PYTHON), (["pycodestyle"], PYTHON), (["shellcheck", "-f", "gcc"], SHELL))

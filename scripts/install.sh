@@ -2,16 +2,21 @@
 # Proves, builds and installs `ncroute` with its man pages, its completions for bash, zsh and fish, and the syntax files of `editors/`.
 #
 # usage: scripts/install.sh [--unproved] [PREFIX]      (PREFIX: /usr/local; --unproved: builds without proving anything, as scripts/build.sh does)
+#        scripts/install.sh --library [--unproved] [PREFIX]      installs the library of filters for C in place of the program
 #   NCROUTE=PATH   a program that is built already: then none is built here
+#   FILTER_C=PATH  the same for the archive of the crate filter_c
 set -eu
 top="$(cd "$(dirname "$0")/.." && pwd)"
+if [ "${1:-}" = --library ]; then
+    exec "$top/scripts/install_library.sh" "${@:2}"
+fi
 how=()
 if [ "${1:-}" = --unproved ]; then
     how=(--unproved)
     shift
 fi
 if [ $# -gt 1 ] || [[ "${1:-}" = -* ]]; then
-    echo "usage: scripts/install.sh [--unproved] [PREFIX]" >&2
+    echo "usage: scripts/install.sh [--library] [--unproved] [PREFIX]" >&2
     exit 2
 fi
 prefix="${1:-/usr/local}"

@@ -36,7 +36,7 @@ def exported(library):
     found = set()
     for body in re.findall(r"(?s)\bpub use [^;]*?([\w{][^;{]*(?:\{[^}]*\})?);", library):
         found |= set(re.findall(NAME, body.rsplit("{", 1)[-1].rsplit("::", 1)[-1]))
-    return found | set(re.findall(rf"(?m)^pub (?:fn|struct|enum|trait|type|const) ({NAME})", library))
+    return found | set(re.findall(rf"(?m)^pub (?:extern \"C\" )?(?:fn|struct|enum|trait|type|const) ({NAME})", library))
 
 
 def sentence(comment):
@@ -71,7 +71,7 @@ def calls(source, names):
             continue
         if line.lstrip().startswith("#["):
             continue
-        call = re.match(rf"(\s*)(pub )?(?:const )?(?:unsafe )?fn ({NAME})", line)
+        call = re.match(rf"(\s*)(pub )?(?:const )?(?:unsafe )?(?:extern \"C\" )?fn ({NAME})", line)
         if call and (call[2] or is_open) and (owner in names if call[1] else call[3] in names):
             rest = "\n".join(lines[at:])
             body = rf"^{call[1]}\{{\}}?$|^{call[1]}(?:pub |const |fn |\)).*\{{$" + ("|;$" if is_open else "")

@@ -1,0 +1,261 @@
+#!/usr/bin/env python3
+"""Installs the library of filters for C in a temporary folder, builds the examples of `examples/c/` and the rows of `tests/c/` over it, and compares
+them and the Python module with `ncroute filter`: on random routes and all filters of `examples/`, and on texts that are refused. Runs the examples of
+docs/EMBEDDING.md too, in C, in Python and as a process. Most of these programs run under valgrind once more: no error, and no memory that is left.
+Prints what differs, and at last 'N passed, M failed'. What needs a program that is not there (`cc`, `g++`, `pkg-config`, `valgrind`, pip) is not run:
+a line says so, and it counts as skipped.
+
+usage: NCROUTE=PATH scripts/check_library.py     (PATH: the program as it is built)
+  FILTER_C=PATH   an archive of the crate filter_c that is built already; else one is built without proofs
+  ROUTES=N        the number of random routes for each filter (100,000)
+"""
+import os
+import pathlib
+import random
+import re
+import shutil
+import subprocess
+import sys
+import tempfile
+
+from lib import documents
+from lib.counts import Counts
+from lib.program import TOP, built
+
+MOST_BYTES = 1_000_000
+CALLS = {f"gomthau_filter_{name}" for name in ("open", "open_code", "run", "run_all", "bounds", "share", "close")}
+SIZES = (16, 64, 250)
+# How many routes a program takes under valgrind.
+FEW = 2_000
+MEMCHECK = ["valgrind", "-q", "--error-exitcode=99", "--leak-check=full", "--show-leak-kinds=all", "--errors-for-leak-kinds=all"]
+HELGRIND = ["valgrind", "-q", "--tool=helgrind", "--error-exitcode=99"]
+# Prefixes that the examples speak of, or that are near.
+BASES = (0x0A000000, 0xC0A80000, 0xAC100000, 0xC6336400, 0xCB007100, 0xC0002000, 0x7F000000, 0xE0000000, 0x08080800)
+REFUSED = (
+    ("", 16), ("filter q { accept; }", 251), ("filter q { accept; }", 1), ("filter q {\n  print 1;\n}", 16), ("filter q { if 1 then accept; }", 16),
+    ("filter q { zzz = 1; }", 16), ("filter q { reject", 16), ("filter q { rip_metric = 9 / rip_metric; accept; }", 16),
+    ("filter q {\n  # ä\n  if net ~ [ 10.0.0.0/8{9,7} ] then accept;\n}", 16), ("filter \u00fc { accept; }", 16),
+)
+
+
+class Library:
+    """The library as it is installed in a folder, and what is built and run over it."""
+
+    def __init__(self, counts, folder):
+        self.counts, self.folder, self.prefix = counts, folder, folder / "prefix"
+        self.environment = {
+            **os.environ, "LD_LIBRARY_PATH": str(self.prefix / "lib"), "PYTHONPATH": str(folder / "python"), "PYTHONDONTWRITEBYTECODE": "1",
+        }
+
+    def run(self, words, given=""):
+        return subprocess.run(words, input=given.encode(), capture_output=True, env=self.environment, cwd=TOP)
+
+    def install(self):
+        """Installs it; whether that went well."""
+        how = [] if os.environ.get("FILTER_C") else ["--unproved"]
+        ran = self.run([TOP / "scripts" / "install.sh", "--library", *how, self.prefix])
+        self.counts.judge("install.sh --library", ran.returncode and ran.stderr.decode(errors="replace")[-2000:])
+        return not ran.returncode
+
+    def build(self, source, *flags, is_static=False):
+        """A program of a C file, over the shared object or over the archive."""
+        out = self.folder / (source.stem + "_static" * is_static)
+        library = "-l:libgomthau_filter.a" if is_static else "-lgomthau_filter"
+        words = ["cc", "-std=c11", "-O2", "-g", "-Wall", "-Wextra", "-Werror", *flags, "-o", out, source]
+        ran = self.run([*words, f"-I{self.prefix}/include", f"-L{self.prefix}/lib", library, "-pthread"])
+        self.counts.judge(f"building {source.name}", ran.returncode and ran.stderr.decode())
+        return out
+
+    def expect_ok(self, name, words):
+        """Runs a program that writes a row for each thing that it looks at, and `ok` at the row's end where that is as it should be."""
+        ran = self.run(words)
+        rows = ran.stdout.decode(errors="replace").splitlines()
+        wrong = [row for row in rows if not re.search(r"(^|: )ok$", row)]
+        told = ran.stderr.decode(errors="replace")[-1500:]
+        self.counts.expect(name, rows and not wrong and not ran.returncode, f"{wrong} status {ran.returncode}: {told}")
+
+
+def files_differ(library):
+    """What is wrong with the files that are installed."""
+    archive, shared = (library.prefix / "lib" / f"libgomthau_filter.{end}" for end in ("a", "so"))
+    print(f"the archive has {archive.stat().st_size} bytes, the shared object {shared.stat().st_size}")
+    if archive.stat().st_size > MOST_BYTES:
+        return f"the archive has more than {MOST_BYTES} bytes"
+    shown = set(library.run(["nm", "-D", "--defined-only", shared]).stdout.decode().split()[2::3])
+    declared = set(re.findall(r"^\w+ (gomthau_filter_\w+)\(", (TOP / "include" / "gomthau_filter.h").read_text(), re.MULTILINE))
+    return (shown != CALLS and f"the calls are {sorted(shown)}") or (declared != CALLS and f"the header declares {sorted(declared)}")
+
+
+def flags_differ(library):
+    """What is wrong with what `pkg-config` says."""
+    environment = {**library.environment, "PKG_CONFIG_PATH": f"{library.prefix}/lib/pkgconfig"}
+    ran = subprocess.run(["pkg-config", "--cflags", "--libs", "gomthau_filter"], capture_output=True, env=environment, text=True)
+    return ran.stdout.split() != [f"-I{library.prefix}/include", f"-L{library.prefix}/lib", "-lgomthau_filter"] and (ran.stdout or ran.stderr)
+
+
+def cxx_differs(library):
+    """What a compiler of C++ says of the header."""
+    return library.run(["g++", "-Wall", "-Wextra", "-Werror", "-x", "c++", "-fsyntax-only", TOP / "include" / "gomthau_filter.h"]).stderr.decode()
+
+
+# ---- answers
+
+
+def random_routes(count, size):
+    """Lines of routes: most of them in the prefixes that the examples speak of, of all lengths and metrics."""
+    numbers, lines = random.Random(size), []
+    for _ in range(count):
+        word = numbers.getrandbits(32) if numbers.random() < 0.4 else numbers.choice(BASES) | numbers.getrandbits(numbers.choice((8, 16, 24)))
+        length = numbers.randint(0, 32)
+        word = word >> (32 - length) << (32 - length)
+        lines.append(f"{word >> 24}.{word >> 16 & 255}.{word >> 8 & 255}.{word & 255}/{length} {numbers.randint(0, size)}\n")
+    return lines
+
+
+def answers_differ(library, words, routes, wanted):
+    """What a program answers to routes otherwise than is wanted."""
+    ran = library.run(words, "".join(routes))
+    got = ran.stdout.decode(errors="replace")
+    if got != wanted:
+        rows = zip(routes, got.split("\n"), wanted.split("\n"))
+        return next((f"{route.strip()}: {one}, and not {other}" for route, one, other in rows if one != other), repr(got[:200]))
+    return ran.returncode and f"status {ran.returncode}: {ran.stderr.decode(errors='replace')[-1500:]}"
+
+
+def check_answers(library, ncroute, programs, watched):
+    """All examples with random routes, and the same with a few of them under valgrind. A program is the words before its size and its file."""
+    count = int(os.environ.get("ROUTES", "100000")) // len(SIZES) + 1
+    for size in SIZES:
+        routes = random_routes(count, size)
+        for path in sorted(TOP.glob("examples/*.filter")):
+            asked = subprocess.run([ncroute, "filter", "--size", str(size), path], input="".join(routes).encode(), capture_output=True)
+            wanted, name = asked.stdout.decode(), f"{path.name} of {size}"
+            library.counts.judge(f"{name}: ncroute", len(wanted.splitlines()) != count and wanted[:200])
+            for program, words in programs.items():
+                library.counts.judge(f"{name}: {program}", answers_differ(library, [*words(size, path)], routes, wanted))
+            if size == SIZES[0]:
+                few = "".join(wanted.splitlines(keepends=True)[:FEW])
+                for program, words in watched.items():
+                    library.counts.judge(f"{name}: {program}", answers_differ(library, [*words(size, path)], routes[:FEW], few))
+
+
+def check_refusals(library, ncroute, programs):
+    """Texts that are refused: the answer of `ncroute filter`, and the first line of its words."""
+    for index, (text, size) in enumerate(REFUSED):
+        path = library.folder / f"refused_{index}.filter"
+        path.write_text(text, encoding="utf-8")
+        asked = subprocess.run([ncroute, "filter", "--size", str(size), "--explain", "always", path], input=b"", capture_output=True)
+        told = asked.stderr.decode().split("\n")[0]
+        for program, words in programs.items():
+            ran = library.run([*words(size, path)])
+            said = ran.stderr.decode().strip()
+            holds = asked.stdout.startswith(b"refused ") and (ran.stdout, said) == (asked.stdout, told)
+            answers = f"{ran.stdout!r} and {said!r}, and not {asked.stdout!r} and {told!r}"
+            library.counts.expect(f"{text!r} of {size}: {program}", holds, answers)
+
+
+# ---- Python
+
+
+def check_python(library, has_valgrind):
+    """The module as pip installs it from its folder, and its calls."""
+    source = library.folder / "python_source"
+    shutil.copytree(TOP / "bindings" / "python", source)
+    pip = [sys.executable, "-m", "pip", "install", "-q", "--no-index", "--disable-pip-version-check"]
+    ran = library.run([*pip, "--target", library.folder / "python", source])
+    library.counts.judge("pip install", ran.returncode and ran.stderr.decode()[-1500:])
+    calls = [sys.executable, TOP / "tests" / "python" / "module_calls.py"]
+    library.expect_ok("module_calls.py", calls)
+    if has_valgrind:
+        # Of the interpreter's own memory nothing is said here: what counts is that nothing comes from the library.
+        library.environment["PYTHONMALLOC"] = "malloc"
+        ran = library.run(["valgrind", "-q", "--leak-check=full", "--show-leak-kinds=definite,indirect", *calls])
+        del library.environment["PYTHONMALLOC"]
+        told = ran.stderr.decode(errors="replace")
+        library.counts.judge("module_calls.py under valgrind", (ran.stdout != b"ok\n" or "libgomthau_filter" in told) and told[-1500:])
+
+
+# ---- the document
+
+
+def example(begin):
+    """The example of docs/EMBEDDING.md that begins with a line, and what is said to be printed by it."""
+    _, _, behind = documents.read("docs/EMBEDDING.md").partition(f"\n    {begin}\n")
+    lines = [f"    {begin}", *behind.split("\n")]
+    end = next(index for index, line in enumerate(lines) if line and not line.startswith("    "))
+    told = re.findall(r"`([^`]*)`", " ".join(lines[end:]).partition(".")[0])
+    return "".join(f"{line[4:]}\n" for line in lines[:end]), told
+
+
+def check_document(library, ncroute):
+    """The examples of the page on filters in other programs; that in Rattle is a test of `test_calls`."""
+    source, commands = library.folder / "it.c", library.folder / "bin"
+    source.write_text(example("#include <gomthau_filter.h>")[0])
+    commands.mkdir()
+    (commands / "ncroute").symlink_to(ncroute)
+    library.environment["PATH"] = f"{commands}{os.pathsep}{os.environ['PATH']}"
+    for begin in ("#include <gomthau_filter.h>", "from gomthau_filter import Filter, Refused", "import subprocess"):
+        text, told = example(begin)
+        ran = library.run([library.build(source)] if begin.startswith("#") else [sys.executable, "-c", text])
+        said = ran.stdout.decode().splitlines()
+        holds = not ran.returncode and said and said == told[: len(said)]
+        library.counts.expect(f"the example that begins with {begin}", holds, f"{said}, and not {told}")
+
+
+def check(counts, ncroute, folder):
+    library = Library(counts, folder)
+    if not library.install():
+        return
+    counts.judge("the files", files_differ(library))
+    for name, needed, differs in (("the file of pkg-config", "pkg-config", flags_differ), ("the header in C++", "g++", cxx_differs)):
+        if shutil.which(needed):
+            counts.judge(name, differs(library))
+        else:
+            counts.skip(name, f"there is no `{needed}` here")
+    has_valgrind = bool(shutil.which("valgrind"))
+    if not has_valgrind:
+        counts.skip("under valgrind", "there is no `valgrind` here")
+    sources = TOP / "examples" / "c"
+    one, many = (library.build(sources / name) for name in ("filter_routes.c", "many_threads.c"))
+    static = library.build(sources / "filter_routes.c", is_static=True)
+    hostile = library.build(TOP / "tests" / "c" / "hostile.c")
+    refused = library.build(TOP / "tests" / "c" / "refused_memory.c", "-Wl,--wrap=malloc,--wrap=realloc,--wrap=free", is_static=True)
+    for program in (hostile, refused):
+        library.expect_ok(program.name, [program])
+        if has_valgrind:
+            library.expect_ok(f"{program.name} under valgrind", [*MEMCHECK, program])
+    programs = {
+        "C": lambda size, path: [one, str(size), path], "C over the archive": lambda size, path: [static, str(size), path],
+        "eight threads": lambda size, path: [many, str(size), path, "8"],
+    }
+    watched = {}
+    if has_valgrind:
+        watched = {
+            "C under valgrind": lambda size, path: [*MEMCHECK, one, str(size), path],
+            "eight threads under valgrind": lambda size, path: [*MEMCHECK, many, str(size), path, "8"],
+            "eight threads under helgrind": lambda size, path: [*HELGRIND, many, str(size), path, "8"],
+        }
+    refusing = {"C": programs["C"]}
+    if subprocess.run([sys.executable, "-m", "pip", "--version"], capture_output=True).returncode:
+        counts.skip("the Python module", "there is no pip here")
+    else:
+        check_python(library, has_valgrind)
+        check_document(library, ncroute)
+        in_python = TOP / "examples" / "python" / "filter_routes.py"
+        programs["Python"] = refusing["Python"] = lambda size, path: [sys.executable, in_python, str(size), path]
+    check_refusals(library, ncroute, refusing)
+    check_answers(library, ncroute, programs, watched)
+
+
+def main():
+    ncroute, counts = built(), Counts()
+    if shutil.which("cc"):
+        with tempfile.TemporaryDirectory() as folder:
+            check(counts, ncroute, pathlib.Path(folder))
+    else:
+        counts.skip("the library", "there is no `cc` here")
+    counts.finish()
+
+
+if __name__ == "__main__":
+    main()
