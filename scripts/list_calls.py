@@ -57,7 +57,7 @@ def calls(source, names):
     owner, is_open, comment = None, False, []
     lines = source.split("\n")
     for at, line in enumerate(lines):
-        block = re.match(rf"(?:pub )?(?:impl|trait)\b(?:<[^{{]*?>)?\s*(.*?)\s*\{{?$", line)
+        block = re.match(r"(?:pub )?(?:impl|trait)\b(?:<[^{]*?>)?\s*(.*?)\s*\{?$", line)
         if re.match(r"(pub(\([^)]*\))? )?(unsafe )?(impl|trait)\b", line):
             words = re.sub(r"<.*?>(?=\s|$|\{)|<[^<>]*>", "", block[1] if block else "")
             of_trait = re.match(rf"({NAME})(?:<.*?>)? for ({NAME})", words)
