@@ -1,10 +1,10 @@
 -- The first address of a prefix, and what masks make of it.
 use Rattle.std.proofs.Common.{◌≡◌, ℕ, ◌+◌, ◌-◌, ◌*◌, ◌/◌, ◌%◌, ◌^◌, ◌<◌, ◌≤◌, Bool, List, ◌∷◌, length, take, refl, sym, ◌∙◌, ap, subst, arith}
 use Rattle.std.proofs.lemmas.List.{length-take, take-take}
-use Rattle.std.proofs.lemmas.Nat.{pow-add, pow_pos, shl-shr}
+use Rattle.std.proofs.lemmas.Nat.{pow-add, pow_pos, shl-shr, shr_high}
 use Rattle.std.proofs.Math.Pow.{pow_mono}
-use Rattle.prefix_patterns.specs.Bits.{address_of, number, prefix_bits}
-use Rattle.prefix_patterns.specs.BitLists.{address_below, address_of-prefix_bits}
+use Rattle.prefix_patterns.specs.Bits.{address_bits, address_of, number, prefix_bits}
+use Rattle.prefix_patterns.specs.BitLists.{address_below, address_of-prefix_bits, prefix_bits-address_of, prefix_bits-cleared}
 use Rattle.prefix_patterns.specs.Matching.{LiesWithin}
 use Rattle.prefix_patterns.specs.declared.address.Ip.{Ip}
 use Rattle.filter_code.specs.declared.instruction.Instr.TheVariants as instr
@@ -12,6 +12,7 @@ use Rattle.filter_code.specs.declared.value.Value.{Value}
 use Rattle.filter_code.specs.declared.value.Value.TheVariants as value
 use Rattle.filter_code.specs.CodeView.{CodeView}
 use Rattle.filter_code.specs.RouteView.{RouteView}
+use Rattle.filter_diff.specs.Judging.{last_address}
 use Rattle.filter_diff.specs.Symbols.{Puts, kept_address}
 use Rattle.filter_diff.proofs.Knowing.{first_bits}
 
@@ -65,19 +66,44 @@ pub record AreBetween (low high address : ℕ) : Type 0 where
   pub least : low ≤ address
   pub most : address ≤ high
 
+-- the last address of a prefix, as it is computed
+pub last_computed : (q : List Bool) (first count : ℕ) → first ≡ address_of q → count ≡ length q → count ≤ 32 →
+    first + (1 * 2 ^ (32 - count) % 18446744073709551616 - 1) ≡ last_address q
+last_computed q first count first_is count_is short =
+    let small : 2 ^ (32 - count) ≤ 2 ^ 32 = pow_mono {j = 32} (omega arith) in
+    let kept_all : 1 * 2 ^ (32 - count) % 18446744073709551616 ≡ 2 ^ (32 - count) = omega arith in
+    rw (kept_all, first_is, count_is) refl
+
+-- an address that begins with the bits of a prefix lies between its first and its last one
+pub ends_there : (x : ℕ) (q : List Bool) → x < 2 ^ 32 → length q ≤ 32 → LiesWithin (address_bits x) q →
+    AreBetween (address_of q) (last_address q) x
+ends_there x q fits short h =
+    let m = 2 ^ (32 - length q) in
+    let low : address_of q ≡ x / m * m =
+    sym (ap (λ (p : List Bool). address_of p) h) ∙ address_of-prefix_bits x (length q) fits short in
+    let parts = quotients x m (pow_pos (32 - length q)) in
+    record { least = rw low parts.0; most = rw low parts.1 }
+
+-- what is left of an address between them
+remainder : (x first m : ℕ) → 0 < m → first ≤ x → x ≤ first + (m - 1) → (x - first < m) × (first + (x - first) ≡ x)
+remainder x first m some least most = ((omega arith), (omega arith))
+
+quotient_of : (x n k : ℕ) → n * 2 ^ k ≤ x → x ≤ n * 2 ^ k + (2 ^ k - 1) → x / 2 ^ k ≡ n
+quotient_of x n k least most =
+    let left = remainder x (n * 2 ^ k) (2 ^ k) (pow_pos k) least most in
+    subst (λ (y : ℕ). y / 2 ^ k ≡ n) left.1 (shr_high n k (x - n * 2 ^ k) left.0)
+
+-- and an address between them begins with its bits
+pub ends_back : (x : ℕ) (q : List Bool) → length q ≤ 32 → AreBetween (address_of q) (last_address q) x → LiesWithin (address_bits x) q
+ends_back x q short h =
+    let n : x / 2 ^ (32 - length q) ≡ number q = quotient_of x (number q) (32 - length q) h.least h.most in
+    sym (prefix_bits-cleared x (length q) short)
+    ∙ (ap (λ (k : ℕ). prefix_bits (k * 2 ^ (32 - length q)) (length q)) n ∙ prefix_bits-address_of q short)
+
 -- the addresses that begin with known bits
 pub between : (known net : List Bool) (kept : ℕ) → LiesWithin net known → length known ≤ kept → kept ≤ length net → length net ≤ 32 →
-    AreBetween (address_of known) (address_of known + (1 * 2 ^ (32 - length known) % 18446744073709551616 - 1)) (address_of (take kept net))
+    AreBetween (address_of known) (last_address known) (address_of (take kept net))
 between known net kept begins few h fits =
     let long : length (take kept net) ≡ kept = length-take kept net ∙ omega arith in
-    let a = address_of (take kept net) in
-    let m = 2 ^ (32 - length known) in
-    let cut : prefix_bits a (length known) ≡ known =
-    first_bits (take kept net) (length known) (omega arith) (omega arith) ∙ (take-take (length known) kept net few ∙ begins) in
-    let low : address_of known ≡ a / m * m =
-    sym (ap (λ (p : List Bool). address_of p) cut)
-    ∙ address_of-prefix_bits a (length known) (address_below (take kept net) (omega arith)) (omega arith) in
-    let q = quotients a m (pow_pos (32 - length known)) in
-    let small : m ≤ 2 ^ 32 = pow_mono {j = 32} (omega arith) in
-    let kept_all : 1 * m % 18446744073709551616 ≡ m = omega arith in
-    record { least = rw low q.0; most = rw (low, kept_all) q.1 }
+    ends_there (address_of (take kept net)) known (address_below (take kept net) (omega arith)) (omega arith)
+    (first_bits (take kept net) (length known) (omega arith) (omega arith) ∙ (take-take (length known) kept net few ∙ begins))

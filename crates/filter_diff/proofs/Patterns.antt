@@ -102,35 +102,9 @@ address_first net kept n h fits few =
     let long : length (take kept net) ≡ kept = length-take kept net ∙ omega arith in
     first_bits (take kept net) n (omega arith) (omega arith) ∙ take-take n kept net few
 
-ip_there : (net q : List Bool) (kept : ℕ) → kept ≤ length net → length net ≤ 32 → length q ≤ kept → Matches net (pattern q 0 32) →
-    LiesWithin (address_bits (address_of (take kept net))) q
-ip_there net q kept h fits few m =
-    let shared : min (length net) (length q) ≡ length q = omega arith in
-    address_first net kept (length q) h fits few
-    ∙ (subst (λ (n : ℕ). take n net ≡ take n q) shared m.same ∙ whole q (length q) (omega arith))
-
-ip_back : (net q : List Bool) (kept : ℕ) → kept ≤ length net → length net ≤ 32 → length q ≤ kept →
-    LiesWithin (address_bits (address_of (take kept net))) q → Matches net (pattern q 0 32)
-ip_back net q kept h fits few e =
-    let shared : length q ≡ min (length net) (length q) = omega arith in
-    record {
-      low = omega arith;
-      high = fits;
-      same = subst (λ (n : ℕ). take n net ≡ take n q) shared
-          (sym (address_first net kept (length q) h fits few) ∙ (e ∙ sym (whole q (length q) (omega arith))));
-    }
-
--- the first address of a prefix lies within another of fewer bits than are kept of it where that prefix has the same bits
-pub ip_matches : (net q : List Bool) (kept : ℕ) → kept ≤ length net → length net ≤ 32 → length q ≤ kept →
-    matches net (pattern q 0 32) ≡ lies_within (address_bits (address_of (take kept net))) q
-ip_matches net q kept h fits few =
-    same_from_decides _ _
-    (Decides-like _ (ip_there net q kept h fits few) (ip_back net q kept h fits few) (matches-Decides net (pattern q 0 32)))
-    (lies_within-Decides (address_bits (address_of (take kept net))) q)
-
 -- the first address of a prefix lies within it
 pub own_lies : (net : List Bool) (kept : ℕ) → kept ≡ length net → length net ≤ 32 →
     lies_within (address_bits (address_of (take kept net))) net ≡ true
 own_lies net kept e fits =
     (lies_within-Decides (address_bits (address_of (take kept net))) net).1
-    (ip_there net net kept (omega arith) fits (omega arith) (record { low = omega arith; high = fits; same = refl }))
+    (address_first net kept (length net) (omega arith) fits (omega arith) ∙ whole net (length net) (omega arith))

@@ -1,19 +1,26 @@
 -- Tests of symbols by patterns and by bounds.
-use Rattle.std.proofs.Common.{◌≡◌, ℕ, ◌+◌, ◌-◌, ◌*◌, ◌%◌, ◌^◌, ◌≤◌, Bool, true, Option, Some, None, List, length, take, refl, sym, ◌∙◌, subst, arith}
+use Rattle.std.proofs.Common.{◌≡◌, ◌⊎◌, inl, inr, ℕ, ◌^◌, ◌<◌, ◌≤◌, Bool, true, false, Option, Some, None, List, length, take}
+use Rattle.std.proofs.Common.{refl, sym, ◌∙◌, ap, subst, arith}
 use Rattle.std.specs.Prelude.{IfSome}
 use Rattle.prefix_patterns.specs.Bits.{address_bits, address_of, prefix_bits}
-use Rattle.prefix_patterns.specs.BitLists.{length-bits}
-use Rattle.std.proofs.lemmas.List.{take_all}
+use Rattle.prefix_patterns.specs.BitLists.{address_below, length-bits}
+use Rattle.std.proofs.lemmas.Bool.{false_from_ne_true}
+use Rattle.std.proofs.lemmas.List.{length-take, take_all}
+use Rattle.std.proofs.lemmas.Option.{same_Some}
+use Rattle.prefix_patterns.proofs.Matches.{lies_within-Decides}
 use Rattle.prefix_patterns.specs.declared.address.Ip.{Ip}
-use Rattle.prefix_patterns.specs.Matching.{matches}
+use Rattle.prefix_patterns.specs.Matching.{LiesWithin, lies_within, matches}
 use Rattle.filter_code.specs.RouteView.{RouteView}
+use Rattle.filter_code.specs.declared.value.Value.TheVariants as value
+use Rattle.filter_code.specs.Values.{number_of}
 use Rattle.filter_diff.specs.Classes.{Always}
-use Rattle.filter_diff.specs.Judging.{IsBetween, IsEqual, IsWithin}
+use Rattle.filter_diff.specs.Judging.{IsBetween, IsEqual, IsWithin, last_address}
+use Rattle.filter_diff.specs.Symbols.{value_at}
 use Rattle.filter_diff.specs.declared.class.Class.{Class}
 use Rattle.filter_diff.specs.declared.symbol.Symbol.{Symbol}
 use Rattle.filter_diff.specs.declared.symbol.Symbol.TheVariants as symbol
-use Rattle.filter_diff.proofs.Addresses.{between}
-use Rattle.filter_diff.proofs.Patterns.{equals_matches, ip_matches, matches_equals, matches_within, own_lies, same_self, within_matches, within_self}
+use Rattle.filter_diff.proofs.Addresses.{AreBetween, between, ends_back, ends_there}
+use Rattle.filter_diff.proofs.Patterns.{equals_matches, matches_equals, matches_within, own_lies, same_self, within_matches, within_self}
 
 -- a fact of what was told that follows from another
 pub told : {P Q : Bool → Type 0} (o : Option Bool) → IfSome o P → ((r : Bool) → P r → Q r) → IfSome o Q
@@ -59,19 +66,69 @@ own_within_prefix class a outer low is low_is r h route of =
       within = sym (within_matches route.net outer of.fits) ∙ m;
     })
 
-pub ip_within_prefix : (class : Class) (a : Symbol) (outer : List Bool) (kept : ℕ) → a ≡ symbol.OwnIp kept → length outer ≤ kept →
-    kept ≤ class.len → (r : Bool) → Match class outer 0 32 r → Always class (λ (route : RouteView). IsWithin route a (symbol.Net outer) r)
-ip_within_prefix class a outer kept is few h r m route of =
-    let long : length route.net ≡ class.len = of.long in
+-- the address of a route that a symbol stands for lies between the numbers between which the symbol's does
+own_is_between : (route : RouteView) (a : Symbol) (kept least most : ℕ) → a ≡ symbol.OwnIp kept → IsBetween least most route a →
+    AreBetween least most (address_of (take kept route.net))
+own_is_between route a kept least most is b =
+    let same : value_at route (symbol.OwnIp kept) ≡ value.Addr (record { 0 = b.address }) =
+    subst (λ (s : Symbol). value_at route s ≡ value.Addr (record { 0 = b.address })) is b.is in
+    let both : Some (address_of (take kept route.net)) ≡ Some b.address = ap number_of same in
+    let number : b.address ≡ address_of (take kept route.net) = sym (same_Some _ _ both) in
+    subst (AreBetween least most) number (record { least = b.least; most = b.most })
+
+-- what is known of an address of the route and of a prefix, as a test of the two
+own_ip_tested : (route : RouteView) (a : Symbol) (outer : List Bool) (kept : ℕ) (r : Bool) → a ≡ symbol.OwnIp kept →
+    lies_within (address_bits (address_of (take kept route.net))) outer ≡ r → IsWithin route a (symbol.Net outer) r
+own_ip_tested route a outer kept r is h =
     subst (λ (s : Symbol). IsWithin route s (symbol.Net outer) r) (sym is)
-    (record {
-      inner = _;
-      outer = outer;
-      nested = refl;
-      inner_is = refl;
-      outer_is = refl;
-      within = sym (ip_matches route.net outer kept (omega arith) of.fits few) ∙ m route of;
-    })
+    (record { inner = _; outer = outer; nested = refl; inner_is = refl; outer_is = refl; within = h })
+
+within_ends : (least most first last x : ℕ) → AreBetween least most x → first ≤ least → most ≤ last → AreBetween first last x
+within_ends least most first last x b from to =
+    let low : least ≤ x = b.least in
+    let high : x ≤ most = b.most in
+    record { least = omega arith; most = omega arith }
+
+-- Addresses of which the first and the last lie between those of a prefix are addresses of the prefix.
+pub own_ip_inside : (class : Class) (a : Symbol) (outer : List Bool) (kept least most first last : ℕ) → a ≡ symbol.OwnIp kept →
+    length outer ≤ 32 → first ≡ address_of outer → last ≡ last_address outer →
+    Always class (λ (route : RouteView). IsBetween least most route a) → first ≤ least → most ≤ last →
+    Always class (λ (route : RouteView). IsWithin route a (symbol.Net outer) true)
+own_ip_inside class a outer kept least most first last is short first_is last_is h from to route of =
+    let b : AreBetween first last (address_of (take kept route.net)) =
+    within_ends least most first last _ (own_is_between route a kept least most is (h route of)) from to in
+    let ends : AreBetween (address_of outer) (last_address outer) (address_of (take kept route.net)) =
+    subst (λ (n : ℕ). AreBetween n (last_address outer) (address_of (take kept route.net))) first_is
+    (subst (λ (n : ℕ). AreBetween first n (address_of (take kept route.net))) last_is b) in
+    own_ip_tested route a outer kept true is
+    ((lies_within-Decides (address_bits (address_of (take kept route.net))) outer).1 (ends_back _ outer short ends))
+
+apart : (least most first last x : ℕ) → AreBetween least most x → (most < first) ⊎ (last < least) → AreBetween first last x → ⊥
+apart least most first last x b (inl before) ends =
+    let low : first ≤ x = ends.least in
+    let high : x ≤ most = b.most in
+    absurd (omega arith)
+apart least most first last x b (inr behind) ends =
+    let low : least ≤ x = b.least in
+    let high : x ≤ last = ends.most in
+    absurd (omega arith)
+
+-- Addresses that end before those of a prefix or begin behind them are none of it.
+pub own_ip_outside : (class : Class) (a : Symbol) (outer : List Bool) (kept least most first last : ℕ) → a ≡ symbol.OwnIp kept →
+    length outer ≤ 32 → first ≡ address_of outer → last ≡ last_address outer →
+    Always class (λ (route : RouteView). IsBetween least most route a) → (most < first) ⊎ (last < least) →
+    Always class (λ (route : RouteView). IsWithin route a (symbol.Net outer) false)
+own_ip_outside class a outer kept least most first last is short first_is last_is h away route of =
+    let limit : length route.net ≤ 32 = of.fits in
+    let cut : length (take kept route.net) ≤ 32 = omega (arith, length-take kept route.net) in
+    let fits : address_of (take kept route.net) < 2 ^ 32 = address_below (take kept route.net) cut in
+    let b : AreBetween least most (address_of (take kept route.net)) = own_is_between route a kept least most is (h route of) in
+    let no : LiesWithin (address_bits (address_of (take kept route.net))) outer → ⊥ =
+    λ within. apart least most first last _ b away
+    (subst (λ (n : ℕ). AreBetween n last (address_of (take kept route.net))) (sym first_is)
+    (subst (λ (n : ℕ). AreBetween (address_of outer) n (address_of (take kept route.net))) (sym last_is) (ends_there _ outer fits short within))) in
+    own_ip_tested route a outer kept false is
+    (false_from_ne_true _ (λ yes. no ((lies_within-Decides (address_bits (address_of (take kept route.net))) outer).0 yes)))
 
 pub prefix_within_own : (class : Class) (a : Symbol) (inner : List Bool) (high : ℕ) → a ≡ symbol.Net inner → high ≡ length inner →
     (r : Bool) → Match class inner 0 high r → Always class (λ (route : RouteView). IsWithin route a symbol.OwnNet r)
@@ -131,11 +188,11 @@ own_within_own route a is =
     })
 
 -- the addresses of a class, between the first and the last with the known bits
-pub own_between : (class : Class) (s : Symbol) (kept bits first : ℕ) → s ≡ symbol.OwnIp kept → bits ≡ length class.known →
-    first ≡ address_of class.known → bits ≤ kept → kept ≤ class.len →
-    Always class (λ (route : RouteView). IsBetween first (first + (1 * 2 ^ (32 - bits) % 18446744073709551616 - 1)) route s)
-own_between class s kept bits first is bits_are first_is few h route of =
+pub own_between : (class : Class) (s : Symbol) (kept bits first last : ℕ) → s ≡ symbol.OwnIp kept → bits ≡ length class.known →
+    first ≡ address_of class.known → last ≡ last_address class.known → bits ≤ kept → kept ≤ class.len →
+    Always class (λ (route : RouteView). IsBetween first last route s)
+own_between class s kept bits first last is bits_are first_is last_is few h route of =
     let long : length route.net ≡ class.len = of.long in
     let b = between class.known route.net kept of.begins (omega arith) (omega arith) of.fits in
-    subst (λ (x : Symbol). IsBetween first (first + (1 * 2 ^ (32 - bits) % 18446744073709551616 - 1)) route x) (sym is)
-    (rw (first_is, bits_are) (record { address = address_of (take kept route.net); is = refl; least = b.least; most = b.most }))
+    subst (λ (x : Symbol). IsBetween first last route x) (sym is)
+    (rw (first_is, last_is) (record { address = address_of (take kept route.net); is = refl; least = b.least; most = b.most }))

@@ -1,5 +1,6 @@
 -- What tests of symbols say of the values at a route.
-use Rattle.std.specs.Prelude.{◌≡◌, ℕ, ◌≤◌, nat_lt, Bool, true, Some, List}
+use Rattle.std.specs.Prelude.{◌≡◌, ℕ, ◌+◌, ◌-◌, ◌^◌, ◌≤◌, nat_lt, Bool, true, Some, List, length}
+use Rattle.prefix_patterns.specs.Bits.{address_length, address_of}
 use Rattle.prefix_patterns.specs.Matching.{lies_within}
 use Rattle.filter_code.specs.declared.value.Value.TheVariants as value
 use Rattle.filter_code.specs.RouteView.{RouteView}
@@ -7,6 +8,10 @@ use Rattle.filter_code.specs.Table.{are_alike, are_nested, are_ordered}
 use Rattle.filter_code.specs.Values.{bits_of, is_same, kind_of, net_of, number_of}
 use Rattle.filter_diff.specs.Symbols.{value_at}
 use Rattle.filter_diff.specs.declared.symbol.Symbol.{Symbol}
+
+-- the last address that begins with the bits: ones follow them
+abbrev pub last_address : List Bool → ℕ
+last_address bits = address_of bits + (2 ^ (address_length - length bits) - 1)
 
 -- a symbol stands for an address between two numbers
 pub record IsBetween (low high : ℕ) (route : RouteView) (symbol : Symbol) : Type 0 where

@@ -1,15 +1,27 @@
 //! Tests of addresses and prefixes, on all routes of a class.
 
-ghost use Rattle.std.specs.Prelude.{◌≡◌, IfSome};
+ghost use Rattle.std.specs.Prelude.{◌≡◌, ◌≤◌, IfSome, length};
+ghost use Rattle.prefix_patterns.specs.Bits.{address_length, address_of};
 ghost use Rattle.prefix_patterns.specs.Matching.{matches};
 ghost use Rattle.filter_code.specs.RouteView.{RouteView};
 ghost use Rattle.filter_diff.specs.declared.symbol.Symbol.TheVariants as symbol;
 ghost use Rattle.filter_diff.specs.Classes.{Always};
-ghost use Rattle.filter_diff.specs.Judging.{IsBetween, IsEqual, IsLess, IsWithin};
+ghost use Rattle.filter_diff.specs.Judging.{IsBetween, IsEqual, IsLess, IsWithin, last_address};
 
 use crate::class::Class;
 use crate::symbol::Symbol;
 use prefix_patterns::{ADDRESS_LENGTH, Ip, Pattern, Prefix};
+
+/// The first and the last address of a prefix.
+fn ends_of(prefix: Prefix) -> (u64, u64)
+    ensures first { result.0 ≡ address_of prefix }
+    ensures last { result.1 ≡ last_address prefix }
+    ensures fits { length prefix ≤ address_length }
+{
+    let first = u64::from(prefix.address().0);
+    let bits = prefix.len();
+    (first, first + ((1 << (ADDRESS_LENGTH - bits)) - 1))
+}
 
 /// Numbers between which the addresses lie that a symbol stands for. None if it may be no address.
 pub(crate) fn bounds(symbol: Symbol, class: &Class) -> Option<(u64, u64)>
@@ -22,8 +34,7 @@ pub(crate) fn bounds(symbol: Symbol, class: &Class) -> Option<(u64, u64)>
             if kept < bits || class.len < kept || ADDRESS_LENGTH < class.len {
                 return None;
             }
-            let first = u64::from(class.known.address().0);
-            Some((first, first + ((1 << (ADDRESS_LENGTH - bits)) - 1)))
+            Some(ends_of(class.known))
         }
         _ => None,
     }
@@ -155,6 +166,28 @@ pub(crate) fn less(a: Symbol, b: Symbol, class: &Class) -> Option<bool>
     }
 }
 
+/// Whether an address of the route lies within a prefix, if it does for all or for none: where all addresses that it may be lie between
+/// the first and the last one of the prefix, or all lie before or behind these.
+fn own_ip_within_prefix(a: Symbol, outer: Prefix, class: &Class, kept: u8) -> Option<bool>
+    requires { a ≡ symbol.OwnIp kept }
+    ensures { IfSome result (λ r. Always class.now (λ route. IsWithin route a (symbol.Net outer) r)) }
+{
+    let Some((least, most)) = bounds(a, class) else {
+        return None;
+    };
+    let (first, last) = ends_of(outer);
+    if most < first {
+        return Some(false);
+    }
+    if last < least {
+        return Some(false);
+    }
+    if first <= least && most <= last {
+        return Some(true);
+    }
+    None
+}
+
 /// Whether the first lies within a prefix, if all do or none does.
 fn within_prefix(a: Symbol, outer: Prefix, class: &Class) -> Option<bool>
     ensures { IfSome result (λ r. Always class.now (λ route. IsWithin route a (symbol.Net outer) r)) }
@@ -163,13 +196,7 @@ fn within_prefix(a: Symbol, outer: Prefix, class: &Class) -> Option<bool>
         Symbol::Ip(ip) => Some(outer.contains(ip)),
         Symbol::Net(inner) => Some(inner.within(&outer)),
         Symbol::OwnNet => pattern_of(outer, outer.len(), ADDRESS_LENGTH, class),
-        Symbol::OwnIp(kept) => {
-            if outer.len() <= kept && kept <= class.len {
-                pattern_of(outer, 0, ADDRESS_LENGTH, class)
-            } else {
-                None
-            }
-        }
+        Symbol::OwnIp(kept) => own_ip_within_prefix(a, outer, class, kept),
         _ => None,
     }
 }
