@@ -1,5 +1,5 @@
 #!/usr/bin/env python3
-"""Compares calls of the library for C with the same runs in Rattle, on the filters and routes of `bird.py`: first what both accept, and then their time.
+"""Compares calls of the library for C with the same runs in Rattle, on the filters and routes of `bird.py`: what both accept, and then their time.
 
 usage: library.py LIBRARY BENCH_PARTS NCROUTE RUNS [ROUTES]     (LIBRARY: library.c, built over the library)
 

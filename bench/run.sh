@@ -2,10 +2,11 @@
 # Builds the proved programs and the plain one, checks that they answer the same, and prints their times and ratios:
 # of `ncroute eval`, `run`, `domain` and `check` as a whole, of the machines alone, or of the router alone.
 #
-# usage: bench/run.sh [table|eval|check|machines|instructions|bird|router|callers|script|save|domain|lookup|diff|names|imports|library]     (without a word: eval and machines)
+# usage: bench/run.sh [table|eval|check|machines|instructions|bird|router|endless|callers|script|save|domain|lookup|diff|names|imports|library]     (without a word: eval and machines)
 #   table prints the first table of README.md: the instructions of eval, check and run on all inputs; with ROUNDS=N their times too.
 #     A second word, eval, check or run, has it print the rows of that command alone
 #   instructions counts instructions of the machines with valgrind, in place of their time
+#   endless compares a router without end with one that keeps its history, by one caller
 #   callers prints a table of calls through the lock and through a Mutex, with their tails
 #   bird compares the machine for verified code with BIRD 2.0, where that is installed
 #   save compares `ncroute run --save` with `ncroute run`
@@ -22,7 +23,7 @@ set -eu
 bench="$(cd "$(dirname "$0")" && pwd)"
 wanted="${1:-both}"
 case "$wanted" in
-    both | table | eval | check | machines | instructions | bird | router | callers | script | save | domain | lookup | diff | names | imports | library) ;;
+    both | table | eval | check | machines | instructions | bird | router | endless | callers | script | save | domain | lookup | diff | names | imports | library) ;;
     *)
         sed -n '/^# usage/,/^set /{/^#/s/^# \{0,1\}//p}' "$0" >&2
         exit 2
@@ -132,6 +133,14 @@ if [ "$wanted" = router ]; then
         done
     done
     "$bench/router.py" "$BENCH_PARTS" "$folder/plain" "${ROUNDS:-7}" "${inputs[@]}"
+elif [ "$wanted" = endless ]; then
+    need_bench_parts
+    inputs=()
+    for kind in changes no_changes show; do
+        "$bench/events.py" "$kind" 16 >"$folder/$kind"
+        inputs+=("$folder/$kind")
+    done
+    "$bench/endless.py" "$BENCH_PARTS" "${ROUNDS:-5}" "${inputs[@]}"
 elif [ "$wanted" = callers ]; then
     need_bench_parts
     inputs=()

@@ -3,8 +3,8 @@
 //! PART is `verified` or `checked`: the routes of standard input go through its code, by the machine for verified code or by the one that tests
 //! each step. It is told how many runs accept and how many do not, the sum of the metrics, and under `verified` the number of all steps.
 //!
-//! Or it is `tables`, `journal`, which keeps each event with its reply, `replay`, which replays the journal of one round ROUNDS times, or
-//! `callersN`: N threads call one router, and each enters all rounds. With `mutexN` they share a journal under a `Mutex` in place of that. It is
+//! Or it is `tables`, `journal`, which keeps each event with its reply, `replay`, which replays the journal of one round ROUNDS times, `endless`: a
+//! router without end that has room for 10,000 entries, or `callersN`: N threads call one router, and each enters all rounds. With `mutexN` they share a journal under a `Mutex` in place of that. It is
 //! told how many events were answered, how many were refused, how often distances changed, how many messages were taken, and the sum of all
 //! distances that were told or shown. With `timed_` before one of the last two the time of each call is taken too, and a number of nanoseconds is
 //! told that at most one call in a thousand is above.
@@ -14,6 +14,7 @@
 
 mod accounts;
 mod callers;
+mod endless;
 mod input;
 mod machines;
 mod routers;
@@ -21,6 +22,7 @@ mod waits;
 
 use accounts::{Account, Counts};
 use callers::{measure_mutex, measure_passes};
+use endless::measure_endless;
 use input::Input;
 use line_protocol::answer_lines;
 use machines::measure_machine;
@@ -83,6 +85,7 @@ fn measure_router<R: Threads + Wait + Clock + Sync>(
         "tables" => measure_tables(rt, alloc, work),
         "journal" => measure_journal(rt, alloc, work),
         "replay" => measure_replay(rt, alloc, work),
+        "endless" => measure_endless(rt, alloc, work),
         _ => measure_callers(rt, alloc, part, work),
     }
 }

@@ -39,7 +39,7 @@ pub struct Work {
 }
 
 /// The opening that an input asks for. The prefix of each node is `10.V.0.0/16`.
-fn opening_of(alloc: Global, input: &Input) -> Option<Opening> {
+pub fn opening_of(alloc: Global, input: &Input) -> Option<Opening> {
     let mut prefixes = Vec::new(alloc);
     for node in 0..input.size {
         let address = u32::from_be_bytes([10, node.to_be_bytes()[1], 0, 0]);
@@ -101,7 +101,7 @@ pub fn answer_rounds<R: Clock, A: Answering>(
 }
 
 /// Has the first events answered, and those of so many rounds: what that came to.
-fn measure<R: Clock, A: Answering>(
+pub fn measure<R: Clock, A: Answering>(
     rt: &R,
     answering: &mut A,
     work: &Work,
