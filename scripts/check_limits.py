@@ -416,7 +416,8 @@ def greatest_plan():
     cuts = [(u, w) for u, w in pairs if w != u + 1]
     lines += [f"cut {u} {w}" for u, w in cuts] + ["table 0", "changes", "path 0 249"]
     answers += ["ok"] * len(cuts) + ["table 0:0" + "".join(f" {v}:{v}:1" for v in range(1, NODES))]
-    answers.append("changes" + "".join(f" {u}:{v}" for u in range(NODES) for v in range(NODES) if abs(u - v) > 1))
+    changed = "".join(f" {u}:{v}" for u in range(NODES) for v in range(NODES) if abs(u - v) > 1)
+    answers.append(f"changes{changed} still" + "".join(f" {v}:1" for v in range(NODES)))
     answers.append("path " + " ".join(map(str, range(NODES))))
     return written(lines), written(answers), 0
 

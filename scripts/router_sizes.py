@@ -12,8 +12,8 @@ NODES = 250
 # Seconds: what was answered so long ago is saved, and what is to be told is told.
 PROMPT = 1.0
 
-# How often a neighbour comes and goes, and how many times less long a router sleeps meanwhile: a second then takes 4 milliseconds.
-SESSIONS, QUICKER = 1_010, 250
+# How often a neighbour comes and goes, and how many times less long a router sleeps meanwhile: a minute then takes 4 milliseconds.
+SESSIONS, QUICKER = 1_010, 15_000
 
 # How many lines a link carries in each direction.
 LINES = 70_000
@@ -21,10 +21,17 @@ LINES = 70_000
 # Seconds, for `--retry`, and how much later than that a link may be opened again.
 RETRIES, LATE = (1, 2, 3), 1.0
 
+# How many seconds a link waits each time with `--retry 1`, while its sessions are short, and how many times quicker that goes in a run.
+WAITS, FASTER = (1, 2, 4, 8, 16, 32, 60, 60), 20
+
 # How often a router is ended while its neighbours greet it, and how many they are.
 GREETED_QUITS, GREETING = 20, 70
 
 FAR = "load far filter far { rip_metric = rip_metric + 2; accept; }"
+
+# How many lines a neighbour says to a router that has room for as few entries as a router can have, and how many are always kept of these. How many
+# kilobytes more memory the router may have after all lines than after a quarter of them.
+FLOOD, ROOM, KEPT, MOST_GROWN = 1_000_000, 2_048, 512, 512
 
 # How many entries a router has at least, when it is killed, and in how many parts they come.
 MANY, PARTS = 12_000, 4
@@ -54,7 +61,7 @@ LAST_ENTRIES = {
 class SizeRows(RunRows):
     """Rows of sizes and times."""
 
-    WAITING = ("comes_a_thousand_times", "killed", "retries")
+    WAITING = ("comes_a_thousand_times", "killed", "retries", "waits_longer")
 
     def row_killed(self):
         """A router is killed a second after its last entry, whichever that is: its file has all that it answered of its history."""
@@ -75,6 +82,42 @@ class SizeRows(RunRows):
                 self.judge(f"{what}: is saved", saved[:len(wanted)] == wanted, (len(saved), len(wanted), wanted[-1]))
                 said = run.replays()
                 self.judge(f"{what}: replay", said == f"replay ok {len(saved)}", said)
+
+    def row_forgets(self):
+        """A router without a file, with the least room: node 2 floods it. It goes on, its memory stays, and its last entries are there."""
+        with Run(self.program, more=("--limit", str(ROOM)), saves=False) as run:
+            says = "history: not saved: only its last entries are kept\n"
+            self.says(run, says, is_all=True)
+            self.serve_two(run)
+            memory = []
+            for part in range(4):
+                # Neither line changes a distance, so that nothing waits for node 2.
+                run.neighbours[2].say(b"3 8\n3 9\n" * (FLOOD // 8) + b"4 %d\n" % part)
+                self.judge("goes on", run.routes_until(4, f"{part + 1}:2"), part)
+                memory.append(run.kilobytes("VmRSS"))
+            print(f"forgets: {memory} kB after each quarter of {FLOOD} lines", file=sys.stderr)
+            self.judge("memory", memory[-1] - memory[0] <= MOST_GROWN, memory)
+            self.judge_last_entries(run)
+            self.judge("2 is served", run.ask("neighbours") == "neighbours 2:1", run.ask("neighbours"))
+            self.says(run, says, is_all=True)
+            answer = run.quit()
+            self.judge("quit", answer == ("ok", 0), answer)
+
+    def judge_last_entries(self, run):
+        """The last entries are shown at their positions, and those before them are refused."""
+        self.judge("show", run.ask("show 7") == "route 8 none")
+        answer = run.ask("history 0")
+        first = int((re.fullmatch(r"refused O10 (\d+)", answer) or [0, 0])[1])
+        self.judge("forgot", FLOOD - ROOM < first, answer)
+        self.judge("forgot the one before", run.ask(f"history {first - 1}") == f"refused O10 {first}")
+        found = []
+        while (answer := run.ask(f"history {first + len(found)}")).startswith("history "):
+            found += answer[len("history "):].split(" | ")
+        self.judge("ends", answer == "history", answer)
+        self.judge("keeps", KEPT <= len(found) <= ROOM, len(found))
+        numbers = [int(entry.split()[0]) for entry in found]
+        self.judge("positions", numbers == list(range(first, first + len(found))), (first, numbers[:3], numbers[-3:]))
+        self.judge("the last one", found[-1].endswith(" show 7 route 8 none"), found[-3:])
 
     def bring_up(self, run, size=SIZE):
         """All neighbours come up: each is told that the last node of the domain cannot be reached."""
@@ -156,6 +199,25 @@ class SizeRows(RunRows):
                 waited = took.get(seconds)
                 self.judge(f"--retry {seconds}", waited is not None and seconds <= waited <= seconds + LATE, waited)
             self.judge("no --retry", None not in took, took.get(None))
+
+    def row_waits_longer(self):
+        """A link whose sessions are short is opened again later each time, up to a minute; and after a long one as soon as at first."""
+        with Run(self.program, nodes=(1,), more=("--retry", "1"), saves=False, quicker=FASTER) as run:
+            one = run.neighbours[1]
+            one.open()
+            for times, seconds in enumerate((*WAITS, 1), 1):
+                one.greet()
+                self.judge("1 is up", one.listen(lambda: one.told.count(b"\n7 8\n") == times), one.told)
+                if times > len(WAITS):
+                    # This session is the only one that lasts longer than a minute of the router's.
+                    time.sleep(61 / FASTER)
+                closed = time.monotonic()
+                one.close()
+                run.told_closed(1, times)
+                one.open()
+                waited = time.monotonic() - closed
+                self.judge(f"waits {seconds} s", seconds / FASTER <= waited <= seconds / FASTER + LATE, waited)
+            self.judge("quit", run.quit() == ("ok", 0))
 
     def row_exports(self):
         """An export filter that the operator sets while the router runs: its neighbour hears the new distances at once, and no other does."""

@@ -171,7 +171,7 @@ Sets command.Import given terminals (request.Import how source) = IsImporting gi
 Sets command.Lint given terminals (request.Lint how sources) = how ≡ linting_of given terminals sources.items
 Sets command.List given terminals (request.List size is_code source is_told) = (size ≡ number_of 32 (codes "size") given)
     × (is_code ≡ is_set (codes "code") given) × (is_told ≡ tells given terminals (is_file source))
-Sets command.Replay given terminals (request.Replay source) = ⊤
+Sets command.Replay given terminals (request.Replay sources) = ⊤
 Sets command.Rewrite given terminals (request.Rewrite is_old) = is_old ≡ is_set (codes "old") given
 Sets command.Run given terminals (request.Run how source) =
     IsRunning given terminals (is_file source) how × (asks_for_more given ≡ true) × (names_several given ≡ false)

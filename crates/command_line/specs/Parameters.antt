@@ -79,7 +79,7 @@ all_taken =
     ∷ takes command.Eval (codes "explain") When
     ∷ takes command.Rewrite (codes "old") Flag
     ∷ takes command.Domain (codes "explain") When ∷ takes command.Domain (codes "file") Argument
-    ∷ takes command.Replay (codes "file") Argument
+    ∷ takes command.Replay (codes "file") Arguments
     ∷ needs command.Router (codes "size") Number ∷ needs command.Router (codes "node") Number ∷ takes command.Router (codes "limit") Number
     ∷ takes command.Router (codes "retry") Number ∷ takes command.Router (codes "prefix") Texts ∷ takes command.Router (codes "filter") Texts
     ∷ takes command.Router (codes "import") Texts ∷ takes command.Router (codes "export") Texts ∷ takes command.Router (codes "link") Texts

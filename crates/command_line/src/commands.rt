@@ -421,12 +421,12 @@ const SCRIPT: Parameter = Parameter {
     is_required: false,
 };
 
-/// The file to replay.
+/// The files to replay.
 const REPLAYED: Parameter = Parameter {
     name: "file",
     value: "FILE",
-    help: "The text of a history, in place of standard input; - is standard input",
-    kind: ParameterKind::Argument,
+    help: "The text of a history, or its segments in order, in place of standard input; - is standard input",
+    kind: ParameterKind::Arguments,
     is_required: false,
 };
 
@@ -452,7 +452,7 @@ const NODE: Parameter = Parameter {
 const HISTORY_LIMIT: Parameter = Parameter {
     name: "limit",
     value: "L",
-    help: "The most entries of the history (1 to 1,000,000)",
+    help: "The most entries of the history (1 to 1,000,000), or without --save how many there is room for (2,048 or more)",
     kind: ParameterKind::Number,
     is_required: false,
 };
@@ -461,7 +461,7 @@ const HISTORY_LIMIT: Parameter = Parameter {
 const RETRY: Parameter = Parameter {
     name: "retry",
     value: "SECONDS",
-    help: "Reopen a closed link after this many seconds (1 or more)",
+    help: "Reopen a closed link after this many seconds (1 or more), later each time, up to 60",
     kind: ParameterKind::Number,
     is_required: false,
 };

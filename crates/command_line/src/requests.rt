@@ -174,10 +174,10 @@ pub enum Request {
         /// The filters, in order.
         sources: Vec<Source>,
     },
-    /// Replay the history that a source is the text of.
+    /// Replay the history that sources are the text of.
     Replay {
-        /// The source.
-        source: Source,
+        /// The history, or its segments in order.
+        sources: Vec<Source>,
     },
     /// Write the code file of standard input in the newer form.
     Rewrite {
@@ -443,7 +443,7 @@ pub fn replay_in(
     ensures { IfOk result (AskFor command.Replay (given_in matches.now) terminals) }
 {
     Ok(Request::Replay {
-        source: one_source(alloc, matches, "file")?,
+        sources: files_in(alloc, matches)?,
     })
 }
 

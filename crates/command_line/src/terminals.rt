@@ -51,6 +51,7 @@ fn count_of(request: &Request) -> usize
     match request {
         Request::Check { sources, .. }
         | Request::Lint { sources, .. }
+        | Request::Replay { sources }
         | Request::Test { sources, .. } => inputs_among(sources.as_slice()),
         Request::Diff { old, new, .. } => input_in(old).saturating_add(input_in(new)),
         Request::Run { how, source } => {
@@ -61,7 +62,6 @@ fn count_of(request: &Request) -> usize
         }
         Request::Import { source, .. }
         | Request::List { source, .. }
-        | Request::Replay { source }
         | Request::Script { source, .. } => input_in(source),
         Request::Filter { source, .. } => input_in(source).saturating_add(1),
         Request::Eval { .. } | Request::Rewrite { .. } => 1,

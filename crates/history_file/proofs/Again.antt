@@ -39,7 +39,7 @@ number_again : (most n : ℕ) (ws : List (List ℕ)) → n ≤ most → n < 2 ^ 
 unfolding first_number
 number_again most n ws within fits = rw (number_in-decimal most n within fits) refl
 
-small_again : (n : ℕ) (ws : List (List ℕ)) → n ≤ largest_number → first_number largest_number (decimal n ∷ ws) ≡ Some (n, ws)
+pub small_again : (n : ℕ) (ws : List (List ℕ)) → n ≤ largest_number → first_number largest_number (decimal n ∷ ws) ≡ Some (n, ws)
 small_again n ws h = number_again largest_number n ws h (omega arith)
 
 session_again : (n : ℕ) (ws : List (List ℕ)) → n ≤ largest_session → first_number largest_session (decimal n ∷ ws) ≡ Some (n, ws)
@@ -81,7 +81,7 @@ digits_again : (program : CodeView) → IsCode program → code_in_hexadecimal (
 digits_again program h = ap code_in_bytes (decode_of-encode_lower (spelling program) (a_file program h).each)
     ∙ ap code_or_fault (file_of_spelling program h)
 
-filter_again : (f : VerifiedView) (ws : List (List ℕ)) → FitsFilter f → first_filter (filter_words f ++ ws) ≡ Some (f, ws)
+pub filter_again : (f : VerifiedView) (ws : List (List ℕ)) → FitsFilter f → first_filter (filter_words f ++ ws) ≡ Some (f, ws)
 unfolding first_filter
 filter_again f ws h =
     let code : verified_code f.size (code_in_hexadecimal (encode_lower (spelling f.program))) ≡ Some f =
@@ -133,7 +133,7 @@ message_again m h = rw (
   number_in-decimal largest_number m.dist h.dist (omega (arith, h.dist)),
 ) refl
 
-messages_again : (ms : List Message) → AllByRecursion FitsMessage ms → all_messages (map message_word ms) ≡ Some ms
+pub messages_again : (ms : List Message) → AllByRecursion FitsMessage ms → all_messages (map message_word ms) ≡ Some ms
 unfolding all_messages
 messages_again [] h = refl
 messages_again (m ∷ ms) h = rw (message_again m h.0, messages_again ms h.1) refl

@@ -7,3 +7,8 @@ pub mod Whole
 pub mod Turns
 pub mod Fronts
 pub mod Judged
+pub mod Rows
+pub mod Chained
+pub mod States
+pub mod Told
+mod Example

@@ -29,7 +29,7 @@ use Rattle.history_file.specs.declared.keyword.Keyword.{Keyword}
 use Rattle.history_file.specs.declared.keyword.Keyword.TheVariants as word
 
 -- a word that computes to plain bytes
-computed : (w : List ℕ) → 0 < length w → list_all (nat_lt 32) w ≡ true → IsPlain w
+pub computed : (w : List ℕ) → 0 < length w → list_all (nat_lt 32) w ≡ true → IsPlain w
 computed w some each = record {
   some = some;
   each = All-weaker (λ byte. nat_lt 32 byte ≡ true) IsPlainByte (λ byte h. ltb-true 32 byte h) w (AllPass-from_list_all (nat_lt 32) w each);
@@ -78,7 +78,7 @@ plain-hex program is =
       each = All-weaker (λ c. is_hex_digit c ≡ true) IsPlainByte hex_byte digits all.1;
     }
 
-plain-filter : (f : VerifiedView) → FitsFilter f → ArePlain (filter_words f)
+pub plain-filter : (f : VerifiedView) → FitsFilter f → ArePlain (filter_words f)
 plain-filter f h = (plain-decimal f.size (omega (arith, h.size)), (plain-hex f.program h.code, tt))
 
 pub plain-event : (e : EventView) → FitsEvent e → ArePlain (event_words e)
@@ -102,7 +102,7 @@ plain-via via.Local h = (plain-keyword word.Local, tt)
 plain-via (via.Node w) h = (plain-keyword word.Via, (plain-decimal w (omega arith), tt))
 plain-via via.Nowhere h = (plain-keyword word.Nowhere, tt)
 
-plain-messages : (ms : List Message) → AllByRecursion FitsMessage ms → ArePlain (map message_word ms)
+pub plain-messages : (ms : List Message) → AllByRecursion FitsMessage ms → ArePlain (map message_word ms)
 plain-messages [] h = tt
 plain-messages (m ∷ ms) h = (
   plain-joined (decimal m.dest) (decimal m.dist) 58 (plain-decimal m.dest (omega (arith, h.0.dest)))

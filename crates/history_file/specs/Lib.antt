@@ -2,8 +2,12 @@
 pub mod Views
 pub mod Keywords
 pub mod Text
+pub mod Segments
 pub mod Fits
 pub mod Files
 pub mod Replays
+pub mod Chains
+pub mod ChainLines
 -- What only bodies are proved against.
 pub mod Reading
+pub mod Numbering

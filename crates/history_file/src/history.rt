@@ -52,7 +52,7 @@ fn read_opening(alloc: Global, line: &[u8]) -> Result<(Opening, u32), LineFault>
 }
 
 /// The entry that a line tells at a position.
-fn read_entry(alloc: Global, at: u32, line: &[u8]) -> Result<Entry, LineFault>
+pub(crate) fn read_entry(alloc: Global, at: u64, line: &[u8]) -> Result<Entry, LineFault>
     ensures { MatchResult result
         (λ e. FitsEntry (entry_view e) × (line.now ≡ entry_line at (entry_view e)))
         (λ fault. fault ≡ LineFault.Form → spec.IsNoEntry at line.now) }
@@ -62,7 +62,7 @@ fn read_entry(alloc: Global, at: u32, line: &[u8]) -> Result<Entry, LineFault>
         Err(fault) => return Err(fault),
     };
     let mut again = Vec::with_capacity(alloc, line.len())?;
-    push_entry(alloc, &mut again, at, entry.as_ref())?;
+    push_entry(alloc, &mut again, at as u64, entry.as_ref())?;
     if again.as_slice() != line {
         return Err(LineFault::Form);
     }
@@ -126,7 +126,7 @@ fn read_entries(
         let Some((line, later)) = cut_at(rest, b'\n') else {
             return Ok((entries, rest.len()));
         };
-        match read_entry(alloc, at, line) {
+        match read_entry(alloc, u64::from(at), line) {
             Ok(entry) => entries.push(entry)?,
             Err(LineFault::Form) => return Err(HistoryFault::Line(at + 2)),
             Err(LineFault::Memory) => return Err(HistoryFault::Memory),

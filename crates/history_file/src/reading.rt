@@ -19,7 +19,7 @@ use std::alloc::Global;
 use std::sync::Arc;
 
 /// The first word of a line, and the bytes after it.
-fn first_word(line: &[u8]) -> Result<(&[u8], &[u8]), LineFault>
+pub(crate) fn first_word(line: &[u8]) -> Result<(&[u8], &[u8]), LineFault>
     ensures { spec.IsRead (λ p. (p.0.now, words p.1.now)) (spec.first_word (words line.now)) result }
 {
     match next_word(line) {
@@ -29,7 +29,7 @@ fn first_word(line: &[u8]) -> Result<(&[u8], &[u8]), LineFault>
 }
 
 /// There are no more words.
-fn no_more(line: &[u8]) -> Result<(), LineFault>
+pub(crate) fn no_more(line: &[u8]) -> Result<(), LineFault>
     ensures { spec.IsRead (λ _. tt) (spec.no_more (words line.now)) result }
 {
     match next_word(line) {
@@ -52,14 +52,14 @@ fn first_number(line: &[u8], most: u32) -> Result<(u32, &[u8]), LineFault>
 }
 
 /// The number of a session, and the bytes after it.
-fn first_session(line: &[u8]) -> Result<(u32, &[u8]), LineFault>
+pub(crate) fn first_session(line: &[u8]) -> Result<(u32, &[u8]), LineFault>
     ensures { spec.IsRead (λ p. (p.0, words p.1.now)) (spec.first_number largest_session (words line.now)) result }
 {
     first_number(line, u32::MAX)
 }
 
 /// The number of a node, a distance or a count, and the bytes after it.
-fn first_small(line: &[u8]) -> Result<(u16, &[u8]), LineFault>
+pub(crate) fn first_small(line: &[u8]) -> Result<(u16, &[u8]), LineFault>
     ensures { spec.IsRead (λ p. (p.0, words p.1.now)) (spec.first_number largest_number (words line.now)) result }
 {
     let (number, rest) = first_number(line, u32::from(u16::MAX))?;
@@ -96,7 +96,7 @@ fn read_filter(alloc: Global, size: u16, digits: &[u8]) -> Result<Arc<Verified>,
 
 /// A filter, and the bytes after it.
 #[tactic(auto, unfolding(crate::specs::Reading::first_filter))]
-fn first_filter(alloc: Global, line: &[u8]) -> Result<(Arc<Verified>, &[u8]), LineFault>
+pub(crate) fn first_filter(alloc: Global, line: &[u8]) -> Result<(Arc<Verified>, &[u8]), LineFault>
     ensures { spec.IsRead (λ p. (p.0.value, words p.1.now)) (spec.first_filter (words line.now)) result }
 {
     let (size, rest) = first_small(line)?;
@@ -208,7 +208,7 @@ fn read_message(word: &[u8]) -> Option<Message>
 }
 
 /// All words, each a message.
-fn all_messages(alloc: Global, line: &[u8]) -> Result<Vec<Message>, LineFault>
+pub(crate) fn all_messages(alloc: Global, line: &[u8]) -> Result<Vec<Message>, LineFault>
     ensures { spec.IsRead (λ v. v.items) (spec.all_messages (words line.now)) result }
 {
     let mut messages = Vec::new(alloc);

@@ -26,7 +26,7 @@ use std::alloc::{AllocError, Global};
 const MARK: &str = "NCH1";
 
 /// Adds a word after a space.
-fn push_word(out: &mut Vec<u8>, word: &[u8]) -> Result<(), AllocError>
+pub(crate) fn push_word(out: &mut Vec<u8>, word: &[u8]) -> Result<(), AllocError>
     ensures ok { OnOk result (out.new.items ≡ out.old.items ++ 32 ∷ word.now) }
     ensures err { OnErr result (StartsWith out.new.items out.old.items) }
 {
@@ -35,7 +35,7 @@ fn push_word(out: &mut Vec<u8>, word: &[u8]) -> Result<(), AllocError>
 }
 
 /// Adds a number after a space.
-fn push_number(out: &mut Vec<u8>, number: u64) -> Result<(), AllocError>
+pub(crate) fn push_number(out: &mut Vec<u8>, number: u64) -> Result<(), AllocError>
     ensures ok { OnOk result (out.new.items ≡ out.old.items ++ 32 ∷ decimal number) }
     ensures err { OnErr result (StartsWith out.new.items out.old.items) }
 {
@@ -44,7 +44,7 @@ fn push_number(out: &mut Vec<u8>, number: u64) -> Result<(), AllocError>
 }
 
 /// Adds a keyword after a space.
-fn push_keyword(out: &mut Vec<u8>, keyword: Keyword) -> Result<(), AllocError>
+pub(crate) fn push_keyword(out: &mut Vec<u8>, keyword: Keyword) -> Result<(), AllocError>
     ensures ok { OnOk result (out.new.items ≡ out.old.items ++ 32 ∷ keyword_text keyword) }
     ensures err { OnErr result (StartsWith out.new.items out.old.items) }
 {
@@ -67,7 +67,11 @@ fn push_code(alloc: Global, out: &mut Vec<u8>, filter: &Verified) -> Result<(), 
 }
 
 /// Adds the words of a filter.
-fn push_filter(alloc: Global, out: &mut Vec<u8>, filter: &Verified) -> Result<(), AllocError>
+pub(crate) fn push_filter(
+    alloc: Global,
+    out: &mut Vec<u8>,
+    filter: &Verified,
+) -> Result<(), AllocError>
     ensures ok { OnOk result (out.new.items ≡ out.old.items ++ spec.spaced (spec.filter_words filter.now)) }
     ensures fits { OnOk result (fits.FitsFilter filter.now) }
     ensures err { OnErr result (StartsWith out.new.items out.old.items) }
@@ -147,7 +151,7 @@ fn push_message(out: &mut Vec<u8>, message: Message) -> Result<(), AllocError>
 }
 
 /// Adds the words of messages, in order.
-fn push_messages(out: &mut Vec<u8>, messages: &[Message]) -> Result<(), AllocError>
+pub(crate) fn push_messages(out: &mut Vec<u8>, messages: &[Message]) -> Result<(), AllocError>
     ensures ok { OnOk result (out.new.items ≡ out.old.items ++ spec.spaced (map spec.message_word messages.now)) }
     ensures fits { OnOk result (All fits.FitsMessage messages.now) }
     ensures err { OnErr result (StartsWith out.new.items out.old.items) }
@@ -193,14 +197,14 @@ pub(crate) fn push_reply(out: &mut Vec<u8>, reply: ReplyRef<'_>) -> Result<(), A
 pub fn push_entry(
     alloc: Global,
     out: &mut Vec<u8>,
-    at: u32,
+    at: u64,
     entry: EntryRef<'_>,
 ) -> Result<(), AllocError>
     ensures ok { OnOk result (out.new.items ≡ out.old.items ++ spec.entry_line at (entry_view (whole_entry entry.entry))) }
     ensures fits { OnOk result (fits.FitsEntry (entry_view (whole_entry entry.entry))) }
     ensures err { OnErr result (StartsWith out.new.items out.old.items) }
 {
-    push_decimal(out, u64::from(at))?;
+    push_decimal(out, at)?;
     push_event(alloc, out, entry.event)?;
     push_reply(out, entry.reply)
 }
@@ -229,6 +233,24 @@ fn push_prefix(alloc: Global, out: &mut Vec<u8>, prefix: Prefix) -> Result<(), A
     push_word(out, text.as_bytes())
 }
 
+/// Adds the words of an opening and of a number of entries, each after a space.
+pub(crate) fn push_opening_words(
+    alloc: Global,
+    out: &mut Vec<u8>,
+    opening: &Opening,
+    limit: u32,
+) -> Result<(), AllocError>
+    requires { (1 ≤ limit) × (limit ≤ fits.largest_limit) }
+    ensures ok { OnOk result (out.new.items ≡ out.old.items ++ spec.spaced (spec.opening_words opening.now limit)) }
+    ensures fits { OnOk result (fits.FitsOpening opening.now limit) }
+    ensures err { OnErr result (StartsWith out.new.items out.old.items) }
+{
+    push_number(out, u64::from(opening.size()))?;
+    push_number(out, u64::from(opening.me()))?;
+    push_number(out, u64::from(limit))?;
+    push_prefixes(alloc, out, opening.prefixes())
+}
+
 /// Adds the line of an opening and of the most entries that the history takes, without a line feed.
 pub(crate) fn push_opening(
     alloc: Global,
@@ -242,10 +264,7 @@ pub(crate) fn push_opening(
     ensures err { OnErr result (StartsWith out.new.items out.old.items) }
 {
     out.extend_from_slice(MARK.as_bytes())?;
-    push_number(out, u64::from(opening.size()))?;
-    push_number(out, u64::from(opening.me()))?;
-    push_number(out, u64::from(limit))?;
-    push_prefixes(alloc, out, opening.prefixes())
+    push_opening_words(alloc, out, opening, limit)
 }
 
 /// Adds the first line of a history's text: what the router was opened with, and the most entries that the history takes.
@@ -268,7 +287,7 @@ pub fn write_opening(
 pub fn write_entry(
     alloc: Global,
     out: &mut Vec<u8>,
-    at: u32,
+    at: u64,
     entry: EntryRef<'_>,
 ) -> Result<(), AllocError>
     ensures ok { OnOk result (out.new.items ≡ out.old.items ++ spec.entry_line at (entry_view (whole_entry entry.entry)) ++ 10 ∷ []) }

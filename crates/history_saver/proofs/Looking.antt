@@ -1,7 +1,6 @@
 -- A pass looks, and looks again.
-use Rattle.std.proofs.Common.{◌≡◌, ◌∙◌, sym, ap, refl, List, [], ◌++◌, append_assoc, append-nil, arith}
+use Rattle.std.proofs.Common.{◌∙◌, sym, ap, refl, List, [], ◌++◌, append_assoc, append-nil, arith}
 use Rattle.route_history.specs.declared.entry.Entry.{Entry}
-use Rattle.route_history.specs.Beginning.{Begins}
 use Rattle.history_saver.specs.Looking.{Looks}
 use Rattle.slot_lock.specs.Passes.{IsPassOf, PassView, RouterView}
 

@@ -1,20 +1,20 @@
 -- What a file got, and gets more of.
-use Rattle.std.proofs.Common.{◌≡◌, ◌∙◌, sym, ap, subst, refl, ℕ, ◌+◌, ◌≤◌, max, min, Bool, false, List, [], ◌∷◌, ◌++◌}
-use Rattle.std.proofs.Common.{append_assoc, append-nil, length, length-append, map, take, Option, Some, None, arith}
-use Rattle.std.specs.Prelude.{All, unwrap_or}
+use Rattle.std.proofs.Common.{◌≡◌, ◌∙◌, sym, ap, subst, refl, ℕ, ◌≤◌, Bool, false, List, [], ◌++◌}
+use Rattle.std.proofs.Common.{append_assoc, length, length-append, map, take, Option, Some, None, arith}
+use Rattle.std.specs.Prelude.{All}
 use Rattle.std.proofs.KnownBytes.{Appends-trans}
 use Rattle.std.proofs.lemmas.List.{length-map, length-take}
 use Rattle.std.proofs.lemmas.List.Elements.{All-append}
 use Rattle.std.specs.Io.KnownBytes.{Appends}
 use Rattle.history_file.specs.Fits.{FitsEntry, FitsHistory}
-use Rattle.history_file.specs.Text.{entries_text, history_text}
+use Rattle.history_file.specs.Text.{history_text}
 use Rattle.history_file.specs.Views.{EntryView, entry_view}
 use Rattle.line_protocol.specs.Runs.{AppendsFront}
 use Rattle.route_history.specs.declared.entry.Entry.{Entry}
 use Rattle.route_history.specs.Beginning.{Begins}
 use Rattle.route_history.specs.JournalView.{JournalView}
-use Rattle.history_saver.specs.Adding.{AddsNext, Reads, between, next_count}
-use Rattle.history_saver.specs.Saved.{Got, HasSaved, IsCut, IsFit, SaverView, first_entries, saved_text, seen_by}
+use Rattle.history_saver.specs.Adding.{AddsNext, Reads, between}
+use Rattle.history_saver.specs.Saved.{Got, HasSaved, IsCut, IsFit, SaverView, saved_text, seen_by}
 use Rattle.history_saver.specs.declared.fault.SaveFault.TheVariants as fault
 use Rattle.slot_lock.specs.Passes.{PassView, RouterView}
 use Rattle.history_saver.proofs.Texts.{first_same, parted, saved_more}

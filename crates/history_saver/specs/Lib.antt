@@ -1,6 +1,10 @@
 -- what callers cite
 pub mod Codes
+pub mod Folders
 pub mod Looking
 pub mod Saved
+pub mod Segments
+pub mod Steps
 -- what only bodies are proved against
 pub mod Adding
+pub mod Portions

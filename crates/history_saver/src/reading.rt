@@ -12,29 +12,31 @@ use std::alloc::{AllocError, Global};
 pub const MOST_AT_ONCE: usize = 256;
 
 /// Adds the lines of the next entries, of which so many are saved: how many are then.
-fn push_entries(
+pub(crate) fn push_entries(
     alloc: Global,
     out: &mut Vec<u8>,
     journal: &LongJournal,
-    saved: usize,
-) -> Result<usize, AllocError>
+    saved: u64,
+) -> Result<u64, AllocError>
     requires none_missed { journal.now.first ≤ saved }
-    requires positions { journal.now.first + length journal.now.entries ≤ 4294967295 }
     ensures count { IfOk result (λ to. to ≡ spec.next_count saved (journal.now.first + length journal.now.entries)) }
     ensures added { IfOk result (λ to. OfHistory journal.now (λ h. spec.AddsEntries out.old.items h.entries saved to out.new.items)) }
 {
-    let first = journal.first() as usize;
-    let end = (first + journal.kept() as usize).min(saved.saturating_add(MOST_AT_ONCE));
+    let first = journal.first();
+    // No history has more entries than a position can tell.
+    let Some(all) = first.checked_add(u64::from(journal.kept())) else {
+        return Err(AllocError);
+    };
+    let end = all.min(saved.saturating_add(MOST_AT_ONCE as u64));
     for at in saved..end {
-        write_entry(alloc, out, at as u32, journal.entry(at - first))?;
+        write_entry(alloc, out, at, journal.entry((at - first) as usize))?;
     }
     Ok(saved.max(end))
 }
 
 /// Adds the first lines of a journal, of which nothing is saved: of how many entries.
-fn push_first(alloc: Global, out: &mut Vec<u8>, journal: &LongJournal) -> Result<usize, AllocError>
+fn push_first(alloc: Global, out: &mut Vec<u8>, journal: &LongJournal) -> Result<u64, AllocError>
     requires none_missed { journal.now.first ≤ 0 }
-    requires positions { journal.now.first + length journal.now.entries ≤ 4294967295 }
     ensures { IfOk result (λ to. OfHistory journal.now (λ h. spec.AddsNext out.old.items h None to out.new.items)) }
 {
     let limit = journal.bounds().limit;
@@ -51,14 +53,12 @@ fn push_next(
     alloc: Global,
     out: &mut Vec<u8>,
     journal: &LongJournal,
-    saved: Option<usize>,
-) -> Result<usize, AllocError>
+    saved: Option<u64>,
+) -> Result<u64, AllocError>
     ensures { IfOk result (λ to. OfHistory journal.now (λ h. spec.AddsNext out.old.items h saved to out.new.items)) }
 {
-    // An entry that is not saved was forgotten; or a position has no line.
-    if journal.first() > saved.unwrap_or(0) as u64
-        || journal.first() > u64::from(u32::MAX - journal.kept())
-    {
+    // An entry that is not saved was forgotten, which no journal comes to that may forget none.
+    if journal.first() > saved.unwrap_or(0) {
         return Err(AllocError);
     }
     match saved {
@@ -74,7 +74,7 @@ pub(crate) struct Reading {
     /// The lines that are not written yet.
     pub(crate) text: Vec<u8>,
     /// How many entries are saved, once the opening is; with the lines of this text, after a reading.
-    pub(crate) saved: Option<usize>,
+    pub(crate) saved: Option<u64>,
     /// Memory was refused.
     pub(crate) is_short: bool,
 }

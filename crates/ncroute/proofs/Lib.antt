@@ -2,6 +2,7 @@ pub mod Sources
 pub mod Tested
 pub mod Untold
 mod Beside
+mod Chained
 mod FileNames
 mod FilePlaces
 mod FiltersRead

@@ -40,16 +40,16 @@ untouched operated P Q follows fault.NotStarted fails = follows fails
 untouched operated P Q follows fault.Memory fails = follows fails
 
 -- a fault ended it, and standard error was told of that: the whole line, or a front of it
-module _ (plan : PlanView) (names : Names) (before after : Streams) (why : DaemonFault)
-    (fails : Fails (Operated plan names before after) ((after.reads ≡ before.reads) × (after.holds ≡ before.holds)) why) where
-  pub faulted : (leaves : List ℕ → Option (List ℕ) → Type 0) (save : Option (String Global)) (kept : Option (Option (List ℕ)))
-      (result : Result ℕ Untold) → IfOk result (λ status. (status ≡ 1) × Appends before.tells after.tells (router_line why))
+module _ (plan : PlanView) (names : Names) (kept : Option (Option (List ℕ))) (before after : Streams) (why : DaemonFault)
+    (fails : Fails (Operated plan names kept before after) ((after.reads ≡ before.reads) × (after.holds ≡ before.holds)) why) where
+  pub faulted : (leaves : List ℕ → Option (List ℕ) → Type 0) (save : Option (String Global)) (result : Result ℕ Untold)
+      → IfOk result (λ status. (status ≡ 1) × Appends before.tells after.tells (router_line why))
       → IfOk result (RunsPlan leaves save plan names kept before after)
-  faulted leaves save kept (Ok status) told = inr (record { why = why; fails = fails; told = told.1 }, told.0)
-  faulted leaves save kept (Err untold) told = tt
+  faulted leaves save (Ok status) told = inr (record { why = why; fails = fails; told = told.1 }, told.0)
+  faulted leaves save (Err untold) told = tt
 
   pub cut_short : (result : Result ℕ Untold)
       → IfErr result (λ untold. (untold.status ≡ 1) × IsCut (stream_fault untold.why) before.tells after.tells (router_line why))
-      → IfErr result (λ untold. CutsPlan (stream_fault untold.why) plan names before after untold.status)
+      → IfErr result (λ untold. CutsPlan (stream_fault untold.why) plan names kept before after untold.status)
   cut_short (Ok status) cut = tt
   cut_short (Err untold) cut = (record { why = why; fails = fails; told = cut.1 }, cut.0)

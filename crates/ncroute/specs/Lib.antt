@@ -15,6 +15,7 @@ pub mod Places
 pub mod Planning
 pub mod Reading
 pub mod Replaying
+pub mod Segments
 pub mod Requests
 pub mod Responding
 pub mod Routing

@@ -1,5 +1,5 @@
 -- What the words of `router` come to: the plan of a router. (This project's own choice.)
-use Rattle.std.specs.Prelude.{◌≡◌, ◌⊎◌, ℕ, zero, suc, Bool, true, false, List, Option, Some, String, length, slice_get, string_bytes}
+use Rattle.std.specs.Prelude.{◌≡◌, ◌⊎◌, ℕ, zero, suc, Bool, true, false, List, Option, Some, is_some, String, length, slice_get, string_bytes}
 use Rattle.std.specs.Option.{option_map}
 use Rattle.std.specs.declared.alloc.Global.{Global}
 use Rattle.command_line.specs.declared.filter_words.NamedFile.{NamedFile}
@@ -80,14 +80,14 @@ text_in text = option_map text_of text
 
 -- the plan of the numbers alone
 pub record IsBegun (words : RouterWords) (plan : PlanView) : Type 0 where
-  pub fit : are_numbers (numbers_of words) ≡ true
+  pub fit : are_numbers (numbers_of words) (is_some words.save) ≡ true
   pub save : Option (String Global)
   pub saves : text_in save ≡ text_in words.save
   pub is : plan ≡ new_plan (numbers_of words) save words.stays
 
 -- the first of the numbers that does not fit is told; memory may be refused before they are judged
 abbrev pub LacksBegun : RouterWords → PlanFault → Type 0
-LacksBegun words (WrongNumber why) = RefusesNumbers (numbers_of words) why
+LacksBegun words (WrongNumber why) = RefusesNumbers (numbers_of words) (is_some words.save) why
 LacksBegun words (WrongOption k text why) = ⊥
 
 -- to a plan that has come as far, all of some options were added; or it did not come as far, or one of them is refused

@@ -1,14 +1,11 @@
 -- What the program does for `replay`. (This project's own choice.)
-use Rattle.std.specs.Prelude.{◌≡◌, ◌⊎◌, ℕ, ◌+◌, ◌≤◌, List, [], Option, Result, length, if◌then◌else◌}
+use Rattle.std.specs.Prelude.{◌≡◌, ℕ, ◌+◌, ◌≤◌, List, [], Option, length, if◌then◌else◌}
 use Rattle.std.specs.Io.KnownBytes.{Appends}
-use Rattle.std.specs.declared.io.Error.{Error}
 use Rattle.history_file.specs.Replays.{IsVerdict, is_right, verdict_line}
 use Rattle.history_file.specs.declared.verdict.Verdict.{Verdict}
 use Rattle.line_protocol.specs.Runs.{AppendsFront}
 use Rattle.line_protocol.specs.declared.faults.StreamFault.{StreamFault}
 use Rattle.line_protocol.specs.declared.faults.StreamFault.TheVariants.{Read, Write, Memory, TooLong}
-use Rattle.command_line.specs.declared.requests.Source.{Source}
-use Rattle.ncroute.specs.Reading.{Reads, SkipsUnread, StopsReading}
 use Rattle.ncroute.specs.Streaming.{Streams, Writes}
 
 -- the text of a history of more bytes than this is not replayed
@@ -35,16 +32,3 @@ pub record CutsReplay (fault : StreamFault) (text : List ℕ) (before after : St
   pub written : CutsVerdict fault text before.holds after.holds
   pub reads : after.reads ≡ before.reads
   pub tells : after.tells ≡ before.tells
-
--- `opens name` says what may come of opening a file of this name.
-module _ (opens : List ℕ → Result (Option (List ℕ)) Error → Type 0) where
-  -- A source was read and replayed; or it was not read.
-  abbrev pub ReplaysSource : Source → Streams → Streams → ℕ → Type 0
-  ReplaysSource source before after status =
-      ((text : List ℕ) × (mid : Streams) × Reads opens replay_limit source text before mid × ReplaysText text mid after status)
-      ⊎ (SkipsUnread opens replay_limit source before after × (status ≡ 3))
-
-  -- A fault ended it.
-  abbrev pub StopsReplay : StreamFault → Source → Streams → Streams → Type 0
-  StopsReplay fault source before after = StopsReading opens fault replay_limit source before after
-      ⊎ ((text : List ℕ) × (mid : Streams) × Reads opens replay_limit source text before mid × CutsReplay fault text mid after)

@@ -22,7 +22,7 @@ use Rattle.ncroute.specs.Importing.{ImportsSource}
 use Rattle.ncroute.specs.Joining.{RunsJoined, StopsJoined}
 use Rattle.ncroute.specs.Linting.{LintsAll, StopsLinting}
 use Rattle.ncroute.specs.Reading.{Reads, SkipsUnread, StopsReading, name_of}
-use Rattle.ncroute.specs.Replaying.{ReplaysSource, StopsReplay}
+use Rattle.ncroute.specs.Segments.{ReplaysSources, StopsReplay}
 use Rattle.ncroute.specs.Scripts.{RunsSource, StopsSource, script_fault}
 use Rattle.ncroute.specs.Streaming.{CutsWriting, Streams, Tells, TellsFront, Writes}
 use Rattle.ncroute.specs.Testing.{StopsSources, TestsSources}
@@ -76,7 +76,7 @@ fault_status (request.Import how source) = 1
 fault_status (request.List size is_code source is_explained) = 3
 fault_status (request.Filter how source) = 3
 fault_status (request.Lint how sources) = 3
-fault_status (request.Replay source) = 3
+fault_status (request.Replay sources) = 3
 fault_status (request.Rewrite is_old) = 1
 fault_status (request.Run how source) = 1
 fault_status (request.RunJoined how sources) = 1
@@ -112,7 +112,7 @@ module _ (opens : List ℕ → Result (Option (List ℕ)) Error → Type 0) wher
         ListsSource size is_code is_explained source before after status
     Answers (request.Filter how source) before after status = TriesFilter opens how source before after status
     Answers (request.Lint how sources) before after status = LintsAll opens how sources.items before after status
-    Answers (request.Replay source) before after status = ReplaysSource opens source before after status
+    Answers (request.Replay sources) before after status = ReplaysSources opens sources.items before after status
     Answers (request.Rewrite is_old) before after status = RewritesInput is_old before after status
     Answers (request.Run how source) before after status = RunsGuided creates leaves opens how source before after status
     Answers (request.RunJoined how sources) before after status = RunsJoined creates leaves opens how sources.items before after status
@@ -129,7 +129,7 @@ module _ (opens : List ℕ → Result (Option (List ℕ)) Error → Type 0) wher
     StopsAnswer fault (request.List size is_code source is_explained) before after = StopsListing fault size is_code source before after
     StopsAnswer fault (request.Filter how source) before after = StopsFilter opens fault how source before after
     StopsAnswer fault (request.Lint how sources) before after = StopsLinting opens fault how sources.items before after
-    StopsAnswer fault (request.Replay source) before after = StopsReplay opens fault source before after
+    StopsAnswer fault (request.Replay sources) before after = StopsReplay opens fault sources.items before after
     StopsAnswer fault (request.Rewrite is_old) before after = StopsRewriting fault is_old before after
     StopsAnswer fault (request.Run how source) before after = StopsRun creates leaves opens fault how source before after
     StopsAnswer fault (request.RunJoined how sources) before after = StopsJoined creates leaves opens fault how sources.items before after

@@ -10,7 +10,7 @@ use Rattle.line_protocol.specs.declared.faults.StreamFault.{StreamFault}
 use Rattle.line_protocol.specs.declared.faults.StreamFault.TheVariants.{Memory}
 use Rattle.router_daemon.specs.Codes.{fault_code}
 use Rattle.router_daemon.specs.Running as daemon
-use Rattle.router_daemon.specs.Running.{Fails, RunsAsOne, Saves}
+use Rattle.router_daemon.specs.Running.{Fails, RunsAsOne, Saves, is_endless}
 use Rattle.router_daemon.specs.declared.fault.DaemonFault.{DaemonFault}
 use Rattle.router_operator.specs.OperatorView.{Names}
 use Rattle.router_options.specs.PlanView.{PlanView}
@@ -101,10 +101,10 @@ module _ (creates : List ℕ → Result (Option (List ℕ)) Error → Type 0) wh
     StopsSettingUp (Words why) words before after = LacksPlan words why × (is_memory why ≡ false) × (after ≡ before)
     StopsSettingUp (Program fault) words before after = StopsProgram (stream_fault fault) words before after
 
--- The operator's lines ended so, at a router of this plan.
-abbrev pub Operated : PlanView → Names → Streams → Streams → Result ℕ StreamFault → Type 0
-Operated plan names before after answered = IfSome before.reads (λ input.
-    daemon.Operated plan names answered input after.reads before.holds after.holds)
+-- The operator's lines ended so, at a router of this plan, which is endless where no file keeps its history.
+abbrev pub Operated : PlanView → Names → Option (Option (List ℕ)) → Streams → Streams → Result ℕ StreamFault → Type 0
+Operated plan names kept before after answered = IfSome before.reads (λ input.
+    daemon.Operated plan (is_endless kept) names answered input after.reads before.holds after.holds)
 
 -- The file of a name, in which a history was saved, was closed as it was saved. `leaves name` says what a new file of this name held when it
 -- was closed.
@@ -125,20 +125,20 @@ pub record RunsToEnd (leaves : List ℕ → Option (List ℕ) → Type 0) (save 
 
 -- A fault ended it, and `TellsLine told tells line` says what standard error was told of the line of the fault.
 pub record EndsInFault (TellsLine : Option (List ℕ) → Option (List ℕ) → List ℕ → Type 0) (plan : PlanView) (names : Names)
-    (before after : Streams) : Type 0 where
+    (kept : Option (Option (List ℕ))) (before after : Streams) : Type 0 where
   pub why : DaemonFault
-  pub fails : Fails (Operated plan names before after) ((after.reads ≡ before.reads) × (after.holds ≡ before.holds)) why
+  pub fails : Fails (Operated plan names kept before after) ((after.reads ≡ before.reads) × (after.holds ≡ before.holds)) why
   pub told : TellsLine before.tells after.tells (router_line why)
 
 -- The exit status tells which. The whole line of the fault was told.
 abbrev pub RunsPlan : (List ℕ → Option (List ℕ) → Type 0) → Option (String Global) → PlanView → Names → Option (Option (List ℕ))
     → Streams → Streams → ℕ → Type 0
 RunsPlan leaves save plan names kept before after status = (RunsToEnd leaves save plan names kept before after × (status ≡ 0))
-    ⊎ (EndsInFault Appends plan names before after × (status ≡ 1))
+    ⊎ (EndsInFault Appends plan names kept before after × (status ≡ 1))
 
 -- A fault ended it, and another one cut what standard error was told of that.
-abbrev pub CutsPlan : StreamFault → PlanView → Names → Streams → Streams → ℕ → Type 0
-CutsPlan cut plan names before after status = EndsInFault (IsCut cut) plan names before after × (status ≡ 1)
+abbrev pub CutsPlan : StreamFault → PlanView → Names → Option (Option (List ℕ)) → Streams → Streams → ℕ → Type 0
+CutsPlan cut plan names kept before after status = EndsInFault (IsCut cut) plan names kept before after × (status ≡ 1)
 
 -- `opens name` and `creates name` say what may come of opening and of making a file of this name, and `leaves name` what a new one held when
 -- it was closed.
@@ -167,5 +167,5 @@ module _ (opens creates : List ℕ → Result (Option (List ℕ)) Error → Type
   -- It ended with a line, and a fault cut what standard error was told of that one.
   unfoldable pub CutsRouter : StreamFault → RouterWords → Streams → Streams → ℕ → Type 0
   CutsRouter cut words before after status =
-      SetUpRan (λ plan names kept mid end. CutsPlan cut plan names mid end status) words before after
+      SetUpRan (λ plan names kept mid end. CutsPlan cut plan names kept mid end status) words before after
       ⊎ StopsRouter (IsCut cut) words before after status

@@ -60,6 +60,7 @@ abbrev pub number_fault_words : NumberFault → List ℕ
 number_fault_words (number.Size size) = codes "a domain has 2 to 250 nodes"
 number_fault_words (number.Node node last) = outside_words node last
 number_fault_words (number.Limit limit) = codes "the limit of a history is 1 to 1000000"
+number_fault_words (number.Room limit) = codes "a router without --save has room for 2048 entries or more"
 number_fault_words number.Retry = codes "a link is opened again after 1 second or more"
 number_fault_words number.Memory = codes "out of memory"
 
@@ -69,6 +70,7 @@ abbrev pub number_name : NumberFault → List ℕ
 number_name (number.Size size) = codes "--size"
 number_name (number.Node node last) = codes "--node"
 number_name (number.Limit limit) = codes "--limit"
+number_name (number.Room limit) = codes "--limit"
 number_name number.Retry = codes "--retry"
 number_name number.Memory = []
 
@@ -76,6 +78,7 @@ abbrev pub number_value : NumberFault → ℕ
 number_value (number.Size size) = size
 number_value (number.Node node last) = node
 number_value (number.Limit limit) = limit
+number_value (number.Room limit) = limit
 number_value number.Retry = 0
 number_value number.Memory = 0
 

@@ -22,6 +22,7 @@ mod requests;
 mod respond;
 mod routing;
 mod script;
+mod segments;
 mod testing;
 mod texts;
 mod trying;

@@ -1,5 +1,5 @@
 //! What the words of `router` come to: the plan of a router.
-ghost use Rattle.std.specs.Prelude.{◌≡◌, IfErr, IfOk, OnOk};
+ghost use Rattle.std.specs.Prelude.{◌≡◌, IfErr, IfOk, OnOk, is_some};
 ghost use Rattle.router_options.specs.Plans.{RefusesNumbers};
 ghost use Rattle.ncroute.specs.Planning as spec;
 
@@ -50,7 +50,8 @@ pub fn is_memory(fault: PlanFault<'_>) -> bool
 
 /// A copy of a text, if there is one.
 fn copy(alloc: Global, text: &Option<String>) -> Result<Option<String>, AllocError>
-    ensures { IfOk result (λ copy. spec.text_in copy ≡ spec.text_in text.now) }
+    ensures says { IfOk result (λ copy. spec.text_in copy ≡ spec.text_in text.now) }
+    ensures there { IfOk result (λ copy. is_some copy ≡ is_some text.now) }
 {
     match text {
         Some(text) => Ok(Some(String::from_str(alloc, text.as_str())?)),
@@ -125,7 +126,7 @@ fn add_filters<'a>(
 /// The plan of the numbers of these words, without prefixes, filters and links.
 fn begun_plan(alloc: Global, words: &RouterWords) -> Result<RouterPlan, NumberFault>
     ensures made { IfOk result (spec.IsBegun words.now) }
-    ensures refused { IfErr result (RefusesNumbers (spec.numbers_of words.now)) }
+    ensures refused { IfErr result (RefusesNumbers (spec.numbers_of words.now) (is_some words.now.save)) }
 {
     let numbers = Numbers {
         size: words.size,

@@ -4,12 +4,10 @@ ghost use Rattle.std.specs.Io.KnownBytes.{Appends};
 ghost use Rattle.filter_reports.specs.Cuts.{IsCut};
 ghost use Rattle.filter_reports.specs.Faults.{stream_fault};
 ghost use Rattle.history_file.specs.Replays.{verdict_line};
-ghost use Rattle.ncroute.specs.Replaying.{CutsReplay, ReplaysSource, ReplaysText, StopsReplay};
+ghost use Rattle.ncroute.specs.Replaying.{CutsReplay, ReplaysText};
 
-use crate::console::{Console, Loaded};
-use crate::ending::{FAILED, FAULT};
-use crate::texts::Folder;
-use command_line::Source;
+use crate::console::Console;
+use crate::ending::FAILED;
 use filter_reports::ProgramFault;
 use history_file::{Verdict, judge, push_verdict};
 use line_protocol::{StreamFault, write_text};
@@ -17,7 +15,7 @@ use std::alloc::Global;
 use std::io::{Read, Write};
 
 /// A history of more bytes than this is not replayed.
-const REPLAY_LIMIT: usize = 1_073_741_824;
+pub const REPLAY_LIMIT: usize = 1_073_741_824;
 
 /// Writes the line of a verdict.
 fn write_verdict<W: Write>(
@@ -36,7 +34,7 @@ fn write_verdict<W: Write>(
 
 /// Replays the text of a history, and writes the line of the verdict. Returns the exit status: 0 where the text is that of a right
 /// history, to its end.
-fn replay_text<R: Read, W: Write, E: Write>(
+pub fn replay_text<R: Read, W: Write, E: Write>(
     alloc: Global,
     text: &[u8],
     console: &mut Console<R, W, E>,
@@ -51,21 +49,4 @@ fn replay_text<R: Read, W: Write, E: Write>(
     let verdict = judge(alloc, text)?;
     write_verdict(alloc, &mut console.writer, &verdict)?;
     Ok(if verdict.is_right() { 0 } else { FAILED })
-}
-
-/// Replays the history that a source is the text of, and returns the exit status.
-pub fn replay_source<F: Folder, R: Read, W: Write, E: Write>(
-    files: &F,
-    alloc: Global,
-    source: &Source,
-    console: &mut Console<R, W, E>,
-) -> Result<u8, ProgramFault>
-    ensures finished { IfOk result (ReplaysSource (F.opens files.now) source.now console.old console.new) }
-    ensures stopped { IfErr result (λ fault. StopsReplay (F.opens files.now) (stream_fault fault) source.now console.old console.new) }
-{
-    match console.read(files, alloc, source, REPLAY_LIMIT) {
-        Loaded::Text(text) => replay_text(alloc, text.as_slice(), console),
-        Loaded::Skipped => Ok(FAULT),
-        Loaded::Stopped(fault) => Err(fault),
-    }
 }

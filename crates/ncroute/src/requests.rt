@@ -14,8 +14,8 @@ use crate::guided::guide_source;
 use crate::importing::import_source;
 use crate::joined::guide_sources;
 use crate::linting::lint_sources;
-use crate::replay::replay_source;
 use crate::script::{run_source, script_fault};
+use crate::segments::replay_sources;
 use crate::testing::test_sources;
 use crate::texts::{Folder, name_of};
 use crate::trying::try_filter;
@@ -170,7 +170,7 @@ fn answer<F: Folder, R: Read, W: Write, E: Write>(
             source,
             console,
         ),
-        Request::Replay { source } => replay_source(files, alloc, source, console),
+        Request::Replay { sources } => replay_sources(files, alloc, sources.as_slice(), console),
         Request::Rewrite { is_old } => rewrite(alloc, *is_old, console),
         Request::Run { how, source } => guide_source(files, alloc, how, source, console),
         Request::RunJoined { how, sources } => {

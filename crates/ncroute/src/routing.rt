@@ -244,7 +244,7 @@ where
     ensures finished { IfOk result (spec.RunsPlan (R.leaves rt.now) save.now setting.plan setting.filters.entries
         (option_map (λ file. R.New.contents file) setting.save) console.old console.new) }
     ensures untold { IfErr result (λ untold. spec.CutsPlan (stream_fault untold.why) setting.plan setting.filters.entries
-        console.old console.new untold.status) }
+        (option_map (λ file. R.New.contents file) setting.save) console.old console.new untold.status) }
 {
     match run_router::<R, FI, FO, R, R::New, T, I, W>(
         rt,

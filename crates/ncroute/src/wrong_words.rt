@@ -111,6 +111,9 @@ fn push_number_fault(line: &mut Vec<u8>, why: NumberFault) -> Result<(), AllocEr
         NumberFault::Limit(_) => {
             line.extend_from_slice(b"the limit of a history is 1 to 1000000")
         }
+        NumberFault::Room(_) => {
+            line.extend_from_slice(b"a router without --save has room for 2048 entries or more")
+        }
         NumberFault::Retry => {
             line.extend_from_slice(b"a link is opened again after 1 second or more")
         }
@@ -125,7 +128,7 @@ fn number_name(why: NumberFault) -> &'static [u8]
     match why {
         NumberFault::Size(_) => b"--size",
         NumberFault::Node { .. } => b"--node",
-        NumberFault::Limit(_) => b"--limit",
+        NumberFault::Limit(_) | NumberFault::Room(_) => b"--limit",
         NumberFault::Retry => b"--retry",
         NumberFault::Memory => b"",
     }
@@ -138,7 +141,7 @@ fn number_value(why: NumberFault) -> u32
     match why {
         NumberFault::Size(size) => size,
         NumberFault::Node { node, .. } => node,
-        NumberFault::Limit(limit) => limit,
+        NumberFault::Limit(limit) | NumberFault::Room(limit) => limit,
         NumberFault::Retry | NumberFault::Memory => 0,
     }
 }

@@ -1,6 +1,6 @@
 mod Calling
 mod Gaining
-mod Keeping
+mod Later
 mod Linking
 mod Reading
 mod Writing

@@ -2,8 +2,8 @@
 pub mod Calls
 pub mod Ending
 pub mod Greeting
-pub mod Keeping
 pub mod Links
 pub mod Reading
+pub mod Waiting
 pub mod Words
 pub mod Writing

@@ -1,6 +1,6 @@
 //! A session is ended.
 ghost use Rattle.std.specs.Prelude.{◌≡◌};
-ghost use Rattle.neighbour_session.specs.Ending.{Ends, GoesDown, TellsDown};
+ghost use Rattle.neighbour_session.specs.Ending.{Ends, TellsDown};
 ghost use Rattle.route_session.specs.Calls.{StaysSound};
 ghost use Rattle.slot_lock.specs.Passes.{IsPassOf};
 
@@ -37,23 +37,5 @@ pub(crate) fn end_session<R: Wait + Clock, C: Crew>(
             (why, leaver)
         }
         Err(fault) => (fault, leaver),
-    }
-}
-
-/// Ends a session that nobody serves. Why it is over.
-pub fn abandon_session<R: Wait>(
-    rt: &R,
-    router: &Router,
-    pass: &mut Pass,
-    session: u32,
-) -> SessionEnd
-    requires { IsPassOf router.now pass.old }
-    ensures pass { StaysSound router.now pass.old pass.new }
-    ensures shares { pass.new.fragment.shares ≡ pass.old.fragment.shares }
-    ensures down { GoesDown router.now session SessionEnd.NotStarted pass.old result pass.new }
-{
-    match enter_down(rt, router, pass, session) {
-        Ok(_) => SessionEnd::NotStarted,
-        Err(fault) => fault,
     }
 }

@@ -6,16 +6,14 @@ mod crew;
 mod ends;
 mod finish;
 mod greeting;
-mod keep;
 mod links;
 mod read;
+mod waiting;
 mod write;
 
 pub use calls::{enter_down, enter_up};
-pub use crew::{Crew, Leaver, READER, Starter, WRITER};
+pub use crew::{Crew, Leaver, READER};
 pub use ends::SessionEnd;
-pub use finish::abandon_session;
 pub use greeting::{Domain, greet};
-pub use keep::keep_session;
 pub use read::serve_reader;
 pub use write::serve_writer;

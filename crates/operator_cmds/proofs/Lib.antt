@@ -8,6 +8,7 @@ pub mod Going
 pub mod Alike
 pub mod Unended
 pub mod Ending
+mod KeptEntries
 mod Pairs
 mod PlainLines
 mod Rows

@@ -6,7 +6,7 @@ use Rattle.line_protocol.specs.Limits.{line_limit, number_limit}
 use Rattle.line_protocol.specs.Words.{words, without_front_blanks}
 use Rattle.prefix_patterns.specs.Reading.{number_in, prefix_in}
 use Rattle.operator_cmds.specs.CommandView.{CommandView, Network, Prefix, Load, Code, Import, Export, Up, Down, Receive, Take, Show, Look, History}
-use Rattle.operator_cmds.specs.Limits.{largest_limit}
+use Rattle.operator_cmds.specs.Limits.{largest_limit, largest_position}
 use Rattle.operator_cmds.specs.Names.{is_name}
 use Rattle.operator_cmds.specs.Networks.{is_network}
 use Rattle.operator_cmds.specs.Verbs.{verb_in}
@@ -112,7 +112,7 @@ alone_of what (word ∷ more) = Err fault.Words
 -- a position in the history, as the only word
 abbrev pub position_in : Option (List ℕ) → Result ℕ CommandFault
 position_in None = Err fault.Words
-position_in (Some from) = number_or (number_in largest_limit from)
+position_in (Some from) = number_or (number_in largest_position from)
 
 -- a command by its verb and the words after it; `text` is what follows the second word of the line, without blanks at its front
 abbrev pub command_of : Option Verb → List (List ℕ) → List ℕ → Read

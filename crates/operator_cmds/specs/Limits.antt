@@ -5,6 +5,10 @@ use Rattle.std.specs.Prelude.{ℕ}
 abbrev pub largest_limit : ℕ
 largest_limit = 1000000
 
+-- the last position of a history that a line can name
+abbrev pub largest_position : ℕ
+largest_position = 18446744073709551615
+
 -- the most entries that are told at once
 abbrev pub history_count : ℕ
 history_count = 100

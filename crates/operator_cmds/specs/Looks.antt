@@ -1,5 +1,5 @@
 -- What is told of a router to who looks at it. (This project's own choice.)
-use Rattle.std.specs.Prelude.{ℕ, suc, zero, ◌+◌, ◌<◌, ◌==◌, Bool, true, if◌then◌else◌, List, [], ◌∷◌, ◌++◌}
+use Rattle.std.specs.Prelude.{ℕ, suc, zero, ◌+◌, ◌<◌, ◌==◌, nat_le, Bool, true, if◌then◌else◌, List, [], ◌∷◌, ◌++◌}
 use Rattle.std.specs.Prelude.{map, take, drop, slice_index, codes, decimal, Option, Some, None, is_some}
 use Rattle.history_file.specs.Text.{entry_line}
 use Rattle.history_file.specs.Views.{EntryView, entry_view}
@@ -101,3 +101,8 @@ told_entries entries from = take history_count (drop from entries)
 
 abbrev pub history_text : List Entry → ℕ → List ℕ
 history_text entries from = codes "history" ++ entries_text from 0 (map entry_view (told_entries entries from))
+
+-- the answer to who looks at a history, of which so many entries are forgotten, from a position on: the first position that is not forgotten,
+-- if that one is
+abbrev pub history_looked : ℕ → List Entry → ℕ → Answer
+history_looked first entries from = if nat_le first from then answered (history_text entries from) else refused (codes "O10") first

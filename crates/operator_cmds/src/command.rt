@@ -89,5 +89,5 @@ pub enum Command<'a> {
     /// A look that is no event.
     Look(Look),
     /// `history FROM`: the entries from a position on.
-    History(u32),
+    History(u64),
 }

@@ -128,7 +128,7 @@ pub fn answer_look(
 }
 
 /// Adds what stands before an entry, where so many were told before it.
-fn push_bar(out: &mut Vec<u8>, told: usize) -> Result<(), AllocError>
+pub(crate) fn push_bar(out: &mut Vec<u8>, told: usize) -> Result<(), AllocError>
     ensures ok { OnOk result (out.new.items ≡ out.old.items ++ spec.bar_before told) }
     ensures err { OnErr result (StartsWith out.new.items out.old.items) }
 {
@@ -140,7 +140,7 @@ fn push_bar(out: &mut Vec<u8>, told: usize) -> Result<(), AllocError>
 }
 
 /// How many entries are told at once, from a position on.
-fn count_told(entries: &Entries, from: u32) -> usize
+fn count_told(entries: &Entries, from: u64) -> usize
     ensures value { take result (drop from entries.now) ≡ spec.told_entries entries.now from }
     ensures within { result ≤ length entries.now - from }
 {
@@ -151,7 +151,7 @@ fn count_told(entries: &Entries, from: u32) -> usize
 fn push_entries(
     alloc: Global,
     out: &mut Vec<u8>,
-    from: u32,
+    from: u64,
     entries: &Entries,
     count: usize,
 ) -> Result<(), AllocError>
@@ -163,7 +163,7 @@ fn push_entries(
 {
     for told in 0..count {
         push_bar(out, told)?;
-        let at = from + told as u32;
+        let at = from + told as u64;
         push_entry(alloc, out, at, entries.entry(at as usize))?;
     }
     Ok(())
@@ -174,7 +174,7 @@ pub fn answer_history(
     alloc: Global,
     out: &mut Vec<u8>,
     journal: &Journal,
-    from: u32,
+    from: u64,
 ) -> Result<LineReply, AllocError>
     ensures ok { IfOk result (Adds (answered (spec.history_text journal.now.entries from)) out.old.items out.new.items) }
     ensures err { OnErr result (StartsWith out.new.items out.old.items) }
@@ -184,12 +184,12 @@ pub fn answer_history(
     answer_entries(alloc, out, journal.entries(), from)
 }
 
-/// Answers a line that looks at these entries, a whole history, from a position on.
-pub fn answer_entries(
+/// The same of the entries of its journal.
+fn answer_entries(
     alloc: Global,
     out: &mut Vec<u8>,
     entries: &Entries,
-    from: u32,
+    from: u64,
 ) -> Result<LineReply, AllocError>
     requires numbered { length entries.now ≤ 2 ^ 32 }
     ensures ok { IfOk result (Adds (answered (spec.history_text entries.now from)) out.old.items out.new.items) }

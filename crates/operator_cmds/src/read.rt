@@ -11,6 +11,7 @@ ghost use Rattle.operator_cmds.specs.WordLists.{after_word, one_of, two_of, thre
 
 use crate::command::{Command, Look, Network};
 use crate::fault::CommandFault;
+use crate::long::read_long;
 use crate::name::is_name;
 use crate::verb::{Verb, read_verb};
 use crate::words::{cut_word, one_word, three_words, two_words};
@@ -173,13 +174,13 @@ pub fn read_node(rest: &[u8]) -> Result<u16, CommandFault>
 }
 
 /// A position in the history, where nothing follows it.
-fn read_position(rest: &[u8]) -> Result<u32, CommandFault>
+fn read_position(rest: &[u8]) -> Result<u64, CommandFault>
     ensures { result ≡ spec.position_in (one_of (words rest.now)) }
 {
     let Some(from) = one_word(rest) else {
         return Err(CommandFault::Words);
     };
-    match read_number(from, LARGEST_LIMIT) {
+    match read_long(from, u64::MAX) {
         Some(from) => Ok(from),
         None => Err(CommandFault::Numbers),
     }

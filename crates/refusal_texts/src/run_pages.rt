@@ -2,7 +2,7 @@
 use crate::page::Page;
 
 /// A page for each code.
-pub static RUN_PAGES: [Page; 32] = [
+pub static RUN_PAGES: [Page; 35] = [
     Page {
         code: "O1",
         text: "\
@@ -114,6 +114,19 @@ Place: the number of the line
     refused O9 1
 
 Leave it to `--link`. `neighbours` lists the nodes that are up.
+",
+    },
+    Page {
+        code: "O10",
+        text: "\
+O10: the entry at FROM is forgotten
+Place: the first position whose entry is not
+
+    $ { yes 'show 0' | head -n 2000; sleep 1; echo 'history 0'; } | ncroute router --size 4 --node 0 --limit 2048 2>/dev/null | tail -n 1
+    refused O10 1024
+
+A router without `--save` keeps the last entries alone. Ask from that position on; or start the router with `--save FILE`, so that
+`ncroute replay FILE` has them all.
 ",
     },
     Page {
@@ -257,6 +270,7 @@ Place: the number of entries
     refused J1 1
 
 Give `network` a higher LIMIT, or `ncroute router` a higher `--limit`, at most 1,000,000; or start the router anew, with a new FILE for `--save`.
+A router without `--save` forgets its first entries, and then takes events again.
 ",
     },
     Page {
@@ -366,6 +380,30 @@ Place: the number of the line, counted from 1
     refused H1 3
 
 Here the entry at position 1 is missing. Each line of a history has its position, its event and its reply, in these words and no others.
+",
+    },
+    Page {
+        code: "H2",
+        text: "\
+H2: no router comes to the state that the segment begins in
+Place: 2, the line where the state begins
+
+    $ printf '%s\\n' 'NCH2 2 0 9 10.0.0.0/16 10.1.0.0/16' 'at 7 sessions 1' 'node 0 down' 'node 1 up 2 2 0' . | ncroute replay
+    refused H2 2
+
+Here node 1 is up in session 2, of one session in all. Each session has its own number, from 1 on, and the router's own node is never up.
+",
+    },
+    Page {
+        code: "H3",
+        text: "\
+H3: the segment does not begin in the state in which the one before ends
+Place: 2, the line where the state begins
+
+    $ printf '%s\\n' 'NCH2 2 0 9 10.0.0.0/16 10.1.0.0/16' 'at 0 sessions 1' 'node 0 down' 'node 1 up 1 2 0' . | ncroute replay
+    refused H3 2
+
+Here a history begins, at 0, with a neighbour that is up already: a first segment at 0 begins with a router that was just opened.
 ",
     },
 ];

@@ -21,13 +21,13 @@ use Rattle.router_daemon.specs.declared.fault.DaemonFault.{DaemonFault}
 
 pub legal_answered : (r : RouterView) (old new : PassView) (event : Event) (a : Answer) → IsPassOf r new → IsLegalPass r old →
     Answered r old event a new → IsLegalPass r new
-legal_answered r old new event a of before h = record { of = of; whole = before.whole; legal = h.legal }
+legal_answered r old new event a of before h = record { of = of; legal = h.legal }
 
 pub legal_refused : (why : CallFault) (r : RouterView) (old new : PassView) → IsPassOf r new → IsLegalPass r old →
     Refused why r old new → IsLegalPass r new
-legal_refused fault.Full r old new of before h = record { of = of; whole = before.whole; legal = h.legal }
+legal_refused fault.Full r old new of before h = record { of = of; legal = h.legal }
 legal_refused fault.Memory r old new of before h =
-    record { of = of; whole = before.whole; legal = subst (λ (p : PassView). IsLegal r.opening p.fragment.seen) (sym h.1) before.legal }
+    record { of = of; legal = subst (λ (p : PassView). IsLegal r.opening p.fragment.seen) (sym h.1) before.legal }
 
 -- the filters of these uses were set, and then one more
 pub sets_more : (r : RouterView) (way : Direction) (names : Names) (uses : List FilterUse) (used : FilterUse) (old mid new : PassView) →

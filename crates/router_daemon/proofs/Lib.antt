@@ -1,7 +1,9 @@
 pub mod Entering
+pub mod KeptEntries
 pub mod Lines
 pub mod Looking
 pub mod Passes
 pub mod Running
 pub mod Serving
 pub mod Splitting
+pub mod Waiting

@@ -2,9 +2,12 @@
 pub mod Codes
 pub mod Running
 -- what only bodies are proved against
+pub mod Forgetting
 pub mod Links
 pub mod Passes
+pub mod Retries
 pub mod Saves
+pub mod Sessions
 pub mod Sets
 pub mod Told
 pub mod Uses

@@ -32,6 +32,10 @@ save_words fault.Memory = codes "out of memory"
 abbrev pub unsaved_line : SaveFault → List ℕ
 unsaved_line why = codes "history: " ++ save_words why ++ codes " (" ++ save_code why ++ codes "): not saved from here on\n"
 
+-- a router that is endless keeps no more of its history than its last entries
+abbrev pub unkept_line : List ℕ
+unkept_line = codes "history: not saved: only its last entries are kept\n"
+
 -- no line of the operator is taken any more, for a fault
 abbrev pub deaf_line : StreamFault → List ℕ
 deaf_line why = codes "operator: " ++ fault_code why ++ codes ": no more lines are taken\n"

@@ -10,8 +10,9 @@ use Rattle.router_operator.specs.OperatorView.{Names, filter_of}
 use Rattle.router_options.specs.PlanView.{PlanView}
 use Rattle.router_options.specs.declared.parts.FilterUse.{FilterUse}
 use Rattle.slot_lock.specs.Calls.{Answered}
-use Rattle.slot_lock.specs.Passes.{IsFirst, PassView, RouterView}
+use Rattle.slot_lock.specs.Passes.{PassView, RouterView}
 use Rattle.slot_lock.specs.declared.answer.Answer.{Answer}
+use Rattle.router_daemon.specs.Passes.{IsBegun}
 
 -- The filter of a name is set at a neighbour, in a direction, by one call. Where nothing has the name, nothing is called.
 abbrev pub SetsOne : RouterView → Direction → Option VerifiedView → ℕ → PassView → PassView → Type 0
@@ -32,4 +33,4 @@ SetsFilters r plan names old new = (mid : PassView)
 
 -- nothing was called before
 abbrev pub BeginsWithFilters : RouterView → PlanView → Names → PassView → Type 0
-BeginsWithFilters r plan names new = (first : PassView) × IsFirst r first × SetsFilters r plan names first new
+BeginsWithFilters r plan names new = (first : PassView) × IsBegun r first × SetsFilters r plan names first new

@@ -85,6 +85,7 @@ impl<'a> Gate for LinkCrew<'a> {
 
     fn answered<R: Wait + Clock>(&self, rt: &R, _job: u32, answer: &Answer) {
         self.signals.note_served(rt, self.link, answer);
+        self.signals.await_room(rt, answer.at);
     }
 }
 

@@ -1,10 +1,8 @@
 //! Who keeps a link.
 ghost use Rattle.std.specs.Prelude.{◌≡◌, ◌<◌, ⊤, false, IfErr, IfNone, IfOk};
-ghost use Rattle.std.specs.Duration.{as_nanos};
-ghost use Rattle.std.specs.Option.{option_map};
 ghost use Rattle.slot_lock.specs.Passes.{IsPassOf};
-ghost use Rattle.router_daemon.specs.Links.{AreFresh, IsOver, IsUnopened, IsUnreadable, KeepsOnce, KeepsTurn, Serves, ServesNeighbour};
-ghost use Rattle.router_daemon.specs.Links.{StaysClosed, reopens};
+ghost use Rattle.router_daemon.specs.Links.{AreFresh, IsUnopened, IsUnreadable, KeepsOnce, KeepsTurn, StaysClosed};
+ghost use Rattle.router_daemon.specs.Sessions.{IsOver, OpensLater, OpensNever, Serves, ServesNeighbour};
 ghost use Rattle.neighbour_session.specs.Ending.{GoesDown};
 ghost use Rattle.neighbour_session.specs.Reading.{Hears};
 
@@ -12,8 +10,9 @@ use crate::closing::stay;
 use crate::crew::LinkCrew;
 use crate::folder::LinkFolder;
 use crate::naming::{FreshTicket, Ticket};
+use crate::retrying::{reopening, seconds, wait_before, was_long};
 use crate::room::{Order, Room};
-use crate::settling::settle;
+use crate::settling::{passes, pause, settle};
 use crate::shared::Shared;
 use crate::signals::Closing;
 use crate::telling::{tell_end, tell_unopened};
@@ -27,7 +26,7 @@ use std::io::{self, BufReader, Read, Write};
 use std::rt::Clock;
 use std::sync::{Arc, Wait};
 use std::thread;
-use std::time::Duration;
+use std::time::Instant;
 
 /// A link that is kept.
 #[derive(Drop)]
@@ -160,12 +159,20 @@ fn serve_begun<R: Wait + Clock, I: Read + Drop, O: Write + Drop, J: Naming, E: W
     requires { IsPassOf J.router pass.old }
     ensures of { IsPassOf J.router pass.new }
     ensures shares { pass.new.fragment.shares ≡ pass.old.fragment.shares }
-    ensures hears { Hears (λ _. ⊤) (λ _. ⊤) J.router order.session pass.old input result.0 pass.new }
+    ensures hears { Hears J.router.endless (λ _. ⊤) (λ _. ⊤) J.router order.session pass.old input result.0 pass.new }
 {
     let (node, session) = (link.files.node, order.session);
     room.put_order(rt, order);
     let crew = LinkCrew::new(&shared.signals, link.index, session);
-    let (why, leaver) = serve_reader(rt, &shared.router, pass, session, input, crew);
+    let (why, leaver) = serve_reader(
+        rt,
+        &shared.router,
+        pass,
+        session,
+        input,
+        crew,
+        shared.endless,
+    );
     leaver.note_owed(rt);
     if leaver.ended_it() {
         tell_unless_closed(rt, alloc, shared, node, why);
@@ -173,7 +180,7 @@ fn serve_begun<R: Wait + Clock, I: Read + Drop, O: Write + Drop, J: Naming, E: W
     (why, room.await_done(rt))
 }
 
-/// Enters the Down of a session that nobody serves, and notes it. Why it is over. Where the Down is refused memory, it is owed.
+/// Enters the Down of a session that nobody serves, and notes it. Why it is over. Where the Down is refused, it is owed.
 fn abandon<R: Wait, J: Naming, E: Write>(
     rt: &R,
     shared: &Shared<J, E>,
@@ -192,9 +199,7 @@ fn abandon<R: Wait, J: Naming, E: Write>(
             SessionEnd::NotStarted
         }
         Err(why) => {
-            if why == SessionEnd::Memory {
-                shared.signals.owe(rt, link, session);
-            }
+            shared.signals.owe(rt, link, session);
             why
         }
     }
@@ -231,8 +236,40 @@ fn serve_opened<R: Wait + Clock, I: Read + Drop, O: Write + Drop, J: Naming, E: 
     (why, Ticket::new(ticket.pass()))
 }
 
+/// Enters the Up of a link's neighbour: the session, and the answer. Where the router is endless and its history is full, it is tried again
+/// every few milliseconds, until there is room. Where the router is being closed this never returns, and its thread ends with the process.
+fn open_session<R: Wait + Clock, J: Naming, E: Write>(
+    rt: &R,
+    shared: &Shared<J, E>,
+    link: &Link,
+    pass: &mut Pass,
+) -> Result<(u32, Answer), SessionEnd>
+    requires { IsPassOf J.router pass.old }
+    ensures of { IsPassOf J.router pass.new }
+    ensures shares { pass.new.fragment.shares ≡ pass.old.fragment.shares }
+    ensures opened { IfOk result (λ r. OpensLater J.router link.now.files.node pass.old r.0 r.1 pass.new) }
+    ensures refused { IfErr result (λ why. OpensNever J.router link.now.files.node pass.old why pass.new) }
+{
+    for _ in rt.forever() {
+        if !shared.signals.open(rt, link.index) {
+            stay(rt, shared);
+        }
+        let why = match enter_up(rt, &shared.router, pass, link.files.node) {
+            Ok(opened) => return Ok(opened),
+            Err(why) => why,
+        };
+        shared.signals.settle(rt, link.index);
+        if !passes(shared.endless, why) {
+            return Err(why);
+        }
+        pause(rt);
+    }
+    unreachable!()
+}
+
 /// Serves a neighbour whose greeting was accepted: enters its Up, has the session written, enters what it says, and enters Down when it
-/// is over. Answers why it is. Where the router is being closed this never returns, and its thread ends with the process.
+/// is over. Answers why it is, and notes when it began. Where the router is being closed this never returns, and its thread ends with the
+/// process.
 fn serve_neighbour<R: Wait + Clock, I: Read + Drop, O: Write + Drop, J: Naming, E: Write>(
     rt: &R,
     alloc: Global,
@@ -242,23 +279,21 @@ fn serve_neighbour<R: Wait + Clock, I: Read + Drop, O: Write + Drop, J: Naming, 
     input: MessageReader<I>,
     output: MessageWriter<O>,
     pass: &mut Pass,
+    begun: &mut Option<Instant>,
 ) -> SessionEnd
     requires of { IsPassOf J.router pass.old }
     requires shares { 1 < pass.old.fragment.shares }
     ensures of { IsPassOf J.router pass.new }
     ensures served { ServesNeighbour J.router link.now.files.node input pass.old result pass.new }
 {
-    if !shared.signals.open(rt, link.index) {
-        stay(rt, shared);
-    }
-    let (session, answer) = match enter_up(rt, &shared.router, pass, link.files.node) {
+    let (session, answer) = match open_session(rt, shared, link, pass) {
         Ok(opened) => opened,
         Err(why) => {
-            shared.signals.settle(rt, link.index);
             tell_unless_closed(rt, alloc, shared, link.files.node, why);
             return why;
         }
     };
+    *begun = Instant::now(rt).ok();
     let writing = shared.router.split(pass, 1);
     let order = Order {
         session,
@@ -270,7 +305,8 @@ fn serve_neighbour<R: Wait + Clock, I: Read + Drop, O: Write + Drop, J: Naming, 
     why
 }
 
-/// Serves one session over the streams of a link, until nobody uses them any more: greets the neighbour first. Why it is over.
+/// Serves one session over the streams of a link, until nobody uses them any more: greets the neighbour first. Why it is over. Notes when it
+/// began.
 fn serve_link<R: Wait + Clock, I: Read + Drop, O: Write + Drop, J: Naming, E: Write>(
     rt: &R,
     alloc: Global,
@@ -280,6 +316,7 @@ fn serve_link<R: Wait + Clock, I: Read + Drop, O: Write + Drop, J: Naming, E: Wr
     mut input: MessageReader<I>,
     mut output: MessageWriter<O>,
     pass: &mut Pass,
+    begun: &mut Option<Instant>,
 ) -> SessionEnd
     requires { IsPassOf J.router pass.old }
     ensures of { IsPassOf J.router pass.new }
@@ -289,7 +326,7 @@ fn serve_link<R: Wait + Clock, I: Read + Drop, O: Write + Drop, J: Naming, E: Wr
         return SessionEnd::NotStarted;
     }
     match greet(&mut input, &mut output, link.domain, link.files.node) {
-        Ok(()) => serve_neighbour(rt, alloc, shared, room, link, input, output, pass),
+        Ok(()) => serve_neighbour(rt, alloc, shared, room, link, input, output, pass, begun),
         Err(why) => {
             tell_unless_closed(rt, alloc, shared, link.files.node, why);
             why
@@ -297,7 +334,7 @@ fn serve_link<R: Wait + Clock, I: Read + Drop, O: Write + Drop, J: Naming, E: Wr
     }
 }
 
-/// Opens a link, and serves one session. Says whether it can be opened again.
+/// Opens a link, and serves one session. Says whether it can be opened again, and notes when the session began.
 fn keep_once<
     R: Wait + Clock,
     I: Read + Drop,
@@ -313,6 +350,7 @@ fn keep_once<
     room: &Room<O, J>,
     link: &Link,
     pass: &mut Pass,
+    begun: &mut Option<Instant>,
 ) -> bool
     requires { IsPassOf J.router pass.old }
     ensures of { IsPassOf J.router pass.new }
@@ -320,7 +358,8 @@ fn keep_once<
 {
     match open_streams::<I, O, D>(folder, alloc, link) {
         Ok(Streams { input, output }) => {
-            serve_link(rt, alloc, shared, room, link, input, output, pass).can_be_opened_again()
+            let why = serve_link(rt, alloc, shared, room, link, input, output, pass, begun);
+            why.can_be_opened_again(shared.endless)
         }
         Err(unopened) => {
             tell_of_file(rt, alloc, shared, link.files.node, &unopened);
@@ -329,18 +368,8 @@ fn keep_once<
     }
 }
 
-/// After how long a link is opened again, where its last session says whether it can be: never without `--retry`.
-fn reopening(retry: Option<u32>, again: bool) -> Option<Duration>
-    ensures { option_map as_nanos result ≡ reopens retry again }
-{
-    match retry {
-        Some(seconds) if again => Some(Duration::from_secs(u64::from(seconds))),
-        _ => None,
-    }
-}
-
-/// Opens a link, serves one session, and waits until its Down is no more owed. After how long it is to be opened again; None where it stays
-/// closed.
+/// Opens a link, serves one session, and waits until its Down is no more owed. After how many seconds it is to be opened again, where it
+/// waited so long before; None where it stays closed.
 fn keep_turn<
     R: Wait + Clock,
     I: Read + Drop,
@@ -355,16 +384,21 @@ fn keep_turn<
     shared: &Shared<J, E>,
     room: &Room<O, J>,
     link: &Link,
+    before: Option<u32>,
     pass: &mut Pass,
-) -> Option<Duration>
+) -> Option<u32>
     requires { IsPassOf J.router pass.old }
     ensures of { IsPassOf J.router pass.new }
-    ensures keeps { KeepsTurn (D.may_read folder.now) (D.may_write folder.now) J.router link.now.domain link.now.files link.now.retry pass.old
-        (option_map as_nanos result) }
+    ensures keeps { KeepsTurn (D.may_read folder.now) (D.may_write folder.now) J.router link.now.domain link.now.files link.now.retry before
+        pass.old result }
 {
-    let again = keep_once::<R, I, O, D, J, E>(rt, alloc, folder, shared, room, link, pass);
+    let mut begun = None;
+    let again = keep_once::<R, I, O, D, J, E>(
+        rt, alloc, folder, shared, room, link, pass, &mut begun,
+    );
+    let before = wait_before(was_long(rt, begun), before);
     settle(rt, shared, pass, link.index);
-    reopening(link.retry, again)
+    reopening(link.retry, again, before)
 }
 
 /// Keeps a link: serves one session after another, until it stays closed (None) or the router is being closed.
@@ -387,14 +421,16 @@ pub(crate) fn keep_link<
     ensures { IfNone result (StaysClosed (D.may_read folder.value) (D.may_write folder.value) J.router link.domain link.files link.retry) }
 {
     let mut pass = ticket.pass();
+    let mut before = None;
     for _ in rt.forever() {
         let wait = keep_turn::<R, I, O, D, J, E>(
-            &rt, alloc, &folder, &shared, &room, &link, &mut pass,
+            &rt, alloc, &folder, &shared, &room, &link, before, &mut pass,
         )?;
         if let Some(closing) = shared.signals.closing(&rt) {
             return Some(closing);
         }
-        thread::sleep(&rt, wait);
+        thread::sleep(&rt, seconds(wait));
+        before = Some(wait);
     }
     unreachable!()
 }

@@ -1,37 +1,50 @@
 //! A router is run.
-ghost use Rattle.std.specs.Prelude.{◌≡◌, [], IfErr, IfOk, IfSome, IsOkAnd, MatchResult, Ok, OnErr};
+ghost use Rattle.std.specs.Prelude.{◌≡◌, false, [], IfErr, IfOk, IfSome, IsOkAnd, MatchResult, Ok, OnErr};
 ghost use Rattle.std.specs.Option.{option_map};
 ghost use Rattle.router_daemon.specs.Passes.{IsLegalPass};
 ghost use Rattle.router_daemon.specs.Running as spec;
-ghost use Rattle.router_daemon.specs.Running.{HasOperator, IsEarly, IsOpened, SavesTo};
+ghost use Rattle.router_daemon.specs.Running.{HasOperator, IsEarly, IsOpened, SavesTo, is_endless};
 ghost use Rattle.router_daemon.specs.Uses.{BeginsWithFilters};
+ghost use Rattle.slot_lock.specs.Passes.{IsPassOf};
 ghost use Rattle.router_daemon.specs.declared.fault.DaemonFault.TheVariants as fault;
 
 use crate::closing::close_links;
 use crate::fault::DaemonFault;
 use crate::folder::LinkFolder;
-use crate::naming::{LegalTicket, Ticket};
+use crate::naming::{LegalTicket, RightTicket, Ticket, WholeTicket};
 use crate::opening::open_router;
 use crate::operating::{Figures, OperatorEnd, serve_lines};
 use crate::saving::{IsIn, Saved};
 use crate::setting::{Filters, RouterEnd, Setting};
 use crate::shared::{Shared, shared_of};
-use crate::starting::{Links, start_links, start_saver};
+use crate::signals::Closing;
+use crate::starting::{Links, start_forgetter, start_links, start_saver};
+use crate::telling::tell_unkept;
 use history_saver::{SaveFault, Saver};
 use line_protocol::StreamFault;
 use neighbour_session::Domain;
 use router_operator::Naming;
 use router_options::{LinkFiles, RouterPlan};
-use slot_lock::{Pass, Router};
+use slot_lock::{Pass, Right, Router};
 use std::alloc::{AllocError, Global};
 use std::io::{Read, Write};
 use std::marker::Brand;
 use std::rt::Clock;
 use std::sync::{Arc, Wait};
-use std::thread::{PromisedHandle, Threads};
+use std::thread::{JoinHandle, PromisedHandle, Threads};
 
 /// The thread that saves a history.
 type Saving<V, J> = PromisedHandle<Saved<V, J>, IsIn<V>>;
+
+/// The thread that forgets entries of a history.
+type Forgetting = JoinHandle<Closing>;
+
+/// Whether a router is endless: where its history is not saved.
+fn is_unsaved<V: Write>(save: &Option<V>) -> bool
+    ensures { result ≡ is_endless (option_map (λ file. V.contents file) save.now) }
+{
+    save.is_none()
+}
 
 /// Starts the thread that saves the history, if there is a file for it.
 fn begin_saving<
@@ -46,7 +59,8 @@ fn begin_saving<
     pass: &mut Pass,
     save: Option<V>,
 ) -> Result<Option<Saving<V, J>>, DaemonFault>
-    requires { IsLegalPass J.router pass.old }
+    requires legal { IsLegalPass J.router pass.old }
+    requires whole { IfSome save (λ _. J.router.endless ≡ false) }
     ensures legal { IsLegalPass J.router pass.new }
     ensures same { (pass.new.fragment.seen ≡ pass.old.fragment.seen) × (pass.new.fragment.mine ≡ pass.old.fragment.mine) }
     ensures file { IfOk result (λ saving. option_map (λ thread. V.contents thread.promise.0.value) saving ≡ option_map (λ file. V.contents file) save) }
@@ -59,7 +73,7 @@ fn begin_saving<
     if pass.shares() < 2 {
         return Err(DaemonFault::Memory);
     }
-    let ticket = LegalTicket::new(shared.router.split(pass, 1));
+    let ticket = WholeTicket::new(shared.router.split(pass, 1));
     Ok(Some(start_saver(rt, alloc, shared, file, ticket)?))
 }
 
@@ -79,6 +93,37 @@ fn end_saving<R: Threads + Wait, V: Write + Drop, J: Naming, E: Write>(
     match saving.join(rt).finish(rt, alloc, shared, ticket) {
         Ok(saved) => Ok(Some(saved.saver())),
         Err(fault) => Err(fault),
+    }
+}
+
+/// Starts the thread that forgets entries of the history, if it is not saved, and tells people that it is not.
+fn begin_forgetting<
+    R: Threads + Wait + Clock + Copy + Send + Drop + 'static,
+    J: Naming + Send + Sync + 'static,
+    E: Write + Send + Drop + 'static,
+>(
+    rt: &R,
+    alloc: Global,
+    shared: &Arc<Shared<J, E>>,
+    right: Option<Right>,
+    limit: u32,
+) -> Result<Option<Forgetting>, DaemonFault>
+    requires { IfSome right (λ right. IsPassOf J.router right) }
+    ensures { IfErr result IsEarly }
+{
+    let Some(right) = right else {
+        return Ok(None);
+    };
+    let mut errors = shared.errors.lock(rt);
+    tell_unkept(alloc, &mut *errors);
+    drop(errors);
+    Ok(Some(start_forgetter(rt, shared, RightTicket::new(right), limit)?))
+}
+
+/// Waits until nothing is forgotten any more: the router is being closed.
+fn end_forgetting<R: Threads + Wait>(rt: &R, forgetting: Option<Forgetting>) {
+    if let Some(forgetting) = forgetting {
+        forgetting.join(rt);
     }
 }
 
@@ -189,17 +234,20 @@ fn run_named<
     writer: &mut W,
     router: Router,
     mut pass: Pass,
+    right: Option<Right>,
 ) -> Result<RouterEnd<V>, DaemonFault>
     requires named { router ≡ J.router }
     requires legal { IsLegalPass J.router pass }
-    requires is_opened { IsOpened setting.plan J.router }
+    requires right { IfSome right (λ right. IsPassOf J.router right) }
+    requires is_opened { IsOpened setting.plan (is_endless (option_map (λ file. V.contents file) setting.save)) J.router }
     requires set { BeginsWithFilters J.router setting.plan setting.filters.entries pass }
     ensures operated { IfOk result (λ end. IfSome (I.remaining reader.old) (λ input. spec.RunsAsOne setting.plan setting.filters.entries
         (option_map (λ file. V.contents file) setting.save) end.saved end.refused input (I.remaining reader.new) (W.contents writer.old)
         (W.contents writer.new))) }
     ensures saved { IfOk result (λ end. spec.Saves setting.plan (option_map (λ file. V.contents file) setting.save) end.saved) }
     ensures failed { IfErr result (spec.Fails (λ answered. IfSome (I.remaining reader.old) (λ input. spec.Operated setting.plan
-        setting.filters.entries answered input (I.remaining reader.new) (W.contents writer.old) (W.contents writer.new)))
+        (is_endless (option_map (λ file. V.contents file) setting.save)) setting.filters.entries answered input (I.remaining reader.new)
+        (W.contents writer.old) (W.contents writer.new)))
         ((reader.new ≡ reader.old) × (writer.new ≡ writer.old))) }
 {
     let Setting {
@@ -227,15 +275,18 @@ fn run_named<
         },
         retry,
     };
+    let endless = is_unsaved(&save);
     let shared: Arc<Shared<J, E>> = Arc::new(
         alloc,
-        shared_of(alloc, router, links.as_slice(), errors)?,
+        shared_of(alloc, router, endless, links.as_slice(), errors)?,
     )?;
     let saving = begin_saving(rt, alloc, &shared, &mut pass, save)?;
+    let forgetting = begin_forgetting(rt, alloc, &shared, right, limit)?;
     let ran = serve_all::<R, FI, FO, D, J, E, I, W>(
         rt, alloc, folder, &shared, &mut pass, links, common, figures, filters, reader, writer,
     );
     close_links(rt, &shared, &mut pass);
+    end_forgetting(rt, forgetting);
     end_run(rt, alloc, &shared, saving, ran)
 }
 
@@ -263,11 +314,13 @@ pub fn run_router<
         (W.contents writer.new))) }
     ensures saved { IfOk result (λ end. spec.Saves setting.plan (option_map (λ file. V.contents file) setting.save) end.saved) }
     ensures failed { IfErr result (spec.Fails (λ answered. IfSome (I.remaining reader.old) (λ input. spec.Operated setting.plan
-        setting.filters.entries answered input (I.remaining reader.new) (W.contents writer.old) (W.contents writer.new)))
+        (is_endless (option_map (λ file. V.contents file) setting.save)) setting.filters.entries answered input (I.remaining reader.new)
+        (W.contents writer.old) (W.contents writer.new)))
         ((reader.new ≡ reader.old) × (writer.new ≡ writer.old))) }
 {
-    let (router, pass) = open_router(rt, alloc, &setting.plan, &setting.filters)?;
+    let endless = is_unsaved(&setting.save);
+    let (router, pass, right) = open_router(rt, alloc, &setting.plan, &setting.filters, endless)?;
     run_named::<Brand, R, FI, FO, D, V, E, I, W>(
-        rt, alloc, folder, setting, errors, reader, writer, router, pass,
+        rt, alloc, folder, setting, errors, reader, writer, router, pass, right,
     )
 }

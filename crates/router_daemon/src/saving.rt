@@ -1,10 +1,10 @@
 //! Who saves the history.
 ghost use Rattle.std.specs.Prelude.{◌≡◌, IfNone, IfOk, IsSome, length, Some, None};
 ghost use Rattle.history_saver.specs.Saved.{HasSaved, seen_by};
-ghost use Rattle.router_daemon.specs.Passes.{IsLegalPass};
+ghost use Rattle.router_daemon.specs.Passes.{IsWholePass};
 ghost use Rattle.router_daemon.specs.Running.{HasWhole};
 
-use crate::naming::{LegalTicket, Ticket};
+use crate::naming::{Ticket, WholeTicket};
 use crate::shared::Shared;
 use crate::signals::Closing;
 use crate::telling::tell_unsaved;
@@ -28,7 +28,7 @@ const REST: u64 = 50;
 #[derive(Drop)]
 pub(crate) struct Saved<V: Write, J: Naming> {
     saver: Saver<V>,
-    ticket: LegalTicket<J>,
+    ticket: WholeTicket<J>,
 }
 
 impl<V: Write, J: Naming> Model for Saved<V, J> {
@@ -69,7 +69,7 @@ impl<V: Write + Drop, J: Naming> Saved<V, J> {
         match saver.save(rt, alloc, &shared.router, &mut pass) {
             Ok(_) => Ok(Saved {
                 saver,
-                ticket: LegalTicket::new(pass),
+                ticket: WholeTicket::new(pass),
             }),
             Err(fault) => {
                 tell(rt, alloc, shared, fault);
@@ -108,9 +108,9 @@ fn save_all<R: Wait + Clock, V: Write, J: Naming, E: Write>(
     saver: &mut Saver<V>,
     pass: &mut Pass,
 ) -> Option<Closing>
-    requires legal { IsLegalPass J.router pass.old }
+    requires legal { IsWholePass J.router pass.old }
     requires saved { HasSaved saver.old (seen_by J.router pass.old) }
-    ensures legal { IsLegalPass J.router pass.new }
+    ensures legal { IsWholePass J.router pass.new }
     ensures saved { HasSaved saver.new (seen_by J.router pass.new) }
     ensures first { saver.new.first ≡ saver.old.first }
     ensures all { saver.new.fault ≡ None → saver.new.saved ≡ Some (length pass.new.fragment.seen) }
@@ -126,7 +126,7 @@ fn save_all<R: Wait + Clock, V: Write, J: Naming, E: Write>(
             return closing;
         }
         thread::sleep(rt, Duration::from_millis(REST));
-        closing = shared.signals.await_entries(rt, saver.saved());
+        closing = shared.signals.await_entries(rt, saver.saved() as u64);
     }
     unreachable!()
 }
@@ -137,7 +137,7 @@ pub(crate) fn save_history<R: Wait + Clock + Drop, V: Write + Drop, J: Naming, E
     alloc: Global,
     shared: Arc<Shared<J, E>>,
     file: V,
-    ticket: LegalTicket<J>,
+    ticket: WholeTicket<J>,
 ) -> Saved<V, J>
     ensures { result.saver.first ≡ V.contents file }
 {
@@ -146,6 +146,6 @@ pub(crate) fn save_history<R: Wait + Clock + Drop, V: Write + Drop, J: Naming, E
     save_all(&rt, alloc, &shared, &mut saver, &mut pass);
     Saved {
         saver,
-        ticket: LegalTicket::new(pass),
+        ticket: WholeTicket::new(pass),
     }
 }

@@ -22,12 +22,16 @@ pub(crate) struct Signals {
     pub(crate) board: Mutex<Board>,
     /// One for each link: its writer sleeps on it.
     pub(crate) bells: Vec<Condvar>,
-    /// Who saves the history sleeps on it.
+    /// Who saves the history sleeps on it, or who forgets it.
     pub(crate) saver_bell: Condvar,
     /// Who closes the router sleeps on it until no Up and no Down of a session is being entered.
     settled: Condvar,
     /// For each link the session that is over, but whose Down is not entered, so that the router has it still.
     owed: Vec<Mutex<Option<u32>>>,
+    /// Where some entries are to be forgotten before others are made: from which position on.
+    room_end: Mutex<Option<u64>>,
+    /// Who made the last entry that there is room for sleeps on it.
+    room_bell: Condvar,
 }
 
 /// That the router is being closed, if a board says so.
@@ -94,6 +98,8 @@ impl Signals {
             saver_bell: Condvar::new(),
             settled: Condvar::new(),
             owed: owed_of(alloc, nodes.len())?,
+            room_end: Mutex::new(None),
+            room_bell: Condvar::new(),
         })
     }
 
@@ -175,16 +181,36 @@ impl Signals {
         }
     }
 
-    /// Sleeps until the history has more entries than are saved, or the router is being closed: that it is, if so.
-    pub(crate) fn await_entries<R: Wait>(&self, rt: &R, saved: usize) -> Option<Closing> {
+    /// Sleeps until the history has more entries than are saved, or is to have before some are forgotten, or the router is being closed: that
+    /// it is, if so. Only one thread does: who saves the history, or who forgets it.
+    pub(crate) fn await_entries<R: Wait>(&self, rt: &R, saved: u64) -> Option<Closing> {
         let mut board = self.board.lock(rt);
         for _ in rt.forever() {
-            if !board.rest_saver(saved as u64) {
+            if !board.rest_saver(saved) {
                 return closing_of(&board);
             }
             board = self.saver_bell.wait(rt, board);
         }
         unreachable!()
+    }
+
+    /// Says that entries are to be forgotten before more are made than up to this position; or that none have to.
+    pub(crate) fn make_room<R: Wait>(&self, rt: &R, end: Option<u64>) {
+        *self.room_end.lock(rt) = end;
+        self.room_bell.notify_all();
+    }
+
+    /// Sleeps, behind the entry at this position, until there is room for more. So who makes entries waits for who forgets them, and a full
+    /// history refuses them only what many threads enter at once.
+    pub(crate) fn await_room<R: Wait>(&self, rt: &R, at: u64) {
+        let mut end = self.room_end.lock(rt);
+        for _ in rt.forever() {
+            match *end {
+                Some(end) if at >= end => {}
+                _ => return,
+            }
+            end = self.room_bell.wait(rt, end);
+        }
     }
 
     /// Begins a session of a link, whose Up has this answer. False where one is there already or the router is being closed.
@@ -227,6 +253,7 @@ impl Signals {
 impl Listener for Signals {
     fn answered<R: Wait + Clock>(&self, rt: &R, answer: &Answer) {
         self.note(rt, answer);
+        self.await_room(rt, answer.at);
     }
 
     fn exported<R: Wait + Clock>(&self, rt: &R, node: u16, answer: &Answer) {

@@ -5,11 +5,13 @@ ghost use Rattle.router_daemon.specs.Running.{IsEarly};
 
 use crate::fault::DaemonFault;
 use crate::folder::LinkFolder;
+use crate::forgetting::forget_history;
 use crate::keeper::{Link, keep_link};
-use crate::naming::{LegalTicket, Ticket};
+use crate::naming::{RightTicket, Ticket, WholeTicket};
 use crate::room::Room;
 use crate::saving::{IsIn, Saved, save_history};
 use crate::shared::Shared;
+use crate::signals::Closing;
 use crate::telling::tell_unstarted;
 use crate::writer::write_link;
 use neighbour_session::Domain;
@@ -22,7 +24,7 @@ use std::rt::Clock;
 use std::snapshot::Snapshot;
 use std::sync::{Arc, Wait};
 use std::thread;
-use std::thread::{PromisedHandle, Threads};
+use std::thread::{JoinHandle, PromisedHandle, Threads};
 
 /// The shares of a link's pass. It gives one of them to its writer, for a session.
 const SHARES: u32 = 100;
@@ -171,7 +173,7 @@ pub(crate) fn start_saver<
     alloc: Global,
     shared: &Arc<Shared<J, E>>,
     file: V,
-    ticket: LegalTicket<J>,
+    ticket: WholeTicket<J>,
 ) -> Result<PromisedHandle<Saved<V, J>, IsIn<V>>, DaemonFault>
     ensures file { IfOk result (λ saving. saving.promise.0.value ≡ file) }
     ensures early { IfErr result IsEarly }
@@ -184,6 +186,30 @@ pub(crate) fn start_saver<
     });
     match started {
         Ok(saving) => Ok(saving),
+        Err(_) => Err(DaemonFault::NotStarted),
+    }
+}
+
+/// Starts the thread that forgets entries of the history, of which there is room for so many.
+pub(crate) fn start_forgetter<
+    R: Threads + Wait + Clock + Copy + Send + Drop + 'static,
+    J: Naming + Send + Sync + 'static,
+    E: Write + Send + Drop + 'static,
+>(
+    rt: &R,
+    shared: &Arc<Shared<J, E>>,
+    ticket: RightTicket<J>,
+    limit: u32,
+) -> Result<JoinHandle<Closing>, DaemonFault>
+    ensures { IfErr result IsEarly }
+{
+    let handle = *rt;
+    let shared = Arc::try_clone(shared)?;
+    let started = thread::spawn(rt, move || {
+        forget_history::<R, J, E>(handle, shared, ticket, limit)
+    });
+    match started {
+        Ok(forgetting) => Ok(forgetting),
         Err(_) => Err(DaemonFault::NotStarted),
     }
 }

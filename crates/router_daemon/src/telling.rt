@@ -139,6 +139,19 @@ pub(crate) fn tell_unsaved<E: Write>(alloc: Global, errors: &mut E, why: SaveFau
     tell(errors, unsaved_line(alloc, why));
 }
 
+/// Tells that no more of a history is kept than its last entries.
+pub(crate) fn tell_unkept<E: Write>(alloc: Global, errors: &mut E)
+    ensures { AppendsFront (E.contents errors.old) (E.contents errors.new) spec.unkept_line }
+{
+    tell(
+        errors,
+        String::from_str(
+            alloc,
+            "history: not saved: only its last entries are kept\n",
+        ),
+    );
+}
+
 /// The line that tells that no line of the operator is taken any more.
 fn deaf_line(alloc: Global, why: StreamFault) -> Result<String, AllocError>
     ensures { IfOk result (λ line. string_bytes line ≡ spec.deaf_line why) }

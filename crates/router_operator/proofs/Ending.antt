@@ -1,5 +1,5 @@
 -- An operator's lines end where their input does, or at `quit`.
-use Rattle.std.proofs.Common.{◌≡◌, ℕ, Bool, true, false, ◌||◌, List, [], ◌∷◌, Option, Some, None, Ok, Err, Global, refl, ap, ◌∙◌, inl, inr}
+use Rattle.std.proofs.Common.{◌≡◌, ℕ, nat_le, Bool, true, false, ◌||◌, List, [], ◌∷◌, Option, Some, None, Ok, Err, Global, refl, ap, ◌∙◌, inl, inr}
 use Rattle.std.specs.Prelude.{MatchBool, ◌⊎◌, codes}
 use Rattle.std.specs.declared.sync.Arc.{Arc}
 use Rattle.filter_source.specs.Sources.{IsRefusedText}
@@ -12,7 +12,7 @@ use Rattle.netchange_core.specs.declared.event.Event.{Event}
 use Rattle.netchange_core.specs.declared.event.Event.TheVariants as event
 use Rattle.operator_cmds.specs.CommandView.{CommandView, Network, Prefix, Load, Code, Import, Export, Up, Down, Receive, Take, Show, Look, History}
 use Rattle.operator_cmds.specs.Commands.{Read, command_in}
-use Rattle.operator_cmds.specs.Looks.{can_look, look_text}
+use Rattle.operator_cmds.specs.Looks.{can_look, history_text, look_text}
 use Rattle.operator_cmds.specs.Script as script
 use Rattle.operator_cmds.specs.Stages.{Open, session_in, session_number}
 use Rattle.router_operator.specs.OperatorView.{OperatorView, filter_of, journal_seen, journal_with, script_of}
@@ -56,7 +56,9 @@ command before answer after number (Take node) h = like answer _ h.0 refl
 command before answer after number (Show node) h = happening before answer after (event.Show node) h
 command before answer after number (Look look) h =
     let w = script.tables_of (journal_seen after) in like answer _ h.1 (given (can_look w look) (look_text w look) (codes "O2") number)
-command before answer after number (History from) h = like answer _ h.1 refl
+command before answer after number (History from) h =
+    let first = after.pass.fragment.forgot in
+    like answer _ h.1 (given (nat_le first from) (history_text after.pass.fragment.seen from) (codes "O10") first)
 
 read : (before : OperatorView) (answer : Answer) (after : OperatorView) (number : ℕ) (r : Read) → AnswersRead before number r answer after
     → GoesOn answer

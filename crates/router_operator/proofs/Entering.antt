@@ -1,6 +1,6 @@
 -- An event that the router entered or did not, and what is answered.
 use Rattle.std.proofs.Common.{◌≡◌, ℕ, Bool, Option, Result, Ok, Err, IfOk, IfErr, List, [], ◌∷◌, ◌++◌, length}
-use Rattle.std.proofs.Common.{refl, sym, subst, ap, ◌∙◌, append_assoc, append-nil, inl, inr, false, arith}
+use Rattle.std.proofs.Common.{refl, sym, subst, ap, ◌∙◌, append_assoc, append-nil, inl, inr}
 use Rattle.std.specs.Prelude.{codes}
 use Rattle.line_protocol.specs.Answers.{Answer}
 use Rattle.netchange_core.specs.Calls.{opened}
@@ -81,14 +81,15 @@ module _ (before : OperatorView) (happened : Event) (a : CallAnswer) (pass : Pas
   }
 
 module _ (before : OperatorView) (happened : Event) (pass : PassView) (shares : pass.fragment.shares ≡ before.pass.fragment.shares)
-    (whole : before.router.endless ≡ false) (h : IsAtLimit before.router before.pass pass) where
+    (h : IsAtLimit before.router before.pass pass) where
   pub full_event : (answer : Answer) → answer ≡ refused (codes "J1") before.router.limit
       → AnswersEvent before happened answer (record before { pass = pass })
   full_event answer e = record {
     log = pass.fragment.seen;
     found = record { begins = h.begins; legal = h.legal };
     does = inr (record {
-      full = let full = h.full in let none_forgotten = h.whole whole in omega arith;
+      full = h.full;
+      whole = h.whole;
       answers = e;
       seen = refl;
       mine = h.mine;
@@ -119,19 +120,18 @@ same_breaks before after e =
     })
 
 -- what became of a call, and the answer to it
-module _ (before : OperatorView) (happened : Event) (pass : PassView) (shares : pass.fragment.shares ≡ before.pass.fragment.shares)
-    (whole : before.router.endless ≡ false) where
+module _ (before : OperatorView) (happened : Event) (pass : PassView) (shares : pass.fragment.shares ≡ before.pass.fragment.shares) where
   by_call : (r : Result CallAnswer CallFault) → IfOk r (λ a. Answered before.router before.pass happened a pass)
       → IfErr r (λ f. Refused f before.router before.pass pass) → (answer : Answer) → AnswersCall before.router.limit r answer
       → AnswersEvent before happened answer (record before { pass = pass })
   by_call (Ok a) good bad answer h = entered_event before happened a pass shares good answer h
-  by_call (Err call_fault.Full) good bad answer h = full_event before happened pass shares whole bad answer h
+  by_call (Err call_fault.Full) good bad answer h = full_event before happened pass shares bad answer h
   by_call (Err call_fault.Memory) good bad answer h = absurd h
 
   breaks_call : (r : Result CallAnswer CallFault) → IfOk r (λ a. Answered before.router before.pass happened a pass)
       → IfErr r (λ f. Refused f before.router before.pass pass) → BreaksOff before (record before { pass = pass })
   breaks_call (Ok a) good bad = entered_breaks before happened a pass shares good
-  breaks_call (Err call_fault.Full) good bad = full_breaks before happened pass shares whole bad
+  breaks_call (Err call_fault.Full) good bad = full_breaks before happened pass shares bad
   breaks_call (Err call_fault.Memory) good bad = failed_tries_break before pass bad.0 bad.1
 
 -- who listens was told of what was entered
@@ -153,10 +153,10 @@ module _ (old : OperatorView) (router : RouterView) (was pass : PassView) (names
   pub call_answers : (answer : Answer) → AnswersCall limit r answer → AnswersEvent old happened answer (record start { pass = pass })
   call_answers answer h =
       subst (λ (o : OperatorView). AnswersEvent o happened answer (record start { pass = pass })) is
-      (by_call start happened pass shares at.whole r good bad answer (subst (λ (n : ℕ). AnswersCall n r answer) at.room h))
+      (by_call start happened pass shares r good bad answer (subst (λ (n : ℕ). AnswersCall n r answer) at.room h))
 
   pub call_breaks : BreaksOff old (record start { pass = pass })
-  call_breaks = subst (λ (o : OperatorView). BreaksOff o (record start { pass = pass })) is (breaks_call start happened pass shares at.whole r good bad)
+  call_breaks = subst (λ (o : OperatorView). BreaksOff o (record start { pass = pass })) is (breaks_call start happened pass shares r good bad)
 
   pub call_told : (is_told : Option ℕ → CallAnswer → Type 0) (exported : Option ℕ) → exported ≡ exported_by happened →
       IfOk r (λ a. is_told exported a) → IsTold is_told old.router old.pass happened pass

@@ -1,5 +1,5 @@
 -- A look, and an event after it.
-use Rattle.std.proofs.Common.{◌≡◌, ℕ, false, Option, List, Result, IfOk, length, subst, ap, ◌∙◌, inl}
+use Rattle.std.proofs.Common.{◌≡◌, ℕ, Option, List, Result, IfOk, subst, ap, ◌∙◌, inl}
 use Rattle.line_protocol.specs.Answers.{Answer}
 use Rattle.line_protocol.specs.declared.answers.LineReply.{LineReply}
 use Rattle.netchange_core.specs.declared.event.Event.TheVariants as event
@@ -8,19 +8,18 @@ use Rattle.operator_cmds.specs.Stages.{Open, session_in, session_number}
 use Rattle.route_history.specs.JournalView.{JournalView}
 use Rattle.slot_lock.specs.Calls.{Observed}
 use Rattle.slot_lock.specs.Passes.{PassView}
-use Rattle.slot_lock.proofs.Whole.{room_whole}
 use Rattle.router_operator.specs.OperatorView.{OperatorView, journal_seen}
 use Rattle.router_operator.specs.Operators.{AnswersDown, AnswersEvent, AnswersLook, BreaksOff, GrowsByOne, Looks}
 use Rattle.operator_cmds.proofs.Answering.{added}
 use Rattle.router_operator.proofs.Entering.{begins_then, keeps_shares}
 
 module _ {Seer : Type 0} (sees : Seer → ℕ → JournalView → Seer → Type 0) (before : OperatorView) (pass : PassView) (old new : Seer)
-    (shares : pass.fragment.shares ≡ before.pass.fragment.shares) (whole : before.router.endless ≡ false)
-    (h : Observed sees before.router before.pass old new pass) where
+    (shares : pass.fragment.shares ≡ before.pass.fragment.shares) (h : Observed sees before.router before.pass old new pass) where
   pub seen : Looks before (record before { pass = pass })
   seen = record {
     found = record { begins = h.begins; legal = h.legal };
-    room = room_whole before.router pass.fragment.forgot (length pass.fragment.seen) h.room whole;
+    room = h.room;
+    on = h.on;
     mine = h.mine;
     only = keeps_shares before pass shares;
   }
@@ -29,11 +28,11 @@ module _ {Seer : Type 0} (sees : Seer → ℕ → JournalView → Seer → Type 
   seen_breaks = record { only = keeps_shares before pass shares; begins = h.begins; mine = inl h.mine }
 
 -- the answer to a look was added, unless memory was refused
-pub looked : {E : Type 0} (look : JournalView → Answer) (before after : OperatorView) (r : Result LineReply E) (old new : List ℕ)
-    → Looks before after → IfOk r (Adds (look (journal_seen after)) old new)
+pub looked : {E : Type 0} (look : ℕ → JournalView → Answer) (before after : OperatorView) (r : Result LineReply E) (old new : List ℕ)
+    → Looks before after → IfOk r (Adds (look after.pass.fragment.forgot (journal_seen after)) old new)
     → IfOk r (Answers (λ answer. AnswersLook look before answer after) old new)
 looked look before after r old new looks h =
-    added r (look (journal_seen after)) (λ answer. AnswersLook look before answer after) old new (λ answer e. (looks, e)) h
+    added r (look after.pass.fragment.forgot (journal_seen after)) (λ answer. AnswersLook look before answer after) old new (λ answer e. (looks, e)) h
 
 -- a look for the session, and then its Down
 pub downs : (node : ℕ) (session : Option ℕ) (before mid after : OperatorView) (answer : Answer) → Looks before mid

@@ -2,8 +2,8 @@
 use Rattle.std.specs.Prelude.{◌≡◌, ℕ, Result, Ok, Err, IfOk, OnErr, codes}
 use Rattle.std.specs.Io.{StartsWith}
 use Rattle.line_protocol.specs.Answers.{Answer}
-use Rattle.operator_cmds.specs.Looks.{history_text, looked}
-use Rattle.operator_cmds.specs.Replies.{Adds, answered, refused, reply_answer}
+use Rattle.operator_cmds.specs.Looks.{history_looked, looked}
+use Rattle.operator_cmds.specs.Replies.{Adds, refused, reply_answer}
 use Rattle.operator_cmds.specs.Script.{tables_of}
 use Rattle.operator_cmds.specs.Stages.{Open, session_in}
 use Rattle.route_history.specs.JournalView.{JournalView}
@@ -21,15 +21,15 @@ AnswersCall limit (Ok called) answer = answer ≡ reply_answer called.at called.
 AnswersCall limit (Err call_fault.Full) answer = answer ≡ refused (codes "J1") limit
 AnswersCall limit (Err call_fault.Memory) answer = ⊥
 
--- the answer to the line of this number, which asks so, by the router's journal
-abbrev pub told : Asked → ℕ → JournalView → Answer
-told (Tables look) number journal = looked (tables_of journal) number look
-told (Entries from) number journal = answered (history_text journal.entries from)
+-- the answer to the line of this number, which asks so, by the router's history, of which so many entries are forgotten
+abbrev pub told : Asked → ℕ → ℕ → JournalView → Answer
+told (Tables look) number first journal = looked (tables_of journal) number look
+told (Entries from) number first journal = history_looked first journal.entries from
 
 -- the answer is added to what was written, unless memory was refused
-abbrev pub Tells : Looking → JournalView → Looking → Type 0
-Tells before journal after =
-    IfOk after.reply (Adds (told before.asked before.number journal) before.text.items after.text.items)
+abbrev pub Tells : Looking → ℕ → JournalView → Looking → Type 0
+Tells before first journal after =
+    IfOk after.reply (Adds (told before.asked before.number first journal) before.text.items after.text.items)
     × OnErr after.reply (StartsWith after.text.items before.text.items)
 
 -- the session is the node's present one

@@ -1,5 +1,5 @@
 -- What a contract sees of the operator of a running router.
-use Rattle.std.specs.Prelude.{◌≡◌, ℕ, Bool, false, List, Option, Vec}
+use Rattle.std.specs.Prelude.{◌≡◌, ℕ, Bool, List, Option, Vec}
 use Rattle.std.specs.BTreeMap.{is_at}
 use Rattle.std.specs.Cmp.Lexicographic.{slice_cmp}
 use Rattle.std.specs.Map.{lookup}
@@ -43,9 +43,8 @@ filter_of names name = option_map (λ filter. filter.value) (lookup (is_at (λ k
 abbrev pub script_of : OperatorView → ScriptView
 script_of o = record { stage = Open (journal_seen o); filters = filter_of o.names }
 
--- the pass is one of the router, which forgets nothing, and these numbers are the size of its domain and its limit
+-- the pass is one of the router, and these numbers are the size of its domain and its limit
 pub record IsAt (r : RouterView) (p : PassView) (size limit : ℕ) : Type 0 where
   pub of : IsPassOf r p
   pub nodes : size ≡ r.opening.size
   pub room : limit ≡ r.limit
-  pub whole : r.endless ≡ false

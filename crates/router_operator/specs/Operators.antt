@@ -1,6 +1,7 @@
 -- What the operator of a running router is answered to each line, and what becomes of the router's history. A script is answered so, but
 -- that nobody else makes entries meanwhile. (This project's own choice.)
-use Rattle.std.specs.Prelude.{◌≡◌, ◌⊎◌, ◌==◌, ℕ, ◌≤◌, Bool, false, true, MatchBool, List, [], ◌∷◌, ◌++◌, length, Option, Some, None, Ok, Err, codes}
+use Rattle.std.specs.Prelude.{◌≡◌, ◌⊎◌, ◌==◌, ℕ, ◌+◌, ◌≤◌, Bool, false, true, MatchBool, List, [], ◌∷◌, ◌++◌, length, Option, Some, None, Ok, Err}
+use Rattle.std.specs.Prelude.{codes}
 use Rattle.std.specs.List.{list_any}
 use Rattle.std.specs.Str.{bytes_eq}
 use Rattle.std.specs.declared.sync.Arc.{Arc}
@@ -14,7 +15,7 @@ use Rattle.netchange_core.specs.declared.event.Event.TheVariants as event
 use Rattle.operator_cmds.specs.CommandView.{CommandView, Network, Prefix, Load, Code, Import, Export, Up, Down, Receive, Take, Show, Look, History}
 use Rattle.operator_cmds.specs.Commands.{Read, command_in}
 use Rattle.operator_cmds.specs.Faults.{fault_code}
-use Rattle.operator_cmds.specs.Looks.{history_text, looked}
+use Rattle.operator_cmds.specs.Looks.{history_looked, looked}
 use Rattle.operator_cmds.specs.Replies.{answered, refused, reply_answer}
 use Rattle.operator_cmds.specs.Script as script
 use Rattle.operator_cmds.specs.Script.{entered, tables_of, told_of}
@@ -26,7 +27,9 @@ use Rattle.operator_cmds.specs.declared.filter.FilterSource.TheVariants as sourc
 use Rattle.route_history.specs.Beginning.{Begins}
 use Rattle.route_history.specs.History.{IsLegal}
 use Rattle.route_history.specs.JournalView.{JournalView}
+use Rattle.route_history.specs.Long.{IsWithin}
 use Rattle.route_history.specs.declared.entry.Entry.{Entry}
+use Rattle.slot_lock.specs.Passes.{bounds_of}
 use Rattle.router_operator.specs.OperatorView.{OperatorView, filter_of, journal_seen, journal_with, script_of}
 
 -- ---- what a line asks for
@@ -82,14 +85,16 @@ pub record Enters (before : OperatorView) (log : List Entry) (happened : Event) 
   pub seen : journal_seen after ≡ entered (journal_with before.router log) happened (told_of (journal_with before.router log) happened)
   pub mine : after.pass.fragment.mine ≡ before.pass.fragment.mine ++ length log ∷ []
 
--- that history is full: nothing is entered
+-- the room is full: of that history all but as many entries as the limit are forgotten, and none where the router is not endless; nothing is
+-- entered
 pub record IsFull (before : OperatorView) (log : List Entry) (answer : Answer) (after : OperatorView) : Type 0 where
-  pub full : length log ≡ before.router.limit
+  pub full : length log ≡ after.pass.fragment.forgot + before.router.limit
+  pub whole : before.router.endless ≡ false → after.pass.fragment.forgot ≡ 0
   pub answers : answer ≡ refused (codes "J1") before.router.limit
   pub seen : journal_seen after ≡ journal_with before.router log
   pub mine : after.pass.fragment.mine ≡ before.pass.fragment.mine
 
--- a line enters exactly one event, or none where the history is full
+-- a line enters exactly one event, or none where the room is full
 pub record AnswersEvent (before : OperatorView) (happened : Event) (answer : Answer) (after : OperatorView) : Type 0 where
   pub log : List Entry
   pub found : IsFound before log
@@ -109,16 +114,18 @@ UnlessLinked node number Otherwise before answer after =
 
 -- ---- looks
 
--- The operator has seen the whole history of a moment, which goes on from what they had seen; nothing is entered.
+-- The operator has seen the whole history of a moment, which goes on from what they had seen, and knows how many entries of it are forgotten:
+-- no fewer than before, all but at most as many as the limit, and none where the router is not endless. Nothing is entered.
 pub record Looks (before after : OperatorView) : Type 0 where
   pub found : IsFound before after.pass.fragment.seen
-  pub room : length after.pass.fragment.seen ≤ before.router.limit
+  pub room : IsWithin (bounds_of before.router) after.pass.fragment.forgot (length after.pass.fragment.seen)
+  pub on : before.pass.fragment.forgot ≤ after.pass.fragment.forgot
   pub mine : after.pass.fragment.mine ≡ before.pass.fragment.mine
   pub only : OnlyPass before after
 
--- a look is answered from that one history
-abbrev pub AnswersLook : (JournalView → Answer) → OperatorView → Answer → OperatorView → Type 0
-AnswersLook look before answer after = Looks before after × (answer ≡ look (journal_seen after))
+-- a look is answered from that one history, of which so many entries are forgotten
+abbrev pub AnswersLook : (ℕ → JournalView → Answer) → OperatorView → Answer → OperatorView → Type 0
+AnswersLook look before answer after = Looks before after × (answer ≡ look after.pass.fragment.forgot (journal_seen after))
 
 -- a look for the node's present session, and then its Down
 abbrev pub AnswersDown : ℕ → OperatorView → Answer → OperatorView → Type 0
@@ -144,9 +151,9 @@ AnswersCommand before number (Receive node dest dist) answer after = Refuses (fa
 AnswersCommand before number (Take node) answer after = Refuses (fault_code fault.Words) number before answer after
 AnswersCommand before number (Show node) answer after = AnswersEvent before (event.Show node) answer after
 AnswersCommand before number (Look look) answer after =
-    AnswersLook (λ journal. looked (tables_of journal) number look) before answer after
+    AnswersLook (λ first journal. looked (tables_of journal) number look) before answer after
 AnswersCommand before number (History from) answer after =
-    AnswersLook (λ journal. answered (history_text journal.entries from)) before answer after
+    AnswersLook (λ first journal. history_looked first journal.entries from) before answer after
 
 abbrev pub AnswersRead : OperatorView → ℕ → Read → Answer → OperatorView → Type 0
 AnswersRead before number (Ok command) answer after = AnswersCommand before number command answer after

@@ -1,7 +1,7 @@
 //! Looks at a router that others call: the journal is shown, and nothing is entered.
 
 use line_protocol::LineReply;
-use operator_cmds::{Look, answer_entries, answer_look};
+use operator_cmds::{Look, answer_kept, answer_look};
 use route_history::LongJournal;
 use slot_lock::Observer;
 use std::alloc::{AllocError, Global};
@@ -12,7 +12,7 @@ pub(crate) enum Asked {
     /// A look at the tables.
     Tables(Look),
     /// The entries from a position on.
-    Entries(u32),
+    Entries(u64),
 }
 
 /// A look, which is answered while the journal is shown.
@@ -38,22 +38,14 @@ impl Looking {
     /// Answers the look, behind what is written so far.
     fn answer(&mut self, journal: &LongJournal) -> Result<LineReply, AllocError>
         ensures ok { OfHistory journal.now (λ history.
-            IfOk result (Adds (told self.old.asked self.old.number history) self.old.text.items self.new.text.items)) }
+            IfOk result (Adds (told self.old.asked self.old.number journal.now.first history) self.old.text.items self.new.text.items)) }
         ensures err { OnErr result (StartsWith self.new.text.items self.old.text.items) }
     {
         match self.asked {
             Asked::Tables(look) => {
                 answer_look(&mut self.text, journal.tables(), self.number, look)
             }
-            Asked::Entries(from) => {
-                // For the proof alone, which needs what its contract says.
-                let _kept = journal.kept();
-                match journal.all_entries() {
-                    Some(entries) => answer_entries(self.alloc, &mut self.text, entries, from),
-                    // Nobody operates a router that may forget entries.
-                    None => Err(AllocError),
-                }
-            }
+            Asked::Entries(from) => answer_kept(self.alloc, &mut self.text, journal, from),
         }
     }
 }
@@ -61,7 +53,7 @@ impl Looking {
 impl Observer for Looking {
     ghost use Rattle.router_operator.specs.Looking.{Tells};
 
-    ghost sees = { λ before _ history after. Tells before history after };
+    ghost sees = { λ before first history after. Tells before first history after };
 
     fn see(&mut self, journal: &LongJournal) {
         self.reply = self.answer(journal);

@@ -55,7 +55,7 @@ pub struct Operator<'a, R, L, J: Naming> {
     listener: &'a L,
     /// The number of nodes of the domain.
     size: u16,
-    /// The most entries of the history.
+    /// The most entries of the history, or as many as an endless router has room for.
     limit: u32,
     /// The nodes that have links.
     links: &'a [u16],
@@ -101,8 +101,8 @@ impl<'a, R: Wait + Clock, L: Listener, J: Naming> Service for Operator<'a, R, L,
 }
 
 impl<'a, R: Wait + Clock, L: Listener, J: Naming> Operator<'a, R, L, J> {
-    /// The operator of the router of this name, with a pass of it: `links` are the nodes that have links, and `filters` the filters that have names. The
-    /// router's domain has `size` nodes, and its history at most `limit` entries.
+    /// The operator of the router of this name, with a pass of it: `links` are the nodes that have links, and `filters` the filters that have
+    /// names. The router's domain has `size` nodes, and its journal room for `limit` entries.
     pub fn new(
         rt: &'a R,
         router: &'a Router,

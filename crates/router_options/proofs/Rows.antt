@@ -11,20 +11,27 @@ use Rattle.router_options.specs.declared.fault.NumberFault.TheVariants as number
 
 -- ---- the numbers
 
-largest_domain : are_numbers (record { size = 250; me = 249; limit = Some 1000000; retry = Some 1 }) ≡ true
+largest_domain : are_numbers (record { size = 250; me = 249; limit = Some 1000000; retry = Some 1 }) false ≡ true
 largest_domain = refl
 
 -- the size is wrong, and so are all others: it is told
-size_first : RefusesNumbers (record { size = 1; me = 9; limit = Some 0; retry = Some 0 }) (number.Size 1)
+size_first : RefusesNumbers (record { size = 1; me = 9; limit = Some 0; retry = Some 0 }) false (number.Size 1)
 size_first = (refl, refl)
 
-node_next : RefusesNumbers (record { size = 4; me = 9; limit = Some 0; retry = Some 0 }) (number.Node 9 3)
+node_next : RefusesNumbers (record { size = 4; me = 9; limit = Some 0; retry = Some 0 }) false (number.Node 9 3)
 node_next = (refl, refl, (refl, refl))
 
-limit_next : RefusesNumbers (record { size = 4; me = 3; limit = Some 1000001; retry = Some 0 }) (number.Limit 1000001)
+limit_next : RefusesNumbers (record { size = 4; me = 3; limit = Some 1000001; retry = Some 0 }) false (number.Limit 1000001)
 limit_next = (refl, refl, refl)
 
-no_wait : RefusesNumbers (record { size = 4; me = 3; limit = None; retry = Some 0 }) number.Retry
+-- a history of three entries can be saved, and a router that saves none has more room
+saved_room : are_numbers (record { size = 4; me = 3; limit = Some 3; retry = None }) true ≡ true
+saved_room = refl
+
+little_room : RefusesNumbers (record { size = 4; me = 3; limit = Some 2047; retry = Some 0 }) false (number.Room 2047)
+little_room = (refl, refl, refl, refl)
+
+no_wait : RefusesNumbers (record { size = 4; me = 3; limit = None; retry = Some 0 }) false number.Retry
 no_wait = (refl, refl, refl)
 
 -- ---- the options

@@ -8,9 +8,9 @@ use Rattle.operator_cmds.specs.Limits.{largest_limit}
 use Rattle.router_options.specs.declared.parts.FilterUse.{FilterUse}
 use Rattle.router_options.specs.declared.parts.LinkFiles.{LinkFiles}
 
--- the domain, the router's node and the prefixes; the nodes whose prefix was given, in order; the most entries of the history; the names of
--- the filters; the import and the export filters; the links; where the history is saved; how long a closed link waits; whether the router
--- goes on where its standard input ends
+-- the domain, the router's node and the prefixes; the nodes whose prefix was given, in order; the most entries of the history, or how many
+-- there is room for where that is not saved; the names of the filters; the import and the export filters; the links; where the history is
+-- saved; how long a closed link waits; whether the router goes on where its standard input ends
 pub record PlanView : Type 0 where
   pub opening : OpeningView
   pub placed : List ℕ

@@ -1,5 +1,5 @@
 -- What an option adds to what a router is told, or why it is refused. (This project's own choice.)
-use Rattle.std.specs.Prelude.{◌≡◌, ℕ, ◌+◌, ◌&&◌, Bool, true, false, nat_le, nat_lt, List, []}
+use Rattle.std.specs.Prelude.{◌≡◌, ℕ, ◌+◌, ◌&&◌, ◌||◌, Bool, true, false, nat_le, nat_lt, List, []}
 use Rattle.std.specs.Prelude.{◌∷◌, ◌++◌, Option, Some, None, String, slice_set, string_bytes}
 use Rattle.std.specs.declared.alloc.Global.{Global}
 use Rattle.filter_code.specs.Limits.{smallest_size, largest_size}
@@ -30,27 +30,40 @@ is_size size = nat_le smallest_size size && nat_le size largest_size
 abbrev pub is_limit : ℕ → Bool
 is_limit limit = nat_le 1 limit && nat_le limit largest_limit
 
+-- A router whose history is not saved forgets the first entries, and has room for 2,048 or more: so many that some can be forgotten while others
+-- are made. `saves` says whether the history is saved.
+abbrev pub smallest_room : ℕ
+smallest_room = 2048
+
+abbrev pub has_room : ℕ → Bool → Bool
+has_room limit saves = nat_le smallest_room limit || saves
+
+abbrev pub is_room : ℕ → Bool → Bool
+is_room limit saves = is_limit limit && has_room limit saves
+
 -- a link that is opened again waits a second at least: without a wait, one whose files open at once would be opened over and over
 abbrev pub is_retry : Option ℕ → Bool
 is_retry None = true
 is_retry (Some seconds) = nat_le 1 seconds
 
 -- the domain has as many nodes as a domain has, the router is one of them, and the limit and the wait fit
-abbrev pub are_numbers : Numbers → Bool
-are_numbers n = is_network n.size n.me && is_limit (limit_or n.limit) && is_retry n.retry
+abbrev pub are_numbers : Numbers → Bool → Bool
+are_numbers n saves = is_network n.size n.me && is_room (limit_or n.limit) saves && is_retry n.retry
 
 -- a node is not below the size of a domain, whose last node is this
 abbrev pub IsBeyond : ℕ → ℕ → ℕ → Type 0
 IsBeyond size node last = (nat_lt node size ≡ false) × (last + 1 ≡ size)
 
 -- Why numbers are refused. The first that does not fit is told: the size, the router's node, the limit and then the wait. Memory may be refused.
-abbrev pub RefusesNumbers : Numbers → NumberFault → Type 0
-RefusesNumbers n (number.Size size) = (size ≡ n.size) × (is_size n.size ≡ false)
-RefusesNumbers n (number.Node node last) = (node ≡ n.me) × (is_size n.size ≡ true) × IsBeyond n.size n.me last
-RefusesNumbers n (number.Limit limit) = (n.limit ≡ Some limit) × (is_network n.size n.me ≡ true) × (is_limit limit ≡ false)
-RefusesNumbers n number.Retry =
-    (n.retry ≡ Some 0) × (is_network n.size n.me ≡ true) × (is_limit (limit_or n.limit) ≡ true)
-RefusesNumbers n number.Memory = Unit {0}
+abbrev pub RefusesNumbers : Numbers → Bool → NumberFault → Type 0
+RefusesNumbers n saves (number.Size size) = (size ≡ n.size) × (is_size n.size ≡ false)
+RefusesNumbers n saves (number.Node node last) = (node ≡ n.me) × (is_size n.size ≡ true) × IsBeyond n.size n.me last
+RefusesNumbers n saves (number.Limit limit) = (n.limit ≡ Some limit) × (is_network n.size n.me ≡ true) × (is_limit limit ≡ false)
+RefusesNumbers n saves (number.Room limit) =
+    (n.limit ≡ Some limit) × (is_network n.size n.me ≡ true) × (is_limit limit ≡ true) × (has_room limit saves ≡ false)
+RefusesNumbers n saves number.Retry =
+    (n.retry ≡ Some 0) × (is_network n.size n.me ≡ true) × (is_room (limit_or n.limit) saves ≡ true)
+RefusesNumbers n saves number.Memory = Unit {0}
 
 -- the plan of these numbers, with the default prefixes, without links and filters
 abbrev pub new_plan : Numbers → Option (String Global) → Bool → PlanView

@@ -19,6 +19,9 @@ pub enum NumberFault {
     /// A history has no such limit.
     #[error("a history's limit is 1 to 1000000, and not {0}")]
     Limit(u32),
+    /// A router whose history is not saved has too little room for it in memory.
+    #[error("a router whose history is not saved has room for 2048 entries or more, and not {0}")]
+    Room(u32),
     /// A link that was closed would be opened again at once, and over and over where its files open without waiting.
     #[error("a link is opened again after 1 second or more")]
     Retry,

@@ -1,5 +1,5 @@
 //! All that a running router is told.
-ghost use Rattle.std.specs.Prelude.{◌≡◌, IfErr, IfOk, OnErr, OnOk, MatchOption, true};
+ghost use Rattle.std.specs.Prelude.{◌≡◌, IfErr, IfOk, OnErr, OnOk, MatchOption, is_some, true};
 ghost use Rattle.router_options.specs.PlanView as view;
 ghost use Rattle.router_options.specs.Plans as spec;
 ghost use Rattle.router_options.specs.declared.fault.OptionFault.TheVariants as fault;
@@ -13,6 +13,9 @@ use route_history::LARGEST_LIMIT;
 use std::alloc::Global;
 use std::marker::Model;
 
+/// The least number of entries that a router whose history is not saved has room for.
+pub const SMALLEST_ROOM: u32 = 2_048;
+
 /// The numbers of a router, as they are given.
 #[derive(Clone, Copy, PartialEq, Eq)]
 pub struct Numbers {
@@ -20,7 +23,7 @@ pub struct Numbers {
     pub size: u32,
     /// The node that the router is.
     pub me: u32,
-    /// The most entries of its history.
+    /// The most entries of its history where that is saved; otherwise how many there is room for in memory, 2,048 or more.
     pub limit: Option<u32>,
     /// How long a link that is closed waits before it is opened again, in seconds, 1 at least; for ever where none is said.
     pub retry: Option<u32>,
@@ -34,7 +37,7 @@ pub struct RouterPlan {
     pub opening: Opening,
     /// The nodes whose prefix was given.
     pub placed: Vec<u16>,
-    /// The most entries of the history.
+    /// The most entries of the history where that is saved; otherwise how many there is room for in memory.
     pub limit: u32,
     /// The names of the filters.
     pub filters: Vec<String>,
@@ -76,10 +79,17 @@ fn is_limit(limit: u32) -> bool
     1 <= limit && limit <= LARGEST_LIMIT
 }
 
-/// Looks at the numbers of a router, in order, up to the first that does not fit.
-fn check_numbers(numbers: Numbers) -> Result<(), NumberFault>
-    ensures fit { OnOk result (spec.are_numbers numbers ≡ true) }
-    ensures refused { IfErr result (spec.RefusesNumbers numbers) }
+/// Whether such a limit is room enough for a router whose history is saved or not.
+fn has_room(limit: u32, saves: bool) -> bool
+    ensures { result ≡ spec.has_room limit saves }
+{
+    SMALLEST_ROOM <= limit || saves
+}
+
+/// Looks at the numbers of a router whose history is saved or not, in order, up to the first that does not fit.
+fn check_numbers(numbers: Numbers, saves: bool) -> Result<(), NumberFault>
+    ensures fit { OnOk result (spec.are_numbers numbers saves ≡ true) }
+    ensures refused { IfErr result (spec.RefusesNumbers numbers saves) }
 {
     let Numbers { size, me, .. } = numbers;
     if !is_size(size) {
@@ -92,6 +102,9 @@ fn check_numbers(numbers: Numbers) -> Result<(), NumberFault>
     if let Some(limit) = numbers.limit {
         if !is_limit(limit) {
             return Err(NumberFault::Limit(limit));
+        }
+        if !has_room(limit, saves) {
+            return Err(NumberFault::Room(limit));
         }
     }
     if numbers.retry == Some(0) {
@@ -182,10 +195,10 @@ impl RouterPlan {
         stays: bool,
     ) -> Result<RouterPlan, NumberFault>
         ensures made { IfOk result (λ plan. plan ≡ spec.new_plan numbers save stays) }
-        ensures fit { OnOk result (spec.are_numbers numbers ≡ true) }
-        ensures refused { IfErr result (spec.RefusesNumbers numbers) }
+        ensures fit { OnOk result (spec.are_numbers numbers (is_some save) ≡ true) }
+        ensures refused { IfErr result (spec.RefusesNumbers numbers (is_some save)) }
     {
-        check_numbers(numbers)?;
+        check_numbers(numbers, save.is_some())?;
         let (size, me) = (numbers.size as u16, numbers.me as u16);
         let prefixes = default_prefixes(alloc, size)?;
         Ok(RouterPlan {

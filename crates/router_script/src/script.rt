@@ -399,7 +399,7 @@ impl Script {
         &self,
         alloc: Global,
         number: u32,
-        from: u32,
+        from: u64,
         out: &mut Vec<u8>,
     ) -> Result<LineReply, AllocError>
         ensures ok { IfOk result (Answers (λ answer. spec.AnswersLook number (λ j. answered (history_text j.entries from))

@@ -31,10 +31,10 @@ pub fn domains_rest_after_phases()
     ensures quiet { (d e : Domain) → IsInOrder d → Phases d.size d e → IsQuiet e }
 {}
 
-/// What is out of reach is known to be so as soon as a bound on metrics says. Where all that is out of reach of a destination counts up to
-/// no more than a bound, each distance is that of rest after as many phases; and where that is so of each destination, all is quiet after
-/// one more. It is so with one more than a limit, if what neighbours tell passes import filters, at both ends of each link, that reject
-/// what they would accept beyond the limit.
+/// What is out of reach is known to be so once distances have counted up to a bound. Where they count up to no more than the bound towards a
+/// destination, each distance to it is that of rest after as many phases. Where that is so of all destinations, everything is quiet after one
+/// phase more. A limit in the import filters gives such a bound, one more than itself, if at both ends of each link they let nothing through
+/// beyond it.
 pub fn limits_end_counting()
     ensures right { (j : ℕ) → (d e : Domain) → IsInOrder d → Phases j d e → (v : ℕ) → v < d.size → (a : ℕ → ℕ) → IsRest (topology d v) v a →
         CountsUpTo j d v a → (u : ℕ) → u < d.size → distance (e.router u) v ≡ a u }

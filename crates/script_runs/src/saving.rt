@@ -30,10 +30,8 @@ fn push_entry_at(
 ) -> Result<(), AllocError>
     ensures { OnOk result (out.new.items ≡ out.old.items ++ spec.next_lines (Some at) journal.now) }
 {
-    // A position is less than the limit.
-    let _limit = journal.limit();
     match journal.entries().get(at) {
-        Some(entry) => write_entry(alloc, out, at as u32, entry),
+        Some(entry) => write_entry(alloc, out, at as u64, entry),
         None => Ok(()),
     }
 }

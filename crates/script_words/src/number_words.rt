@@ -4,22 +4,21 @@ use crate::finding::{Finding, found_at};
 use crate::forms::ScriptKind;
 use crate::spelling::{byte_of_word, no_such_node, number_at, spelled, word_at};
 use line_protocol::NUMBER_LIMIT;
-use operator_cmds::read_small;
-use prefix_patterns::read_number;
+use operator_cmds::{read_long, read_small};
 use route_history::LARGEST_LIMIT;
 use std::alloc::{AllocError, Global};
 
 /// The most that the number of this index may be in a command.
-fn limit_of(verb: &[u8], index: usize) -> u32 {
+fn limit_of(verb: &[u8], index: usize) -> u64 {
     match verb {
-        b"history" => LARGEST_LIMIT,
-        b"network" if index == 3 => LARGEST_LIMIT,
-        _ => NUMBER_LIMIT,
+        b"history" => u64::MAX,
+        b"network" if index == 3 => u64::from(LARGEST_LIMIT),
+        _ => u64::from(NUMBER_LIMIT),
     }
 }
 
 /// What is wrong with a word that is no number of at most this.
-fn digits_words(alloc: Global, word: &[u8], limit: u32) -> Result<String, AllocError> {
+fn digits_words(alloc: Global, word: &[u8], limit: u64) -> Result<String, AllocError> {
     let shown = spelled(alloc, word)?;
     if word.iter().all(|byte| byte.is_ascii_digit()) {
         return format!(in alloc; "{shown} is more than {limit}");
@@ -41,7 +40,7 @@ pub(crate) fn number_words(
     };
     for index in 1..=numbers {
         let (word, limit) = (word_at(line, index), limit_of(verb, index));
-        if !word.is_empty() && read_number(word, limit).is_none() {
+        if !word.is_empty() && read_long(word, limit).is_none() {
             return Ok(found_at(line, index, digits_words(alloc, word, limit)?));
         }
     }

@@ -68,6 +68,8 @@ mod runs;
 #[cfg(test)]
 mod script_saves;
 #[cfg(test)]
+mod segments;
+#[cfg(test)]
 mod shifts;
 #[cfg(test)]
 mod soak;

@@ -31,14 +31,14 @@ returns-in-Err-clause-finished g c =
       holds = g.W.Write.contents c.run_router.new.writer;
       tells = g.E.Write.contents c.end_by_fault.new.errors;
     } in
-    let fails = untouched (Operated c.args.setting.plan c.args.setting.filters.entries before after)
+    let kept = option_map (λ file. g.R.New.Write.contents file) c.args.setting.save in
+    let fails = untouched (Operated c.args.setting.plan c.args.setting.filters.entries kept before after)
     ((c.run_router.new.reader ≡ c.console.inside.reader) × (c.run_router.new.writer ≡ c.console.inside.writer))
     ((after.reads ≡ before.reads) × (after.holds ≡ before.holds))
     (λ same. (ap (λ r. g.I.Read.remaining r) same.0, ap (λ w. g.W.Write.contents w) same.1)) c.in-Err.fault c.in-Err.ensures.failed in
-    let kept = option_map (λ file. g.R.New.Write.contents file) c.args.setting.save in
     rw (← c.console.view_is)
-    (faulted c.args.setting.plan c.args.setting.filters.entries before after c.in-Err.fault fails
-    (g.R.Folder.leaves c.args.rt.now) c.args.save.now kept c.end_by_fault.result c.end_by_fault.ensures.told)
+    (faulted c.args.setting.plan c.args.setting.filters.entries kept before after c.in-Err.fault fails
+    (g.R.Folder.leaves c.args.rt.now) c.args.save.now c.end_by_fault.result c.end_by_fault.ensures.told)
 
 pub returns-in-Err-clause-untold : goal.returns-in-Err-clause-untold
 returns-in-Err-clause-untold g c =
@@ -52,10 +52,11 @@ returns-in-Err-clause-untold g c =
       holds = g.W.Write.contents c.run_router.new.writer;
       tells = g.E.Write.contents c.end_by_fault.new.errors;
     } in
-    let fails = untouched (Operated c.args.setting.plan c.args.setting.filters.entries before after)
+    let kept = option_map (λ file. g.R.New.Write.contents file) c.args.setting.save in
+    let fails = untouched (Operated c.args.setting.plan c.args.setting.filters.entries kept before after)
     ((c.run_router.new.reader ≡ c.console.inside.reader) × (c.run_router.new.writer ≡ c.console.inside.writer))
     ((after.reads ≡ before.reads) × (after.holds ≡ before.holds))
     (λ same. (ap (λ r. g.I.Read.remaining r) same.0, ap (λ w. g.W.Write.contents w) same.1)) c.in-Err.fault c.in-Err.ensures.failed in
     rw (← c.console.view_is)
-    (cut_short c.args.setting.plan c.args.setting.filters.entries before after c.in-Err.fault fails
+    (cut_short c.args.setting.plan c.args.setting.filters.entries kept before after c.in-Err.fault fails
     c.end_by_fault.result c.end_by_fault.ensures.cut)

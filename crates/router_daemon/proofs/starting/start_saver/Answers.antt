@@ -7,9 +7,9 @@ use Rattle.std.below.core.proofs.snapshot.Sent.{snapshot_send}
 use Rattle.std.specs.contracts.snapshot.Snapshot.{the_field as snapshot_field}
 use Rattle.history_saver.specs.contracts.saver.Saver.{the_row as saver_row, the_field as saver_field}
 use Rattle.history_saver.specs.contracts.saver.Saver.TheInside.{the_type as saver_type}
-use Rattle.router_daemon.specs.contracts.naming.LegalTicket.{the_row as ticket_row, the_field as ticket_field}
+use Rattle.router_daemon.specs.contracts.naming.WholeTicket.{the_row as ticket_row, the_field as ticket_field}
 use Rattle.router_daemon.specs.contracts.saving.Saved.TheInside.{the_type as saved_type}
-use Rattle.router_daemon.proofs.naming.LegalTicket.TheSendSync.{the_send}
+use Rattle.router_daemon.proofs.naming.WholeTicket.TheSendSync.{the_send}
 use Rattle.router_daemon.proofs.starting.start_saver.Goals as goal
 
 pub spawn_with-started-requires-send-T : goal.spawn_with-started-requires-send-T

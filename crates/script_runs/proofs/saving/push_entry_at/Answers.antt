@@ -1,17 +1,11 @@
 -- The entry at the position, if there is one.
-use Rattle.std.proofs.Common.{◌≡◌, ◌++◌, ℕ, List, Option, Some, None, OnOk, [], ◌∷◌, append_assoc, slice_get, sym, ap, subst, ◌∙◌, append-nil, arith}
-use Rattle.std.proofs.lemmas.Option.{slice_get_within}
+use Rattle.std.proofs.Common.{◌≡◌, ◌++◌, ℕ, List, Option, Some, None, OnOk, [], ◌∷◌, append_assoc, slice_get, sym, ap, subst, ◌∙◌, append-nil}
 use Rattle.history_file.specs.Text.{entry_line}
 use Rattle.history_file.specs.Views.{entry_view}
 use Rattle.route_history.specs.Whole.{whole_entry}
 use Rattle.route_history.specs.declared.entry.Entry.{Entry}
 use Rattle.script_runs.specs.News.{line_of}
 use Rattle.script_runs.proofs.saving.push_entry_at.Goals as goal
-
-pub overflow_cast-at : goal.overflow_cast-at
-overflow_cast-at c =
-    let within = slice_get_within c.entries.result.now c.args.at (whole_entry c.in-Some.entry) (sym c.in-Some.ensures) in
-    omega (arith, within, c.entries.ensures.room)
 
 pub returns-in-Some : goal.returns-in-Some
 returns-in-Some c =

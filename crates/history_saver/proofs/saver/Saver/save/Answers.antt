@@ -1,4 +1,4 @@
-use Rattle.std.proofs.Common.{◌≡◌, ◌∙◌, None, rules}
+use Rattle.std.proofs.Common.{◌∙◌}
 use Rattle.history_saver.proofs.Looking.{looks_both}
 use Rattle.history_saver.proofs.saver.Saver.save.Goals as goal
 
