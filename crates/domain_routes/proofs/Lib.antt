@@ -10,6 +10,7 @@ pub mod One
 pub mod Places
 pub mod Quiet
 pub mod Reach
+pub mod Still
 pub mod Unlinked
 pub mod Values
 pub mod Waiting

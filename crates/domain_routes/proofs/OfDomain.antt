@@ -14,9 +14,9 @@ use Rattle.domain_routes.specs.Topology.{toll, topology}
 
 -- two topologies of one size, with the same links and tolls between their nodes
 pub record AreAlike (m n : Topology) : Type 0 where
-  size : m.size ≡ n.size
-  linked : (u w : ℕ) → u < m.size → w < m.size → m.linked u w ≡ n.linked u w
-  toll : (u w x : ℕ) → u < m.size → w < m.size → m.toll u w x ≡ n.toll u w x
+  pub size : m.size ≡ n.size
+  pub linked : (u w : ℕ) → u < m.size → w < m.size → m.linked u w ≡ n.linked u w
+  pub toll : (u w x : ℕ) → u < m.size → w < m.size → m.toll u w x ≡ n.toll u w x
 
 pub leads_alike : (m n : Topology) → AreAlike m n → (to : ℕ) (dist : ℕ → ℕ) (u w : ℕ) → u < m.size → LeadsThrough m to dist u w →
     LeadsThrough n to dist u w
@@ -28,7 +28,7 @@ leads_alike m n s to dist u w short l = record {
   in_reach = omega (arith, l.in_reach, s.size);
 }
 
-rest_alike : (m n : Topology) → AreAlike m n → (to : ℕ) (dist : ℕ → ℕ) → IsRest m to dist → IsRest n to dist
+pub rest_alike : (m n : Topology) → AreAlike m n → (to : ℕ) (dist : ℕ → ℕ) → IsRest m to dist → IsRest n to dist
 rest_alike m n s to dist r = record {
   own = r.own;
   bounded = λ u short. omega (arith, s.size, r.bounded u (omega (arith, short, s.size)));
@@ -43,7 +43,7 @@ rest_alike m n s to dist r = record {
 }
 
 -- a filter is shown the size and the prefixes of an opening alone
-same_filtered_distance : (o p : OpeningView) → o.size ≡ p.size → o.prefixes ≡ p.prefixes → (f : Option VerifiedView) (v d : ℕ) → filtered_distance o f v d ≡ filtered_distance p f v d
+pub same_filtered_distance : (o p : OpeningView) → o.size ≡ p.size → o.prefixes ≡ p.prefixes → (f : Option VerifiedView) (v d : ℕ) → filtered_distance o f v d ≡ filtered_distance p f v d
 unfolding filtered_distance
 same_filtered_distance o p size prefixes None v d = refl
 same_filtered_distance o p size prefixes (Some f) v d = cc

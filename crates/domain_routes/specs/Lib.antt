@@ -4,6 +4,7 @@ pub mod OfDomain
 pub mod PlanView
 pub mod Reach
 pub mod Routes
+pub mod Still
 pub mod Topology
 -- What only the bodies of this crate are proved against.
 pub mod Offers

@@ -1,12 +1,15 @@
 //! What plans and their routes come to: laws that hold whatever the code does.
 
-ghost use Rattle.std.specs.Prelude.{◌≡◌, ◌≢◌, ℕ, ◌+◌, ◌<◌, ◌==◌, ◌&&◌, ◌||◌, if◌then◌else◌, Bool, List, length, true, false};
+ghost use Rattle.std.specs.Prelude.{◌≡◌, ◌≢◌, ℕ, ◌+◌, ◌<◌, ◌≤◌, ◌==◌, ◌&&◌, ◌||◌, if◌then◌else◌, Bool, List, length, true, false};
 ghost use Rattle.domain_routes.specs.declared.best.Best.{Best};
 ghost use Rattle.domain_routes.specs.Edits.{exporting, importing, linking, put, unlinked};
 ghost use Rattle.domain_routes.specs.OfDomain.{IsPlanOf};
 ghost use Rattle.domain_routes.specs.PlanView.{IsPlan, PeerView, PlanView, is_linked, peer};
 ghost use Rattle.domain_routes.specs.Reach.{greatest, phases_to_rest};
 ghost use Rattle.domain_routes.specs.Routes.{AreRoutes, route_at};
+ghost use Rattle.domain_routes.specs.Still.{IsSince, after_link, is_one_way, loose_between, one_below};
+ghost use Rattle.domain_routes.specs.declared.since.Since.{Since};
+ghost use Rattle.domain_routes.specs.declared.since.Since.TheVariants as since;
 ghost use Rattle.netchange_core.specs.Best.{best, distance};
 ghost use Rattle.domain_routes.specs.Topology.{topology};
 ghost use Rattle.std.proofs.Common.{Global};
@@ -17,6 +20,8 @@ ghost use Rattle.netchange_core.specs.declared.message.Message.{Message};
 ghost use Rattle.netchange_core.specs.OpeningView.{OpeningView};
 ghost use Rattle.routing_domain.specs.Domain.{AreOpenings, Domain, IsInOrder, IsQuiet, are_linked, opened_domain, topology as domain_topology};
 ghost use Rattle.routing_domain.specs.Events.{CanLink, cuts, enters, links};
+ghost use Rattle.routing_domain.specs.Failures.{AreOneBelow, HappenAll};
+ghost use Rattle.routing_domain.specs.Network.{IsOrderly, IsWhole, Network};
 ghost use Rattle.routing_domain.specs.Phases.{AreWithin, Phases};
 ghost use Rattle.routing_domain.specs.Rest.{IsRest};
 ghost use Rattle.routing_domain.specs.Runs.{Runs};
@@ -78,4 +83,33 @@ pub fn reach_bounds_phases()
     ensures quiet { (d e : Domain) → (p : PlanView) → (all : ℕ → List Best) → IsInOrder d → IsPlanOf d p →
         ((v : ℕ) → v < p.size → AreRoutes (topology p v) v (all v)) →
         Phases (phases_to_rest p.size (λ v u. (route_at p.size (all v) u).dist)) d e → IsQuiet e }
+{}
+
+/// Of a plan to which links were made alone, or cut alone, it stays known that it has all links of what it was, or that this had all of
+/// its links; whatever else is done to a plan, nothing is known.
+pub fn links_change_one_way()
+    ensures begins { (p : PlanView) → IsSince since.Nothing p p }
+    ensures link { (s : Since) → (linked : Bool) → (p q : PlanView) → (u w : ℕ) → IsPlan q → u < q.size → w < q.size → u ≢ w → IsSince s p q →
+        IsSince (after_link linked s) p (linking linked u w q) }
+{}
+
+/// Where links come and go, what is near stands still. Of a plan and what it is once links were made alone, or cut alone, take the routes to
+/// a destination, before and after. There is a greatest bound below which their distances are one. A network with the links and filters of
+/// the plan as it was, that was left alone for as many phases, keeps each distance below the bound, whichever of these links come up and go
+/// down from then on, at either end, and whatever messages are lost; and each next hop there that is the same before and after.
+pub fn what_is_near_stands_still()
+    ensures one { (size : ℕ) → (a b : ℕ → ℕ) → AreOneBelow size (one_below size a b) a b }
+    ensures greatest { (size k : ℕ) → (a b : ℕ → ℕ) → k ≤ size → AreOneBelow size k a b → k ≤ one_below size a b }
+    ensures distance { (s : Since) → (p q : PlanView) → is_one_way s ≡ true → IsSince s p q → IsPlan p → IsPlan q → (v : ℕ) → v < p.size → (a b : List Best) →
+        AreRoutes (topology p v) v a → AreRoutes (topology q v) v b → (n m : Network) → IsOrderly n → IsWhole n → IsPlanOf n.domain p → (d : Domain) → IsInOrder d →
+        Phases (one_below p.size (λ u. (route_at p.size a u).dist) (λ u. (route_at q.size b u).dist)) d n.domain →
+        (j : ℕ) → HappenAll j (loose_between p q) n m → (u : ℕ) → u < p.size →
+        (route_at q.size b u).dist < one_below p.size (λ u. (route_at p.size a u).dist) (λ u. (route_at q.size b u).dist) →
+        distance (m.domain.router u) v ≡ (route_at q.size b u).dist }
+    ensures via { (s : Since) → (p q : PlanView) → is_one_way s ≡ true → IsSince s p q → IsPlan p → IsPlan q → (v : ℕ) → v < p.size → (a b : List Best) →
+        AreRoutes (topology p v) v a → AreRoutes (topology q v) v b → (n m : Network) → IsOrderly n → IsWhole n → IsPlanOf n.domain p → (d : Domain) → IsInOrder d →
+        Phases (one_below p.size (λ u. (route_at p.size a u).dist) (λ u. (route_at q.size b u).dist)) d n.domain →
+        (j : ℕ) → HappenAll j (loose_between p q) n m → (u : ℕ) → u < p.size →
+        (route_at q.size b u).dist < one_below p.size (λ u. (route_at p.size a u).dist) (λ u. (route_at q.size b u).dist) →
+        (route_at p.size a u).via ≡ (route_at q.size b u).via → (best (m.domain.router u) v).via ≡ (route_at q.size b u).via }
 {}

@@ -1,0 +1,42 @@
+use Rattle.domain_routes.proofs.Still.{Happened, are_one, distance_stands, is_greatest, via_stands}
+use Rattle.domain_routes.proofs.laws.what_is_near_stands_still.Goals as goal
+
+pub returns : goal.returns
+returns c = record {
+  one = λ size a b. are_one size a b;
+  greatest = λ size k a b within agree. is_greatest size a b k within agree;
+  distance = λ s p q one is plan later v there a b before now n m orderly whole of_plan d o phases j happen u short near.
+      distance_stands p q v a b n m
+      (record {
+        plan = plan;
+        later = later;
+        there = there;
+        before = before;
+        now = now;
+        orderly = orderly;
+        whole = whole;
+        of_plan = of_plan;
+        start = d;
+        in_order = o;
+        phases = phases;
+        count = j;
+        happen = happen;
+      }) u short near s one is;
+  via = λ s p q one is plan later v there a b before now n m orderly whole of_plan d o phases j happen u short near same.
+      via_stands p q v a b n m
+      (record {
+        plan = plan;
+        later = later;
+        there = there;
+        before = before;
+        now = now;
+        orderly = orderly;
+        whole = whole;
+        of_plan = of_plan;
+        start = d;
+        in_order = o;
+        phases = phases;
+        count = j;
+        happen = happen;
+      }) u short near s one is same;
+}
