@@ -65,8 +65,10 @@ class Lines:
         if chosen < 70:
             return f"prefix {self.node()} 10.{self.numbers.randrange(4)}.{self.numbers.randrange(3)}.0/24"
         verb = self.numbers.choice(QUESTIONS)
-        words = {"route": 2, "path": 2, "table": 1, "draw": 1}.get(verb, 0)
-        return " ".join(["reach\nsettle" if verb == "settle" else verb, *(str(self.node()) for _ in range(words))])
+        words = [str(self.node()) for _ in range({"route": 2, "path": 2, "table": 1, "draw": 1}.get(verb, 0))]
+        if verb == "draw" and self.numbers.randrange(2):
+            words.append("changes")
+        return " ".join(["reach\nsettle" if verb == "settle" else verb, *words])
 
     def script(self):
         yield from (f"prefix {self.node()} 10.{self.numbers.randrange(4)}.7.0/24" for _ in range(self.numbers.randrange(2)))

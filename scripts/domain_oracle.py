@@ -78,6 +78,8 @@ class Script:
 
     def __init__(self):
         self.domain, self.filters, self.marked, self.begun = None, {}, None, False
+        # What was done since the last `mark`: the commands, or None where it is not known.
+        self.done = None
 
     def answer(self, number, line):
         verb, *words = line.split()
@@ -103,7 +105,7 @@ class Script:
         if verb in ("import", "export") and words[2] not in self.filters:
             return f"refused O6 {number}"
         self.begun = True
-        nodes = [int(word) for word in words[:2]]
+        nodes = [int(word) for word in words[:2] if word != "changes"]
         pair = verb in ("link", "cut", "import", "export")
         if any(node >= domain.size for node in nodes) or pair and nodes[0] == nodes[1]:
             return f"refused D1 {number}"
@@ -111,21 +113,28 @@ class Script:
             return f"refused D2 {number}"
         if verb == "cut" and tuple(nodes) not in domain.links:
             return f"refused D3 {number}"
-        return getattr(self, verb)(*nodes, *words[2:])
+        return getattr(self, verb)(*nodes, *words[len(nodes):])
+
+    def note(self, verb):
+        if self.done is not None:
+            self.done.add(verb)
 
     def link(self, u, w):
+        self.note("link")
         self.domain.links |= {(u, w), (w, u)}
         self.domain.up(u, w)
         self.domain.up(w, u)
         return "ok"
 
     def cut(self, u, w):
+        self.note("cut")
         self.domain.links -= {(u, w), (w, u)}
         self.domain.down(u, w)
         self.domain.down(w, u)
         return "ok"
 
     def export(self, u, w, name):
+        self.note("filter")
         self.domain.routers[u].set_export(w, self.domain.under(self.filters[name]))
         return "ok"
 
@@ -144,9 +153,24 @@ class Script:
         rows = [routes[u] for routes in self.domain.all_routes()]
         return "table " + " ".join(f"{v}:{dist}" + (f":{via}" if via is not None else "") for v, (dist, via) in enumerate(rows))
 
-    def draw(self, v):
+    def is_one_way(self):
+        """Whether links were made alone, or cut alone, since the last `mark`."""
+        return self.done is not None and len(self.done) < 2 and "filter" not in self.done
+
+    def still_below(self, v):
+        """Below which distance no route to a node is another one than at the last `mark`: the size, if none is."""
+        both = [{old[0], new[0]} for old, new in zip(self.marked[v], self.domain.routes_to(v))]
+        return min((min(two) for two in both if len(two) == 2), default=self.domain.size)
+
+    def looks(self, v, u, route, is_shown):
+        """How a node looks in a picture of the routes to another."""
+        looks = [f'label="{u} at {route[0]}"' if route[0] < self.domain.size else "style=dotted"]
+        is_still = self.is_one_way() and route[0] < self.still_below(v) and route[1] == self.marked[v][u][1]
+        return ", ".join(looks + (["color=red"] if is_shown and not is_still else []))
+
+    def draw(self, v, *options):
         routes = self.domain.routes_to(v)
-        nodes = [f'{u} [label="{u} at {d}"];' if d < self.domain.size else f"{u} [style=dotted];" for u, (d, _) in enumerate(routes)]
+        nodes = [f"{u} [{self.looks(v, u, route, bool(options))}];" for u, route in enumerate(routes)]
         hops = [(u, via) for u, (_, via) in enumerate(routes) if via is not None]
         idle = [(u, w) for u, w in sorted(self.domain.links) if u < w and (u, w) not in hops and (w, u) not in hops]
         arrows = [f"{u} -> {w};" for u, w in hops] + [f"{u} -> {w} [dir=none, style=dotted];" for u, w in idle]
@@ -157,12 +181,16 @@ class Script:
         return f"reach {max(dist for dist in dists if dist < size)} {min(max(dists) + 1, size)}"
 
     def mark(self):
-        self.marked = self.domain.all_routes()
+        self.marked, self.done = self.domain.all_routes(), set()
         return "ok"
 
     def changes(self):
         now, size = self.domain.all_routes(), self.domain.size
-        return "changes" + "".join(f" {u}:{v}" for u in range(size) for v in range(size) if now[v][u] != self.marked[v][u])
+        said = "changes" + "".join(f" {u}:{v}" for u in range(size) for v in range(size) if now[v][u] != self.marked[v][u])
+        if not self.is_one_way():
+            return said
+        bounds = [(v, self.still_below(v)) for v in range(size)]
+        return said + " still" + "".join(f" {v}:{bound}" for v, bound in bounds if bound < size)
 
     def settle(self):
         rounds = received = 0
@@ -172,6 +200,7 @@ class Script:
 
 
 def importing(script, u, w, name):
+    script.note("filter")
     script.domain.routers[u].set_import(w, script.domain.under(script.filters[name]))
     return "ok"
 

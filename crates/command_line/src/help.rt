@@ -246,8 +246,11 @@ The input is commands, one a line. Empty lines and lines that begin with # are s
   path U V               the nodes on the way
   table U                all routes of U
   draw V                 a picture of the routes to V, for Graphviz
+  draw V changes         the same; who may feel what was done since the mark is red
+  reach                  how far routes go, and how soon all of them are right
   mark                   remember all routes
-  changes                the routes that are not what they were at the last mark
+  changes                the routes that are not what they were at the last mark, and
+                         which distances stand still while the changes happen
   settle                 have the routers exchange messages until none is left
 
 Each command is answered on standard output before more input is read:
@@ -256,7 +259,10 @@ Each command is answered on standard output before more input is read:
   route D local, route D via W, route D none
   path U .. V, path none
   table V:D:W V:D ..     to V at distance D through W
-  changes U:V U:V ..     of U to V
+  reach LONGEST PHASES   a phase is over when all came in that waited at its start
+  changes U:V ..         of U to V
+  .. still V:K ..        where links were made alone, or cut alone: to V no distance
+                         below K changes while they come and go; to others none
   settled ROUNDS COUNT   COUNT messages were heard
   digraph { .. }         draw
   refused CODE AT        the command was refused, and no route changed:

@@ -9,41 +9,42 @@ use Rattle.operator_cmds.specs.Script.{AnswersSource}
 use Rattle.operator_cmds.proofs.Answering.{answers}
 use Rattle.domain_routes.specs.PlanView.{PlanView}
 use Rattle.domain_routes.specs.declared.best.Best.{Best}
+use Rattle.domain_routes.specs.declared.since.Since.{Since}
 use Rattle.domain_cmds.specs.Script.{AnswersLoad, AnswersQuestion, Asks}
 use Rattle.domain_cmds.specs.State.{FiltersView, Named, PlanningView, filter_named}
 use Rattle.domain_cmds.specs.declared.command.Question.{Question}
 
-abbrev domain : PlanView → Named → Bool → Option (List (List Best)) → PlanningView
-domain plan filters begun marked = record { plan = plan; filters = filters; begun = begun; marked = marked }
+abbrev domain : PlanView → Named → Bool → Option (List (List Best)) → Since → PlanningView
+domain plan filters begun marked done = record { plan = plan; filters = filters; begun = begun; marked = marked; since = done }
 
 -- what is answered to a domain whose fields are these; `p` is how it was
 module _ {E : Type 0} (done : Result LineReply E) (old new : List ℕ) (p : PlanningView) (plan : PlanView) (begun : Bool)
-    (marked : Option (List (List Best))) (number : ℕ) where
+    (marked : Option (List (List Best))) (so_far : Since) (number : ℕ) where
   -- a question, which leaves the plan as it was
-  pub asked : (later : PlanView) (filters : Named) (question : Question) → domain plan filters begun marked ≡ p → later ≡ plan
-      → IfOk done (Answers (AnswersQuestion question plan marked number) old new)
-      → IfOk done (Answers (λ answer. Asks (AnswersQuestion question p.plan p.marked number) p answer (domain later filters true marked)) old new)
+  pub asked : (later : PlanView) (filters : Named) (question : Question) → domain plan filters begun marked so_far ≡ p → later ≡ plan
+      → IfOk done (Answers (AnswersQuestion question plan marked so_far number) old new)
+      → IfOk done (Answers (λ answer. Asks (AnswersQuestion question p.plan p.marked p.since number) p answer (domain later filters true marked so_far)) old new)
   asked later filters question is same h =
       subst
       (λ (q : PlanningView). IfOk done
-      (Answers (λ answer. Asks (AnswersQuestion question q.plan q.marked number) q answer (domain later filters true marked)) old new))
+      (Answers (λ answer. Asks (AnswersQuestion question q.plan q.marked q.since number) q answer (domain later filters true marked so_far)) old new))
       is
-      (answers done (AnswersQuestion question plan marked number)
-      (λ answer. Asks (AnswersQuestion question plan marked number) (domain plan filters begun marked) answer (domain later filters true marked))
+      (answers done (AnswersQuestion question plan marked so_far number)
+      (λ answer. Asks (AnswersQuestion question plan marked so_far number) (domain plan filters begun marked so_far) answer (domain later filters true marked so_far))
       old new
-      (λ answer a. (a, ap (λ (x : PlanView). domain x filters true marked) same)) h)
+      (λ answer a. (a, ap (λ (x : PlanView). domain x filters true marked so_far) same)) h)
 
   -- a source, by the filters of names
   pub loaded : (Gives : CodeView → Type 0) (Lacks : Refusal → Type 0) (filters later : FiltersView) (name : List ℕ)
-      → domain plan filters.named begun marked ≡ p → filters.size ≡ plan.size
+      → domain plan filters.named begun marked so_far ≡ p → filters.size ≡ plan.size
       → IfOk done (Answers (λ answer. AnswersSource Gives Lacks filters.size number name (filter_named filters.named) answer
       (filter_named later.named)) old new)
-      → IfOk done (Answers (λ answer. AnswersLoad Gives Lacks p number name answer (domain plan later.named begun marked)) old new)
+      → IfOk done (Answers (λ answer. AnswersLoad Gives Lacks p number name answer (domain plan later.named begun marked so_far)) old new)
   loaded Gives Lacks filters later name is fits h =
       let IsSo : ℕ → Answer → Type 0 =
       λ n answer. AnswersSource Gives Lacks n number name (filter_named filters.named) answer (filter_named later.named) in
       let IsDone : PlanningView → Answer → Type 0 =
-      λ q answer. AnswersLoad Gives Lacks q number name answer (domain plan later.named begun marked) in
+      λ q answer. AnswersLoad Gives Lacks q number name answer (domain plan later.named begun marked so_far) in
       subst (λ (q : PlanningView). IfOk done (Answers (IsDone q) old new)) is
-      (answers done (IsSo filters.size) (IsDone (domain plan filters.named begun marked)) old new
+      (answers done (IsSo filters.size) (IsDone (domain plan filters.named begun marked so_far)) old new
       (λ answer a. (subst (λ (n : ℕ). IsSo n answer) fits a, refl)) h)

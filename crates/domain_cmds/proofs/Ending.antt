@@ -6,7 +6,9 @@ use Rattle.line_protocol.specs.Answers.{Answer}
 use Rattle.operator_cmds.specs.Script.{GivesFile, GivesText, IsRefusedFile}
 use Rattle.domain_routes.specs.Edits.{linking}
 use Rattle.domain_routes.specs.PlanView.{PlanView, is_linked}
+use Rattle.domain_routes.specs.Still.{after_link}
 use Rattle.domain_routes.specs.declared.best.Best.{Best}
+use Rattle.domain_routes.specs.declared.since.Since.{Since}
 use Rattle.domain_cmds.specs.CommandView.{CommandView, Domain, Prefix, Load, Code, Link, Use, Mark, Ask}
 use Rattle.domain_cmds.specs.Commands.{Read, command_in}
 use Rattle.domain_cmds.specs.Script
@@ -24,15 +26,15 @@ module _ (answer : Answer) where
   by_name (Some f) plan p number u w after h =
       either (Script.are_a_pair p.plan.size u w) _ _ (λ q. like answer _ q.0 refl) (λ q. like answer _ q.0 refl) h
 
-  unless : (why : Option StateFault) (plan : PlanView) (p : PlanningView) (number : ℕ) (after : PlanningView)
-      → Script.PlansUnless why plan p number answer after → GoesOn answer
-  unless None plan p number after h = like answer _ h.0 refl
-  unless (Some why) plan p number after h = like answer _ h.0 refl
+  unless : (why : Option StateFault) (done : Since) (plan : PlanView) (p : PlanningView) (number : ℕ) (after : PlanningView)
+      → Script.PlansUnless why done plan p number answer after → GoesOn answer
+  unless None done plan p number after h = like answer _ h.0 refl
+  unless (Some why) done plan p number after h = like answer _ h.0 refl
 
   linked : (wanted : Bool) (p : PlanningView) (number u w : ℕ) (after : PlanningView) → Script.AnswersLink wanted p number u w answer after
       → GoesOn answer
   linked wanted p number u w after h = either (Script.are_a_pair p.plan.size u w) _ _
-      (λ q. unless (Script.link_fault (is_linked p.plan u w) wanted) (linking wanted u w p.plan) p number after q)
+      (λ q. unless (Script.link_fault (is_linked p.plan u w) wanted) (after_link wanted p.since) (linking wanted u w p.plan) p number after q)
       (λ q. like answer _ q.0 refl) h
 
   prefixed : (p : PlanningView) (number node : ℕ) (bits : List Bool) (after : PlanningView)
@@ -49,19 +51,21 @@ module _ (answer : Answer) where
   settled number (inl (rounds, messages, few, h)) = like answer _ h refl
   settled number (inr h) = like answer _ h refl
 
-  told : (q : Question) (plan : PlanView) (marked : Option (List (List Best))) (number : ℕ)
-      → Script.AnswersQuestion q plan marked number answer → GoesOn answer
-  told (question.Route u v) plan marked number h =
+  told : (q : Question) (plan : PlanView) (marked : Option (List (List Best))) (done : Since) (number : ℕ)
+      → Script.AnswersQuestion q plan marked done number answer → GoesOn answer
+  told (question.Route u v) plan marked done number h =
       told_of plan number u v (Script.TellsRoute plan.size u) (λ routes q. like answer _ q refl) h
-  told (question.Path u v) plan marked number h =
+  told (question.Path u v) plan marked done number h =
       told_of plan number u v (Script.TellsPath plan.size u) (λ routes q. like answer _ q.2 refl) h
-  told (question.Table u) plan marked number h =
+  told (question.Table u) plan marked done number h =
       either (nat_lt u plan.size) _ _ (λ q. like answer _ q.2 refl) (λ q. like answer _ q refl) h
-  told (question.Draw v) plan marked number h =
+  told (question.Draw v) plan marked done number h =
       either (nat_lt v plan.size) _ _ (λ q. like answer _ q.2 refl) (λ q. like answer _ q refl) h
-  told question.Reach plan marked number h = like answer _ h.2 refl
-  told question.Changes plan marked number h = like answer _ h.4 refl
-  told question.Settle plan marked number h = settled number h
+  told (question.DrawChanges v) plan marked done number h =
+      either (nat_lt v plan.size) _ _ (λ q. like answer _ q.6 refl) (λ q. like answer _ q refl) h
+  told question.Reach plan marked done number h = like answer _ h.2 refl
+  told question.Changes plan marked done number h = like answer _ h.4 refl
+  told question.Settle plan marked done number h = settled number h
 
   planned : (p : PlanningView) (number : ℕ) (c : CommandView) (after : PlanningView)
       → Script.AnswersPlanned p number c answer after → GoesOn answer
@@ -75,7 +79,7 @@ module _ (answer : Answer) where
   planned p number (Use way u w name) after h =
       by_name (filter_named p.filters name) (λ filter. Script.filtering way filter u w p.plan) p number u w after h
   planned p number Mark after h = like answer _ h.2.0 refl
-  planned p number (Ask q) after h = told q p.plan p.marked number h.0
+  planned p number (Ask q) after h = told q p.plan p.marked p.since number h.0
 
   first : (number : ℕ) (c : CommandView) (after : Option PlanningView) → Script.AnswersFirst number c answer after → GoesOn answer
   first number (Domain size) after h = like answer _ h.0 refl

@@ -18,7 +18,7 @@ AllFit size filters = (name : List ℕ) → IfSome (filters name) (λ f. f.size 
 module _ (Gives : CodeView → Type 0) (Lacks : Refusal → Type 0) (size number : ℕ) (name : List ℕ) (m n : Named)
     (before : AllFit size (filter_named m)) where
   -- one more that fits, or none
-  answered_fit : (answer : Answer) → AnswersSource Gives Lacks size number name (filter_named m) answer (filter_named n)
+  pub answered_fit : (answer : Answer) → AnswersSource Gives Lacks size number name (filter_named m) answer (filter_named n)
       → AllFit size (filter_named n)
   answered_fit answer (inl (filter, good, (told, gets))) other =
       subst (λ (o : Option VerifiedView). IfSome o (λ f. f.size ≡ size)) (sym (gets other)) (split (bytes_eq name other))

@@ -1,5 +1,6 @@
 -- What command a line gives, or the first thing that is wrong with it. (This project's own choice.)
-use Rattle.std.specs.Prelude.{ℕ, true, false, List, [], ◌∷◌, length, nat_lt, Option, Some, None, Result, Ok, Err, if◌then◌else◌}
+use Rattle.std.specs.Prelude.{ℕ, true, false, List, [], ◌∷◌, length, nat_lt, Option, Some, None, Result, Ok, Err, if◌then◌else◌, codes}
+use Rattle.std.specs.Str.{bytes_eq}
 use Rattle.line_protocol.specs.Limits.{line_limit}
 use Rattle.line_protocol.specs.Words.{words}
 use Rattle.prefix_patterns.specs.Reading.{number_in}
@@ -55,6 +56,12 @@ abbrev pub alone : CommandView → List (List ℕ) → Read
 alone command [] = Ok command
 alone command (word ∷ more) = Err fault.Words
 
+-- the number of a node, as the only word, or with the word `changes` behind it: another word counts before a bad number
+abbrev pub drawing_in : List (List ℕ) → Option (List ℕ × List ℕ) → Read
+drawing_in args None = made (λ v. Ask (question.Draw v)) (node_in (one_of args))
+drawing_in args (Some (node, option)) =
+    if bytes_eq option (codes "changes") then made (λ v. Ask (question.DrawChanges v)) (node_in (Some node)) else Err fault.Words
+
 -- a command by its verb and the words after it; `text` is what follows the second word of the line, without blanks at its front
 abbrev pub command_of : Option Verb → List (List ℕ) → List ℕ → Read
 command_of None args text = Err fault.Words
@@ -69,7 +76,7 @@ command_of (Some verb.Export) args text = made (λ p. Use direction.Export p.0 p
 command_of (Some verb.Route) args text = made (λ p. Ask (question.Route p.0 p.1)) (nodes_in (two_of args))
 command_of (Some verb.Path) args text = made (λ p. Ask (question.Path p.0 p.1)) (nodes_in (two_of args))
 command_of (Some verb.Table) args text = made (λ u. Ask (question.Table u)) (node_in (one_of args))
-command_of (Some verb.Draw) args text = made (λ v. Ask (question.Draw v)) (node_in (one_of args))
+command_of (Some verb.Draw) args text = drawing_in args (two_of args)
 command_of (Some verb.Reach) args text = alone (Ask question.Reach) args
 command_of (Some verb.Mark) args text = alone Mark args
 command_of (Some verb.Changes) args text = alone (Ask question.Changes) args

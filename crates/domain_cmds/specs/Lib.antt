@@ -9,4 +9,5 @@ pub mod Rests
 pub mod Texts
 pub mod State
 pub mod Script
+pub mod Marks
 pub mod Running

@@ -14,14 +14,17 @@ use Rattle.operator_cmds.specs.declared.event.Direction.TheVariants as direction
 use Rattle.domain_routes.specs.Edits.{exporting, importing, linking, unlinked, with_prefix}
 use Rattle.domain_routes.specs.PlanView.{PlanView, is_linked}
 use Rattle.domain_routes.specs.Routes.{AreRoutes}
+use Rattle.domain_routes.specs.Still.{after_link}
 use Rattle.domain_routes.specs.Topology.{topology}
 use Rattle.domain_routes.specs.declared.best.Best.{Best}
+use Rattle.domain_routes.specs.declared.since.Since.{Since}
+use Rattle.domain_routes.specs.declared.since.Since.TheVariants as since
 use Rattle.domain_cmds.specs.CommandView.{CommandView, Domain, Prefix, Load, Code, Link, Use, Mark, Ask}
 use Rattle.domain_cmds.specs.Commands.{Read, command_in}
 use Rattle.domain_cmds.specs.Faults.{state_code}
 use Rattle.domain_cmds.specs.Rests.{AreAllRoutes}
 use Rattle.domain_cmds.specs.State.{PlanningView, filter_named}
-use Rattle.domain_cmds.specs.Texts.{IsPathText, changes_text, draw_text, reach_text, route_in, route_text, settled_text, table_text}
+use Rattle.domain_cmds.specs.Texts.{IsPathText, changes_text, draw_text, felt_text, reach_text, route_in, route_text, settled_text, table_text}
 use Rattle.domain_cmds.specs.declared.command.Question.{Question}
 use Rattle.domain_cmds.specs.declared.command.Question.TheVariants as question
 use Rattle.domain_cmds.specs.declared.fault.StateFault.{StateFault}
@@ -34,15 +37,16 @@ new_planning size = record {
   filters = [];
   begun = false;
   marked = None;
+  since = since.Anything;
 }
 
 -- prefixes stay from now on
 abbrev pub begin : PlanningView → PlanningView
 begin p = record p { begun = true }
 
--- another plan, and prefixes stay
-abbrev pub planned : PlanView → PlanningView → PlanningView
-planned plan p = record p { plan = plan; begun = true }
+-- another plan, by what was done to it since the last `mark`, and prefixes stay
+abbrev pub planned : Since → PlanView → PlanningView → PlanningView
+planned done plan p = record p { plan = plan; begun = true; since = done }
 
 -- ---- what may be answered, and what becomes of the domain
 
@@ -86,14 +90,14 @@ link_fault true false = None
 link_fault false true = None
 
 -- another plan, unless a fault refuses it
-abbrev pub PlansUnless : Option StateFault → PlanView → PlanningView → ℕ → Answer → PlanningView → Type 0
-PlansUnless None plan p number answer after = Confirms (planned plan p) answer after
-PlansUnless (Some why) plan p number answer after = Refuses (state_code why) number (begin p) answer after
+abbrev pub PlansUnless : Option StateFault → Since → PlanView → PlanningView → ℕ → Answer → PlanningView → Type 0
+PlansUnless None done plan p number answer after = Confirms (planned done plan p) answer after
+PlansUnless (Some why) done plan p number answer after = Refuses (state_code why) number (begin p) answer after
 
 -- `link` and `cut`: whether there is a link between two nodes
 abbrev pub AnswersLink : Bool → PlanningView → ℕ → ℕ → ℕ → Answer → PlanningView → Type 0
 AnswersLink linked p number u w answer after = MatchBool (are_a_pair p.plan.size u w)
-    (PlansUnless (link_fault (is_linked p.plan u w) linked) (linking linked u w p.plan) p number answer after)
+    (PlansUnless (link_fault (is_linked p.plan u w) linked) (after_link linked p.since) (linking linked u w p.plan) p number answer after)
     (Refuses (codes "D1") number (begin p) answer after)
 
 -- a plan where what the first node receives from the second, or tells it, passes a filter
@@ -105,7 +109,7 @@ filtering direction.Export filter u w plan = exporting filter u w plan
 abbrev pub AnswersUse : Option VerifiedView → (VerifiedView → PlanView) → PlanningView → ℕ → ℕ → ℕ → Answer → PlanningView → Type 0
 AnswersUse None plan p number u w answer after = Refuses (codes "O6") number p answer after
 AnswersUse (Some filter) plan p number u w answer after = MatchBool (are_a_pair p.plan.size u w)
-    (Confirms (planned (plan filter) p) answer after)
+    (Confirms (planned since.Anything (plan filter) p) answer after)
     (Refuses (codes "D1") number (begin p) answer after)
 
 -- ---- questions about rest
@@ -149,17 +153,24 @@ IsToldReach plan answer = (all : List (List Best)) × AreAllRoutes plan all × (
 
 abbrev pub AnswersMark : PlanningView → Answer → PlanningView → Type 0
 AnswersMark p answer after =
-    (all : List (List Best)) × AreAllRoutes p.plan all × Confirms (record p { begun = true; marked = Some all }) answer after
+    (all : List (List Best)) × AreAllRoutes p.plan all × Confirms (record p { begun = true; marked = Some all; since = since.Nothing }) answer after
 
 -- all routes at the last `mark`; before any, those of the domain without links
 abbrev pub AreMarks : PlanView → Option (List (List Best)) → List (List Best) → Type 0
 AreMarks plan (Some marked) marks = marks ≡ marked
 AreMarks plan None marks = AreAllRoutes (unlinked plan.prefixes) marks
 
-abbrev pub IsToldChanges : PlanView → Option (List (List Best)) → Answer → Type 0
-IsToldChanges plan marked answer =
+abbrev pub IsToldChanges : PlanView → Option (List (List Best)) → Since → Answer → Type 0
+IsToldChanges plan marked done answer =
     (marks : List (List Best)) × AreMarks plan marked marks × (all : List (List Best)) × AreAllRoutes plan all
-    × (answer ≡ answered (changes_text plan.size marks all))
+    × (answer ≡ answered (changes_text plan.size done marks all))
+
+-- a picture of the routes to a node, and of which nodes may feel what was done since the last `mark`
+abbrev pub IsToldFelt : PlanView → Option (List (List Best)) → Since → ℕ → ℕ → Answer → Type 0
+IsToldFelt plan marked done number v answer = MatchBool (nat_lt v plan.size)
+    ((marks : List (List Best)) × AreMarks plan marked marks × (all : List (List Best)) × AreAllRoutes plan all
+    × (routes : List Best) × AreRoutes (topology plan v) v routes × (answer ≡ answered (felt_text plan done marks all v routes)))
+    (answer ≡ refused (codes "D1") number)
 
 -- Each round has a message; how many of both it takes is the routers' affair: only tested. They may have no session left.
 abbrev pub IsToldSettled : ℕ → Answer → Type 0
@@ -167,15 +178,16 @@ IsToldSettled number answer =
     ((rounds : ℕ) × (messages : ℕ) × (rounds ≤ messages) × (answer ≡ answered (settled_text rounds messages)))
     ⊎ (answer ≡ refused (codes "D4") number)
 
--- what is told of a plan, and of all routes at the last `mark`
-abbrev pub AnswersQuestion : Question → PlanView → Option (List (List Best)) → ℕ → Answer → Type 0
-AnswersQuestion (question.Route u v) plan marked number answer = IsToldRoute plan number u v answer
-AnswersQuestion (question.Path u v) plan marked number answer = IsToldPath plan number u v answer
-AnswersQuestion (question.Table u) plan marked number answer = IsToldTable plan number u answer
-AnswersQuestion (question.Draw v) plan marked number answer = IsToldDrawing plan number v answer
-AnswersQuestion question.Reach plan marked number answer = IsToldReach plan answer
-AnswersQuestion question.Changes plan marked number answer = IsToldChanges plan marked answer
-AnswersQuestion question.Settle plan marked number answer = IsToldSettled number answer
+-- what is told of a plan, of all routes at the last `mark`, and by what was done since
+abbrev pub AnswersQuestion : Question → PlanView → Option (List (List Best)) → Since → ℕ → Answer → Type 0
+AnswersQuestion (question.Route u v) plan marked done number answer = IsToldRoute plan number u v answer
+AnswersQuestion (question.Path u v) plan marked done number answer = IsToldPath plan number u v answer
+AnswersQuestion (question.Table u) plan marked done number answer = IsToldTable plan number u answer
+AnswersQuestion (question.Draw v) plan marked done number answer = IsToldDrawing plan number v answer
+AnswersQuestion (question.DrawChanges v) plan marked done number answer = IsToldFelt plan marked done number v answer
+AnswersQuestion question.Reach plan marked done number answer = IsToldReach plan answer
+AnswersQuestion question.Changes plan marked done number answer = IsToldChanges plan marked done answer
+AnswersQuestion question.Settle plan marked done number answer = IsToldSettled number answer
 
 -- ---- a line
 
@@ -188,7 +200,7 @@ AnswersPlanned p number (Link linked u w) answer after = AnswersLink linked p nu
 AnswersPlanned p number (Use way u w name) answer after =
     AnswersUse (filter_named p.filters name) (λ filter. filtering way filter u w p.plan) p number u w answer after
 AnswersPlanned p number Mark answer after = AnswersMark p answer after
-AnswersPlanned p number (Ask asked) answer after = Asks (AnswersQuestion asked p.plan p.marked number) p answer after
+AnswersPlanned p number (Ask asked) answer after = Asks (AnswersQuestion asked p.plan p.marked p.since number) p answer after
 
 -- before there is a domain, only `domain` is carried out
 abbrev pub AnswersFirst : ℕ → CommandView → Answer → Option PlanningView → Type 0

@@ -4,11 +4,13 @@ use Rattle.std.specs.Prelude.{List, [], ◌∷◌, ◌++◌, flat_map, slice_ind
 use Rattle.netchange_core.specs.declared.reply.Via.{Via}
 use Rattle.netchange_core.specs.declared.reply.Via.TheVariants.{Local, Node, Nowhere}
 use Rattle.operator_cmds.specs.Looks.{texts_below}
-use Rattle.operator_cmds.specs.Replies.{via_text}
+use Rattle.operator_cmds.specs.Replies.{pair_text, via_text}
 use Rattle.domain_routes.specs.PlanView.{PlanView, is_linked}
 use Rattle.domain_routes.specs.Reach.{longest, phases_to_rest}
 use Rattle.domain_routes.specs.Routes.{nowhere}
+use Rattle.domain_routes.specs.Still.{is_one_way, one_below}
 use Rattle.domain_routes.specs.declared.best.Best.{Best}
+use Rattle.domain_routes.specs.declared.since.Since.{Since}
 
 -- the route of a node, in a list of the routes of all nodes to one destination
 abbrev pub route_in : ℕ → List Best → ℕ → Best
@@ -141,7 +143,7 @@ is_same a b = a.dist == b.dist && is_same_via a.via b.via
 -- `U:V` where the route of U to V is another than it was
 abbrev pub change_text : ℕ → List (List Best) → List (List Best) → ℕ → ℕ → List ℕ
 change_text size before now u v =
-    if is_same (route_of size now u v) (route_of size before u v) then [] else 32 ∷ decimal u ++ 58 ∷ decimal v
+    if is_same (route_of size now u v) (route_of size before u v) then [] else pair_text u v
 
 abbrev pub changes_of : ℕ → List (List Best) → List (List Best) → ℕ → List ℕ
 changes_of size before now u = texts_below size (change_text size before now u)
@@ -149,14 +151,57 @@ changes_of size before now u = texts_below size (change_text size before now u)
 abbrev pub all_changes : ℕ → List (List Best) → List (List Best) → List ℕ
 all_changes size before now = texts_below size (changes_of size before now)
 
-abbrev pub changes_text : ℕ → List (List Best) → List (List Best) → List ℕ
-changes_text size before now = codes "changes" ++ all_changes size before now
-
--- ---- how far, and how soon
-
 -- the distances of all routes, by destination and node
 abbrev pub distances : ℕ → List (List Best) → ℕ → ℕ → ℕ
 distances size all v u = (route_of size all u v).dist
+
+-- Below this bound all distances to a destination are what they were. Where links were made alone, or cut alone, none of them changes while
+-- these links come and go.
+abbrev pub still_below : ℕ → List (List Best) → List (List Best) → ℕ → ℕ
+still_below size before now v = one_below size (distances size before v) (distances size now v)
+
+-- `V:K` where a distance to V is not what it was
+abbrev pub still_text : ℕ → List (List Best) → List (List Best) → ℕ → List ℕ
+still_text size before now v =
+    if nat_lt (still_below size before now v) size then pair_text v (still_below size before now v) else []
+
+-- nothing where links were made and others cut, or filters replaced
+abbrev pub stills_text : ℕ → Since → List (List Best) → List (List Best) → List ℕ
+stills_text size since before now = if is_one_way since then codes " still" ++ texts_below size (still_text size before now) else []
+
+abbrev pub changes_text : ℕ → Since → List (List Best) → List (List Best) → List ℕ
+changes_text size since before now = codes "changes" ++ all_changes size before now ++ stills_text size since before now
+
+-- ---- a picture of what is felt of changes
+
+-- a node keeps its route to a destination while these links come and go: it is nearer than the bound, and its next hop is what it was
+abbrev pub is_still : ℕ → Since → List (List Best) → List (List Best) → ℕ → ℕ → Bool
+is_still size since before now v u =
+    is_one_way since && nat_lt (route_of size now u v).dist (still_below size before now v)
+    && is_same_via (route_of size now u v).via (route_of size before u v).via
+
+-- a node that may not, in red
+abbrev pub red_text : ℕ → ℕ → List ℕ
+red_text u d = codes " [label=\"" ++ decimal u ++ codes " at " ++ decimal d ++ codes "\", color=red];"
+
+abbrev pub felt_look_text : ℕ → ℕ → Via → List ℕ
+felt_look_text u d Local = red_text u d
+felt_look_text u d (Node w) = red_text u d
+felt_look_text u d Nowhere = codes " [style=dotted, color=red];"
+
+abbrev pub felt_node_text : Bool → ℕ → Best → List ℕ
+felt_node_text still u route = if still then node_text u route else 32 ∷ decimal u ++ felt_look_text u route.dist route.via
+
+abbrev pub felt_nodes_text : ℕ → Since → List (List Best) → List (List Best) → ℕ → List ℕ
+felt_nodes_text size since before now v =
+    texts_below size (λ u. felt_node_text (is_still size since before now v u) u (route_of size now u v))
+
+-- the nodes so, and the links as in each picture
+abbrev pub felt_text : PlanView → Since → List (List Best) → List (List Best) → ℕ → List Best → List ℕ
+felt_text plan since before now v routes =
+    codes "digraph {" ++ felt_nodes_text plan.size since before now v ++ links_text plan routes ++ codes " }"
+
+-- ---- how far, and how soon
 
 abbrev pub reach_text : ℕ → List (List Best) → List ℕ
 reach_text size all = codes "reach " ++ decimal (longest size (distances size all)) ++ 32 ∷ decimal (phases_to_rest size (distances size all))

@@ -8,13 +8,14 @@ ghost use Rattle.domain_cmds.specs.Script as spec;
 
 use crate::command::Question;
 use crate::fault::StateFault;
+use crate::felt::push_felt;
 use crate::playing::Playing;
 use crate::resting::RestingPlan;
 use crate::routes::{Column, all_columns, make_column};
 use crate::text::{
     push_changes, push_drawing, push_path, push_reach, push_route, push_settled, push_table,
 };
-use domain_routes::Plan;
+use domain_routes::{Plan, Since};
 use line_protocol::LineReply;
 use operator_cmds::refuse;
 use std::alloc::{AllocError, Global};
@@ -153,20 +154,53 @@ fn marks(
     }
 }
 
-/// Answers `changes`: the routes at rest that are not what they were at the last `mark`.
+/// Answers `changes`: the routes at rest that are not what they were at the last `mark`, and how near distances stand still meanwhile.
 fn answer_changes(
     alloc: Global,
     domain: &mut RestingPlan,
     marked: &Option<Arc<Vec<Column>>>,
+    since: Since,
     out: &mut Vec<u8>,
 ) -> Result<LineReply, AllocError>
-    ensures ok { IfOk result (Answers (spec.IsToldChanges domain.old (option_map (λ m. m.value.items) marked.now)) out.old.items out.new.items) }
+    ensures ok { IfOk result (Answers (spec.IsToldChanges domain.old (option_map (λ m. m.value.items) marked.now) since) out.old.items out.new.items) }
     ensures err { OnErr result (StartsWith out.new.items out.old.items) }
     ensures same { domain.new ≡ domain.old }
 {
     let before = marks(alloc, domain.plan(), marked)?;
     let now = domain.all_routes(alloc)?;
-    push_changes(out, domain.size(), before.as_slice(), now.as_slice())?;
+    push_changes(out, domain.size(), since, before.as_slice(), now.as_slice())?;
+    end_line(out)
+}
+
+/// Answers `draw V changes`: a picture of the routes to a node, and of who may feel what was done since the last `mark`.
+fn answer_felt(
+    alloc: Global,
+    domain: &mut RestingPlan,
+    marked: &Option<Arc<Vec<Column>>>,
+    since: Since,
+    number: u32,
+    v: u16,
+    out: &mut Vec<u8>,
+) -> Result<LineReply, AllocError>
+    ensures ok { IfOk result (Answers (spec.IsToldFelt domain.old (option_map (λ m. m.value.items) marked.now) since number v) out.old.items out.new.items) }
+    ensures err { OnErr result (StartsWith out.new.items out.old.items) }
+    ensures same { domain.new ≡ domain.old }
+{
+    if v >= domain.size() {
+        return refuse(out, StateFault::BadNode.code(), u64::from(number));
+    }
+    let before = marks(alloc, domain.plan(), marked)?;
+    let now = domain.all_routes(alloc)?;
+    let routes = make_column(alloc, domain.plan(), v)?;
+    push_felt(
+        out,
+        domain.plan(),
+        since,
+        before.as_slice(),
+        now.as_slice(),
+        v,
+        &routes,
+    )?;
     end_line(out)
 }
 
@@ -196,11 +230,12 @@ pub(crate) fn answer_question(
     question: Question,
     domain: &mut RestingPlan,
     marked: &Option<Arc<Vec<Column>>>,
+    since: Since,
     playing: &mut Playing,
     number: u32,
     out: &mut Vec<u8>,
 ) -> Result<LineReply, AllocError>
-    ensures ok { IfOk result (Answers (spec.AnswersQuestion question domain.old (option_map (λ m. m.value.items) marked.now) number) out.old.items out.new.items) }
+    ensures ok { IfOk result (Answers (spec.AnswersQuestion question domain.old (option_map (λ m. m.value.items) marked.now) since number) out.old.items out.new.items) }
     ensures err { OnErr result (StartsWith out.new.items out.old.items) }
     ensures same { domain.new ≡ domain.old }
 {
@@ -209,8 +244,9 @@ pub(crate) fn answer_question(
         Question::Path(u, v) => answer_path(alloc, domain.plan(), number, u, v, out),
         Question::Table(u) => answer_table(alloc, domain, number, u, out),
         Question::Draw(v) => answer_draw(alloc, domain.plan(), number, v, out),
+        Question::DrawChanges(v) => answer_felt(alloc, domain, marked, since, number, v, out),
         Question::Reach => answer_reach(alloc, domain, out),
-        Question::Changes => answer_changes(alloc, domain, marked, out),
+        Question::Changes => answer_changes(alloc, domain, marked, since, out),
         Question::Settle => answer_settle(alloc, domain.plan(), playing, number, out),
     }
 }

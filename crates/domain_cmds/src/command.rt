@@ -76,6 +76,8 @@ pub enum Question {
     Table(u16),
     /// `draw V`: a picture of all routes to a node.
     Draw(u16),
+    /// `draw V changes`: the same, which shows who may feel what was done since the last `mark`.
+    DrawChanges(u16),
     /// `reach`: how far routes go, and how soon all are right.
     Reach,
     /// `changes`: the routes that are not what they were at the last `mark`.

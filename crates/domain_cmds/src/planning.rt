@@ -10,7 +10,7 @@ use crate::filters::Filters;
 use crate::playing::{Change, Playing};
 use crate::resting::RestingPlan;
 use crate::routes::Column;
-use domain_routes::Plan;
+use domain_routes::{Plan, Since};
 use filter_source::Diagnosis;
 use line_protocol::LineReply;
 use operator_cmds::{Direction, FilterSource, NamedFilters, confirm, default_prefixes, refuse};
@@ -30,6 +30,8 @@ pub(crate) struct Planning {
     begun: bool,
     /// All routes at rest at the last `mark`.
     marked: Option<Arc<Vec<Column>>>,
+    /// What was done to links and filters since; before any `mark`, anything.
+    since: Since,
     /// Its routers.
     playing: Playing,
 }
@@ -46,6 +48,7 @@ impl Model for Planning {
       filters = p.filters.named;
       begun = p.begun;
       marked = option_map (λ all. all.value.items) p.marked;
+      since = p.since;
     } };
 
     // The filters fit the domain.
@@ -88,6 +91,7 @@ impl Planning {
             filters: Filters::new(alloc, size.nodes),
             begun: false,
             marked: None,
+            since: Since::Anything,
             playing: Playing::new(alloc),
         })
     }
@@ -206,6 +210,7 @@ impl Planning {
         }
         self.playing.note(Change::Link(u, w, linked))?;
         self.domain.set_linked(u, w, linked);
+        self.since = self.since.after_link(linked);
         confirm(out)
     }
 
@@ -232,6 +237,7 @@ impl Planning {
         let played = Arc::try_clone(&filter)?;
         self.playing.note(Change::Filter(direction, u, w, played))?;
         self.domain.set_filter(direction, u, w, filter);
+        self.since = Since::Anything;
         confirm(out)
     }
 
@@ -243,7 +249,7 @@ impl Planning {
         question: Question,
         out: &mut Vec<u8>,
     ) -> Result<LineReply, AllocError>
-        ensures ok { IfOk result (Answers (λ answer. spec.Asks (spec.AnswersQuestion question self.old.plan self.old.marked number) self.old answer self.new) out.old.items out.new.items) }
+        ensures ok { IfOk result (Answers (λ answer. spec.Asks (spec.AnswersQuestion question self.old.plan self.old.marked self.old.since number) self.old answer self.new) out.old.items out.new.items) }
         ensures err { OnErr result (StartsWith out.new.items out.old.items) }
     {
         self.begun = true;
@@ -252,6 +258,7 @@ impl Planning {
             question,
             &mut self.domain,
             &self.marked,
+            self.since,
             &mut self.playing,
             number,
             out,
@@ -265,6 +272,7 @@ impl Planning {
     {
         self.begun = true;
         self.marked = Some(self.domain.all_routes(alloc)?);
+        self.since = Since::Nothing;
         confirm(out)
     }
 }

@@ -82,6 +82,22 @@ fn read_use(direction: Direction, rest: &[u8]) -> Result<Command<'_>, CommandFau
     })
 }
 
+/// A `draw` command by the bytes after its first word.
+fn read_drawing<'a>(rest: &[u8]) -> Result<Command<'a>, CommandFault>
+    ensures { IsRead result (spec.drawing_in (words rest.now) (two_of (words rest.now))) }
+{
+    let Some((node, option)) = two_words(rest) else {
+        return Ok(Command::Ask(Question::Draw(read_node(rest)?)));
+    };
+    if option != b"changes".as_slice() {
+        return Err(CommandFault::Words);
+    }
+    match read_small(node) {
+        Some(v) => Ok(Command::Ask(Question::DrawChanges(v))),
+        None => Err(CommandFault::Numbers),
+    }
+}
+
 /// A command after which nothing follows.
 fn read_alone<'a>(command: Command<'a>, rest: &[u8]) -> Result<Command<'a>, CommandFault>
     ensures { IsRead result (spec.alone (view_of command.entry) (words rest.now)) }
@@ -123,7 +139,7 @@ fn read_rest(alloc: Global, verb: Verb, rest: &[u8]) -> Result<Command<'_>, Comm
             Ok(Command::Ask(Question::Path(u, v)))
         }
         Verb::Table => Ok(Command::Ask(Question::Table(read_node(rest)?))),
-        Verb::Draw => Ok(Command::Ask(Question::Draw(read_node(rest)?))),
+        Verb::Draw => read_drawing(rest),
         Verb::Reach => read_alone(Command::Ask(Question::Reach), rest),
         Verb::Mark => read_alone(Command::Mark, rest),
         Verb::Changes => read_alone(Command::Ask(Question::Changes), rest),

@@ -3,18 +3,21 @@ ghost use Rattle.std.specs.Prelude.{◌≡◌, ◌++◌, ◌<◌, ◌∷◌, ℕ
 ghost use Rattle.std.specs.Io.{StartsWith};
 ghost use Rattle.domain_routes.specs.Routes.{AreRoutes};
 ghost use Rattle.domain_routes.specs.Topology.{topology};
+ghost use Rattle.operator_cmds.specs.Looks.{texts_below};
+ghost use Rattle.operator_cmds.specs.Replies.{pair_text};
 ghost use Rattle.domain_cmds.specs.Texts as spec;
 
 use crate::reach::{longest, phases_to_rest};
 use crate::routes::{Column, route_of};
-use domain_routes::{Best, Plan};
+use crate::still::still_below;
+use domain_routes::{Best, Plan, Since};
 use line_protocol::push_decimal;
 use netchange_core::Via;
 use operator_cmds::push_via;
 use std::alloc::AllocError;
 
 /// Adds a blank and a number.
-fn push_step(out: &mut Vec<u8>, n: u16) -> Result<(), AllocError>
+pub(crate) fn push_step(out: &mut Vec<u8>, n: u16) -> Result<(), AllocError>
     ensures ok { OnOk result (out.new.items ≡ out.old.items ++ spec.step_text n) }
     ensures err { OnErr result (StartsWith out.new.items out.old.items) }
 {
@@ -104,7 +107,7 @@ fn push_near(out: &mut Vec<u8>, u: u16, dist: u16) -> Result<(), AllocError>
 }
 
 /// Adds a node of a picture: dotted, where the destination cannot be reached from it.
-fn push_node(out: &mut Vec<u8>, u: u16, route: Best) -> Result<(), AllocError>
+pub(crate) fn push_node(out: &mut Vec<u8>, u: u16, route: Best) -> Result<(), AllocError>
     ensures ok { OnOk result (out.new.items ≡ out.old.items ++ spec.node_text u route) }
     ensures err { OnErr result (StartsWith out.new.items out.old.items) }
 {
@@ -234,7 +237,7 @@ fn push_idles(out: &mut Vec<u8>, plan: &Plan, routes: &Column) -> Result<(), All
 }
 
 /// Adds the links of a picture: the arrows to next hops, and then the links that none uses.
-fn push_links(out: &mut Vec<u8>, plan: &Plan, routes: &Column) -> Result<(), AllocError>
+pub(crate) fn push_links(out: &mut Vec<u8>, plan: &Plan, routes: &Column) -> Result<(), AllocError>
     ensures ok { OnOk result (out.new.items ≡ out.old.items ++ spec.links_text plan.now routes.now) }
     ensures err { OnErr result (StartsWith out.new.items out.old.items) }
 {
@@ -266,7 +269,7 @@ pub(crate) fn push_drawing(
 }
 
 /// Whether two routes have the same next hop.
-fn is_same_via(a: Via, b: Via) -> bool
+pub(crate) fn is_same_via(a: Via, b: Via) -> bool
     ensures { result ≡ spec.is_same_via a b }
 {
     match (a, b) {
@@ -283,6 +286,16 @@ fn is_same(a: Best, b: Best) -> bool
     a.dist == b.dist && is_same_via(a.via, b.via)
 }
 
+/// Adds a blank and two numbers, with a colon between them.
+fn push_pair(out: &mut Vec<u8>, u: u16, v: u16) -> Result<(), AllocError>
+    ensures ok { OnOk result (out.new.items ≡ out.old.items ++ pair_text u v) }
+    ensures err { OnErr result (StartsWith out.new.items out.old.items) }
+{
+    push_step(out, u)?;
+    out.push(b':')?;
+    push_decimal(out, u64::from(v))
+}
+
 /// Adds a node and a destination, if the route is another than it was.
 fn push_change(
     out: &mut Vec<u8>,
@@ -296,11 +309,10 @@ fn push_change(
     ensures err { OnErr result (StartsWith out.new.items out.old.items) }
 {
     if is_same(route_of(size, now, u, v), route_of(size, before, u, v)) {
-        return Ok(());
+        Ok(())
+    } else {
+        push_pair(out, u, v)
     }
-    push_step(out, u)?;
-    out.push(b':')?;
-    push_decimal(out, u64::from(v))
 }
 
 /// Adds the destinations to which a node's route is another than it was.
@@ -338,18 +350,74 @@ fn push_all_changes(
     Ok(())
 }
 
-/// Adds the answer to `changes`.
-pub(crate) fn push_changes(
+/// Adds a destination, if a distance to it is another than it was, and the bound below which none is.
+fn push_still(
+    out: &mut Vec<u8>,
+    size: u16,
+    before: &[Column],
+    now: &[Column],
+    v: u16,
+) -> Result<(), AllocError>
+    ensures ok { OnOk result (out.new.items ≡ out.old.items ++ spec.still_text size before.now now.now v) }
+    ensures err { OnErr result (StartsWith out.new.items out.old.items) }
+{
+    let bound = still_below(size, before, now, v);
+    if bound < size {
+        push_pair(out, v, bound)
+    } else {
+        Ok(())
+    }
+}
+
+/// Adds the destinations to which a distance is another than it was, each with its bound.
+#[tactic(auto, unfolding(operator_cmds::specs::Looks::texts_below))]
+fn push_all_still(
     out: &mut Vec<u8>,
     size: u16,
     before: &[Column],
     now: &[Column],
 ) -> Result<(), AllocError>
-    ensures ok { OnOk result (out.new.items ≡ out.old.items ++ spec.changes_text size before.now now.now) }
+    ensures ok { OnOk result (out.new.items ≡ out.old.items ++ texts_below size (spec.still_text size before.now now.now)) }
+    ensures err { OnErr result (StartsWith out.new.items out.old.items) }
+{
+    for v in 0..size {
+        push_still(out, size, before, now, v)?;
+    }
+    Ok(())
+}
+
+/// Adds what stands still while what was done since happens, where links were made alone, or cut alone.
+fn push_stills(
+    out: &mut Vec<u8>,
+    size: u16,
+    since: Since,
+    before: &[Column],
+    now: &[Column],
+) -> Result<(), AllocError>
+    ensures ok { OnOk result (out.new.items ≡ out.old.items ++ spec.stills_text size since before.now now.now) }
+    ensures err { OnErr result (StartsWith out.new.items out.old.items) }
+{
+    if !since.is_one_way() {
+        return Ok(());
+    }
+    out.extend_from_slice(b" still")?;
+    push_all_still(out, size, before, now)
+}
+
+/// Adds the answer to `changes`.
+pub(crate) fn push_changes(
+    out: &mut Vec<u8>,
+    size: u16,
+    since: Since,
+    before: &[Column],
+    now: &[Column],
+) -> Result<(), AllocError>
+    ensures ok { OnOk result (out.new.items ≡ out.old.items ++ spec.changes_text size since before.now now.now) }
     ensures err { OnErr result (StartsWith out.new.items out.old.items) }
 {
     out.extend_from_slice(b"changes")?;
-    push_all_changes(out, size, before, now)
+    push_all_changes(out, size, before, now)?;
+    push_stills(out, size, since, before, now)
 }
 
 /// Adds the answer to `reach`.

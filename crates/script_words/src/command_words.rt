@@ -40,7 +40,7 @@ fn verb_words(alloc: Global, kind: ScriptKind, verb: &[u8]) -> Result<String, Al
     }
 }
 
-/// What is wrong with the words after the first one of a command: their number, or else the name among them.
+/// What is wrong with the words after the first one of a command: their number, or else the name among them, or the last one.
 fn form_words(alloc: Global, line: &[u8], form: Form) -> Result<Finding, AllocError> {
     let count = count_words(line, form.most.saturating_add(1)).saturating_sub(1);
     if count > form.most {
@@ -52,10 +52,16 @@ fn form_words(alloc: Global, line: &[u8], form: Form) -> Result<Finding, AllocEr
         let byte = Some(line.len());
         return Ok(Finding { words, byte });
     }
-    name_words(alloc, line, form.name.unwrap_or(0))
+    match form.name {
+        Some(index) => name_words(alloc, line, index),
+        None => {
+            let words = written_words(alloc, "unknown", line, form)?;
+            Ok(found_at(line, count, words))
+        }
+    }
 }
 
-/// How the command of a line is written, which has too few or too many words.
+/// How the command of a line is written, which has too few words, too many, or one that is unknown.
 fn written_words(
     alloc: Global,
     count: &str,

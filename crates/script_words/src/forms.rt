@@ -139,6 +139,15 @@ const DESTINATION: Form = Form {
     name: None,
 };
 
+/// The words of `draw`.
+const PICTURE: Form = Form {
+    words: "V [changes]",
+    least: 1,
+    most: 2,
+    numbers: 1,
+    name: None,
+};
+
 /// The words of `history`.
 const POSITION: Form = Form {
     words: "FROM",
@@ -205,22 +214,8 @@ static ROUTER_FORMS: [Form; 15] = [
 
 /// The words of the commands of a domain's script, in the order of `DOMAIN_VERBS`.
 static DOMAIN_FORMS: [Form; 16] = [
-    DOMAIN,
-    PREFIX,
-    TEXT,
-    FILE,
-    PAIR,
-    PAIR,
-    NAMED_PAIR,
-    NAMED_PAIR,
-    ROUTE,
-    ROUTE,
-    NODE,
-    DESTINATION,
-    ALONE,
-    ALONE,
-    ALONE,
-    ALONE,
+    DOMAIN, PREFIX, TEXT, FILE, PAIR, PAIR, NAMED_PAIR, NAMED_PAIR, ROUTE, ROUTE, NODE, PICTURE,
+    ALONE, ALONE, ALONE, ALONE,
 ];
 
 impl ScriptKind {

@@ -5,5 +5,5 @@ use Rattle.domain_cmds.proofs.planning.Planning.ask.Goals as goal
 pub returns-clause-ok : goal.returns-clause-ok
 returns-clause-ok c =
     let i = c.self.inside in
-    asked c.answer_question.result c.args.out.now.items c.answer_question.new.out.items c.args.self.now i.domain i.begun _ c.args.number
+    asked c.answer_question.result c.args.out.now.items c.answer_question.new.out.items c.args.self.now i.domain i.begun _ i.since c.args.number
     c.answer_question.new.domain i.filters.named c.args.question c.self.view_is c.answer_question.ensures.same c.answer_question.ensures.ok
