@@ -42,7 +42,7 @@ stand_below xs (k ∷ ks) [] h = absurd h
 stand_below xs (k ∷ ks) (e ∷ es) h =
     All-cons (λ k. k < length xs) k ks (slice_get_within xs k e h.0) (stand_below xs ks es h.1)
 
-no_shorter : (xs ys : List Entry) → Begins xs ys → length xs ≤ length ys
+pub no_shorter : (xs ys : List Entry) → Begins xs ys → length xs ≤ length ys
 no_shorter xs ys b = let lengths : length ys ≡ length xs + length b.rest = ap length b.is ∙ length-append xs b.rest in omega arith
 
 -- numbers that rise below a bound, and then ones that rise from it on

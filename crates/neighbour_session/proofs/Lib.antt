@@ -3,4 +3,5 @@ mod Gaining
 mod Keeping
 mod Linking
 mod Reading
+mod Waiting
 mod Writing

@@ -1,6 +1,6 @@
 -- A reader that has turns again and again.
 use Rattle.std.proofs.Common.{◌≡◌, ◌∙◌, sym, ap, subst, refl, ℕ, List, [], ◌++◌, append_assoc, append-nil, length}
-use Rattle.std.specs.Prelude.{All, Bool, false}
+use Rattle.std.specs.Prelude.{All, Bool, true, false}
 use Rattle.std.proofs.lemmas.List.Elements.{All-nil}
 use Rattle.std.specs.List.{AllZip}
 use Rattle.netchange_core.specs.declared.message.Message.{Message}
@@ -15,6 +15,7 @@ use Rattle.message_streams.specs.Views.{ReaderView}
 use Rattle.slot_lock.specs.Passes.{Fragment, PassView, RouterView}
 use Rattle.neighbour_session.specs.Links.{ReadsLines}
 use Rattle.neighbour_session.specs.Reading.{IsReaderOver, IsReaderStopped, ReadsOut, told_by}
+use Rattle.neighbour_session.specs.Waiting.{ReadsFor}
 use Rattle.neighbour_session.specs.declared.ends.SessionEnd.{SessionEnd}
 use Rattle.neighbour_session.specs.declared.ends.SessionEnd.TheVariants as end
 use Rattle.neighbour_session.proofs.Gaining.{cause_after, gained_both, gained_none, grown_both, grown_none, told_after, zip_both}
@@ -96,36 +97,45 @@ reads_on r session old t mid m last new u h turns k =
     (read_last r session old t mid m last new u h k)
 
 -- a reader that ended by itself, or because the session is not there
-stopped_over : (may : Bool → Type 0) (c : Cause) (left : ReaderView) (why : SessionEnd) → IsReaderStopped c left why → IsReaderOver may c left why
-stopped_over may cause.Turns left why h = absurd h
-stopped_over may cause.LinkEnded left why h = h
-stopped_over may cause.LinkFault left why h = h
-stopped_over may cause.Stale left why h = h
-stopped_over may cause.Full left why h = h
-stopped_over may cause.Memory left why h = h
+stopped_over : (waits : Bool) (may : Bool → Type 0) (c : Cause) (left : ReaderView) (why : SessionEnd) → IsReaderStopped waits c left why →
+    (waits ≡ true → c ≡ cause.Full → may false) → IsReaderOver waits may c left why
+stopped_over waits may cause.Turns left why h absent = absurd h
+stopped_over waits may cause.LinkEnded left why h absent = h
+stopped_over waits may cause.LinkFault left why h absent = h
+stopped_over waits may cause.Stale left why h absent = h
+stopped_over waits may cause.Full left why h absent = (h, λ w. absent w refl)
+stopped_over waits may cause.Memory left why h absent = h
 
-pub reads_stopped : (may : Bool → Type 0) (r : RouterView) (session : ℕ) (old : PassView) (input : ReaderView) (mid : PassView) (m : Told)
+stopped : (waits : Bool) (may : Bool → Type 0) (r : RouterView) (session : ℕ) (old : PassView) (input : ReaderView) (mid : PassView) (m : Told)
     (last : ReadEnd) (why : SessionEnd) (new : PassView) (u : Told) (left : ReaderView) → HasRead session old.fragment (told_by input) mid.fragment m →
-    IsReadBy r session mid.fragment m last new.fragment u → ReadsLines input u.handed left → IsReaderStopped last.cause left why →
-    ReadsOut may r session old input why new
-reads_stopped may r session old input mid m last why new u left h k lines over = record {
+    IsReadBy r session mid.fragment m last new.fragment u → ReadsLines input u.handed left → IsReaderStopped waits last.cause left why →
+    (waits ≡ true → last.cause ≡ cause.Full → may false) → ReadsOut waits may r session old input why new
+stopped waits may r session old input mid m last why new u left h k lines over absent = record {
   end = record { cause = last.cause; entered = length (h.calls ++ k.calls); lost = last.lost };
   last = u;
   read = read_last r session old.fragment (told_by input) mid.fragment m last new.fragment u h k;
   left = left;
   lines = lines;
-  because = stopped_over may last.cause left why over;
+  because = stopped_over waits may last.cause left why over absent;
 }
 
-pub reads_absent : (may : Bool → Type 0) (r : RouterView) (session : ℕ) (old : PassView) (input : ReaderView) (mid : PassView) (m : Told)
-    (last : ReadEnd) (new : PassView) (u : Told) (left : ReaderView) → HasRead session old.fragment (told_by input) mid.fragment m →
-    IsReadBy r session mid.fragment m last new.fragment u → ReadsLines input u.handed left → last.cause ≡ cause.Turns → may false →
-    ReadsOut may r session old input end.Closed new
-reads_absent may r session old input mid m last new u left h k lines turns absent = record {
-  end = record { cause = last.cause; entered = length (h.calls ++ k.calls); lost = last.lost };
+pub reads_stopped : (waits : Bool) (may : Bool → Type 0) (r : RouterView) (session : ℕ) (old : PassView) (input : ReaderView) (mid : PassView)
+    (m : Told) (c : Cause) (why : SessionEnd) (new : PassView) (u : Told) (left : ReaderView) →
+    HasRead session old.fragment (told_by input) mid.fragment m → ReadsFor c r session mid.fragment m new.fragment u →
+    ReadsLines input u.handed left → IsReaderStopped waits c left why → (waits ≡ true → c ≡ cause.Full → may false) →
+    ReadsOut waits may r session old input why new
+reads_stopped waits may r session old input mid m c why new u left h k lines over absent =
+    stopped waits may r session old input mid m (record { cause = c; entered = k.0; lost = k.1 }) why new u left h k.2 lines over absent
+
+pub reads_absent : (waits : Bool) (may : Bool → Type 0) (r : RouterView) (session : ℕ) (old : PassView) (input : ReaderView) (mid : PassView)
+    (m : Told) (c : Cause) (new : PassView) (u : Told) (left : ReaderView) → HasRead session old.fragment (told_by input) mid.fragment m →
+    ReadsFor c r session mid.fragment m new.fragment u → ReadsLines input u.handed left → c ≡ cause.Turns → may false →
+    ReadsOut waits may r session old input end.Closed new
+reads_absent waits may r session old input mid m c new u left h k lines turns absent = record {
+  end = record { cause = c; entered = length (h.calls ++ k.2.calls); lost = k.1 };
   last = u;
-  read = read_last r session old.fragment (told_by input) mid.fragment m last new.fragment u h k;
+  read = read_last r session old.fragment (told_by input) mid.fragment m (record { cause = c; entered = k.0; lost = k.1 }) new.fragment u h k.2;
   left = left;
   lines = lines;
-  because = subst (λ c. IsReaderOver may c left end.Closed) (sym turns) (refl, absent);
+  because = subst (λ x. IsReaderOver waits may x left end.Closed) (sym turns) (refl, absent);
 }

@@ -1,6 +1,6 @@
 -- A writer that has turns again and again.
 use Rattle.std.proofs.Common.{◌≡◌, ◌∙◌, sym, ap, subst, refl, ℕ, List, [], ◌∷◌, ◌++◌, append_assoc, append-nil, length}
-use Rattle.std.specs.Prelude.{All, Bool, None, Some, false, flat_map, slice_get}
+use Rattle.std.specs.Prelude.{All, Bool, None, Some, true, false, flat_map, slice_get}
 use Rattle.std.proofs.lemmas.Grind.{flat_map-append}
 use Rattle.std.proofs.lemmas.List.Elements.{All-append, All-nil}
 use Rattle.netchange_core.specs.declared.message.Message.{Message}
@@ -13,7 +13,8 @@ use Rattle.route_session.specs.Writes.{IsWrittenBy, LeavesBy, Takes, carried_by}
 use Rattle.route_session.specs.Told.{Told, grown, refuse_first}
 use Rattle.message_streams.specs.Views.{WriterView}
 use Rattle.slot_lock.specs.Passes.{Fragment, PassView, RouterView}
-use Rattle.neighbour_session.specs.Writing.{IsWriterOver, IsWriterStopped, WritesOut, told_to}
+use Rattle.neighbour_session.specs.Waiting.{full_end}
+use Rattle.neighbour_session.specs.Writing.{IsWriterOver, IsWriterStopped, WriterGoesOn, WritesOut, told_to}
 use Rattle.neighbour_session.specs.Links.{GotLinesOf, TearsLine}
 use Rattle.neighbour_session.specs.declared.ends.SessionEnd.{SessionEnd}
 use Rattle.neighbour_session.specs.declared.ends.SessionEnd.TheVariants as end
@@ -73,12 +74,37 @@ written_last r session old t mid m last new u h k = record {
   at_link = told_after last.cause t m u h.ended h.failures k.at_link;
 }
 
--- one that used up its turns has left nothing unsent
-written_on : (r : RouterView) (session : ℕ) (old : Fragment) (t : Told) (last : WriteEnd) (new : Fragment) (u : Told) → last.cause ≡ cause.Turns →
-    IsWrittenBy r session old t last new u → HasWritten session old t new u
-written_on r session old t last new u turns k =
-    let none : last.unsent ≡ [] = subst (λ c. LeavesBy c last.unsent) turns k.leaves in
-    let same : IsCauseAt cause.Turns t u = subst (λ c. IsCauseAt c t u) turns k.at_link in
+-- one that goes on has left nothing unsent
+leaves_none : (waits : Bool) (c : Cause) (unsent : List Message) → WriterGoesOn waits c → LeavesBy c unsent → unsent ≡ []
+leaves_none waits cause.Turns unsent on h = h
+leaves_none waits cause.Full unsent on h = h
+leaves_none waits cause.LinkEnded unsent on h = absurd on
+leaves_none waits cause.LinkFault unsent on h = absurd on
+leaves_none waits cause.Stale unsent on h = absurd on
+leaves_none waits cause.Memory unsent on h = absurd on
+
+same_link : (waits : Bool) (c : Cause) (t u : Told) → WriterGoesOn waits c → IsCauseAt c t u → IsCauseAt cause.Turns t u
+same_link waits cause.Turns t u on h = h
+same_link waits cause.Full t u on h = h
+same_link waits cause.LinkEnded t u on h = absurd on
+same_link waits cause.LinkFault t u on h = absurd on
+same_link waits cause.Stale t u on h = absurd on
+same_link waits cause.Memory t u on h = absurd on
+
+fresh_on : (waits : Bool) (c : Cause) (r : RouterView) (calls : List Entry) (new : Fragment) → WriterGoesOn waits c → IsCauseIn c r calls new →
+    All IsFresh calls
+fresh_on waits cause.Turns r calls new on h = h
+fresh_on waits cause.Full r calls new on h = h.0
+fresh_on waits cause.LinkEnded r calls new on h = absurd on
+fresh_on waits cause.LinkFault r calls new on h = absurd on
+fresh_on waits cause.Stale r calls new on h = absurd on
+fresh_on waits cause.Memory r calls new on h = absurd on
+
+written_on : (waits : Bool) (r : RouterView) (session : ℕ) (old : Fragment) (t : Told) (last : WriteEnd) (new : Fragment) (u : Told) →
+    WriterGoesOn waits last.cause → IsWrittenBy r session old t last new u → HasWritten session old t new u
+written_on waits r session old t last new u on k =
+    let none : last.unsent ≡ [] = leaves_none waits last.cause last.unsent on k.leaves in
+    let same : IsCauseAt cause.Turns t u = same_link waits last.cause t u on k.at_link in
     record {
       calls = k.calls;
       accepted = k.accepted;
@@ -89,25 +115,37 @@ written_on r session old t last new u turns k =
       refused = k.writes.refused ∙ ap (λ (l : List Message). refuse_first t.first_refused l) none;
       handed = k.writes.handed;
       is_closed = k.writes.is_closed;
-      fresh = subst (λ c. IsCauseIn c r k.calls new) turns k.in_history;
+      fresh = fresh_on waits last.cause r k.calls new on k.in_history;
       ended = same.0;
       failures = same.1;
     }
 
-pub writes_on : (r : RouterView) (session : ℕ) (old : Fragment) (t : Told) (mid : Fragment) (m : Told) (last : WriteEnd) (new : Fragment) (u : Told) →
-    HasWritten session old t mid m → last.cause ≡ cause.Turns → IsWrittenBy r session mid m last new u → HasWritten session old t new u
-writes_on r session old t mid m last new u h turns k =
-    written_on r session old t (record { cause = last.cause; sent = length (h.accepted ++ k.accepted); unsent = last.unsent }) new u turns
+pub writes_on : (waits : Bool) (r : RouterView) (session : ℕ) (old : Fragment) (t : Told) (mid : Fragment) (m : Told) (last : WriteEnd)
+    (new : Fragment) (u : Told) → HasWritten session old t mid m → WriterGoesOn waits last.cause → IsWrittenBy r session mid m last new u →
+    HasWritten session old t new u
+writes_on waits r session old t mid m last new u h on k =
+    written_on waits r session old t (record { cause = last.cause; sent = length (h.accepted ++ k.accepted); unsent = last.unsent }) new u on
     (written_last r session old t mid m last new u h k)
 
 -- a writer that ended by itself, or because the session is not there
-stopped_over : (may : Bool → Type 0) (c : Cause) (why : SessionEnd) → IsWriterStopped c why → IsWriterOver may c why
-stopped_over may cause.Turns why h = absurd h
-stopped_over may cause.LinkEnded why h = h
-stopped_over may cause.LinkFault why h = h
-stopped_over may cause.Stale why h = h
-stopped_over may cause.Full why h = h
-stopped_over may cause.Memory why h = h
+not_both : (b : Bool) → b ≡ false → b ≡ true → ⊥
+not_both b no yes = absurd cc
+
+stopped_over : (waits : Bool) (may : Bool → Type 0) (c : Cause) (why : SessionEnd) → IsWriterStopped waits c why → IsWriterOver waits may c why
+stopped_over waits may cause.Turns why h = absurd h
+stopped_over waits may cause.LinkEnded why h = h
+stopped_over waits may cause.LinkFault why h = h
+stopped_over waits may cause.Stale why h = h
+stopped_over waits may cause.Full why h = (h.0 ∙ ap full_end (sym h.1), λ w. absurd (not_both waits h.1 w))
+stopped_over waits may cause.Memory why h = h
+
+absent_over : (waits : Bool) (may : Bool → Type 0) (c : Cause) → WriterGoesOn waits c → may false → IsWriterOver waits may c end.Closed
+absent_over waits may cause.Turns on absent = (refl, absent)
+absent_over waits may cause.Full on absent = (sym (ap full_end on), λ w. absent)
+absent_over waits may cause.LinkEnded on absent = absurd on
+absent_over waits may cause.LinkFault on absent = absurd on
+absent_over waits may cause.Stale on absent = absurd on
+absent_over waits may cause.Memory on absent = absurd on
 
 -- what the stream got behind the last whole line
 first_unsent : (unsent : List Message) → refuse_first (Some None) unsent ≡ Some (slice_get unsent 0)
@@ -118,11 +156,11 @@ got_after : (output : WriterView) (u : Told) (unsent : List Message) (later : Wr
     u.first_refused ≡ refuse_first (told_to output).first_refused unsent → TearsLine (slice_get unsent 0) g.held later.held
 got_after output u unsent later g h = g.torn (slice_get unsent 0) (h ∙ first_unsent unsent)
 
-pub writes_stopped : (may : Bool → Type 0) (r : RouterView) (session : ℕ) (old : PassView) (output : WriterView) (mid : PassView) (m : Told)
-    (last : WriteEnd) (why : SessionEnd) (new : PassView) (u : Told) (later : WriterView) →
+pub writes_stopped : (waits : Bool) (may : Bool → Type 0) (r : RouterView) (session : ℕ) (old : PassView) (output : WriterView) (mid : PassView)
+    (m : Told) (last : WriteEnd) (why : SessionEnd) (new : PassView) (u : Told) (later : WriterView) →
     HasWritten session old.fragment (told_to output) mid.fragment m → IsWrittenBy r session mid.fragment m last new.fragment u → GotLinesOf output u later →
-    IsWriterStopped last.cause why → WritesOut may r session old output why new later
-writes_stopped may r session old output mid m last why new u later h k got over =
+    IsWriterStopped waits last.cause why → WritesOut waits may r session old output why new later
+writes_stopped waits may r session old output mid m last why new u later h k got over =
     let written = written_last r session old.fragment (told_to output) mid.fragment m last new.fragment u h k in
     record {
       end = record { cause = last.cause; sent = length (h.accepted ++ k.accepted); unsent = last.unsent };
@@ -131,14 +169,14 @@ writes_stopped may r session old output mid m last why new u later h k got over 
       held = got.held;
       lines = got.lines;
       after = got_after output u last.unsent later got written.writes.refused;
-      because = stopped_over may last.cause why over;
+      because = stopped_over waits may last.cause why over;
     }
 
-pub writes_absent : (may : Bool → Type 0) (r : RouterView) (session : ℕ) (old : PassView) (output : WriterView) (mid : PassView) (m : Told)
-    (last : WriteEnd) (new : PassView) (u : Told) (later : WriterView) → HasWritten session old.fragment (told_to output) mid.fragment m →
-    IsWrittenBy r session mid.fragment m last new.fragment u → GotLinesOf output u later → last.cause ≡ cause.Turns → may false →
-    WritesOut may r session old output end.Closed new later
-writes_absent may r session old output mid m last new u later h k got turns absent =
+pub writes_absent : (waits : Bool) (may : Bool → Type 0) (r : RouterView) (session : ℕ) (old : PassView) (output : WriterView) (mid : PassView)
+    (m : Told) (last : WriteEnd) (new : PassView) (u : Told) (later : WriterView) →
+    HasWritten session old.fragment (told_to output) mid.fragment m → IsWrittenBy r session mid.fragment m last new.fragment u →
+    GotLinesOf output u later → WriterGoesOn waits last.cause → may false → WritesOut waits may r session old output end.Closed new later
+writes_absent waits may r session old output mid m last new u later h k got on absent =
     let written = written_last r session old.fragment (told_to output) mid.fragment m last new.fragment u h k in
     record {
       end = record { cause = last.cause; sent = length (h.accepted ++ k.accepted); unsent = last.unsent };
@@ -147,5 +185,5 @@ writes_absent may r session old output mid m last new u later h k got turns abse
       held = got.held;
       lines = got.lines;
       after = got_after output u last.unsent later got written.writes.refused;
-      because = subst (λ c. IsWriterOver may c end.Closed) (sym turns) (refl, absent);
+      because = absent_over waits may last.cause on absent;
     }

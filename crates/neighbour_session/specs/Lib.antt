@@ -5,5 +5,6 @@ pub mod Greeting
 pub mod Keeping
 pub mod Links
 pub mod Reading
+pub mod Waiting
 pub mod Words
 pub mod Writing

@@ -10,6 +10,7 @@ use Rattle.route_session.specs.Told.{Told}
 use Rattle.slot_lock.specs.Passes.{PassView, RouterView}
 use Rattle.neighbour_session.specs.Ending.{Ends}
 use Rattle.neighbour_session.specs.Links.{ReadsLines, input_view}
+use Rattle.neighbour_session.specs.Waiting.{IsFullEnd, full_end}
 use Rattle.neighbour_session.specs.declared.ends.SessionEnd.{SessionEnd}
 use Rattle.neighbour_session.specs.declared.ends.SessionEnd.TheVariants as end
 
@@ -23,34 +24,36 @@ link_end None line = end.Closed
 link_end (Some why) line = end.Read why line
 
 -- why a reader's session is over, where it did not use up its turns: the neighbour's stream, or a call that was refused
-abbrev pub IsReaderStopped : Cause → ReaderView → SessionEnd → Type 0
-IsReaderStopped cause.Turns input why = ⊥
-IsReaderStopped cause.LinkEnded input why = why ≡ link_end input.end input.line
-IsReaderStopped cause.LinkFault input why = why ≡ link_end input.end input.line
-IsReaderStopped cause.Stale input why = why ≡ end.Closed
-IsReaderStopped cause.Full input why = why ≡ end.Full
-IsReaderStopped cause.Memory input why = why ≡ end.Memory
+abbrev pub IsReaderStopped : Bool → Cause → ReaderView → SessionEnd → Type 0
+IsReaderStopped waits cause.Turns input why = ⊥
+IsReaderStopped waits cause.LinkEnded input why = why ≡ link_end input.end input.line
+IsReaderStopped waits cause.LinkFault input why = why ≡ link_end input.end input.line
+IsReaderStopped waits cause.Stale input why = why ≡ end.Closed
+IsReaderStopped waits cause.Full input why = why ≡ full_end waits
+IsReaderStopped waits cause.Memory input why = why ≡ end.Memory
 
--- and where it did: the session was said not to be there
-abbrev pub IsReaderOver : (Bool → Type 0) → Cause → ReaderView → SessionEnd → Type 0
-IsReaderOver may_be_present cause.Turns input why = (why ≡ end.Closed) × may_be_present false
-IsReaderOver may_be_present c input why = IsReaderStopped c input why
+-- And where it did: the session was said not to be there. A full history ends no session whose reader waits: it was said not to be there either.
+abbrev pub IsReaderOver : Bool → (Bool → Type 0) → Cause → ReaderView → SessionEnd → Type 0
+IsReaderOver waits may_be_present cause.Turns input why = (why ≡ end.Closed) × may_be_present false
+IsReaderOver waits may_be_present cause.Full input why = IsFullEnd waits may_be_present why
+IsReaderOver waits may_be_present c input why = IsReaderStopped waits c input why
 
 -- Each message that the lines of the neighbour's stream say was entered, once and in order; then, for a reason, the reader ended, and the
--- stream was left so. A message was lost only where the history is full or memory was refused.
-pub record ReadsOut (may_be_present : Bool → Type 0) (r : RouterView) (session : ℕ) (old : PassView) (input : ReaderView) (why : SessionEnd)
+-- stream was left so. A message was lost only where the history is full or memory was refused; where the reader waits for room, a full
+-- history loses one only if the session was ended meanwhile.
+pub record ReadsOut (waits : Bool) (may_be_present : Bool → Type 0) (r : RouterView) (session : ℕ) (old : PassView) (input : ReaderView) (why : SessionEnd)
     (new : PassView) : Type 0 where
   pub end : ReadEnd
   pub last : Told
   pub read : IsReadBy r session old.fragment (told_by input) end new.fragment last
   pub left : ReaderView
   pub lines : ReadsLines input last.handed left
-  pub because : IsReaderOver may_be_present end.cause left why
+  pub because : IsReaderOver waits may_be_present end.cause left why
 
 -- and the session with it
-pub record Hears (may_be_present may_be_first : Bool → Type 0) (r : RouterView) (session : ℕ) (old : PassView) (input : ReaderView)
-    (result : SessionEnd) (new : PassView) : Type 0 where
+pub record Hears (waits : Bool) (may_be_present may_be_first : Bool → Type 0) (r : RouterView) (session : ℕ) (old : PassView)
+    (input : ReaderView) (result : SessionEnd) (new : PassView) : Type 0 where
   pub before : PassView
   pub why : SessionEnd
-  pub reads : ReadsOut may_be_present r session old input why before
+  pub reads : ReadsOut waits may_be_present r session old input why before
   pub ends : Ends may_be_first r session why before result new

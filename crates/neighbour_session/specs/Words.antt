@@ -1,5 +1,5 @@
 -- Why a session is over, in words. (This project's own choice.)
-use Rattle.std.specs.Prelude.{ℕ, Bool, true, false, List, ◌++◌, codes, decimal}
+use Rattle.std.specs.Prelude.{ℕ, Bool, true, List, ◌++◌, codes, decimal}
 use Rattle.link_lines.specs.declared.greeting.GreetingFault.{GreetingFault}
 use Rattle.link_lines.specs.declared.greeting.GreetingFault.TheVariants as fault
 use Rattle.message_streams.specs.declared.ends.StreamEnd.{StreamEnd}
@@ -32,7 +32,7 @@ end_words end.Refused = codes "the router refused the neighbour"
 end_words end.Full = codes "the history is full (J1)"
 end_words end.Memory = codes "out of memory (J2)"
 
--- a full history takes no session any more
-abbrev pub can_be_opened_again : SessionEnd → Bool
-can_be_opened_again end.Full = false
-can_be_opened_again _ = true
+-- a full history takes no session any more, unless that passes
+abbrev pub can_be_opened_again : Bool → SessionEnd → Bool
+can_be_opened_again passes end.Full = passes
+can_be_opened_again passes _ = true

@@ -1,5 +1,5 @@
 -- What who writes to a neighbour does. (This project's own choice.)
-use Rattle.std.specs.Prelude.{◌≡◌, ℕ, Bool, false, List, Option, None, slice_get}
+use Rattle.std.specs.Prelude.{◌≡◌, ℕ, Bool, true, false, ⊤, List, Option, None, slice_get}
 use Rattle.std.specs.Io.KnownBytes.{Appends}
 use Rattle.message_streams.specs.Views.{WriterView}
 use Rattle.route_session.specs.declared.ends.Cause.{Cause}
@@ -11,6 +11,7 @@ use Rattle.slot_lock.specs.Passes.{PassView, RouterView}
 use Rattle.stream_link.specs.Views.{AreLines}
 use Rattle.neighbour_session.specs.Ending.{Ends}
 use Rattle.neighbour_session.specs.Links.{TearsLine, output_view}
+use Rattle.neighbour_session.specs.Waiting.{IsFullEnd}
 use Rattle.neighbour_session.specs.declared.ends.SessionEnd.{SessionEnd}
 use Rattle.neighbour_session.specs.declared.ends.SessionEnd.TheVariants as end
 
@@ -19,36 +20,44 @@ abbrev pub told_to : WriterView → Told
 told_to output = (output_view output output output None false 0 false).told
 
 -- why a writer's session is over, where it did not use up its turns: a line was not written, or a call was refused
-abbrev pub IsWriterStopped : Cause → SessionEnd → Type 0
-IsWriterStopped cause.Turns why = ⊥
-IsWriterStopped cause.LinkEnded why = why ≡ end.Unwritten
-IsWriterStopped cause.LinkFault why = why ≡ end.Unwritten
-IsWriterStopped cause.Stale why = why ≡ end.Closed
-IsWriterStopped cause.Full why = why ≡ end.Full
-IsWriterStopped cause.Memory why = why ≡ end.Memory
+abbrev pub IsWriterStopped : Bool → Cause → SessionEnd → Type 0
+IsWriterStopped waits cause.Turns why = ⊥
+IsWriterStopped waits cause.LinkEnded why = why ≡ end.Unwritten
+IsWriterStopped waits cause.LinkFault why = why ≡ end.Unwritten
+IsWriterStopped waits cause.Stale why = why ≡ end.Closed
+IsWriterStopped waits cause.Full why = (why ≡ end.Full) × (waits ≡ false)
+IsWriterStopped waits cause.Memory why = why ≡ end.Memory
 
--- and where it did: the session was said not to be there
-abbrev pub IsWriterOver : (Bool → Type 0) → Cause → SessionEnd → Type 0
-IsWriterOver may_be_present cause.Turns why = (why ≡ end.Closed) × may_be_present false
-IsWriterOver may_be_present c why = IsWriterStopped c why
+-- it goes on, if the session is there, where it used up its turns, and where it waits until the history has room
+abbrev pub WriterGoesOn : Bool → Cause → Type 0
+WriterGoesOn waits cause.Turns = ⊤
+WriterGoesOn waits cause.Full = waits ≡ true
+WriterGoesOn waits _ = ⊥
+
+-- And where it used up its turns: the session was said not to be there. A full history ends no session whose writer waits: it was said not to
+-- be there either.
+abbrev pub IsWriterOver : Bool → (Bool → Type 0) → Cause → SessionEnd → Type 0
+IsWriterOver waits may_be_present cause.Turns why = (why ≡ end.Closed) × may_be_present false
+IsWriterOver waits may_be_present cause.Full why = IsFullEnd waits may_be_present why
+IsWriterOver waits may_be_present c why = IsWriterStopped waits c why
 
 -- What the router queued was taken, and the neighbour's stream got the lines of it, each in its turn; then, for a reason, the writer ended.
 -- What was taken and not written is none, but where a line was not written: then the stream got a front of the line of the first of it,
 -- or nothing of that.
-pub record WritesOut (may_be_present : Bool → Type 0) (r : RouterView) (session : ℕ) (old : PassView) (output : WriterView) (why : SessionEnd)
-    (new : PassView) (later : WriterView) : Type 0 where
+pub record WritesOut (waits : Bool) (may_be_present : Bool → Type 0) (r : RouterView) (session : ℕ) (old : PassView) (output : WriterView)
+    (why : SessionEnd) (new : PassView) (later : WriterView) : Type 0 where
   pub end : WriteEnd
   pub last : Told
   pub written : IsWrittenBy r session old.fragment (told_to output) end new.fragment last
   pub held : Option (List ℕ)
   pub lines : AreLines (Appends output.held held) last.given
   pub after : TearsLine (slice_get end.unsent 0) held later.held
-  pub because : IsWriterOver may_be_present end.cause why
+  pub because : IsWriterOver waits may_be_present end.cause why
 
 -- and the session with it
-pub record Serves (may_be_present may_be_first : Bool → Type 0) (r : RouterView) (session : ℕ) (old : PassView) (output : WriterView)
+pub record Serves (waits : Bool) (may_be_present may_be_first : Bool → Type 0) (r : RouterView) (session : ℕ) (old : PassView) (output : WriterView)
     (result : SessionEnd) (new : PassView) (later : WriterView) : Type 0 where
   pub before : PassView
   pub why : SessionEnd
-  pub writes : WritesOut may_be_present r session old output why before later
+  pub writes : WritesOut waits may_be_present r session old output why before later
   pub ends : Ends may_be_first r session why before result new

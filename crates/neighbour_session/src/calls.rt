@@ -11,7 +11,7 @@ use slot_lock::{Answer, Pass, Router};
 use std::sync::Wait;
 
 /// What a call that was not entered says of the session.
-pub(crate) fn end_of(fault: CallFault) -> SessionEnd
+fn end_of(fault: CallFault) -> SessionEnd
     ensures { result ≡ spec.end_of fault }
 {
     match fault {

@@ -112,10 +112,13 @@ impl SessionEnd {
         }
     }
 
-    /// Whether the link can be opened again: a full history takes no session any more.
-    pub fn can_be_opened_again(self) -> bool
-        ensures { result ≡ spec.can_be_opened_again self }
+    /// Whether the link can be opened again: a full history takes no session any more, unless that passes.
+    pub fn can_be_opened_again(self, passes: bool) -> bool
+        ensures { result ≡ spec.can_be_opened_again passes self }
     {
-        !matches!(self, SessionEnd::Full)
+        match self {
+            SessionEnd::Full => passes,
+            _ => true,
+        }
     }
 }

@@ -9,6 +9,7 @@ mod greeting;
 mod keep;
 mod links;
 mod read;
+mod waiting;
 mod write;
 
 pub use calls::{enter_down, enter_up};

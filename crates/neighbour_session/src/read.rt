@@ -1,6 +1,8 @@
 //! Who reads a neighbour.
-ghost use Rattle.std.specs.Prelude.{◌≡◌, IfNone, IfSome};
+ghost use Rattle.std.specs.Prelude.{◌≡◌, false, true, None, Some, IfNone, IfSome};
 ghost use Rattle.neighbour_session.specs.Reading as spec;
+ghost use Rattle.neighbour_session.specs.Waiting.{ReadsFor};
+ghost use Rattle.route_session.specs.Reads.{IsReadBy};
 ghost use Rattle.route_session.specs.Calls.{StaysSound};
 ghost use Rattle.slot_lock.specs.Passes.{IsPassOf};
 
@@ -8,8 +10,10 @@ use crate::crew::{Crew, READER};
 use crate::ends::SessionEnd;
 use crate::finish::end_session;
 use crate::links::{GivenReader, InputLink};
+use crate::waiting::{end_of_full, enter_later};
 use message_streams::MessageReader;
-use route_session::{Cause, read_session};
+use netchange_core::Message;
+use route_session::{Cause, Link, ReadEnd, read_session};
 use slot_lock::{Pass, Router};
 use std::io::Read;
 use std::marker::Brand;
@@ -36,16 +40,52 @@ fn end_of_link<I: Read, S: GivenReader>(link: &InputLink<I, S>) -> SessionEnd
 fn end_of_reader<I: Read, S: GivenReader>(
     cause: Cause,
     link: &InputLink<I, S>,
+    waits: bool,
 ) -> Option<SessionEnd>
-    ensures over { IfSome result (λ why. spec.IsReaderStopped cause link.now.reader why) }
+    ensures over { IfSome result (λ why. spec.IsReaderStopped waits cause link.now.reader why) }
     ensures goes_on { IfNone result (cause ≡ Cause.Turns) }
 {
     match cause {
         Cause::Turns => None,
         Cause::Stale => Some(SessionEnd::Closed),
-        Cause::Full => Some(SessionEnd::Full),
+        Cause::Full => Some(end_of_full(waits)),
         Cause::Memory => Some(SessionEnd::Memory),
         Cause::LinkEnded | Cause::LinkFault => Some(end_of_link(link)),
+    }
+}
+
+/// The message that a reader lost to a full history, if it waits until there is room.
+fn kept_message(read: &ReadEnd, waits: bool) -> Option<Message>
+    ensures kept { IfSome result (λ message. (waits ≡ true) × (read.now.cause ≡ Cause.Full) × (read.now.lost ≡ Some message)) }
+    ensures none { IfNone result (waits ≡ true → read.now.cause ≡ Cause.Full → read.now.lost ≡ None) }
+{
+    if waits && read.cause == Cause::Full {
+        read.lost
+    } else {
+        None
+    }
+}
+
+/// Enters what a link hands out, for some turns: why the reader ended. A message that a full history had no room for is entered once there
+/// is room, if the reader waits. Then it ends for a full history only where the session is not there any more.
+fn read_turns<R: Wait + Clock, L: Link, C: Crew>(
+    rt: &R,
+    router: &Router,
+    pass: &mut Pass,
+    session: u32,
+    link: &mut L,
+    crew: &C,
+    waits: bool,
+) -> Cause
+    requires { IsPassOf router.now pass.old }
+    ensures pass { StaysSound router.now pass.old pass.new }
+    ensures read { ReadsFor result router.now session pass.old.fragment (L.told link.old) pass.new.fragment (L.told link.new) }
+    ensures absent { waits ≡ true → result ≡ Cause.Full → C.may_be_present crew.now false }
+{
+    let read = read_session(rt, router, pass, session, link, crew, READER, TURNS);
+    match kept_message(&read, waits) {
+        Some(message) => enter_later(rt, router, pass, session, message, crew),
+        None => read.cause,
     }
 }
 
@@ -57,18 +97,19 @@ fn read_all<S: GivenReader, R: Wait + Clock, I: Read + Drop, C: Crew>(
     session: u32,
     input: MessageReader<I>,
     crew: &C,
+    waits: bool,
 ) -> SessionEnd
     requires of { IsPassOf router.now pass.old }
     requires named { input ≡ S.reader }
     ensures pass { StaysSound router.now pass.old pass.new }
     ensures shares { pass.new.fragment.shares ≡ pass.old.fragment.shares }
-    ensures reads { spec.ReadsOut (C.may_be_present crew.now) router.now session pass.old input result pass.new }
+    ensures reads { spec.ReadsOut waits (C.may_be_present crew.now) router.now session pass.old input result pass.new }
 {
     let mut link: InputLink<I, S> = InputLink::new(input);
     for _ in rt.forever() {
-        let read = read_session(rt, router, pass, session, &mut link, crew, READER, TURNS);
+        let cause = read_turns(rt, router, pass, session, &mut link, crew, waits);
         link.lines_are_told();
-        if let Some(why) = end_of_reader(read.cause, &link) {
+        if let Some(why) = end_of_reader(cause, &link, waits) {
             return why;
         }
         if !crew.is_present(rt) {
@@ -79,6 +120,9 @@ fn read_all<S: GivenReader, R: Wait + Clock, I: Read + Drop, C: Crew>(
 }
 
 /// Reads a session until it is over, and enters Down if nobody ended it before. Why it is over, and what is left of who read it.
+///
+/// A full history (J1) ends the session; where `waits`, it does not: the message that the history had no room for is kept, and entered once
+/// there is room, before what comes after it.
 pub fn serve_reader<R: Wait + Clock, I: Read + Drop, C: Crew>(
     rt: &R,
     router: &Router,
@@ -86,12 +130,13 @@ pub fn serve_reader<R: Wait + Clock, I: Read + Drop, C: Crew>(
     session: u32,
     input: MessageReader<I>,
     crew: C,
+    waits: bool,
 ) -> (SessionEnd, C::Leaver)
     requires { IsPassOf router.now pass.old }
     ensures pass { StaysSound router.now pass.old pass.new }
     ensures shares { pass.new.fragment.shares ≡ pass.old.fragment.shares }
-    ensures hears { spec.Hears (C.may_be_present crew) (C.may_be_first crew) router.now session pass.old input result.0 pass.new }
+    ensures hears { spec.Hears waits (C.may_be_present crew) (C.may_be_first crew) router.now session pass.old input result.0 pass.new }
 {
-    let why = read_all::<Brand, R, I, C>(rt, router, pass, session, input, &crew);
+    let why = read_all::<Brand, R, I, C>(rt, router, pass, session, input, &crew, waits);
     end_session(rt, router, pass, session, crew, why)
 }

@@ -4,13 +4,12 @@ ghost use Rattle.neighbour_session.specs.Writing as spec;
 ghost use Rattle.route_session.specs.Calls.{StaysSound};
 ghost use Rattle.slot_lock.specs.Passes.{IsPassOf};
 
-use crate::calls::end_of;
 use crate::crew::{Crew, WRITER};
 use crate::ends::SessionEnd;
 use crate::finish::end_session;
 use crate::links::{OutputLink, Target};
+use crate::waiting::pause;
 use message_streams::MessageWriter;
-use route_history::CallFault;
 use route_session::{Cause, write_session};
 use slot_lock::{Pass, Router};
 use std::alloc::Global;
@@ -22,17 +21,30 @@ use std::sync::Wait;
 /// The turns that a writer has at a time. The gate makes it sleep before each of them, and answers no to each once the session is over.
 const TURNS: u32 = 1_000;
 
-/// Why a writer's session is over; None where it is not.
-fn end_of_writer(cause: Cause) -> Option<SessionEnd>
-    ensures over { IfSome result (λ why. spec.IsWriterStopped cause why) }
-    ensures goes_on { IfNone result (cause ≡ Cause.Turns) }
+/// Why a writer's session is over; None where it is not, if it is there.
+fn end_of_writer(cause: Cause, waits: bool) -> Option<SessionEnd>
+    ensures over { IfSome result (λ why. spec.IsWriterStopped waits cause why) }
+    ensures goes_on { IfNone result (spec.WriterGoesOn waits cause) }
 {
     match cause {
         Cause::Turns => None,
         Cause::LinkEnded | Cause::LinkFault => Some(SessionEnd::Unwritten),
         Cause::Stale => Some(SessionEnd::Closed),
-        Cause::Full => Some(end_of(CallFault::Full)),
-        Cause::Memory => Some(end_of(CallFault::Memory)),
+        Cause::Full => {
+            if waits {
+                None
+            } else {
+                Some(SessionEnd::Full)
+            }
+        }
+        Cause::Memory => Some(SessionEnd::Memory),
+    }
+}
+
+/// Waits a little, where a full history is why a writer had no more turns.
+fn pause_if_full<R: Clock>(rt: &R, cause: Cause) {
+    if cause == Cause::Full {
+        pause(rt);
     }
 }
 
@@ -45,21 +57,23 @@ fn write_all<T: Target, R: Wait + Clock, O: Write + Drop, C: Crew>(
     session: u32,
     output: MessageWriter<O>,
     crew: &C,
+    waits: bool,
 ) -> (SessionEnd, MessageWriter<O>)
     requires of { IsPassOf router.now pass.old }
     requires named { output ≡ T.writer }
     ensures pass { StaysSound router.now pass.old pass.new }
     ensures shares { pass.new.fragment.shares ≡ pass.old.fragment.shares }
-    ensures writes { spec.WritesOut (C.may_be_present crew.now) router.now session pass.old output result.0 pass.new result.1 }
+    ensures writes { spec.WritesOut waits (C.may_be_present crew.now) router.now session pass.old output result.0 pass.new result.1 }
 {
     let mut link: OutputLink<O, T> = OutputLink::new(output);
     for _ in rt.forever() {
         let end = write_session(
             rt, alloc, router, pass, session, &mut link, crew, WRITER, TURNS,
         );
-        if let Some(why) = end_of_writer(end.cause) {
+        if let Some(why) = end_of_writer(end.cause, waits) {
             return (why, link.into_writer());
         }
+        pause_if_full(rt, end.cause);
         if !crew.is_present(rt) {
             return (SessionEnd::Closed, link.into_writer());
         }
@@ -69,6 +83,8 @@ fn write_all<T: Target, R: Wait + Clock, O: Write + Drop, C: Crew>(
 
 /// Gives a neighbour what the router queued for it, until the session is over, and enters Down if nobody ended it before. Says why it
 /// is over, and hands back the stream, which is closed by letting it go, and what is left of who wrote.
+///
+/// A full history (J1) ends the session; where `waits`, it does not: the call is made again, until there is room.
 pub fn serve_writer<R: Wait + Clock, O: Write + Drop, C: Crew>(
     rt: &R,
     alloc: Global,
@@ -77,14 +93,15 @@ pub fn serve_writer<R: Wait + Clock, O: Write + Drop, C: Crew>(
     session: u32,
     output: MessageWriter<O>,
     crew: C,
+    waits: bool,
 ) -> (SessionEnd, MessageWriter<O>, C::Leaver)
     requires { IsPassOf router.now pass.old }
     ensures pass { StaysSound router.now pass.old pass.new }
     ensures shares { pass.new.fragment.shares ≡ pass.old.fragment.shares }
-    ensures serves { spec.Serves (C.may_be_present crew) (C.may_be_first crew) router.now session pass.old output result.0 pass.new result.1 }
+    ensures serves { spec.Serves waits (C.may_be_present crew) (C.may_be_first crew) router.now session pass.old output result.0 pass.new result.1 }
 {
     let (why, written) = write_all::<Brand, R, O, C>(
-        rt, alloc, router, pass, session, output, &crew,
+        rt, alloc, router, pass, session, output, &crew, waits,
     );
     let (why, leaver) = end_session(rt, router, pass, session, crew, why);
     (why, written, leaver)

@@ -5,3 +5,4 @@ pub mod Passes
 pub mod Running
 pub mod Serving
 pub mod Splitting
+pub mod Waiting

@@ -1,10 +1,10 @@
 -- What becomes of a link. (This project's own choice.)
 use Rattle.std.specs.Prelude.{◌≡◌, ◌⊎◌, ℕ, ◌*◌, ◌≤◌, Bool, true, false, List, Option, None, Some, string_bytes, ⊤}
 use Rattle.message_streams.specs.Views.{ReaderView, WriterView}
-use Rattle.neighbour_session.specs.Calls.{Closes}
+use Rattle.neighbour_session.specs.Calls.{Closes, IsUnopened, Opens as Up}
 use Rattle.neighbour_session.specs.Ending.{GoesDown}
 use Rattle.neighbour_session.specs.Greeting.{Greets}
-use Rattle.neighbour_session.specs.Keeping.{IsServed, IsTurnedAway, LacksShares}
+use Rattle.neighbour_session.specs.Keeping.{HasSession, IsTurnedAway, LacksShares}
 use Rattle.neighbour_session.specs.Reading.{Hears}
 use Rattle.neighbour_session.specs.Words.{can_be_opened_again}
 use Rattle.neighbour_session.specs.declared.ends.SessionEnd.{SessionEnd}
@@ -19,13 +19,37 @@ use Rattle.router_daemon.specs.Passes.{TakesBack}
 
 -- A session whose Up was entered is over: it went down with nobody to serve it; or anybody entered what the neighbour said, and its Down.
 abbrev pub IsOver : RouterView → ℕ → ReaderView → PassView → SessionEnd → PassView → Type 0
-IsOver r session input old why new = GoesDown r session end.NotStarted old why new ⊎ Hears (λ _. ⊤) (λ _. ⊤) r session old input why new
+IsOver r session input old why new =
+    GoesDown r session end.NotStarted old why new ⊎ Hears r.endless (λ _. ⊤) (λ _. ⊤) r session old input why new
+
+-- until a pass is so, calls were made that a full history had no room for, of a router that is endless; or none was
+abbrev pub HasWaited : RouterView → PassView → PassView → Type 0
+HasWaited r old new = (new ≡ old) ⊎ ((r.endless ≡ true) × Refused fault.Full r old new)
+
+-- the Up of a node opened a session, once there was room for it
+pub record OpensLater (r : RouterView) (node : ℕ) (old : PassView) (session : ℕ) (a : Answer) (new : PassView) : Type 0 where
+  pub mid : PassView
+  pub waited : HasWaited r old mid
+  pub opens : Up r node mid session a new
+
+-- or none: a full history is a reason only of a router that is not endless
+pub record OpensNever (r : RouterView) (node : ℕ) (old : PassView) (why : SessionEnd) (new : PassView) : Type 0 where
+  pub mid : PassView
+  pub waited : HasWaited r old mid
+  pub unopened : IsUnopened why r node mid new
+  pub passes : r.endless ≡ true → why ≡ end.Full → ⊥
+  pub shares : new.fragment.shares ≡ old.fragment.shares
+
+-- what becomes of a neighbour that greeted as it has to, and is served by anybody
+abbrev pub IsServed : RouterView → ℕ → ReaderView → PassView → SessionEnd → PassView → Type 0
+IsServed r neighbour input old why new = OpensNever r neighbour old why new ⊎ ((mid : PassView) × HasWaited r old mid ×
+    HasSession {Crew = Unit {0}} r.endless (λ _ _ _. ⊤) (λ _ _. ⊤) (λ _ _. ⊤) r neighbour input mid why new)
 
 -- A neighbour that greeted as it has to was served, by anybody: its Up was entered, what it said, and its Down. The pass of who wrote came
 -- back, and with it the share that it had. So none is missing: no part of the pass was split off, used and let go.
 pub record ServesNeighbour (r : RouterView) (neighbour : ℕ) (input : ReaderView) (old : PassView) (why : SessionEnd) (new : PassView) : Type 0 where
   pub mid : PassView
-  pub served : IsServed {Crew = Unit {0}} (λ _ _ _. ⊤) (λ _ _. ⊤) (λ _ _. ⊤) r neighbour input old why mid
+  pub served : IsServed r neighbour input old why mid
   pub back : TakesBack mid new
   pub shares : old.fragment.shares ≤ new.fragment.shares
 
@@ -42,9 +66,13 @@ abbrev pub Serves : RouterView → Domain → ℕ → ReaderView → WriterView 
 Serves r d neighbour input output old why new = LacksShares old why new ⊎ (IsTurnedAway d neighbour input output old why new
     ⊎ Meets r d neighbour input output old why new)
 
--- the Down of a session was entered, or the history is full, and takes none any more
+-- the Down of a session was entered; or the history is full, for good, and takes none any more
 abbrev pub IsSettled : RouterView → ℕ → PassView → PassView → Type 0
-IsSettled r session old new = ((a : Answer) × Closes r session old a new) ⊎ Refused fault.Full r old new
+IsSettled r session old new = ((a : Answer) × Closes r session old a new) ⊎ ((r.endless ≡ false) × Refused fault.Full r old new)
+
+-- or it is owed still: memory was refused, or the history is full, and will not be so for ever
+abbrev pub IsOwed : RouterView → PassView → PassView → Type 0
+IsOwed r old new = Refused fault.Memory r old new ⊎ ((r.endless ≡ true) × Refused fault.Full r old new)
 
 -- streams that nobody used
 pub record AreFresh (input : ReaderView) (output : WriterView) : Type 0 where
@@ -59,7 +87,7 @@ pub record Opens (r : RouterView) (d : Domain) (neighbour : ℕ) (old : PassView
   pub fresh : AreFresh input output
   pub why : SessionEnd
   pub serves : Serves r d neighbour input output old why new
-  pub again_is : again ≡ can_be_opened_again why
+  pub again_is : again ≡ can_be_opened_again r.endless why
 
 -- A file was asked for to be read, and is not: it was not opened, or there is no memory to read it. `may_read` says what may be answered
 -- where a file is to be read, `may_write` where it is to be written: whether it is opened.

@@ -1,11 +1,13 @@
 //! A router is closed.
 ghost use Rattle.router_daemon.specs.Passes.{IsLegalPass};
 
+use crate::settling::{passes, pause};
 use crate::shared::Shared;
 use neighbour_session::enter_down;
 use router_operator::Naming;
 use slot_lock::Pass;
 use std::io::Write;
+use std::rt::Clock;
 use std::sync::{Condvar, Wait};
 
 /// No session begins from now on. The number of links.
@@ -36,8 +38,37 @@ fn end_sessions<R: Wait, J: Naming, E: Write>(rt: &R, shared: &Shared<J, E>, cou
     shared.signals.await_settled(rt);
 }
 
+/// How often the Down of a session is tried, where the history is full and that passes: for a second. Nobody waits for ever until there is room.
+const TRIES: u32 = 200;
+
+/// Enters the Down of a session, and notes it. Where the router is endless and its history is full, it is tried again for a while.
+fn enter_last<R: Wait + Clock, J: Naming, E: Write>(
+    rt: &R,
+    shared: &Shared<J, E>,
+    pass: &mut Pass,
+    session: u32,
+)
+    requires { IsLegalPass J.router pass.old }
+    ensures { IsLegalPass J.router pass.new }
+{
+    for _ in 0..TRIES {
+        match enter_down(rt, &shared.router, pass, session) {
+            Ok(answer) => {
+                shared.signals.note(rt, &answer);
+                return;
+            }
+            Err(why) => {
+                if !passes(shared.endless, why) {
+                    return;
+                }
+                pause(rt);
+            }
+        }
+    }
+}
+
 /// Enters the Down of the session of a link that is over, if it is not entered.
-fn close_link<R: Wait, J: Naming, E: Write>(
+fn close_link<R: Wait + Clock, J: Naming, E: Write>(
     rt: &R,
     shared: &Shared<J, E>,
     pass: &mut Pass,
@@ -46,16 +77,13 @@ fn close_link<R: Wait, J: Naming, E: Write>(
     requires { IsLegalPass J.router pass.old }
     ensures { IsLegalPass J.router pass.new }
 {
-    let Some(session) = shared.signals.take_owed(rt, link) else {
-        return;
-    };
-    if let Ok(answer) = enter_down(rt, &shared.router, pass, session) {
-        shared.signals.note(rt, &answer);
+    if let Some(session) = shared.signals.take_owed(rt, link) {
+        enter_last(rt, shared, pass, session);
     }
 }
 
 /// Closes the links: no session begins any more, each that is there ends, and its Down is entered, by whoever ended it.
-pub(crate) fn close_links<R: Wait, J: Naming, E: Write>(
+pub(crate) fn close_links<R: Wait + Clock, J: Naming, E: Write>(
     rt: &R,
     shared: &Shared<J, E>,
     pass: &mut Pass,

@@ -3,8 +3,8 @@ ghost use Rattle.std.specs.Prelude.{◌≡◌, ◌<◌, ⊤, false, IfErr, IfNon
 ghost use Rattle.std.specs.Duration.{as_nanos};
 ghost use Rattle.std.specs.Option.{option_map};
 ghost use Rattle.slot_lock.specs.Passes.{IsPassOf};
-ghost use Rattle.router_daemon.specs.Links.{AreFresh, IsOver, IsUnopened, IsUnreadable, KeepsOnce, KeepsTurn, Serves, ServesNeighbour};
-ghost use Rattle.router_daemon.specs.Links.{StaysClosed, reopens};
+ghost use Rattle.router_daemon.specs.Links.{AreFresh, IsOver, IsUnopened, IsUnreadable, KeepsOnce, KeepsTurn, OpensLater, OpensNever, Serves};
+ghost use Rattle.router_daemon.specs.Links.{ServesNeighbour, StaysClosed, reopens};
 ghost use Rattle.neighbour_session.specs.Ending.{GoesDown};
 ghost use Rattle.neighbour_session.specs.Reading.{Hears};
 
@@ -13,7 +13,7 @@ use crate::crew::LinkCrew;
 use crate::folder::LinkFolder;
 use crate::naming::{FreshTicket, Ticket};
 use crate::room::{Order, Room};
-use crate::settling::settle;
+use crate::settling::{passes, pause, settle};
 use crate::shared::Shared;
 use crate::signals::Closing;
 use crate::telling::{tell_end, tell_unopened};
@@ -160,12 +160,20 @@ fn serve_begun<R: Wait + Clock, I: Read + Drop, O: Write + Drop, J: Naming, E: W
     requires { IsPassOf J.router pass.old }
     ensures of { IsPassOf J.router pass.new }
     ensures shares { pass.new.fragment.shares ≡ pass.old.fragment.shares }
-    ensures hears { Hears (λ _. ⊤) (λ _. ⊤) J.router order.session pass.old input result.0 pass.new }
+    ensures hears { Hears J.router.endless (λ _. ⊤) (λ _. ⊤) J.router order.session pass.old input result.0 pass.new }
 {
     let (node, session) = (link.files.node, order.session);
     room.put_order(rt, order);
     let crew = LinkCrew::new(&shared.signals, link.index, session);
-    let (why, leaver) = serve_reader(rt, &shared.router, pass, session, input, crew);
+    let (why, leaver) = serve_reader(
+        rt,
+        &shared.router,
+        pass,
+        session,
+        input,
+        crew,
+        shared.endless,
+    );
     leaver.note_owed(rt);
     if leaver.ended_it() {
         tell_unless_closed(rt, alloc, shared, node, why);
@@ -173,7 +181,7 @@ fn serve_begun<R: Wait + Clock, I: Read + Drop, O: Write + Drop, J: Naming, E: W
     (why, room.await_done(rt))
 }
 
-/// Enters the Down of a session that nobody serves, and notes it. Why it is over. Where the Down is refused memory, it is owed.
+/// Enters the Down of a session that nobody serves, and notes it. Why it is over. Where the Down is refused, it is owed.
 fn abandon<R: Wait, J: Naming, E: Write>(
     rt: &R,
     shared: &Shared<J, E>,
@@ -192,9 +200,7 @@ fn abandon<R: Wait, J: Naming, E: Write>(
             SessionEnd::NotStarted
         }
         Err(why) => {
-            if why == SessionEnd::Memory {
-                shared.signals.owe(rt, link, session);
-            }
+            shared.signals.owe(rt, link, session);
             why
         }
     }
@@ -231,6 +237,37 @@ fn serve_opened<R: Wait + Clock, I: Read + Drop, O: Write + Drop, J: Naming, E: 
     (why, Ticket::new(ticket.pass()))
 }
 
+/// Enters the Up of a link's neighbour: the session, and the answer. Where the router is endless and its history is full, it is tried again
+/// every few milliseconds, until there is room. Where the router is being closed this never returns, and its thread ends with the process.
+fn open_session<R: Wait + Clock, J: Naming, E: Write>(
+    rt: &R,
+    shared: &Shared<J, E>,
+    link: &Link,
+    pass: &mut Pass,
+) -> Result<(u32, Answer), SessionEnd>
+    requires { IsPassOf J.router pass.old }
+    ensures of { IsPassOf J.router pass.new }
+    ensures shares { pass.new.fragment.shares ≡ pass.old.fragment.shares }
+    ensures opened { IfOk result (λ r. OpensLater J.router link.now.files.node pass.old r.0 r.1 pass.new) }
+    ensures refused { IfErr result (λ why. OpensNever J.router link.now.files.node pass.old why pass.new) }
+{
+    for _ in rt.forever() {
+        if !shared.signals.open(rt, link.index) {
+            stay(rt, shared);
+        }
+        let why = match enter_up(rt, &shared.router, pass, link.files.node) {
+            Ok(opened) => return Ok(opened),
+            Err(why) => why,
+        };
+        shared.signals.settle(rt, link.index);
+        if !passes(shared.endless, why) {
+            return Err(why);
+        }
+        pause(rt);
+    }
+    unreachable!()
+}
+
 /// Serves a neighbour whose greeting was accepted: enters its Up, has the session written, enters what it says, and enters Down when it
 /// is over. Answers why it is. Where the router is being closed this never returns, and its thread ends with the process.
 fn serve_neighbour<R: Wait + Clock, I: Read + Drop, O: Write + Drop, J: Naming, E: Write>(
@@ -248,13 +285,9 @@ fn serve_neighbour<R: Wait + Clock, I: Read + Drop, O: Write + Drop, J: Naming, 
     ensures of { IsPassOf J.router pass.new }
     ensures served { ServesNeighbour J.router link.now.files.node input pass.old result pass.new }
 {
-    if !shared.signals.open(rt, link.index) {
-        stay(rt, shared);
-    }
-    let (session, answer) = match enter_up(rt, &shared.router, pass, link.files.node) {
+    let (session, answer) = match open_session(rt, shared, link, pass) {
         Ok(opened) => opened,
         Err(why) => {
-            shared.signals.settle(rt, link.index);
             tell_unless_closed(rt, alloc, shared, link.files.node, why);
             return why;
         }
@@ -320,7 +353,8 @@ fn keep_once<
 {
     match open_streams::<I, O, D>(folder, alloc, link) {
         Ok(Streams { input, output }) => {
-            serve_link(rt, alloc, shared, room, link, input, output, pass).can_be_opened_again()
+            let why = serve_link(rt, alloc, shared, room, link, input, output, pass);
+            why.can_be_opened_again(shared.endless)
         }
         Err(unopened) => {
             tell_of_file(rt, alloc, shared, link.files.node, &unopened);

@@ -229,7 +229,7 @@ fn run_named<
     };
     let shared: Arc<Shared<J, E>> = Arc::new(
         alloc,
-        shared_of(alloc, router, links.as_slice(), errors)?,
+        shared_of(alloc, router, false, links.as_slice(), errors)?,
     )?;
     let saving = begin_saving(rt, alloc, &shared, &mut pass, save)?;
     let ran = serve_all::<R, FI, FO, D, J, E, I, W>(

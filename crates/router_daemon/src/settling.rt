@@ -1,11 +1,10 @@
-//! A Down that was refused is entered later.
-ghost use Rattle.std.specs.Prelude.{MatchBool};
-ghost use Rattle.route_history.specs.declared.fault.CallFault.TheVariants as fault;
-ghost use Rattle.slot_lock.specs.Calls.{Refused};
+//! What a full history had no room for, and a Down that was refused, are entered later.
+ghost use Rattle.std.specs.Prelude.{◌≡◌, MatchBool, true};
 ghost use Rattle.slot_lock.specs.Passes.{IsPassOf};
-ghost use Rattle.router_daemon.specs.Links.{IsSettled};
+ghost use Rattle.router_daemon.specs.Links.{IsOwed, IsSettled};
 
 use crate::shared::Shared;
+use neighbour_session::SessionEnd;
 use netchange_core::Event;
 use route_history::CallFault;
 use router_operator::Naming;
@@ -16,8 +15,26 @@ use std::sync::Wait;
 use std::thread;
 use std::time::Duration;
 
-/// Enters the Down of a session that is over. False exactly where it is refused memory: then it is owed still. A full history takes no Down
-/// any more.
+/// Whether a call that was not entered for this reason may be a little later: the history is full, and the router is endless.
+pub(crate) fn passes(endless: bool, why: SessionEnd) -> bool
+    ensures { MatchBool result ((endless ≡ true) × (why ≡ SessionEnd.Full)) (endless ≡ true → why ≡ SessionEnd.Full → ⊥) }
+{
+    if !endless {
+        return false;
+    }
+    match why {
+        SessionEnd::Full => true,
+        _ => false,
+    }
+}
+
+/// Waits a little, before a call is tried again that a full history had no room for.
+pub(crate) fn pause<R: Clock>(rt: &R) {
+    thread::sleep(rt, Duration::from_millis(5));
+}
+
+/// Enters the Down of a session that is over. False exactly where it is owed still: it is refused memory, or the history is full, if that
+/// passes. A history that is full for good takes no Down any more.
 fn enter_again<R: Wait, J: Naming, E: Write>(
     rt: &R,
     shared: &Shared<J, E>,
@@ -26,19 +43,19 @@ fn enter_again<R: Wait, J: Naming, E: Write>(
 ) -> bool
     requires { IsPassOf J.router pass.old }
     ensures of { IsPassOf J.router pass.new }
-    ensures settled { MatchBool result (IsSettled J.router session pass.old pass.new) (Refused fault.Memory J.router pass.old pass.new) }
+    ensures settled { MatchBool result (IsSettled J.router session pass.old pass.new) (IsOwed J.router pass.old pass.new) }
 {
     match shared.router.call(rt, pass, Event::Down(session)) {
         Ok(answer) => {
             shared.signals.note(rt, &answer);
             true
         }
-        Err(CallFault::Full) => true,
+        Err(CallFault::Full) => !shared.endless,
         Err(CallFault::Memory) => false,
     }
 }
 
-/// Enters the Down of a session of a link that was refused before, if there is one. False where it is refused memory again.
+/// Enters the Down of a session of a link that was refused before, if there is one. False where it is owed still.
 fn enter_owed<R: Wait, J: Naming, E: Write>(
     rt: &R,
     shared: &Shared<J, E>,

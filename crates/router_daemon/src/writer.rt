@@ -32,7 +32,7 @@ fn write_session<'a, R: Wait + Clock, O: Write + Drop, J: Naming, E: Write>(
     crew: LinkCrew<'a>,
     order: Order<O, J>,
 ) -> (Done<'a, J>, MessageWriter<O>)
-    ensures { Serves (λ _. ⊤) (λ _. ⊤) J.router order.session order.ticket order.output result.0.why result.0.ticket.pass result.1 }
+    ensures { Serves J.router.endless (λ _. ⊤) (λ _. ⊤) J.router order.session order.ticket order.output result.0.why result.0.ticket.pass result.1 }
 {
     let Order {
         session,
@@ -48,6 +48,7 @@ fn write_session<'a, R: Wait + Clock, O: Write + Drop, J: Naming, E: Write>(
         session,
         output,
         crew,
+        shared.endless,
     );
     let ticket = Ticket::new(pass);
     let done = Done {

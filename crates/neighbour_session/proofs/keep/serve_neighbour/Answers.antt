@@ -14,7 +14,7 @@ returns-in-Some-clause-served g c = inr (record {
   crew = Some c.in-Some.crew;
   begins = subst (λ (crew : Option _). g.S.Starter.may_begin c.args.starter.now c.begin.new.self c.in-Ok.opened.0 c.split-writing.result crew)
       c.in-Some.is c.begin.ensures;
-  after = subst (λ (p : PassView). GoesOn g.S.Crew.Crew.may_be_present g.S.Crew.Crew.may_be_first c.args.router.now c.in-Ok.opened.0
+  after = subst (λ (p : PassView). GoesOn c.args.waits g.S.Crew.Crew.may_be_present g.S.Crew.Crew.may_be_first c.args.router.now c.in-Ok.opened.0
       c.args.input (Some c.in-Some.crew) p c.serve_reader.result.0 c.serve_reader.new.pass) c.split-writing.ensures.old
       c.serve_reader.ensures.hears;
   shares = c.serve_reader.ensures.shares ∙ ap (λ (p : PassView). p.fragment.shares) c.split-writing.ensures.old

@@ -18,19 +18,19 @@ loop-init g c = record {
 
 pub returns-in-Some-end_of_reader-clause-reads : goal.returns-in-Some-end_of_reader-clause-reads
 returns-in-Some-end_of_reader-clause-reads g c =
-    let link = c.read_session-read.new.link in
-    reads_stopped (g.C.Crew.may_be_present c.args.crew.now) c.args.router.now c.args.session c.args.pass.now c.args.input
-    c.loop.pass c.loop.link.told c.read_session-read.result c.in-Some-end_of_reader.why c.read_session-read.new.pass
-    link.told link.reader c.loop.invariant.read c.read_session-read.ensures.read
+    let link = c.read_turns-cause.new.link in
+    reads_stopped c.args.waits (g.C.Crew.may_be_present c.args.crew.now) c.args.router.now c.args.session c.args.pass.now c.args.input
+    c.loop.pass c.loop.link.told c.read_turns-cause.result c.in-Some-end_of_reader.why c.read_turns-cause.new.pass
+    link.told link.reader c.loop.invariant.read c.read_turns-cause.ensures.read
     (subst (λ (r : ReaderView). ReadsLines r link.told.handed link.reader) (sym c.requires.named) c.lines_are_told.ensures)
-    c.in-Some-end_of_reader.ensures.over
+    c.in-Some-end_of_reader.ensures.over c.read_turns-cause.ensures.absent
 
 pub returns-then-not-is_present-clause-reads : goal.returns-then-not-is_present-clause-reads
 returns-then-not-is_present-clause-reads g c =
-    let link = c.read_session-read.new.link in
-    reads_absent (g.C.Crew.may_be_present c.args.crew.now) c.args.router.now c.args.session c.args.pass.now c.args.input
-    c.loop.pass c.loop.link.told c.read_session-read.result c.read_session-read.new.pass link.told link.reader
-    c.loop.invariant.read c.read_session-read.ensures.read
+    let link = c.read_turns-cause.new.link in
+    reads_absent c.args.waits (g.C.Crew.may_be_present c.args.crew.now) c.args.router.now c.args.session c.args.pass.now c.args.input
+    c.loop.pass c.loop.link.told c.read_turns-cause.result c.read_turns-cause.new.pass link.told link.reader
+    c.loop.invariant.read c.read_turns-cause.ensures.read
     (subst (λ (r : ReaderView). ReadsLines r link.told.handed link.reader) (sym c.requires.named) c.lines_are_told.ensures)
     c.in_default.ensures.goes_on c.if-not-is_present.ensures
 
@@ -38,10 +38,11 @@ pub loop-preserved : goal.loop-preserved
 loop-preserved g c = record {
   next = tt;
   finite = tt;
-  pass = sound_both c.args.router.now c.args.pass.now c.loop.pass c.read_session-read.new.pass c.loop.invariant.pass
-      c.read_session-read.ensures.pass;
-  shares = c.read_session-read.ensures.read.reads.gained.shares ∙ c.loop.invariant.shares;
+  pass = sound_both c.args.router.now c.args.pass.now c.loop.pass c.read_turns-cause.new.pass c.loop.invariant.pass
+      c.read_turns-cause.ensures.pass;
+  shares = c.read_turns-cause.ensures.read.2.reads.gained.shares ∙ c.loop.invariant.shares;
   read = reads_on c.args.router.now c.args.session c.args.pass.now.fragment (told_by c.args.input) c.loop.pass.fragment c.loop.link.told
-      c.read_session-read.result c.read_session-read.new.pass.fragment c.read_session-read.new.link.told c.loop.invariant.read
-      c.in_default.ensures.goes_on c.read_session-read.ensures.read;
+      (record { cause = c.read_turns-cause.result; entered = c.read_turns-cause.ensures.read.0; lost = c.read_turns-cause.ensures.read.1 })
+      c.read_turns-cause.new.pass.fragment c.read_turns-cause.new.link.told c.loop.invariant.read
+      c.in_default.ensures.goes_on c.read_turns-cause.ensures.read.2;
 }

@@ -20,7 +20,7 @@ pub returns-in-Some-end_of_writer-clause-writes : goal.returns-in-Some-end_of_wr
 returns-in-Some-end_of_writer-clause-writes g c =
     let u = c.write_session-end.new.link.told in
     let later = c.into_writer.result in
-    writes_stopped (g.C.Crew.may_be_present c.args.crew.now) c.args.router.now c.args.session c.args.pass.now c.args.output
+    writes_stopped c.args.waits (g.C.Crew.may_be_present c.args.crew.now) c.args.router.now c.args.session c.args.pass.now c.args.output
     c.loop.pass c.loop.link.told c.write_session-end.result c.in-Some-end_of_writer.why c.write_session-end.new.pass u later
     c.loop.invariant.written c.write_session-end.ensures.written
     (subst (λ (w : WriterView). GotLinesOf w u later) (sym c.requires.named) c.into_writer.ensures)
@@ -30,7 +30,7 @@ pub returns-then-not-is_present-clause-writes : goal.returns-then-not-is_present
 returns-then-not-is_present-clause-writes g c =
     let u = c.write_session-end.new.link.told in
     let later = c.into_writer-then-not-is_present.result in
-    writes_absent (g.C.Crew.may_be_present c.args.crew.now) c.args.router.now c.args.session c.args.pass.now c.args.output
+    writes_absent c.args.waits (g.C.Crew.may_be_present c.args.crew.now) c.args.router.now c.args.session c.args.pass.now c.args.output
     c.loop.pass c.loop.link.told c.write_session-end.result c.write_session-end.new.pass u later
     c.loop.invariant.written c.write_session-end.ensures.written
     (subst (λ (w : WriterView). GotLinesOf w u later) (sym c.requires.named) c.into_writer-then-not-is_present.ensures)
@@ -43,7 +43,7 @@ loop-preserved g c = record {
   pass = sound_both c.args.router.now c.args.pass.now c.loop.pass c.write_session-end.new.pass c.loop.invariant.pass
       c.write_session-end.ensures.pass;
   shares = c.write_session-end.ensures.written.writes.gained.shares ∙ c.loop.invariant.shares;
-  written = writes_on c.args.router.now c.args.session c.args.pass.now.fragment (told_to c.args.output) c.loop.pass.fragment c.loop.link.told
+  written = writes_on c.args.waits c.args.router.now c.args.session c.args.pass.now.fragment (told_to c.args.output) c.loop.pass.fragment c.loop.link.told
       c.write_session-end.result c.write_session-end.new.pass.fragment c.write_session-end.new.link.told c.loop.invariant.written
       c.in_default.ensures.goes_on c.write_session-end.ensures.written;
 }

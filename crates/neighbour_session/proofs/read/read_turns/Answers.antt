@@ -1,0 +1,28 @@
+use Rattle.std.proofs.Common.{◌≡◌, ℕ}
+use Rattle.route_session.specs.Told.{Told}
+use Rattle.neighbour_session.proofs.Waiting.{absent_later, full_at_loss, never_unkept, reads_later}
+use Rattle.neighbour_session.proofs.read.read_turns.Goals as goal
+
+pub enter_later-requires-full : goal.enter_later-requires-full
+enter_later-requires-full g c =
+    full_at_loss c.args.router.now c.args.session c.args.pass.now.fragment (g.L.Link.told c.args.link.now) c.read_session-read.result
+    c.read_session-read.new.pass.fragment (g.L.Link.told c.read_session-read.new.link) c.in-Some.message c.in-Some.ensures.kept.1
+    c.in-Some.ensures.kept.2 c.read_session-read.ensures.read
+
+pub returns-in-Some-clause-read : goal.returns-in-Some-clause-read
+returns-in-Some-clause-read g c =
+    reads_later (g.C.Crew.may_be_present c.args.crew.now) c.args.router.now c.args.session c.args.pass.now.fragment
+    (g.L.Link.told c.args.link.now) c.read_session-read.result c.read_session-read.new.pass.fragment
+    (g.L.Link.told c.read_session-read.new.link) c.in-Some.message c.enter_later.result c.enter_later.new.pass.fragment
+    c.in-Some.ensures.kept.1 c.in-Some.ensures.kept.2 c.read_session-read.ensures.read c.enter_later.ensures.entered
+
+pub returns-in-Some-clause-absent : goal.returns-in-Some-clause-absent
+returns-in-Some-clause-absent g c = λ waits full.
+    absent_later (g.C.Crew.may_be_present c.args.crew.now) c.args.router.now c.args.session c.in-Some.message
+    c.read_session-read.new.pass.fragment c.enter_later.result c.enter_later.new.pass.fragment c.enter_later.ensures.entered full
+
+pub returns-in-None-clause-absent : goal.returns-in-None-clause-absent
+returns-in-None-clause-absent g c = λ waits full.
+    absurd (never_unkept c.args.router.now c.args.session c.args.pass.now.fragment (g.L.Link.told c.args.link.now) c.read_session-read.result
+    c.read_session-read.new.pass.fragment (g.L.Link.told c.read_session-read.new.link) c.read_session-read.ensures.read full
+    (c.in-None.ensures.none waits full))
