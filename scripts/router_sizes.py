@@ -12,14 +12,17 @@ NODES = 250
 # Seconds: what was answered so long ago is saved, and what is to be told is told.
 PROMPT = 1.0
 
-# How often a neighbour comes and goes, and how many times less long a router sleeps meanwhile: a second then takes 4 milliseconds.
-SESSIONS, QUICKER = 1_010, 250
+# How often a neighbour comes and goes, and how many times less long a router sleeps meanwhile: a minute then takes 4 milliseconds.
+SESSIONS, QUICKER = 1_010, 15_000
 
 # How many lines a link carries in each direction.
 LINES = 70_000
 
 # Seconds, for `--retry`, and how much later than that a link may be opened again.
 RETRIES, LATE = (1, 2, 3), 1.0
+
+# How many seconds a link waits each time with `--retry 1`, while its sessions are short, and how many times quicker that goes in a run.
+WAITS, FASTER = (1, 2, 4, 8, 16, 32, 60, 60), 20
 
 # How often a router is ended while its neighbours greet it, and how many they are.
 GREETED_QUITS, GREETING = 20, 70
@@ -54,7 +57,7 @@ LAST_ENTRIES = {
 class SizeRows(RunRows):
     """Rows of sizes and times."""
 
-    WAITING = ("comes_a_thousand_times", "killed", "retries")
+    WAITING = ("comes_a_thousand_times", "killed", "retries", "waits_longer")
 
     def row_killed(self):
         """A router is killed a second after its last entry, whichever that is: its file has all that it answered of its history."""
@@ -156,6 +159,25 @@ class SizeRows(RunRows):
                 waited = took.get(seconds)
                 self.judge(f"--retry {seconds}", waited is not None and seconds <= waited <= seconds + LATE, waited)
             self.judge("no --retry", None not in took, took.get(None))
+
+    def row_waits_longer(self):
+        """A link whose sessions are short is opened again later each time, up to a minute; and after a long one as soon as at first."""
+        with Run(self.program, nodes=(1,), more=("--retry", "1"), saves=False, quicker=FASTER) as run:
+            one = run.neighbours[1]
+            one.open()
+            for times, seconds in enumerate((*WAITS, 1), 1):
+                one.greet()
+                self.judge("1 is up", one.listen(lambda: one.told.count(b"\n7 8\n") == times), one.told)
+                if times > len(WAITS):
+                    # This session is the only one that lasts longer than a minute of the router's.
+                    time.sleep(61 / FASTER)
+                closed = time.monotonic()
+                one.close()
+                run.told_closed(1, times)
+                one.open()
+                waited = time.monotonic() - closed
+                self.judge(f"waits {seconds} s", seconds / FASTER <= waited <= seconds / FASTER + LATE, waited)
+            self.judge("quit", run.quit() == ("ok", 0))
 
     def row_exports(self):
         """An export filter that the operator sets while the router runs: its neighbour hears the new distances at once, and no other does."""

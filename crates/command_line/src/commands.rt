@@ -461,7 +461,7 @@ const HISTORY_LIMIT: Parameter = Parameter {
 const RETRY: Parameter = Parameter {
     name: "retry",
     value: "SECONDS",
-    help: "Reopen a closed link after this many seconds (1 or more)",
+    help: "Reopen a closed link after this many seconds (1 or more), later each time, up to 60",
     kind: ParameterKind::Number,
     is_required: false,
 };

@@ -4,6 +4,7 @@ pub mod Running
 -- what only bodies are proved against
 pub mod Links
 pub mod Passes
+pub mod Retries
 pub mod Saves
 pub mod Sets
 pub mod Told

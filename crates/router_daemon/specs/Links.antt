@@ -1,5 +1,5 @@
 -- What becomes of a link. (This project's own choice.)
-use Rattle.std.specs.Prelude.{◌≡◌, ◌⊎◌, ℕ, ◌*◌, ◌≤◌, Bool, true, false, List, Option, None, Some, string_bytes, ⊤}
+use Rattle.std.specs.Prelude.{◌≡◌, ◌⊎◌, ℕ, ◌≤◌, Bool, true, false, List, Option, None, Some, string_bytes, ⊤}
 use Rattle.message_streams.specs.Views.{ReaderView, WriterView}
 use Rattle.neighbour_session.specs.Calls.{Closes, IsUnopened, Opens as Up}
 use Rattle.neighbour_session.specs.Ending.{GoesDown}
@@ -16,6 +16,7 @@ use Rattle.slot_lock.specs.Calls.{Refused}
 use Rattle.slot_lock.specs.Passes.{PassView, RouterView}
 use Rattle.slot_lock.specs.declared.answer.Answer.{Answer}
 use Rattle.router_daemon.specs.Passes.{TakesBack}
+use Rattle.router_daemon.specs.Retries.{reopens, wait_before}
 
 -- A session whose Up was entered is over: it went down with nobody to serve it; or anybody entered what the neighbour said, and its Down.
 abbrev pub IsOver : RouterView → ℕ → ReaderView → PassView → SessionEnd → PassView → Type 0
@@ -103,17 +104,15 @@ abbrev pub KeepsOnce : (List ℕ → Bool → Type 0) → (List ℕ → Bool →
 KeepsOnce may_read may_write r d files old again new =
     Opens r d files.node old again new ⊎ (IsUnopened may_read may_write files × (again ≡ true) × (new ≡ old))
 
--- after how many nanoseconds a link is opened again: never without `--retry`, nor after a session that says that it cannot be
-abbrev pub reopens : Option ℕ → Bool → Option ℕ
-reopens None again = None
-reopens (Some seconds) false = None
-reopens (Some seconds) true = Some (seconds * 1000000000)
-
--- A link is opened once, and what that came to and `--retry` alone decide whether it is opened again, and after how long.
-abbrev pub KeepsTurn : (List ℕ → Bool → Type 0) → (List ℕ → Bool → Type 0) → RouterView → Domain → LinkFiles → Option ℕ → PassView → Option ℕ → Type 0
-KeepsTurn may_read may_write r d files retry old wait =
-    (again : Bool) × (mid : PassView) × KeepsOnce may_read may_write r d files old again mid × (wait ≡ reopens retry again)
+-- A link is opened once. What that came to and `--retry` alone decide whether it is opened again, and after how many seconds, besides how long it
+-- waited before and whether the session was a long one.
+abbrev pub KeepsTurn : (List ℕ → Bool → Type 0) → (List ℕ → Bool → Type 0) → RouterView → Domain → LinkFiles → Option ℕ → Option ℕ → PassView →
+    Option ℕ → Type 0
+KeepsTurn may_read may_write r d files retry before old wait =
+    (again : Bool) × (mid : PassView) × KeepsOnce may_read may_write r d files old again mid
+    × (is_long : Bool) × (wait ≡ reopens retry again (wait_before is_long before))
 
 -- A link stays closed after such a turn.
 abbrev pub StaysClosed : (List ℕ → Bool → Type 0) → (List ℕ → Bool → Type 0) → RouterView → Domain → LinkFiles → Option ℕ → Type 0
-StaysClosed may_read may_write r d files retry = (old : PassView) × KeepsTurn may_read may_write r d files retry old None
+StaysClosed may_read may_write r d files retry =
+    (before : Option ℕ) × (old : PassView) × KeepsTurn may_read may_write r d files retry before old None

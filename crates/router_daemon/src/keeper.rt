@@ -1,10 +1,8 @@
 //! Who keeps a link.
 ghost use Rattle.std.specs.Prelude.{◌≡◌, ◌<◌, ⊤, false, IfErr, IfNone, IfOk};
-ghost use Rattle.std.specs.Duration.{as_nanos};
-ghost use Rattle.std.specs.Option.{option_map};
 ghost use Rattle.slot_lock.specs.Passes.{IsPassOf};
 ghost use Rattle.router_daemon.specs.Links.{AreFresh, IsOver, IsUnopened, IsUnreadable, KeepsOnce, KeepsTurn, OpensLater, OpensNever, Serves};
-ghost use Rattle.router_daemon.specs.Links.{ServesNeighbour, StaysClosed, reopens};
+ghost use Rattle.router_daemon.specs.Links.{ServesNeighbour, StaysClosed};
 ghost use Rattle.neighbour_session.specs.Ending.{GoesDown};
 ghost use Rattle.neighbour_session.specs.Reading.{Hears};
 
@@ -12,6 +10,7 @@ use crate::closing::stay;
 use crate::crew::LinkCrew;
 use crate::folder::LinkFolder;
 use crate::naming::{FreshTicket, Ticket};
+use crate::retrying::{reopening, seconds, wait_before, was_long};
 use crate::room::{Order, Room};
 use crate::settling::{passes, pause, settle};
 use crate::shared::Shared;
@@ -27,7 +26,7 @@ use std::io::{self, BufReader, Read, Write};
 use std::rt::Clock;
 use std::sync::{Arc, Wait};
 use std::thread;
-use std::time::Duration;
+use std::time::Instant;
 
 /// A link that is kept.
 #[derive(Drop)]
@@ -269,7 +268,8 @@ fn open_session<R: Wait + Clock, J: Naming, E: Write>(
 }
 
 /// Serves a neighbour whose greeting was accepted: enters its Up, has the session written, enters what it says, and enters Down when it
-/// is over. Answers why it is. Where the router is being closed this never returns, and its thread ends with the process.
+/// is over. Answers why it is, and notes when it began. Where the router is being closed this never returns, and its thread ends with the
+/// process.
 fn serve_neighbour<R: Wait + Clock, I: Read + Drop, O: Write + Drop, J: Naming, E: Write>(
     rt: &R,
     alloc: Global,
@@ -279,6 +279,7 @@ fn serve_neighbour<R: Wait + Clock, I: Read + Drop, O: Write + Drop, J: Naming, 
     input: MessageReader<I>,
     output: MessageWriter<O>,
     pass: &mut Pass,
+    begun: &mut Option<Instant>,
 ) -> SessionEnd
     requires of { IsPassOf J.router pass.old }
     requires shares { 1 < pass.old.fragment.shares }
@@ -292,6 +293,7 @@ fn serve_neighbour<R: Wait + Clock, I: Read + Drop, O: Write + Drop, J: Naming, 
             return why;
         }
     };
+    *begun = Instant::now(rt).ok();
     let writing = shared.router.split(pass, 1);
     let order = Order {
         session,
@@ -303,7 +305,8 @@ fn serve_neighbour<R: Wait + Clock, I: Read + Drop, O: Write + Drop, J: Naming, 
     why
 }
 
-/// Serves one session over the streams of a link, until nobody uses them any more: greets the neighbour first. Why it is over.
+/// Serves one session over the streams of a link, until nobody uses them any more: greets the neighbour first. Why it is over. Notes when it
+/// began.
 fn serve_link<R: Wait + Clock, I: Read + Drop, O: Write + Drop, J: Naming, E: Write>(
     rt: &R,
     alloc: Global,
@@ -313,6 +316,7 @@ fn serve_link<R: Wait + Clock, I: Read + Drop, O: Write + Drop, J: Naming, E: Wr
     mut input: MessageReader<I>,
     mut output: MessageWriter<O>,
     pass: &mut Pass,
+    begun: &mut Option<Instant>,
 ) -> SessionEnd
     requires { IsPassOf J.router pass.old }
     ensures of { IsPassOf J.router pass.new }
@@ -322,7 +326,9 @@ fn serve_link<R: Wait + Clock, I: Read + Drop, O: Write + Drop, J: Naming, E: Wr
         return SessionEnd::NotStarted;
     }
     match greet(&mut input, &mut output, link.domain, link.files.node) {
-        Ok(()) => serve_neighbour(rt, alloc, shared, room, link, input, output, pass),
+        Ok(()) => serve_neighbour(
+            rt, alloc, shared, room, link, input, output, pass, begun,
+        ),
         Err(why) => {
             tell_unless_closed(rt, alloc, shared, link.files.node, why);
             why
@@ -330,7 +336,7 @@ fn serve_link<R: Wait + Clock, I: Read + Drop, O: Write + Drop, J: Naming, E: Wr
     }
 }
 
-/// Opens a link, and serves one session. Says whether it can be opened again.
+/// Opens a link, and serves one session. Says whether it can be opened again, and notes when the session began.
 fn keep_once<
     R: Wait + Clock,
     I: Read + Drop,
@@ -346,6 +352,7 @@ fn keep_once<
     room: &Room<O, J>,
     link: &Link,
     pass: &mut Pass,
+    begun: &mut Option<Instant>,
 ) -> bool
     requires { IsPassOf J.router pass.old }
     ensures of { IsPassOf J.router pass.new }
@@ -353,7 +360,9 @@ fn keep_once<
 {
     match open_streams::<I, O, D>(folder, alloc, link) {
         Ok(Streams { input, output }) => {
-            let why = serve_link(rt, alloc, shared, room, link, input, output, pass);
+            let why = serve_link(
+                rt, alloc, shared, room, link, input, output, pass, begun,
+            );
             why.can_be_opened_again(shared.endless)
         }
         Err(unopened) => {
@@ -363,18 +372,8 @@ fn keep_once<
     }
 }
 
-/// After how long a link is opened again, where its last session says whether it can be: never without `--retry`.
-fn reopening(retry: Option<u32>, again: bool) -> Option<Duration>
-    ensures { option_map as_nanos result ≡ reopens retry again }
-{
-    match retry {
-        Some(seconds) if again => Some(Duration::from_secs(u64::from(seconds))),
-        _ => None,
-    }
-}
-
-/// Opens a link, serves one session, and waits until its Down is no more owed. After how long it is to be opened again; None where it stays
-/// closed.
+/// Opens a link, serves one session, and waits until its Down is no more owed. After how many seconds it is to be opened again, where it
+/// waited so long before; None where it stays closed.
 fn keep_turn<
     R: Wait + Clock,
     I: Read + Drop,
@@ -389,16 +388,21 @@ fn keep_turn<
     shared: &Shared<J, E>,
     room: &Room<O, J>,
     link: &Link,
+    before: Option<u32>,
     pass: &mut Pass,
-) -> Option<Duration>
+) -> Option<u32>
     requires { IsPassOf J.router pass.old }
     ensures of { IsPassOf J.router pass.new }
-    ensures keeps { KeepsTurn (D.may_read folder.now) (D.may_write folder.now) J.router link.now.domain link.now.files link.now.retry pass.old
-        (option_map as_nanos result) }
+    ensures keeps { KeepsTurn (D.may_read folder.now) (D.may_write folder.now) J.router link.now.domain link.now.files link.now.retry before
+        pass.old result }
 {
-    let again = keep_once::<R, I, O, D, J, E>(rt, alloc, folder, shared, room, link, pass);
+    let mut begun = None;
+    let again = keep_once::<R, I, O, D, J, E>(
+        rt, alloc, folder, shared, room, link, pass, &mut begun,
+    );
+    let before = wait_before(was_long(rt, &begun), before);
     settle(rt, shared, pass, link.index);
-    reopening(link.retry, again)
+    reopening(link.retry, again, before)
 }
 
 /// Keeps a link: serves one session after another, until it stays closed (None) or the router is being closed.
@@ -421,14 +425,16 @@ pub(crate) fn keep_link<
     ensures { IfNone result (StaysClosed (D.may_read folder.value) (D.may_write folder.value) J.router link.domain link.files link.retry) }
 {
     let mut pass = ticket.pass();
+    let mut before = None;
     for _ in rt.forever() {
         let wait = keep_turn::<R, I, O, D, J, E>(
-            &rt, alloc, &folder, &shared, &room, &link, &mut pass,
+            &rt, alloc, &folder, &shared, &room, &link, before, &mut pass,
         )?;
         if let Some(closing) = shared.signals.closing(&rt) {
             return Some(closing);
         }
-        thread::sleep(&rt, wait);
+        thread::sleep(&rt, seconds(wait));
+        before = Some(wait);
     }
     unreachable!()
 }

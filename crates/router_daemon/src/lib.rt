@@ -13,6 +13,7 @@ mod keeper;
 mod naming;
 mod opening;
 mod operating;
+mod retrying;
 mod room;
 mod run;
 mod saving;

@@ -1,0 +1,58 @@
+//! When a link that was closed is opened again.
+ghost use Rattle.std.specs.Prelude.{◌≡◌, ◌*◌, ◌≤◌, IfSome};
+ghost use Rattle.std.specs.Duration.{as_nanos};
+ghost use Rattle.router_daemon.specs.Retries as spec;
+
+use std::rt::Clock;
+use std::time::{Duration, Instant};
+
+/// Seconds: a link waits no longer, unless `--retry` says so, and a session that lasts so long is a long one.
+const MINUTE: u32 = 60;
+
+/// How many seconds a link waits, by `--retry` and by how long it waited before, if its sessions were short since.
+fn next_wait(retry: u32, before: Option<u32>) -> u32
+    ensures next { result ≡ spec.next_wait retry before }
+    ensures doubles { IfSome before (λ seconds. seconds * 2 ≤ spec.longest_wait retry → result ≡ seconds * 2) }
+    ensures bounded { result ≤ spec.longest_wait retry }
+{
+    let most = retry.max(MINUTE);
+    match before {
+        Some(seconds) => (u64::from(seconds) * 2).min(u64::from(most)) as u32,
+        None => retry,
+    }
+}
+
+/// After how many seconds a link is opened again, where its last session says whether it can be: never without `--retry`.
+pub(crate) fn reopening(retry: Option<u32>, again: bool, before: Option<u32>) -> Option<u32>
+    ensures { result ≡ spec.reopens retry again before }
+{
+    match retry {
+        Some(retry) if again => Some(next_wait(retry, before)),
+        _ => None,
+    }
+}
+
+/// How long a link waited before, as it counts after a session that was long or short.
+pub(crate) fn wait_before(is_long: bool, before: Option<u32>) -> Option<u32>
+    ensures { result ≡ spec.wait_before is_long before }
+{
+    if is_long { None } else { before }
+}
+
+/// So many seconds.
+pub(crate) fn seconds(count: u32) -> Duration
+    ensures { as_nanos result ≡ count * 1000000000 }
+{
+    Duration::from_secs(u64::from(count))
+}
+
+/// Whether a session that began then, if one did, was a long one.
+pub(crate) fn was_long<R: Clock>(rt: &R, begun: &Option<Instant>) -> bool {
+    let Some(begun) = begun else {
+        return false;
+    };
+    match begun.elapsed(rt) {
+        Ok(lasted) => lasted.as_secs() >= u64::from(MINUTE),
+        Err(_) => false,
+    }
+}
