@@ -1,7 +1,7 @@
 -- A message that a full history had no room for is entered later.
 use Rattle.std.proofs.Common.{◌≡◌, ◌∙◌, sym, ap, subst, refl, ℕ, ◌≤◌, Bool, true, false, Option, Some, None, List, [], ◌∷◌, ◌++◌}
 use Rattle.std.proofs.Common.{append_assoc, append-nil, length, length-append, arith}
-use Rattle.std.specs.Prelude.{All}
+use Rattle.std.specs.Prelude.{All, IfNone, IfSome}
 use Rattle.std.proofs.lemmas.List.Elements.{All-nil, All-cons, All-append}
 use Rattle.std.proofs.lemmas.List.Kept.{AllPairs-cons}
 use Rattle.netchange_core.specs.declared.event.Event.{Event}
@@ -207,3 +207,12 @@ none_lost told lost h none = not_some h.message (sym none ∙ h.is_told)
 pub never_unkept : (r : RouterView) (session : ℕ) (old : Fragment) (t : Told) (last : ReadEnd) (mid : Fragment) (u : Told) →
     IsReadBy r session old t last mid u → last.cause ≡ cause.Full → last.lost ≡ None → ⊥
 never_unkept r session old t last mid u k full none = none_lost last.lost k.lost (lost_one last.cause last.lost k.lost k.loses full) none
+
+-- what is kept, if it is
+pub kept_when : (o : Option Message) (a b : Type 0) → a → b → IfSome o (λ m. a × b × (o ≡ Some m))
+kept_when None a b x y = tt
+kept_when (Some m) a b x y = (x, y, refl)
+
+pub unkept_when : (o : Option Message) (a b : Type 0) → IfNone o (a → b → o ≡ None)
+unkept_when None a b = λ x y. refl
+unkept_when (Some m) a b = tt

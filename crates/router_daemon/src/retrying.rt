@@ -47,7 +47,7 @@ pub(crate) fn seconds(count: u32) -> Duration
 }
 
 /// Whether a session that began then, if one did, was a long one.
-pub(crate) fn was_long<R: Clock>(rt: &R, begun: &Option<Instant>) -> bool {
+pub(crate) fn was_long<R: Clock>(rt: &R, begun: Option<Instant>) -> bool {
     let Some(begun) = begun else {
         return false;
     };
