@@ -1,7 +1,7 @@
 -- A writer on its way, and where it ends.
 use Rattle.std.proofs.Common.{◌≡◌, ◌∙◌, sym, ap, subst, refl, ℕ, ◌+◌, ◌-◌, ◌≤◌, Option, List, [], ◌∷◌, ◌++◌}
 use Rattle.std.proofs.Common.{append_assoc, append-nil, length, length-append, Ok, Err, ◌<◌, arith}
-use Rattle.std.specs.Prelude.{All, Some, drop, flat_map, slice_get, slice_index_or}
+use Rattle.std.specs.Prelude.{All, Bool, Some, cond, drop, flat_map, slice_get, slice_index_or, true, false}
 use Rattle.std.proofs.lemmas.Grind.{flat_map-append}
 use Rattle.std.proofs.lemmas.List.{get_or_push}
 use Rattle.std.proofs.lemmas.List.Elements.{All-nil, All-cons, All-append}
@@ -21,32 +21,48 @@ use Rattle.route_session.specs.Calls.{IsFresh, StaysSound, stale, take}
 use Rattle.route_session.specs.declared.link.LinkFault.{LinkFault}
 use Rattle.route_session.specs.Links.{Sent}
 use Rattle.route_session.specs.Told.{Rose, Told, grown, refuse, refuse_first}
-use Rattle.route_session.specs.Writes.{Hands, IsWrittenBy, Takes, Writes, carried_by}
+use Rattle.route_session.specs.Writes.{Hands, IsWrittenAs, IsWrittenBy, Takes, WritesAs, carried_by, is_left_out, told_by, told_of}
 use Rattle.route_session.proofs.Gaining.{IsCalled, fresh_more, gained_none, gained_one, gained_refused, sound_one}
 use Rattle.route_session.proofs.Told.{grown_none, grown_more}
+use Rattle.routing_domain.specs.Batches.{newest}
 use Rattle.slot_lock.specs.declared.answer.Answer.{Answer}
 use Rattle.slot_lock.specs.Calls.{Answered, Refused}
 use Rattle.slot_lock.specs.Passes.{IsPassOf, PassView, RouterView}
 
--- so many messages were accepted so far, and none is left
-pub record IsWriting (r : RouterView) (session : ℕ) (old : PassView) (t : Told) (n : ℕ) (new : PassView) (u : Told) : Type 0 where
+-- of nothing nothing is told
+told_none : (b : Bool) → told_of b [] ≡ []
+told_none false = refl
+told_none true = refl
+
+-- the first of some messages is told, or it is left out
+told_sent : (b : Bool) (m : Message) (later : List Message) → is_left_out b (m ∷ later) ≡ false → told_of b (m ∷ later) ≡ m ∷ told_of b later
+told_sent false m later h = refl
+told_sent true m later h = ap (λ c. cond c (newest later) (m ∷ newest later)) h
+
+told_skipped : (b : Bool) (m : Message) (later : List Message) → is_left_out b (m ∷ later) ≡ true → told_of b (m ∷ later) ≡ told_of b later
+told_skipped false m later h = absurd cc
+told_skipped true m later h = ap (λ c. cond c (newest later) (m ∷ newest later)) h
+
+-- so many messages were accepted so far, so many were left out, and none is left
+pub record IsWriting (b : Bool) (r : RouterView) (session : ℕ) (old : PassView) (t : Told) (n k : ℕ) (new : PassView) (u : Told) : Type 0 where
   pub calls : List Entry
   pub accepted : List Message
-  pub writes : Writes session old.fragment t calls accepted [] new.fragment u
+  pub writes : WritesAs b session old.fragment t calls accepted [] k new.fragment u
   pub sent : length accepted ≡ n
   pub fresh : All IsFresh calls
   pub ended : u.ended ≡ t.ended
   pub failures : u.failures ≡ t.failures
   pub sound : StaysSound r old new
 
-pub begins_writing : (r : RouterView) (session : ℕ) (p : PassView) (t : Told) → IsPassOf r p → IsWriting r session p t 0 p t
-begins_writing r session p t of = record {
+pub begins_writing : (b : Bool) (r : RouterView) (session : ℕ) (p : PassView) (t : Told) → IsPassOf r p → IsWriting b r session p t 0 0 p t
+begins_writing b r session p t of = record {
   calls = [];
   accepted = [];
   writes = record {
     gained = gained_none p.fragment;
     takes = All-nil (Takes session);
-    taken = refl;
+    taken = sym (told_none b);
+    counted = omega arith;
     given = grown_none t.given;
     refused = refl;
     handed = refl;
@@ -60,63 +76,74 @@ begins_writing r session p t of = record {
 }
 
 -- what was taken with one reply more
-taken_more : (calls : List Entry) (e : Entry) (accepted : List Message) → flat_map carried_by calls ≡ accepted ++ [] →
-    flat_map carried_by (calls ++ e ∷ []) ≡ accepted ++ carried_by e
-taken_more calls e accepted h =
-    flat_map-append carried_by calls (e ∷ [])
-    ∙ ap (λ (l : List Message). flat_map carried_by calls ++ l) (append-nil (carried_by e))
-    ∙ ap (λ (l : List Message). l ++ carried_by e) (h ∙ append-nil accepted)
+taken_more : (b : Bool) (calls : List Entry) (e : Entry) (accepted : List Message) → flat_map (told_by b) calls ≡ accepted ++ told_of b [] →
+    flat_map (told_by b) (calls ++ e ∷ []) ≡ accepted ++ told_by b e
+taken_more b calls e accepted h =
+    flat_map-append (told_by b) calls (e ∷ [])
+    ∙ ap (λ (l : List Message). flat_map (told_by b) calls ++ l) (append-nil (told_by b e))
+    ∙ ap (λ (l : List Message). l ++ told_by b e) (h ∙ ap (λ (l : List Message). accepted ++ l) (told_none b) ∙ append-nil accepted)
+
+-- and how many messages that is
+count_more : (calls : List Entry) (e : Entry) →
+    length (flat_map carried_by (calls ++ e ∷ [])) ≡ length (flat_map carried_by calls) + length (carried_by e)
+count_more calls e =
+    ap length (flat_map-append carried_by calls (e ∷ [])
+    ∙ ap (λ (l : List Message). flat_map carried_by calls ++ l) (append-nil (carried_by e)))
+    ∙ length-append (flat_map carried_by calls) (carried_by e)
 
 -- messages were taken, and given to the link as far as it accepted them
-taken_one : (r : RouterView) (session : ℕ) (old : PassView) (t : Told) (n : ℕ) (p q : PassView) (u v : Told) (a : Answer)
-    (unsent : List Message)
-    (i : IsWriting r session old t n p u) → Answered r p (take session) a q → IsCalled r p q → (h : Hands u (carried a.reply) unsent v) →
-    Writes session old.fragment t (i.calls ++ entry (take session) a.reply ∷ []) (i.accepted ++ h.accepted) unsent q.fragment v
-taken_one r session old t n p q u v a unsent i answered k h = record {
-  gained = gained_one r old.fragment i.calls p q (take session) a i.writes.gained answered k;
-  takes = All-append (Takes session) i.calls (entry (take session) a.reply ∷ []) i.writes.takes
-      (All-cons (Takes session) (entry (take session) a.reply) [] refl (All-nil (Takes session)));
-  taken = taken_more i.calls (entry (take session) a.reply) i.accepted i.writes.taken
-      ∙ ap (λ (l : List Message). i.accepted ++ l) h.in_order ∙ sym (append_assoc i.accepted h.accepted unsent);
-  given = h.given ∙ ap (λ (o : Option (List Message)). grown o h.accepted) i.writes.given ∙ grown_more t.given i.accepted h.accepted;
-  refused = h.refused ∙ ap (λ (o : Option (Option Message)). refuse_first o unsent) i.writes.refused;
-  handed = h.handed ∙ i.writes.handed;
-  is_closed = h.is_closed ∙ i.writes.is_closed;
-}
+taken_one : (b : Bool) (r : RouterView) (session : ℕ) (old : PassView) (t : Told) (n k : ℕ) (p q : PassView) (u v : Told) (a : Answer)
+    (unsent : List Message) (skipped : ℕ)
+    (i : IsWriting b r session old t n k p u) → Answered r p (take session) a q → IsCalled r p q →
+    (h : Hands b u (carried a.reply) unsent skipped v) →
+    WritesAs b session old.fragment t (i.calls ++ entry (take session) a.reply ∷ []) (i.accepted ++ h.accepted) unsent (k + skipped) q.fragment v
+taken_one b r session old t n k p q u v a unsent skipped i answered is_called h =
+    let before : k + length i.accepted + length {X = Message} [] ≡ length (flat_map carried_by i.calls) = i.writes.counted in
+    let now : skipped + length h.accepted + length unsent ≡ length (carried a.reply) = h.counted in
+    record {
+      gained = gained_one r old.fragment i.calls p q (take session) a i.writes.gained answered is_called;
+      takes = All-append (Takes session) i.calls (entry (take session) a.reply ∷ []) i.writes.takes
+          (All-cons (Takes session) (entry (take session) a.reply) [] refl (All-nil (Takes session)));
+      taken = taken_more b i.calls (entry (take session) a.reply) i.accepted i.writes.taken
+          ∙ ap (λ (l : List Message). i.accepted ++ l) h.in_order ∙ sym (append_assoc i.accepted h.accepted (told_of b unsent));
+      counted = omega (arith, before, now, count_more i.calls (entry (take session) a.reply), length-append i.accepted h.accepted);
+      given = h.given ∙ ap (λ (o : Option (List Message)). grown o h.accepted) i.writes.given ∙ grown_more t.given i.accepted h.accepted;
+      refused = h.refused ∙ ap (λ (o : Option (Option Message)). refuse_first o unsent) i.writes.refused;
+      handed = h.handed ∙ i.writes.handed;
+      is_closed = h.is_closed ∙ i.writes.is_closed;
+    }
 
 -- how many it accepted so far
-counted : (accepted more messages unsent : List Message) (n : ℕ) → length accepted ≡ n → messages ≡ more ++ unsent →
-    length (accepted ++ more) ≡ n + (length messages - length unsent)
-counted accepted more messages unsent n h e =
-    let lengths : length messages ≡ length more + length unsent = ap length e ∙ length-append more unsent in
-    omega (arith, length-append accepted more)
+counted : (accepted more messages unsent : List Message) (n skipped : ℕ) → length accepted ≡ n →
+    skipped + length more + length unsent ≡ length messages → length (accepted ++ more) ≡ n + ((length messages - length unsent) - skipped)
+counted accepted more messages unsent n skipped h e = omega (arith, length-append accepted more, h, e)
 
-pub writes_on : (r : RouterView) (session : ℕ) (old : PassView) (t : Told) (n : ℕ) (p q : PassView) (u v : Told) (a : Answer)
-    (unsent : List Message) →
-    IsWriting r session old t n p u → Answered r p (take session) a q → IsCalled r p q → (a.reply ≡ stale → ⊥) →
-    Hands u (carried a.reply) unsent v → unsent ≡ [] →
-    IsWriting r session old t (n + (length (carried a.reply) - length unsent)) q v
-writes_on r session old t n p q u v a unsent i answered k fresh h none = record {
+pub writes_on : (b : Bool) (r : RouterView) (session : ℕ) (old : PassView) (t : Told) (n k : ℕ) (p q : PassView) (u v : Told) (a : Answer)
+    (unsent : List Message) (skipped : ℕ) →
+    IsWriting b r session old t n k p u → Answered r p (take session) a q → IsCalled r p q → (a.reply ≡ stale → ⊥) →
+    Hands b u (carried a.reply) unsent skipped v → unsent ≡ [] →
+    IsWriting b r session old t (n + ((length (carried a.reply) - length unsent) - skipped)) (k + skipped) q v
+writes_on b r session old t n k p q u v a unsent skipped i answered is_called fresh h none = record {
   calls = i.calls ++ entry (take session) a.reply ∷ [];
   accepted = i.accepted ++ h.accepted;
   writes = subst
-      (λ (l : List Message). Writes session old.fragment t (i.calls ++ entry (take session) a.reply ∷ [])
-      (i.accepted ++ h.accepted) l q.fragment v) none
-      (taken_one r session old t n p q u v a unsent i answered k h);
-  sent = counted i.accepted h.accepted (carried a.reply) unsent n i.sent h.in_order;
+      (λ (l : List Message). WritesAs b session old.fragment t (i.calls ++ entry (take session) a.reply ∷ [])
+      (i.accepted ++ h.accepted) l (k + skipped) q.fragment v) none
+      (taken_one b r session old t n k p q u v a unsent skipped i answered is_called h);
+  sent = counted i.accepted h.accepted (carried a.reply) unsent n skipped i.sent h.counted;
   fresh = fresh_more i.calls (entry (take session) a.reply) i.fresh fresh;
   ended = h.ended ∙ i.ended;
   failures = h.sent_all none ∙ i.failures;
-  sound = sound_one r old p q (take session) a answered k;
+  sound = sound_one r old p q (take session) a answered is_called;
 }
 
 -- the ends
 abbrev pub write_end : Cause → ℕ → List Message → WriteEnd
 write_end why n unsent = record { cause = why; sent = n; unsent = unsent }
 
-pub ends_by_turns : (r : RouterView) (session : ℕ) (old : PassView) (t : Told) (n : ℕ) (p : PassView) (u : Told) →
-    IsWriting r session old t n p u → IsWrittenBy r session old.fragment t (write_end cause.Turns n []) p.fragment u
-ends_by_turns r session old t n p u i = record {
+pub ends_by_turns : (b : Bool) (r : RouterView) (session : ℕ) (old : PassView) (t : Told) (n k : ℕ) (p : PassView) (u : Told) →
+    IsWriting b r session old t n k p u → IsWrittenAs b r session old.fragment t (write_end cause.Turns n []) k p.fragment u
+ends_by_turns b r session old t n k p u i = record {
   calls = i.calls;
   accepted = i.accepted;
   writes = i.writes;
@@ -126,26 +153,28 @@ ends_by_turns r session old t n p u i = record {
   at_link = (i.ended, i.failures);
 }
 
-pub ends_by_failure : (r : RouterView) (session : ℕ) (old : PassView) (t : Told) (n : ℕ) (p q : PassView) (u v : Told) (a : Answer)
-    (unsent : List Message) →
-    IsWriting r session old t n p u → Answered r p (take session) a q → IsCalled r p q → (a.reply ≡ stale → ⊥) →
-    Hands u (carried a.reply) unsent v → (unsent ≡ [] → ⊥) →
-    IsWrittenBy r session old.fragment t (write_end cause.LinkFault (n + (length (carried a.reply) - length unsent)) unsent) q.fragment v
-ends_by_failure r session old t n p q u v a unsent i answered k fresh h some = record {
+pub ends_by_failure : (b : Bool) (r : RouterView) (session : ℕ) (old : PassView) (t : Told) (n k : ℕ) (p q : PassView) (u v : Told) (a : Answer)
+    (unsent : List Message) (skipped : ℕ) →
+    IsWriting b r session old t n k p u → Answered r p (take session) a q → IsCalled r p q → (a.reply ≡ stale → ⊥) →
+    Hands b u (carried a.reply) unsent skipped v → (unsent ≡ [] → ⊥) →
+    IsWrittenAs b r session old.fragment t (write_end cause.LinkFault (n + ((length (carried a.reply) - length unsent) - skipped)) unsent)
+        (k + skipped) q.fragment v
+ends_by_failure b r session old t n k p q u v a unsent skipped i answered is_called fresh h some = record {
   calls = i.calls ++ entry (take session) a.reply ∷ [];
   accepted = i.accepted ++ h.accepted;
-  writes = taken_one r session old t n p q u v a unsent i answered k h;
-  sent = counted i.accepted h.accepted (carried a.reply) unsent n i.sent h.in_order;
+  writes = taken_one b r session old t n k p q u v a unsent skipped i answered is_called h;
+  sent = counted i.accepted h.accepted (carried a.reply) unsent n skipped i.sent h.counted;
   leaves = some;
   in_history = fresh_more i.calls (entry (take session) a.reply) i.fresh fresh;
   at_link = (h.ended ∙ i.ended, subst (λ (before : Option ℕ). Rose before v.failures) i.failures (h.failed some));
 }
 
 -- nothing is given to the link
-hands_none : (u : Told) (messages : List Message) → messages ≡ [] → Hands u messages [] u
-hands_none u messages none = record {
+hands_none : (b : Bool) (u : Told) (messages : List Message) → messages ≡ [] → Hands b u messages [] 0 u
+hands_none b u messages none = record {
   accepted = [];
-  in_order = none;
+  in_order = ap (told_of b) none;
+  counted = sym (ap length none);
   given = grown_none u.given;
   refused = refl;
   handed = refl;
@@ -155,14 +184,17 @@ hands_none u messages none = record {
   failed = λ some. absurd (some refl);
 }
 
-pub ends_stale : (r : RouterView) (session : ℕ) (old : PassView) (t : Told) (n : ℕ) (p q : PassView) (u : Told) (a : Answer) →
-    IsWriting r session old t n p u → Answered r p (take session) a q → IsCalled r p q → a.reply ≡ stale →
-    IsWrittenBy r session old.fragment t (write_end cause.Stale n []) q.fragment u
+pub ends_stale : (b : Bool) (r : RouterView) (session : ℕ) (old : PassView) (t : Told) (n k : ℕ) (p q : PassView) (u : Told) (a : Answer) →
+    IsWriting b r session old t n k p u → Answered r p (take session) a q → IsCalled r p q → a.reply ≡ stale →
+    IsWrittenAs b r session old.fragment t (write_end cause.Stale n []) k q.fragment u
 unfolding hands_none
-ends_stale r session old t n p q u a i answered k is_stale = record {
+ends_stale b r session old t n k p q u a i answered is_called is_stale = record {
   calls = i.calls ++ entry (take session) a.reply ∷ [];
   accepted = i.accepted ++ [];
-  writes = taken_one r session old t n p q u u a [] i answered k (hands_none u (carried a.reply) (ap carried is_stale));
+  writes = subst
+      (λ (c : ℕ). WritesAs b session old.fragment t (i.calls ++ entry (take session) a.reply ∷ []) (i.accepted ++ []) [] c q.fragment u)
+      (omega arith)
+      (taken_one b r session old t n k p q u u a [] 0 i answered is_called (hands_none b u (carried a.reply) (ap carried is_stale)));
   sent = ap length (append-nil i.accepted) ∙ i.sent;
   leaves = refl;
   in_history = record {
@@ -176,42 +208,69 @@ ends_stale r session old t n p q u a i answered k is_stale = record {
 }
 
 -- a call was refused, which gains nothing
-refused_one : (r : RouterView) (session : ℕ) (old : PassView) (t : Told) (n : ℕ) (p q : PassView) (u : Told) (f : CallFault)
-    (i : IsWriting r session old t n p u) → Refused f r p q → IsCalled r p q → Writes session old.fragment t i.calls i.accepted [] q.fragment u
-refused_one r session old t n p q u f i h k = record {
-  gained = gained_refused r old.fragment i.calls p q f i.writes.gained h k;
+refused_one : (b : Bool) (r : RouterView) (session : ℕ) (old : PassView) (t : Told) (n k : ℕ) (p q : PassView) (u : Told) (f : CallFault)
+    (i : IsWriting b r session old t n k p u) → Refused f r p q → IsCalled r p q →
+    WritesAs b session old.fragment t i.calls i.accepted [] k q.fragment u
+refused_one b r session old t n k p q u f i h is_called = record {
+  gained = gained_refused r old.fragment i.calls p q f i.writes.gained h is_called;
   takes = i.writes.takes;
   taken = i.writes.taken;
+  counted = i.writes.counted;
   given = i.writes.given;
   refused = i.writes.refused;
   handed = i.writes.handed;
   is_closed = i.writes.is_closed;
 }
 
-pub ends_full : (r : RouterView) (session : ℕ) (old : PassView) (t : Told) (n : ℕ) (p q : PassView) (u : Told) →
-    IsWriting r session old t n p u → Refused fault.Full r p q → IsCalled r p q →
-    IsWrittenBy r session old.fragment t (write_end cause.Full n []) q.fragment u
-ends_full r session old t n p q u i h k = record {
+pub ends_full : (b : Bool) (r : RouterView) (session : ℕ) (old : PassView) (t : Told) (n k : ℕ) (p q : PassView) (u : Told) →
+    IsWriting b r session old t n k p u → Refused fault.Full r p q → IsCalled r p q →
+    IsWrittenAs b r session old.fragment t (write_end cause.Full n []) k q.fragment u
+ends_full b r session old t n k p q u i h is_called = record {
   calls = i.calls;
   accepted = i.accepted;
-  writes = refused_one r session old t n p q u fault.Full i h k;
+  writes = refused_one b r session old t n k p q u fault.Full i h is_called;
   sent = i.sent;
   leaves = refl;
   in_history = (i.fresh, h.full, h.whole);
   at_link = (i.ended, i.failures);
 }
 
-pub ends_without_memory : (r : RouterView) (session : ℕ) (old : PassView) (t : Told) (n : ℕ) (p q : PassView) (u : Told) →
-    IsWriting r session old t n p u → Refused fault.Memory r p q → IsCalled r p q →
-    IsWrittenBy r session old.fragment t (write_end cause.Memory n []) q.fragment u
-ends_without_memory r session old t n p q u i h k = record {
+pub ends_without_memory : (b : Bool) (r : RouterView) (session : ℕ) (old : PassView) (t : Told) (n k : ℕ) (p q : PassView) (u : Told) →
+    IsWriting b r session old t n k p u → Refused fault.Memory r p q → IsCalled r p q →
+    IsWrittenAs b r session old.fragment t (write_end cause.Memory n []) k q.fragment u
+ends_without_memory b r session old t n k p q u i h is_called = record {
   calls = i.calls;
   accepted = i.accepted;
-  writes = refused_one r session old t n p q u fault.Memory i h k;
+  writes = refused_one b r session old t n k p q u fault.Memory i h is_called;
   sent = i.sent;
   leaves = refl;
   in_history = i.fresh;
   at_link = (i.ended, i.failures);
+}
+
+-- a writer of all messages
+all_told : (calls : List Entry) → flat_map (told_by false) calls ≡ flat_map carried_by calls
+all_told [] = refl
+all_told (e ∷ es) = ap (λ (l : List Message). carried_by e ++ l) (all_told es)
+
+pub as_all : (r : RouterView) (session : ℕ) (old : Fragment) (t : Told) (end : WriteEnd) (k : ℕ) (new : Fragment) (u : Told) →
+    IsWrittenAs false r session old t end k new u → IsWrittenBy r session old t end new u
+as_all r session old t end k new u h = record {
+  calls = h.calls;
+  accepted = h.accepted;
+  writes = record {
+    gained = h.writes.gained;
+    takes = h.writes.takes;
+    taken = sym (all_told h.calls) ∙ h.writes.taken;
+    given = h.writes.given;
+    refused = h.writes.refused;
+    handed = h.writes.handed;
+    is_closed = h.writes.is_closed;
+  };
+  sent = h.sent;
+  leaves = h.leaves;
+  in_history = h.in_history;
+  at_link = h.at_link;
 }
 
 -- the law of route_history on the replies to a Take
@@ -228,10 +287,11 @@ at_most_16 r session p q a law h =
     law r.opening (h.log ++ e ∷ []) legal (length h.log) e (omega (arith, length-append h.log (e ∷ []))) in
     subst (λ (x : Entry). IsWithinTake x) (get_or_push h.log e e (length h.log) refl) within
 
--- messages go out, one after another: what was accepted so far, while the link is sound
-pub record IsSending (t : Told) (messages unsent : List Message) (u : Told) : Type 0 where
+-- messages go out, one after another: what was accepted so far, while the link is sound, and how many were left out
+pub record IsSending (b : Bool) (t : Told) (messages unsent : List Message) (k : ℕ) (u : Told) : Type 0 where
   pub accepted : List Message
-  pub in_order : messages ≡ accepted ++ unsent
+  pub in_order : told_of b messages ≡ accepted ++ told_of b unsent
+  pub counted : k + length accepted + length unsent ≡ length messages
   pub given : u.given ≡ grown t.given accepted
   pub refused : u.first_refused ≡ t.first_refused
   pub handed : u.handed ≡ t.handed
@@ -239,10 +299,11 @@ pub record IsSending (t : Told) (messages unsent : List Message) (u : Told) : Ty
   pub ended : u.ended ≡ t.ended
   pub failures : u.failures ≡ t.failures
 
-pub begins_sending : (t : Told) (messages : List Message) → IsSending t messages messages t
-begins_sending t messages = record {
+pub begins_sending : (b : Bool) (t : Told) (messages : List Message) → IsSending b t messages messages 0 t
+begins_sending b t messages = record {
   accepted = [];
   in_order = refl;
+  counted = omega arith;
   given = grown_none t.given;
   refused = refl;
   handed = refl;
@@ -251,25 +312,46 @@ begins_sending t messages = record {
   failures = refl;
 }
 
-pub sends_on : (t : Told) (messages : List Message) (m : Message) (rest : List Message) (u v : Told) →
-    IsSending t messages (m ∷ rest) u → Sent u m (Ok tt) v → IsSending t messages rest v
-sends_on t messages m rest u v i s = record {
-  accepted = i.accepted ++ m ∷ [];
-  in_order = i.in_order ∙ sym (append_assoc i.accepted (m ∷ []) rest);
-  given = ap (λ (w : Told). w.given) s.1 ∙ ap (λ (o : Option (List Message)). grown o (m ∷ [])) i.given
-      ∙ grown_more t.given i.accepted (m ∷ []);
-  refused = ap (λ (w : Told). w.first_refused) s.1 ∙ i.refused;
-  handed = ap (λ (w : Told). w.handed) s.1 ∙ i.handed;
-  is_closed = ap (λ (w : Told). w.closed) s.1 ∙ i.is_closed;
-  ended = ap (λ (w : Told). w.ended) s.1 ∙ i.ended;
-  failures = ap (λ (w : Told). w.failures) s.1 ∙ i.failures;
-}
+pub sends_on : (b : Bool) (t : Told) (messages : List Message) (m : Message) (rest : List Message) (k : ℕ) (u v : Told) →
+    IsSending b t messages (m ∷ rest) k u → is_left_out b (m ∷ rest) ≡ false → Sent u m (Ok tt) v → IsSending b t messages rest k v
+sends_on b t messages m rest k u v i told s =
+    let before : k + length i.accepted + length (m ∷ rest) ≡ length messages = i.counted in
+    record {
+      accepted = i.accepted ++ m ∷ [];
+      in_order = i.in_order ∙ ap (λ (l : List Message). i.accepted ++ l) (told_sent b m rest told)
+          ∙ sym (append_assoc i.accepted (m ∷ []) (told_of b rest));
+      counted = omega (arith, before, length-append i.accepted (m ∷ []));
+      given = ap (λ (w : Told). w.given) s.1 ∙ ap (λ (o : Option (List Message)). grown o (m ∷ [])) i.given
+          ∙ grown_more t.given i.accepted (m ∷ []);
+      refused = ap (λ (w : Told). w.first_refused) s.1 ∙ i.refused;
+      handed = ap (λ (w : Told). w.handed) s.1 ∙ i.handed;
+      is_closed = ap (λ (w : Told). w.closed) s.1 ∙ i.is_closed;
+      ended = ap (λ (w : Told). w.ended) s.1 ∙ i.ended;
+      failures = ap (λ (w : Told). w.failures) s.1 ∙ i.failures;
+    }
 
-pub sent_all : (t : Told) (messages unsent : List Message) (u : Told) → unsent ≡ [] → IsSending t messages unsent u →
-    Hands t messages unsent u
-sent_all t messages unsent u none i = record {
+pub skips_on : (b : Bool) (t : Told) (messages : List Message) (m : Message) (rest : List Message) (k : ℕ) (u : Told) →
+    IsSending b t messages (m ∷ rest) k u → is_left_out b (m ∷ rest) ≡ true → IsSending b t messages rest (k + 1) u
+skips_on b t messages m rest k u i skipped =
+    let before : k + length i.accepted + length (m ∷ rest) ≡ length messages = i.counted in
+    record {
+      accepted = i.accepted;
+      in_order = i.in_order ∙ ap (λ (l : List Message). i.accepted ++ l) (told_skipped b m rest skipped);
+      counted = omega (arith, before);
+      given = i.given;
+      refused = i.refused;
+      handed = i.handed;
+      is_closed = i.is_closed;
+      ended = i.ended;
+      failures = i.failures;
+    }
+
+pub sent_all : (b : Bool) (t : Told) (messages unsent : List Message) (k : ℕ) (u : Told) → unsent ≡ [] → IsSending b t messages unsent k u →
+    Hands b t messages unsent k u
+sent_all b t messages unsent k u none i = record {
   accepted = i.accepted;
   in_order = i.in_order;
+  counted = i.counted;
   given = i.given;
   refused = i.refused ∙ ap (λ (l : List Message). refuse_first t.first_refused l) (sym none);
   handed = i.handed;
@@ -279,11 +361,12 @@ sent_all t messages unsent u none i = record {
   failed = λ some. absurd (some none);
 }
 
-pub sent_some : (t : Told) (messages : List Message) (m : Message) (rest : List Message) (u v : Told) (f : LinkFault) →
-    IsSending t messages (m ∷ rest) u → Sent u m (Err f) v → Hands t messages (m ∷ rest) v
-sent_some t messages m rest u v f i s = record {
+pub sent_some : (b : Bool) (t : Told) (messages : List Message) (m : Message) (rest : List Message) (k : ℕ) (u v : Told) (f : LinkFault) →
+    IsSending b t messages (m ∷ rest) k u → Sent u m (Err f) v → Hands b t messages (m ∷ rest) k v
+sent_some b t messages m rest k u v f i s = record {
   accepted = i.accepted;
   in_order = i.in_order;
+  counted = i.counted;
   given = ap (λ (w : Told). w.given) s.only ∙ i.given;
   refused = ap (λ (w : Told). w.first_refused) s.only ∙ ap (λ (o : Option (Option Message)). refuse o m) i.refused;
   handed = ap (λ (w : Told). w.handed) s.only ∙ i.handed;

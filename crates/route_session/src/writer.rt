@@ -4,7 +4,8 @@ ghost use Rattle.std.specs.Prelude.{◌≡◌, []};
 ghost use Rattle.netchange_core.specs.Calls.{carried};
 ghost use Rattle.route_session.specs.Calls.{StaysSound};
 ghost use Rattle.route_session.specs.Turns.{TakesByTurns};
-ghost use Rattle.route_session.specs.Writes.{Hands, IsWrittenBy};
+ghost use Rattle.route_session.specs.Writes as spec;
+ghost use Rattle.route_session.specs.Writes.{Hands, IsWrittenAs, IsWrittenBy};
 ghost use Rattle.slot_lock.specs.Passes.{IsPassOf};
 
 use crate::ends::{Cause, WriteEnd};
@@ -41,35 +42,86 @@ pub fn write_session<R: Wait + Clock, L: Link, G: Gate>(
     ensures written { IsWrittenBy router.now session pass.old.fragment (L.told link.old) result pass.new.fragment (L.told link.new) }
     ensures turns { TakesByTurns (G.may_answer gate.now job) turns result.cause pass.old.fragment pass.new.fragment }
 {
+    write_turns(
+        rt, alloc, router, pass, session, link, gate, job, turns, false,
+    )
+    .0
+}
+
+/// The same, but of the messages that a turn takes it leaves out each that a later one of them about the same node replaces: whoever reads
+/// slowly is told the newest, and not every step. Says how many it left out, besides how it ended.
+pub fn write_newest<R: Wait + Clock, L: Link, G: Gate>(
+    rt: &R,
+    alloc: Global,
+    router: &Router,
+    pass: &mut Pass,
+    session: u32,
+    link: &mut L,
+    gate: &G,
+    job: u32,
+    turns: u32,
+) -> (WriteEnd, u64)
+    requires { IsPassOf router.now pass.old }
+    ensures pass { StaysSound router.now pass.old pass.new }
+    ensures written { IsWrittenAs true router.now session pass.old.fragment (L.told link.old) result.0 result.1 pass.new.fragment (L.told link.new) }
+    ensures turns { TakesByTurns (G.may_answer gate.now job) turns result.0.cause pass.old.fragment pass.new.fragment }
+{
+    write_turns(
+        rt, alloc, router, pass, session, link, gate, job, turns, true,
+    )
+}
+
+/// Gives a link what the router queued for a session, all of it or the newest only. How that ended, and how many messages were left out.
+fn write_turns<R: Wait + Clock, L: Link, G: Gate>(
+    rt: &R,
+    alloc: Global,
+    router: &Router,
+    pass: &mut Pass,
+    session: u32,
+    link: &mut L,
+    gate: &G,
+    job: u32,
+    turns: u32,
+    newest_only: bool,
+) -> (WriteEnd, u64)
+    requires { IsPassOf router.now pass.old }
+    ensures pass { StaysSound router.now pass.old pass.new }
+    ensures written { IsWrittenAs newest_only router.now session pass.old.fragment (L.told link.old) result.0 result.1 pass.new.fragment
+        (L.told link.new) }
+    ensures turns { TakesByTurns (G.may_answer gate.now job) turns result.0.cause pass.old.fragment pass.new.fragment }
+{
     // So that the number of messages cannot overflow: a reply has at most as many as were asked for.
     taken_begins_sent();
     let mut sent: u64 = 0;
+    let mut left_out: u64 = 0;
     for turn in 0..turns {
         if !gate.may_go(rt, job, turn) {
             continue;
         }
         let answer = match router.call(rt, pass, Event::Take(session, MOST_TAKEN)) {
             Ok(answer) => answer,
-            Err(CallFault::Full) => return ended(alloc, Cause::Full, sent),
-            Err(CallFault::Memory) => return ended(alloc, Cause::Memory, sent),
+            Err(CallFault::Full) => return (ended(alloc, Cause::Full, sent), left_out),
+            Err(CallFault::Memory) => return (ended(alloc, Cause::Memory, sent), left_out),
         };
         gate.answered(rt, job, &answer);
         if is_stale(&answer.reply) {
-            return ended(alloc, Cause::Stale, sent);
+            return (ended(alloc, Cause::Stale, sent), left_out);
         }
         let messages = messages_of(alloc, answer.reply);
         let taken = messages.len();
-        let unsent = send_each(rt, link, messages);
-        sent += (taken - unsent.len()) as u64;
+        let (unsent, skipped) = send_each(rt, link, messages, newest_only);
+        sent += (taken - unsent.len()) as u64 - skipped;
+        left_out += skipped;
         if !unsent.is_empty() {
-            return WriteEnd {
+            let end = WriteEnd {
                 cause: Cause::LinkFault,
                 sent,
                 unsent: Messages::from_vec(unsent),
             };
+            return (end, left_out);
         }
     }
-    ended(alloc, Cause::Turns, sent)
+    (ended(alloc, Cause::Turns, sent), left_out)
 }
 
 /// The messages of a reply; none where it has none.
@@ -82,18 +134,41 @@ fn messages_of(alloc: Global, reply: Reply) -> Vec<Message>
     }
 }
 
-/// Sends messages in order, until the link fails: what is left.
-fn send_each<R: Wait, L: Link>(rt: &R, link: &mut L, messages: Vec<Message>) -> Vec<Message>
-    ensures { Hands (L.told link.old) messages.items result.items (L.told link.new) }
+/// Whether the first of these messages is left out.
+fn is_left_out(messages: &[Message], newest_only: bool) -> bool
+    ensures { result ≡ spec.is_left_out newest_only messages.now }
+{
+    match messages.split_first() {
+        Some((first, later)) => {
+            newest_only && later.iter().any(|message| message.dest == first.dest)
+        }
+        None => false,
+    }
+}
+
+/// Sends messages in order, all or the newest only, until the link fails: what is left, and how many were left out.
+fn send_each<R: Wait, L: Link>(
+    rt: &R,
+    link: &mut L,
+    messages: Vec<Message>,
+    newest_only: bool,
+) -> (Vec<Message>, u64)
+    ensures { Hands newest_only (L.told link.old) messages.items result.0.items result.1 (L.told link.new) }
 {
     let mut unsent = messages;
+    let mut skipped: u64 = 0;
     while let Some(message) = unsent.first().copied() {
+        if is_left_out(unsent.as_slice(), newest_only) {
+            unsent.remove(0);
+            skipped += 1;
+            continue;
+        }
         let Ok(()) = link.send(rt, message) else {
-            return unsent;
+            return (unsent, skipped);
         };
         unsent.remove(0);
     }
-    unsent
+    (unsent, skipped)
 }
 
 /// The end of a writer that has nothing left unsent.

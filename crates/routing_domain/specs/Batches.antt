@@ -1,5 +1,5 @@
 -- Batches: a node sends some of what waits for another at once, and leaves out what later messages of the same batch make needless.
-use Rattle.std.specs.Prelude.{ℕ, ◌==◌, ◌||◌, if◌then◌else◌, Bool, false, List, [], ◌∷◌, ◌++◌, take}
+use Rattle.std.specs.Prelude.{ℕ, ◌==◌, if◌then◌else◌, Bool, List, [], ◌∷◌, ◌++◌, take, list_any}
 use Rattle.netchange_core.specs.declared.message.Message.{Message}
 use Rattle.netchange_core.specs.Next.{dequeued}
 use Rattle.netchange_core.specs.World.{changed}
@@ -8,8 +8,7 @@ use Rattle.routing_domain.specs.Steps.{with_flight, with_router}
 
 -- whether a later message is about the same node
 abbrev pub is_replaced : Message → List Message → Bool
-is_replaced m [] = false
-is_replaced m (l ∷ later) = (l.dest == m.dest) || is_replaced m later
+is_replaced m later = list_any (λ l. l.dest == m.dest) later
 
 -- of these messages those that no later one of them replaces, in order
 abbrev pub newest : List Message → List Message
