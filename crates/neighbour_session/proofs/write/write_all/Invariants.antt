@@ -1,4 +1,4 @@
-use Rattle.std.proofs.Common.{◌≡◌}
+use Rattle.std.proofs.Common.{◌≡◌, ◌-◌, ◌^◌, ℕ, min}
 use Rattle.route_session.specs.Calls.{StaysSound}
 use Rattle.neighbour_session.specs.Writing.{told_to}
 use Rattle.neighbour_session.proofs.Writing.{HasWritten}
@@ -11,5 +11,7 @@ invariant-loop g l = record {
   finite : (goal.iterator-loop g).is_finite l.iterator';
   pass : StaysSound l.router l.fn.pass l.pass;
   shares : l.pass.fragment.shares ≡ l.fn.pass.fragment.shares;
-  written : HasWritten l.session l.fn.pass.fragment (told_to l.fn.output) l.pass.fragment l.link.told;
+  count : ℕ;
+  counted : l.left_out ≡ min count (2 ^ 64 - 1);
+  written : HasWritten count l.session l.fn.pass.fragment (told_to l.fn.output) l.pass.fragment l.link.told;
 }
