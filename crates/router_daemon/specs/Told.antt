@@ -35,3 +35,8 @@ unsaved_line why = codes "history: " ++ save_words why ++ codes " (" ++ save_cod
 -- no line of the operator is taken any more, for a fault
 abbrev pub deaf_line : StreamFault → List ℕ
 deaf_line why = codes "operator: " ++ fault_code why ++ codes ": no more lines are taken\n"
+
+-- so many messages were not told a node, since later ones replaced them
+abbrev pub left_out_line : ℕ → ℕ → List ℕ
+left_out_line node count =
+    codes "link " ++ decimal node ++ codes ": " ++ decimal count ++ codes " messages were left out, which later ones replaced\n"

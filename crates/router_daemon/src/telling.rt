@@ -14,7 +14,7 @@ use std::io::{self, Write};
 fn push_numbered(
     text: &mut String,
     before: &str,
-    number: u16,
+    number: u64,
     after: &str,
 ) -> Result<(), AllocError>
     ensures { OnOk result (string_bytes text.new ≡ string_bytes text.old ++ (before.now ++ decimal number ++ after.now)) }
@@ -30,7 +30,7 @@ fn closed_line(alloc: Global, node: u16, why: &str) -> Result<String, AllocError
     ensures { IfOk result (λ line. string_bytes line ≡ spec.closed_line node why.now) }
 {
     let mut line = String::new(alloc);
-    push_numbered(&mut line, "link ", node, ": ")?;
+    push_numbered(&mut line, "link ", u64::from(node), ": ")?;
     line.push_str(why)?;
     line.push_str(": closed\n")?;
     Ok(line)
@@ -94,6 +94,23 @@ pub(crate) fn tell_end<E: Write>(alloc: Global, errors: &mut E, node: u16, why: 
     ensures { AppendsFront (E.contents errors.old) (E.contents errors.new) (spec.end_line node why) }
 {
     tell(errors, end_line(alloc, node, why));
+}
+
+/// The line that tells how many messages a node was not told, since later ones replaced them.
+fn left_out_line(alloc: Global, node: u16, count: u64) -> Result<String, AllocError>
+    ensures { IfOk result (λ line. string_bytes line ≡ spec.left_out_line node count) }
+{
+    let mut line = String::new(alloc);
+    push_numbered(&mut line, "link ", u64::from(node), ": ")?;
+    push_numbered(&mut line, "", count, " messages were left out, which later ones replaced\n")?;
+    Ok(line)
+}
+
+/// Tells how many messages a node was not told, since later ones replaced them.
+pub(crate) fn tell_left_out<E: Write>(alloc: Global, errors: &mut E, node: u16, count: u64)
+    ensures { AppendsFront (E.contents errors.old) (E.contents errors.new) (spec.left_out_line node count) }
+{
+    tell(errors, left_out_line(alloc, node, count));
 }
 
 /// Tells that a link has no thread.
