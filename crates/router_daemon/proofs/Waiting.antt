@@ -1,5 +1,6 @@
 -- Calls that a full history had no room for, of a router that is endless.
-use Rattle.std.proofs.Common.{◌≡◌, ◌∙◌, ap, inl, inr, subst, sym, true, ℕ, ◌≤◌, List, ◌++◌, append_assoc, arith}
+use Rattle.std.proofs.Common.{◌≡◌, ◌∙◌, ap, inl, inr, not, subst, sym, Bool, true, false, ℕ, ◌≤◌, List, ◌++◌, append_assoc, arith}
+use Rattle.std.specs.Prelude.{MatchBool}
 use Rattle.neighbour_session.specs.Calls.{IsUnopened, Opens as Up}
 use Rattle.neighbour_session.specs.declared.ends.SessionEnd.{SessionEnd}
 use Rattle.neighbour_session.specs.declared.ends.SessionEnd.TheVariants as end
@@ -8,7 +9,7 @@ use Rattle.route_history.specs.declared.fault.CallFault.TheVariants as fault
 use Rattle.slot_lock.specs.Calls.{Refused}
 use Rattle.slot_lock.specs.Passes.{PassView, RouterView}
 use Rattle.slot_lock.specs.declared.answer.Answer.{Answer}
-use Rattle.router_daemon.specs.Links.{HasWaited, OpensLater, OpensNever, ServesNeighbour}
+use Rattle.router_daemon.specs.Links.{HasWaited, IsOwed, IsSettled, OpensLater, OpensNever}
 
 -- one such call, and then another
 full_both : (r : RouterView) (a b c : PassView) → Refused fault.Full r a b → Refused fault.Full r b c → Refused fault.Full r a c
@@ -58,3 +59,9 @@ opens_never at r node old mid why new named waited unopened passes shares = reco
 pub full_of : (why : SessionEnd) (r : RouterView) (node : ℕ) (old new : PassView) → why ≡ end.Full → IsUnopened why r node old new →
     Refused fault.Full r old new
 full_of why r node old new is h = subst (λ (x : SessionEnd). IsUnopened x r node old new) is h
+
+-- a Down that a full history had no room for: it is settled where that is so for good
+pub settles_full : (at r : RouterView) (session : ℕ) (old new : PassView) (endless : Bool) → at ≡ r → endless ≡ r.endless →
+    Refused fault.Full at old new → MatchBool (not endless) (IsSettled r session old new) (IsOwed r old new)
+settles_full at r session old new true named is h = inr (sym is, subst (λ (x : RouterView). Refused fault.Full x old new) named h)
+settles_full at r session old new false named is h = inr (sym is, subst (λ (x : RouterView). Refused fault.Full x old new) named h)
