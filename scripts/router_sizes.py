@@ -124,19 +124,24 @@ class SizeRows(RunRows):
         self.judge("sessions", sessions == wanted, sessions)
 
     def row_long_links(self):
-        """Node 1 changes its mind 70,000 times: each line is entered, and node 2 is told of each change."""
+        """Node 1 changes its mind 70,000 times: each line is entered, and node 2 is told of each change, or of one that replaces it."""
         with Run(self.program) as run:
             self.bring_up(run)
             one, two = run.neighbours.values()
             one.say(b"3 0\n3 1\n" * (LINES // 2) + b"4 0\n")
             self.judge("the last line is entered", run.routes_until(4, "1:1"))
-            # Each node is told of once in the beginning.
-            is_told = two.listen(lambda: two.told.count(b"\n3 ") == 1 + LINES and two.told.endswith(b"\n4 1\n"))
-            self.judge("2 hears each time", is_told, two.told[-100:])
+            # What is told last stands for what was left out before it.
+            is_told = two.listen(lambda: two.told.endswith(b"\n4 1\n"))
+            self.judge("2 hears at last", is_told, two.told[-100:])
+            heard = two.told.count(b"\n3 ")
             self.judge("both are up", run.ask("neighbours") == "neighbours 1:1 2:2")
             self.end(run)
             received = sum(" recv 1 3 " in entry for entry in run.saved())
             self.judge("each is saved", received == LINES, received)
+            # Each node is told of once in the beginning.
+            left_out = re.search(r"link 2: (\d+) messages were left out", run.said("", patience=0))
+            count = int(left_out[1]) if left_out else 0
+            self.judge("2 hears each time, or it is counted", heard + count == 1 + LINES, (heard, count))
 
     def row_retries(self):
         """A link that was closed is opened again after as many seconds as `--retry` says: not before, and not much later. Without it, it is not."""
