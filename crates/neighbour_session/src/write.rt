@@ -42,7 +42,8 @@ fn pause_if_full<R: Clock>(rt: &R, cause: Cause) {
     }
 }
 
-/// Gives a neighbour what the router queued for it, until the session is over: why it is, and the stream.
+/// Gives a neighbour what the router queued for it, until the session is over, and an empty line between two messages where the crew says that
+/// one is owed: why the session is over, and the stream.
 fn write_all<T: Target, R: Wait + Clock, O: Write + Drop, C: Crew>(
     rt: &R,
     alloc: Global,
@@ -70,6 +71,9 @@ fn write_all<T: Target, R: Wait + Clock, O: Write + Drop, C: Crew>(
         pause_if_full(rt, end.cause);
         if !crew.is_present(rt) {
             return (SessionEnd::Closed, link.into_writer());
+        }
+        if crew.owes_line(rt) && !link.write_empty() {
+            return (SessionEnd::Unwritten, link.into_writer());
         }
     }
     unreachable!()
