@@ -6,7 +6,6 @@ pub mod Forgetting
 pub mod Links
 pub mod Passes
 pub mod Retries
-pub mod Saves
 pub mod Sessions
 pub mod Sets
 pub mod Told

@@ -3,17 +3,17 @@ ghost use Rattle.std.specs.Prelude.{◌≡◌, IfErr, IfOk};
 ghost use Rattle.router_daemon.specs.Passes.{IsLegalPass};
 ghost use Rattle.router_daemon.specs.Running.{IsEarly};
 
+use crate::bounding::forget_history;
 use crate::fault::DaemonFault;
 use crate::folder::LinkFolder;
-use crate::forgetting::forget_history;
+use crate::forgetting::{AsBegun, Forgetter};
 use crate::keeper::{Link, keep_link};
-use crate::naming::{RightTicket, Ticket, WholeTicket};
+use crate::naming::Ticket;
 use crate::room::Room;
-use crate::saving::{IsIn, Saved, save_history};
 use crate::shared::Shared;
-use crate::signals::Closing;
 use crate::telling::tell_unstarted;
 use crate::writer::write_link;
+use history_saver::SegmentFolder;
 use neighbour_session::Domain;
 use router_operator::Naming;
 use router_options::LinkFiles;
@@ -24,7 +24,10 @@ use std::rt::Clock;
 use std::snapshot::Snapshot;
 use std::sync::{Arc, Wait};
 use std::thread;
-use std::thread::{JoinHandle, PromisedHandle, Threads};
+use std::thread::{PromisedHandle, Threads};
+
+/// The thread that saves a history and forgets entries of it.
+pub(crate) type Forgetting<S, J> = PromisedHandle<Forgetter<S, J>, AsBegun<S, J>>;
 
 /// The shares of a link's pass. It gives one of them to its writer, for a session.
 const SHARES: u32 = 100;
@@ -162,51 +165,27 @@ pub(crate) fn start_links<
     Ok(())
 }
 
-/// Starts the thread that saves the history, in this file. None where it was not started.
-pub(crate) fn start_saver<
+/// Starts the thread that saves the history and forgets entries of it, of which there is room for so many.
+pub(crate) fn start_forgetter<
     R: Threads + Wait + Clock + Copy + Send + Drop + 'static,
-    V: Write + Send + Drop + 'static,
+    S: SegmentFolder + Send + Drop + 'static,
     J: Naming + Send + Sync + 'static,
     E: Write + Send + Drop + 'static,
 >(
     rt: &R,
     alloc: Global,
     shared: &Arc<Shared<J, E>>,
-    file: V,
-    ticket: WholeTicket<J>,
-) -> Result<PromisedHandle<Saved<V, J>, IsIn<V>>, DaemonFault>
-    ensures file { IfOk result (λ saving. saving.promise.0.value ≡ file) }
+    forgetter: Forgetter<S, J>,
+    limit: u32,
+) -> Result<Forgetting<S, J>, DaemonFault>
+    ensures begun { IfOk result (λ forgetting. forgetting.promise.0.value ≡ forgetter) }
     ensures early { IfErr result IsEarly }
 {
     let handle = *rt;
     let shared = Arc::try_clone(shared)?;
-    let promise = IsIn(Snapshot::of(&file));
+    let promise = AsBegun(Snapshot::of(&forgetter));
     let started = thread::spawn_with(rt, promise, move || {
-        save_history::<R, V, J, E>(handle, alloc, shared, file, ticket)
-    });
-    match started {
-        Ok(saving) => Ok(saving),
-        Err(_) => Err(DaemonFault::NotStarted),
-    }
-}
-
-/// Starts the thread that forgets entries of the history, of which there is room for so many.
-pub(crate) fn start_forgetter<
-    R: Threads + Wait + Clock + Copy + Send + Drop + 'static,
-    J: Naming + Send + Sync + 'static,
-    E: Write + Send + Drop + 'static,
->(
-    rt: &R,
-    shared: &Arc<Shared<J, E>>,
-    ticket: RightTicket<J>,
-    limit: u32,
-) -> Result<JoinHandle<Closing>, DaemonFault>
-    ensures { IfErr result IsEarly }
-{
-    let handle = *rt;
-    let shared = Arc::try_clone(shared)?;
-    let started = thread::spawn(rt, move || {
-        forget_history::<R, J, E>(handle, shared, ticket, limit)
+        forget_history::<R, S, J, E>(handle, alloc, shared, forgetter, limit)
     });
     match started {
         Ok(forgetting) => Ok(forgetting),
