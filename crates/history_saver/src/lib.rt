@@ -7,6 +7,7 @@
 mod fault;
 mod files;
 mod folder;
+mod laws;
 mod portion;
 mod reading;
 mod saver;
@@ -15,6 +16,7 @@ mod segments;
 pub use fault::SaveFault;
 pub use files::SegmentFiles;
 pub use folder::SegmentFolder;
+pub use laws::segments_tell_the_history;
 pub use reading::MOST_AT_ONCE;
 pub use saver::Saver;
 pub use segments::{Rotation, SegmentSaver};
