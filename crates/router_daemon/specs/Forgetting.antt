@@ -1,6 +1,6 @@
 -- What who forgets the entries of a router keeps of them. (This project's own choice.)
 use Rattle.std.specs.Prelude.{◌≡◌, ℕ, ◌+◌, ◌-◌, ◌/◌, ◌<◌, ◌≤◌, max, min, true, [], Option, IfSome, length}
-use Rattle.history_saver.specs.Saved.{seen_by}
+use Rattle.history_saver.specs.Looking.{seen_by}
 use Rattle.history_saver.specs.Segments.{HasSegments, SegmentsView}
 use Rattle.netchange_core.specs.OpeningView.{OpeningView}
 use Rattle.route_history.specs.JournalView.{JournalView}

@@ -2,7 +2,7 @@
 use Rattle.std.specs.Prelude.{◌≡◌, ℕ, Bool, true, List, [], length, map, Option, Some, None, is_some, Result, Ok, Err, ⊤}
 use Rattle.std.specs.Option.{option_map}
 use Rattle.history_saver.specs.Folders.{FolderView}
-use Rattle.history_saver.specs.Saved.{seen_by}
+use Rattle.history_saver.specs.Looking.{seen_by}
 use Rattle.history_saver.specs.Segments.{HasSegments, SegmentsView}
 use Rattle.history_saver.specs.declared.fault.SaveFault.{SaveFault}
 use Rattle.line_protocol.specs.declared.faults.StreamFault.{StreamFault}
