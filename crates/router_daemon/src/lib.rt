@@ -14,6 +14,7 @@ mod keeper;
 mod naming;
 mod opening;
 mod operating;
+mod queues;
 mod retrying;
 mod room;
 mod run;
