@@ -5,6 +5,7 @@ pub mod Running
 pub mod Forgetting
 pub mod Links
 pub mod Passes
+pub mod Queues
 pub mod Retries
 pub mod Sessions
 pub mod Sets

@@ -16,6 +16,10 @@ closed_line node why = codes "link " ++ decimal node ++ codes ": " ++ why ++ cod
 abbrev pub end_line : ℕ → SessionEnd → List ℕ
 end_line node why = closed_line node (end_words why)
 
+-- so many messages wait for its node, more than may
+abbrev pub long_line : ℕ → ℕ → List ℕ
+long_line node waiting = closed_line node (decimal waiting ++ codes " messages wait")
+
 -- the thread of a link was not started
 abbrev pub unstarted_line : ℕ → List ℕ
 unstarted_line node = closed_line node (codes "a thread was not started (X2)")

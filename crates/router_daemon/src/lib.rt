@@ -15,6 +15,7 @@ mod keeper;
 mod naming;
 mod opening;
 mod operating;
+mod queues;
 mod retrying;
 mod room;
 mod run;

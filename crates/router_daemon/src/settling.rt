@@ -69,8 +69,26 @@ fn enter_owed<R: Wait, J: Naming, E: Write>(
     is_settled
 }
 
-/// Waits until the router has no session of a link any more that is over: each second its Down is tried again. Not where the router is
-/// being closed: who closes it enters the Down.
+/// Tries once to enter the Down of a session of a link that was refused before, if there is one. False where it is owed still. Where the router
+/// is being closed who closes it enters the Down.
+pub(crate) fn settle_once<R: Wait, J: Naming, E: Write>(
+    rt: &R,
+    shared: &Shared<J, E>,
+    pass: &mut Pass,
+    link: usize,
+) -> bool
+    requires { IsPassOf J.router pass.old }
+    ensures { IsPassOf J.router pass.new }
+{
+    if !shared.signals.open(rt, link) {
+        return true;
+    }
+    let is_entered = enter_owed(rt, shared, pass, link);
+    shared.signals.settle(rt, link);
+    is_entered
+}
+
+/// Waits until the router has no session of a link any more that is over: each second its Down is tried again.
 pub(crate) fn settle<R: Wait + Clock, J: Naming, E: Write>(
     rt: &R,
     shared: &Shared<J, E>,
@@ -81,12 +99,7 @@ pub(crate) fn settle<R: Wait + Clock, J: Naming, E: Write>(
     ensures { IsPassOf J.router pass.new }
 {
     for _ in rt.forever() {
-        if !shared.signals.open(rt, link) {
-            return;
-        }
-        let is_entered = enter_owed(rt, shared, pass, link);
-        shared.signals.settle(rt, link);
-        if is_entered {
+        if settle_once(rt, shared, pass, link) {
             return;
         }
         thread::sleep(rt, Duration::from_secs(1));

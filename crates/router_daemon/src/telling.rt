@@ -45,6 +45,23 @@ fn end_line(alloc: Global, node: u16, why: SessionEnd) -> Result<String, AllocEr
     closed_line(alloc, node, words.as_str())
 }
 
+/// The line that tells that so many messages wait for a node, more than may.
+fn long_line(alloc: Global, node: u16, waiting: usize) -> Result<String, AllocError>
+    ensures { IfOk result (λ line. string_bytes line ≡ spec.long_line node waiting) }
+{
+    let mut digits = Buffer::new();
+    let mut words = String::from_str(alloc, digits.format(waiting))?;
+    words.push_str(" messages wait")?;
+    closed_line(alloc, node, words.as_str())
+}
+
+/// Tells that a link is closed, since so many messages wait for its node.
+pub(crate) fn tell_long<E: Write>(alloc: Global, errors: &mut E, node: u16, waiting: usize)
+    ensures { AppendsFront (E.contents errors.old) (E.contents errors.new) (spec.long_line node waiting) }
+{
+    tell(errors, long_line(alloc, node, waiting));
+}
+
 /// The line that tells that a file was not opened, for a reason.
 fn unopened_line(alloc: Global, node: u16, name: &str, why: &str) -> Result<String, AllocError>
     ensures { IfOk result (λ line. string_bytes line ≡ spec.unopened_line node name.now why.now) }
