@@ -1,10 +1,12 @@
-//! When a router's history is saved, and forgotten, so that it has room for more.
-ghost use Rattle.std.specs.Prelude.{◌≡◌, ◌*◌, ◌≤◌, IfSome};
+//! What bounds the memory of a router: its history is saved and forgotten as it is made, and no neighbour is waited for without end.
+ghost use Rattle.std.specs.Prelude.{◌≡◌, ◌≤◌};
 ghost use Rattle.std.specs.Option.{option_map};
-ghost use Rattle.router_daemon.specs.Retries as spec;
+ghost use Rattle.slot_lock.specs.Passes.{IsPassOf};
 ghost use Rattle.router_daemon.specs.Running.{saving_of};
 
 use crate::forgetting::{Forgetter, slack_of};
+use crate::naming::Ticket;
+use crate::queues::close_long_queues;
 use crate::retrying::next_wait;
 use crate::shared::Shared;
 use crate::signals::Closing;
@@ -12,29 +14,47 @@ use crate::telling::{tell_saved, tell_unsaved};
 use history_saver::{SaveFault, SegmentFolder};
 use route_history::CHUNK;
 use router_operator::Naming;
+use slot_lock::Pass;
 use std::alloc::Global;
 use std::io::Write;
 use std::rt::Clock;
 use std::sync::{Arc, Wait};
 use std::time::Duration;
 
-/// Milliseconds: so long the history grows before it is saved again, and so long saving waits after a first fault.
+/// Milliseconds: so long the history grows before it is saved, and so long saving waits after a first fault.
 const REST: u32 = 50;
+
+/// Milliseconds: what waits for neighbours is looked at again after no longer a time, while saving waits after a fault.
+const SECOND: u32 = 1_000;
 
 /// Milliseconds: saving waits no longer after a fault.
 const MINUTE: u32 = 60_000;
 
-/// Where who forgets is.
+/// What bounds the memory of a router.
+#[derive(Clone, Copy)]
+pub(crate) struct MostInMemory {
+    /// How many entries of its history there is room for.
+    pub(crate) entries: u32,
+    /// How many messages may wait for a neighbour.
+    pub(crate) messages: u32,
+}
+
+/// How far who bounds the history has come.
 #[derive(Clone, Copy)]
 enum State {
     /// So many entries were looked at, and are saved, if the history is.
     Bounded(u64),
-    /// Saving failed, and is tried again after so many milliseconds.
-    Failing(u32),
+    /// Saving failed. It is tried again after so many milliseconds, of which some are left.
+    Failing { wait: u32, left: u32 },
 }
 
-/// Sleeps until there is something to do, and lets others make entries meanwhile, as many as there is room for. That the router is being
-/// closed, if it is.
+/// So many milliseconds.
+fn milliseconds(count: u32) -> Duration {
+    Duration::from_millis(u64::from(count))
+}
+
+/// Lets others make entries, as many as there is room for behind those that were looked at, and sleeps until there is something to do. That the
+/// router is being closed, if it is.
 fn await_entries<R: Wait + Clock, J: Naming, E: Write>(
     rt: &R,
     shared: &Shared<J, E>,
@@ -44,22 +64,19 @@ fn await_entries<R: Wait + Clock, J: Naming, E: Write>(
 ) -> Option<Closing> {
     let slack = slack_of(limit);
     let due = looked.saturating_add(u64::from((slack / 2).min(CHUNK as u32)));
-    shared
-        .signals
-        .make_room(rt, Some(looked.saturating_add(u64::from(slack))));
+    let end = looked.saturating_add(u64::from(slack));
+    shared.signals.make_room(rt, Some(end));
     if !saves {
         return shared.signals.await_entries(rt, due);
     }
     match shared.signals.await_entries(rt, looked) {
         Some(closing) => Some(closing),
-        None => shared
-            .signals
-            .rest(rt, due, Duration::from_millis(u64::from(REST))),
+        None => shared.signals.rest(rt, due, milliseconds(REST)),
     }
 }
 
-/// Waits until it is time to go on. Where saving failed, nobody waits for room: a history that is full meanwhile refuses entries. That the router is
-/// being closed, if it is.
+/// Waits until there is something to do. While saving fails nobody waits for room: then a full history refuses entries. That the router is being
+/// closed, if it is.
 fn await_turn<R: Wait + Clock, J: Naming, E: Write>(
     rt: &R,
     shared: &Shared<J, E>,
@@ -69,18 +86,18 @@ fn await_turn<R: Wait + Clock, J: Naming, E: Write>(
 ) -> Option<Closing> {
     match state {
         State::Bounded(looked) => await_entries(rt, shared, limit, looked, saves),
-        State::Failing(millis) => {
+        State::Failing { left, .. } => {
             shared.signals.make_room(rt, None);
-            // No history comes to so many entries.
+            // No history has so many entries.
             shared
                 .signals
-                .rest(rt, u64::MAX, Duration::from_millis(u64::from(millis)))
+                .rest(rt, u64::MAX, milliseconds(left.min(SECOND)))
         }
     }
 }
 
-/// Tells people that saving failed, where it did not before, or works again. What is next.
-fn next_state<R: Wait, J: Naming, E: Write>(
+/// Tells people that saving failed, where it did not before, or works again.
+fn state_after<R: Wait, J: Naming, E: Write>(
     rt: &R,
     alloc: Global,
     shared: &Shared<J, E>,
@@ -88,46 +105,77 @@ fn next_state<R: Wait, J: Naming, E: Write>(
     turned: Result<u64, SaveFault>,
 ) -> State {
     let mut errors = shared.errors.lock(rt);
-    match (before, turned) {
-        (State::Bounded(_), Ok(looked)) => State::Bounded(looked),
-        (State::Bounded(_), Err(fault)) => {
-            tell_unsaved(alloc, &mut *errors, fault);
-            State::Failing(REST)
-        }
-        (State::Failing(_), Ok(looked)) => {
+    match (turned, before) {
+        (Ok(looked), State::Bounded(_)) => State::Bounded(looked),
+        (Ok(looked), State::Failing { .. }) => {
             tell_saved(alloc, &mut *errors);
             State::Bounded(looked)
         }
-        (State::Failing(millis), Err(_)) => State::Failing(next_wait(REST, Some(millis), MINUTE)),
+        (Err(fault), State::Bounded(_)) => {
+            tell_unsaved(alloc, &mut *errors, fault);
+            State::Failing {
+                wait: REST,
+                left: REST,
+            }
+        }
+        (Err(_), State::Failing { wait, .. }) => {
+            let wait = next_wait(REST, Some(wait), MINUTE);
+            State::Failing { wait, left: wait }
+        }
     }
 }
 
-/// Saves and forgets the history as it is made, until the router is being closed. For nothing else it ends.
-fn forget_all<R: Wait + Clock, F: SegmentFolder + Drop, J: Naming, E: Write>(
+/// Saves and forgets the history, if it is time to, or the router is being closed.
+fn turn<R: Wait, F: SegmentFolder + Drop, J: Naming, E: Write>(
     rt: &R,
     alloc: Global,
     shared: &Shared<J, E>,
     forgetter: &mut Forgetter<F, J>,
-    limit: u32,
+    state: State,
+    is_closing: bool,
+) -> State
+    ensures { option_map saving_of forgetter.new.saver ≡ option_map saving_of forgetter.old.saver }
+{
+    match state {
+        State::Failing { wait, left } if left > SECOND && !is_closing => State::Failing {
+            wait,
+            left: left - SECOND,
+        },
+        _ => {
+            let turned = forgetter.turn(rt, alloc, shared);
+            state_after(rt, alloc, shared, state, turned)
+        }
+    }
+}
+
+/// Bounds the memory of a router until it is being closed: for nothing else this ends.
+fn bound<R: Wait + Clock, F: SegmentFolder + Drop, J: Naming, E: Write>(
+    rt: &R,
+    alloc: Global,
+    shared: &Shared<J, E>,
+    forgetter: &mut Forgetter<F, J>,
+    pass: &mut Pass,
+    most: MostInMemory,
 ) -> Closing
+    requires { IsPassOf J.router pass.old }
     ensures { option_map saving_of forgetter.new.saver ≡ option_map saving_of forgetter.old.saver }
 {
     let saves = forgetter.saves();
     let mut state = State::Bounded(0);
     for _ in rt.forever() {
-        let closing = await_turn(rt, shared, limit, state, saves);
-        let turned = forgetter.turn(rt, alloc, shared);
-        state = next_state(rt, alloc, shared, state, turned);
+        let closing = await_turn(rt, shared, most.entries, state, saves);
+        state = turn(rt, alloc, shared, forgetter, state, closing.is_some());
         if let Some(closing) = closing {
             shared.signals.make_room(rt, None);
             return closing;
         }
+        close_long_queues(rt, alloc, shared, pass, most.messages);
     }
     unreachable!()
 }
 
-/// Saves and forgets the history as it is made, until the router is being closed: then nobody waits for room any more.
-pub(crate) fn forget_history<
+/// Bounds the memory of a router until it is being closed. Then nobody waits for room any more.
+pub(crate) fn bound_memory<
     R: Wait + Clock + Drop,
     F: SegmentFolder + Drop,
     J: Naming,
@@ -137,10 +185,12 @@ pub(crate) fn forget_history<
     alloc: Global,
     shared: Arc<Shared<J, E>>,
     mut forgetter: Forgetter<F, J>,
-    limit: u32,
+    ticket: Ticket<J>,
+    most: MostInMemory,
 ) -> Forgetter<F, J>
     ensures { option_map saving_of result.saver ≡ option_map saving_of forgetter.saver }
 {
-    forget_all(&rt, alloc, &shared, &mut forgetter, limit);
+    let mut pass = ticket.pass();
+    bound(&rt, alloc, &shared, &mut forgetter, &mut pass, most);
     forgetter
 }

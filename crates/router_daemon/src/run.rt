@@ -8,6 +8,7 @@ ghost use Rattle.router_daemon.specs.Uses.{BeginsWithFilters};
 ghost use Rattle.slot_lock.specs.Passes.{IsNew};
 ghost use Rattle.router_daemon.specs.declared.fault.DaemonFault.TheVariants as fault;
 
+use crate::bounding::MostInMemory;
 use crate::closing::close_links;
 use crate::fault::DaemonFault;
 use crate::folder::LinkFolder;
@@ -17,7 +18,7 @@ use crate::opening::open_router;
 use crate::operating::{Figures, OperatorEnd, serve_lines};
 use crate::setting::{Filters, RouterEnd, Setting};
 use crate::shared::{Shared, shared_of};
-use crate::starting::{Forgetting, Links, start_forgetter, start_links};
+use crate::starting::{Bounding, Links, start_bounding, start_links, take_part};
 use crate::telling::{tell_lost, tell_unkept};
 use history_saver::{SaveFault, SegmentFolder, SegmentSaver};
 use line_protocol::StreamFault;
@@ -148,14 +149,14 @@ fn end_run<R: Threads + Wait, S: SegmentFolder + Drop, J: Naming, E: Write>(
     rt: &R,
     alloc: Global,
     shared: &Shared<J, E>,
-    forgetting: Forgetting<S, J>,
+    bounding: Bounding<S, J>,
     ran: Result<OperatorEnd<J>, AllocError>,
 ) -> Result<RouterEnd<S>, DaemonFault>
     ensures ok { IfOk result (λ end. IsOkAnd ran (λ operated. (operated.answered ≡ Ok end.refused)
-        × SavesTo J.router operated.ticket.pass.fragment.seen (option_map saving_of forgetting.promise.0.value.saver) end.saved)) }
+        × SavesTo J.router operated.ticket.pass.fragment.seen (option_map saving_of bounding.promise.0.value.saver) end.saved)) }
     ensures err { IfErr result (λ why. MatchResult ran (λ operated. spec.IsWhy operated.answered why) (λ _. why ≡ fault.Memory)) }
 {
-    let forgetter = forgetting.join(rt);
+    let forgetter = bounding.join(rt);
     match ran {
         Ok(OperatorEnd { answered, ticket }) => {
             let saved = end_saving(rt, alloc, shared, forgetter, ticket);
@@ -211,6 +212,7 @@ fn run_named<
     let RouterPlan {
         opening,
         limit,
+        queue,
         links,
         retry,
         stays,
@@ -233,12 +235,17 @@ fn run_named<
         shared_of(alloc, router, links.as_slice(), errors)?,
     )?;
     tell_if_unkept(rt, alloc, &shared, &forgetter);
-    let forgetting = start_forgetter(rt, alloc, &shared, forgetter, limit)?;
+    let ticket = take_part(&shared, &mut pass, 1)?;
+    let most = MostInMemory {
+        entries: limit,
+        messages: queue,
+    };
+    let bounding = start_bounding(rt, alloc, &shared, forgetter, ticket, most)?;
     let ran = serve_all::<R, FI, FO, D, J, E, I, W>(
         rt, alloc, folder, &shared, &mut pass, links, common, figures, filters, reader, writer,
     );
     close_links(rt, &shared, &mut pass);
-    end_run(rt, alloc, &shared, forgetting, ran)
+    end_run(rt, alloc, &shared, bounding, ran)
 }
 
 /// Runs a router: its links, its operator and its history, until the operator quits or their lines end. The folder in which its history is to be
