@@ -66,8 +66,11 @@ class Neighbour:
         """Opens what the router reads before anybody reads it."""
         self.writes = os.open(self.there, os.O_RDWR)
 
-    def greet(self, size=SIZE, node=None):
-        self.say(b"netchange 1 %d %d\n" % (size, self.node if node is None else node))
+    def greet(self, size=SIZE, node=None, hold=0):
+        """Answers the router's greeting by one of its own: then the router is up."""
+        self.hear(b"\n")
+        number = self.told.split()[5]
+        self.say(b"netchange 2 %d %d %d 1 %s\n" % (size, self.node if node is None else node, hold, number))
 
     def come(self, size=SIZE):
         """Opens both files, and greets."""

@@ -11,12 +11,12 @@ use crate::said::Said;
 
 /// What an end came up on: the greeting that answered its attempt. Only `Post::hear` makes one.
 #[derive(Clone, Copy, PartialEq, Eq)]
-pub struct Meeting {
+pub struct CameUp {
     pub(crate) greeting: Greeting,
     pub(crate) number: u32,
 }
 
-impl Meeting {
+impl CameUp {
     /// The greeting.
     pub fn greeting(&self) -> Greeting
         ensures { result ≡ self.now.greeting }
@@ -27,12 +27,11 @@ impl Meeting {
 
 /// That nothing was heard of the other end for its HOLD, while a session was there. Only `Post::look` makes one.
 #[derive(Clone, Copy, PartialEq, Eq)]
-pub struct Silence {
+pub struct Unheard {
     pub(crate) hold: u16,
-    pub(crate) number: u32,
 }
 
-impl Silence {
+impl Unheard {
     /// The HOLD of the other end, in seconds.
     pub fn hold(&self) -> u16
         ensures { result ≡ self.now.hold }
@@ -71,7 +70,7 @@ impl Post {
     }
 
     /// It hears a line, with a number for an attempt that may begin there. What it comes up on, if it does.
-    pub fn hear(&mut self, line: Said, next: u32) -> Option<Meeting>
+    pub fn hear(&mut self, line: Said, next: u32) -> Option<CameUp>
         requires { 0 < next }
         ensures end { self.new.end ≡ (heard_line self.old.end line next).end }
         ensures clocks { self.new.clocks ≡ after_line self.old.clocks line }
@@ -85,7 +84,7 @@ impl Post {
         self.clocks = self.clocks.hear(line);
         self.owes_greeting = self.owes_greeting || heard.answers;
         match line {
-            Said::Greeting(greeting) if greeting.heard == heard.end.number => Some(Meeting {
+            Said::Greeting(greeting) if greeting.heard == heard.end.number => Some(CameUp {
                 greeting,
                 number: heard.end.number,
             }),
@@ -103,25 +102,25 @@ impl Post {
     }
 
     /// It looks at the clock. Where the session is there, and nothing was heard for the other end's HOLD: that it is so.
-    pub fn look(&mut self, now: u64) -> Option<Silence>
+    pub fn look(&mut self, now: u64) -> Option<Unheard>
         ensures looked { self.new ≡ record self.old { clocks = looked self.old.clocks now } }
-        ensures silent { IfSome result (λ s. (self.new.end.is_up ≡ true) × IsSilent self.new.clocks × (s.hold ≡ self.new.clocks.other_hold)
-            × (s.number ≡ self.new.end.number)) }
+        ensures silent { IfSome result (λ s. (self.new.end.is_up ≡ true) × IsSilent self.new.clocks × (s.hold ≡ self.new.clocks.other_hold)) }
         ensures heard { IfNone result (self.new.end.is_up ≡ true → IsSilent self.new.clocks → ⊥) }
     {
         self.clocks = self.clocks.look(now);
         if !self.end.is_up || !self.clocks.is_silent() {
             return None;
         }
-        Some(Silence {
+        Some(Unheard {
             hold: self.clocks.other_hold,
-            number: self.end.number,
         })
     }
 
-    /// Whether it is in session, with an attempt of this number.
-    pub fn is_in(&self, silence: Silence) -> bool {
-        self.end.is_up && self.end.number == silence.number
+    /// A line was heard in session that says that its writer is there.
+    pub fn note_alive(&mut self)
+        ensures { self.new ≡ record self.old { clocks = after_line self.old.clocks said.Alive } }
+    {
+        self.clocks = self.clocks.hear(Said::Alive);
     }
 
     /// The greeting that it has to write now, if it has to: it owes one; or it has no session, and wrote nothing for a third of its HOLD. It

@@ -17,7 +17,7 @@ use Rattle.netchange_core.specs.declared.message.Message.{Message}
 use Rattle.prefix_patterns.proofs.Tokens.{parts_at-joined}
 use Rattle.prefix_patterns.specs.Reading.{◌>>=◌, parts_at}
 use Rattle.message_streams.proofs.Pairs.{bind_some, pair_in-found, pair_in-text, pair_text-open, pair_text-short, same_pair}
-use Rattle.message_streams.specs.Lines.{FitsMessage, message_line, message_text, messages_text}
+use Rattle.message_streams.specs.Lines.{FitsMessage, line_of, lines_text, message_line, message_text, told_in}
 use Rattle.message_streams.specs.Reading.{message_in, messages_in, pair_in}
 
 -- ---- a line
@@ -57,12 +57,15 @@ message_apart a b x y p q e =
     let same : Some a ≡ Some b = sym (message_in-text a p) ∙ ap message_in cut.0 ∙ message_in-text b q in
     (cc, cut.1)
 
--- ---- messages, a line each
+-- ---- messages, a line each, and empty lines
 
-whole_messages : (ms : List Message) → whole_lines (messages_text ms) ≡ messages_text ms
-whole_messages [] = refl
-whole_messages (m ∷ ms) =
-    whole_lines-append (message_line m) (messages_text ms) (inr (message_text m, refl)) ∙ ap (λ l. message_line m ++ l) (whole_messages ms)
+whole_line : (line : Option Message) (rest : List ℕ) → whole_lines (line_of line ++ rest) ≡ line_of line ++ whole_lines rest
+whole_line None rest = whole_lines-append (10 ∷ []) rest (inr ([], refl))
+whole_line (Some m) rest = whole_lines-append (message_line m) rest (inr (message_text m, refl))
+
+whole_text : (lines : List (Option Message)) → whole_lines (lines_text lines) ≡ lines_text lines
+whole_text [] = refl
+whole_text (line ∷ lines) = whole_line line (lines_text lines) ∙ ap (λ l. line_of line ++ l) (whole_text lines)
 
 -- a first line that has ended is a part of its own
 first_part : (m : Message) (rest : List ℕ) → FitsMessage m →
@@ -72,19 +75,24 @@ first_part m rest fits =
     (open_message m fits) in
     ap (slice_split is_line_feed) (append_assoc (message_text m) (10 ∷ []) rest) ∙ slice_split_at is_line_feed (message_text m) 10 rest feeds refl
 
+empty_part : (rest : List ℕ) → slice_split is_line_feed (10 ∷ rest) ≡ [] ∷ slice_split is_line_feed rest
+empty_part rest = slice_split_at is_line_feed [] 10 rest (λ k d h. absurd (omega (arith, h))) refl
+
 -- an empty line says nothing
 nothing_said : message_in [] ≡ None
 unfolding pair_in parts_at
 nothing_said = refl
 
-said : (ms : List Message) → All FitsMessage ms → filter_map message_in (slice_split is_line_feed (messages_text ms)) ≡ ms
+said : (lines : List (Option Message)) → All FitsMessage (told_in lines) →
+    filter_map message_in (slice_split is_line_feed (lines_text lines)) ≡ told_in lines
 said [] fits = rw nothing_said refl
-said (m ∷ ms) fits =
-    rw (first_part m (messages_text ms) (All-head FitsMessage m ms fits), message_in-text m (All-head FitsMessage m ms fits))
-    (ap (λ l. m ∷ l) (said ms (All-tail FitsMessage m ms fits)))
+said (None ∷ lines) fits = rw (empty_part (lines_text lines), nothing_said) (said lines fits)
+said (Some m ∷ lines) fits =
+    rw (first_part m (lines_text lines) (All-head FitsMessage m (told_in lines) fits), message_in-text m (All-head FitsMessage m (told_in lines) fits))
+    (ap (λ l. m ∷ l) (said lines (All-tail FitsMessage m (told_in lines) fits)))
 
-pub messages_in-text : (ms : List Message) → All FitsMessage ms → messages_in (messages_text ms) ≡ ms
-messages_in-text ms fits = rw (whole_messages ms) (said ms fits)
+pub messages_in-lines : (lines : List (Option Message)) → All FitsMessage (told_in lines) → messages_in (lines_text lines) ≡ told_in lines
+messages_in-lines lines fits = rw (whole_text lines) (said lines fits)
 
 -- ---- lengths
 

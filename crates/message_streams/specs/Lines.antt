@@ -1,5 +1,5 @@
 -- What is written on a link. (This project's own choice.)
-use Rattle.std.specs.Prelude.{ℕ, ◌^◌, ◌<◌, List, [], ◌∷◌, ◌++◌, flat_map, decimal}
+use Rattle.std.specs.Prelude.{ℕ, ◌^◌, ◌<◌, List, [], ◌∷◌, ◌++◌, flat_map, Option, Some, None, decimal}
 use Rattle.netchange_core.specs.declared.message.Message.{Message}
 
 -- how many bytes a line has at most, its line feed counted
@@ -18,9 +18,20 @@ message_text m = pair_text m.dest m.dist
 abbrev pub message_line : Message → List ℕ
 message_line m = message_text m ++ 10 ∷ []
 
--- messages in order, a line each
-abbrev pub messages_text : List Message → List ℕ
-messages_text ms = flat_map message_line ms
+-- a line of a session: that of a message, or an empty one
+abbrev pub line_of : Option Message → List ℕ
+line_of None = 10 ∷ []
+line_of (Some m) = message_line m
+
+-- such lines in order
+abbrev pub lines_text : List (Option Message) → List ℕ
+lines_text lines = flat_map line_of lines
+
+-- the messages among them
+abbrev pub told_in : List (Option Message) → List Message
+told_in [] = []
+told_in (None ∷ lines) = told_in lines
+told_in (Some m ∷ lines) = m ∷ told_in lines
 
 -- the numbers of a message have 16 bits
 pub record FitsMessage (m : Message) : Type 0 where

@@ -24,6 +24,7 @@ use router_options::RouterPlan;
 use slot_lock::LockFault;
 use std::alloc::Global;
 use std::io::{Read, Write};
+use std::random::RandomSource;
 use std::rt::Clock;
 use std::sync::Wait;
 use std::thread::Threads;
@@ -240,6 +241,7 @@ fn run_setting<
     R: Threads
         + Wait
         + Clock
+        + RandomSource
         + Folder
         + HistoryFolders
         + LinkFolder<FI, FO>
@@ -294,6 +296,7 @@ pub fn serve_router<
     R: Threads
         + Wait
         + Clock
+        + RandomSource
         + Folder
         + HistoryFolders
         + LinkFolder<FI, FO>

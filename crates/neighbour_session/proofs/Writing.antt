@@ -1,5 +1,5 @@
 -- A writer that has turns again and again.
-use Rattle.std.proofs.Common.{◌≡◌, ◌∙◌, sym, ap, refl, ℕ, List, [], ◌∷◌, ◌++◌, append_assoc, append-nil, length}
+use Rattle.std.proofs.Common.{◌≡◌, ◌∙◌, sym, ap, inl, inr, refl, ℕ, List, [], ◌∷◌, ◌++◌, append_assoc, append-nil, length}
 use Rattle.std.specs.Prelude.{All, Bool, None, Some, true, false, flat_map, slice_get}
 use Rattle.std.proofs.lemmas.Grind.{flat_map-append}
 use Rattle.std.proofs.lemmas.List.Elements.{All-append, All-nil}
@@ -131,21 +131,33 @@ writes_on waits r session old t mid m last new u h on k =
 not_both : (b : Bool) → b ≡ false → b ≡ true → ⊥
 not_both b is_false is_true = absurd cc
 
-stopped_over : (waits : Bool) (may : Bool → Type 0) (c : Cause) (why : SessionEnd) → IsWriterStopped waits c why → IsWriterOver waits may c why
-stopped_over waits may cause.Turns why h = absurd h
-stopped_over waits may cause.LinkEnded why h = h
-stopped_over waits may cause.LinkFault why h = h
-stopped_over waits may cause.Stale why h = h
-stopped_over waits may cause.Full why h = (h.0 ∙ ap full_end (sym h.1), λ w. absurd (not_both waits h.1 w))
-stopped_over waits may cause.Memory why h = h
+stopped_over : (waits : Bool) (may : Bool → Type 0) (c : Cause) (later : WriterView) (why : SessionEnd) → IsWriterStopped waits c why →
+    IsWriterOver waits may c later why
+stopped_over waits may cause.Turns later why h = absurd h
+stopped_over waits may cause.LinkEnded later why h = h
+stopped_over waits may cause.LinkFault later why h = h
+stopped_over waits may cause.Stale later why h = h
+stopped_over waits may cause.Full later why h = inl (h.0 ∙ ap full_end (sym h.1), λ w. absurd (not_both waits h.1 w))
+stopped_over waits may cause.Memory later why h = h
 
-absent_over : (waits : Bool) (may : Bool → Type 0) (c : Cause) → WriterGoesOn waits c → may false → IsWriterOver waits may c end.Closed
-absent_over waits may cause.Turns on absent = (refl, absent)
-absent_over waits may cause.Full on absent = (sym (ap full_end on), λ w. absent)
-absent_over waits may cause.LinkEnded on absent = absurd on
-absent_over waits may cause.LinkFault on absent = absurd on
-absent_over waits may cause.Stale on absent = absurd on
-absent_over waits may cause.Memory on absent = absurd on
+absent_over : (waits : Bool) (may : Bool → Type 0) (c : Cause) (later : WriterView) → WriterGoesOn waits c → may false →
+    IsWriterOver waits may c later end.Closed
+absent_over waits may cause.Turns later on absent = inl (refl, absent)
+absent_over waits may cause.Full later on absent = inl (sym (ap full_end on), λ w. absent)
+absent_over waits may cause.LinkEnded later on absent = absurd on
+absent_over waits may cause.LinkFault later on absent = absurd on
+absent_over waits may cause.Stale later on absent = absurd on
+absent_over waits may cause.Memory later on absent = absurd on
+
+-- a writer that went on, and then did not write an empty line
+unwritten_over : (waits : Bool) (may : Bool → Type 0) (c : Cause) (later : WriterView) → WriterGoesOn waits c → later.over ≡ true →
+    IsWriterOver waits may c later end.Unwritten
+unwritten_over waits may cause.Turns later on over = inr (refl, over)
+unwritten_over waits may cause.Full later on over = inr (on, refl, over)
+unwritten_over waits may cause.LinkEnded later on over = absurd on
+unwritten_over waits may cause.LinkFault later on over = absurd on
+unwritten_over waits may cause.Stale later on over = absurd on
+unwritten_over waits may cause.Memory later on over = absurd on
 
 -- what the stream got behind the last whole line
 first_unsent : (unsent : List Message) → refuse_first (Some None) unsent ≡ Some (slice_get unsent 0)
@@ -169,7 +181,7 @@ writes_stopped waits may r session old output mid m last why new u later h k got
       held = got.held;
       lines = got.lines;
       after = got_after output u last.unsent later got written.writes.refused;
-      because = stopped_over waits may last.cause why over;
+      because = stopped_over waits may last.cause later why over;
     }
 
 pub writes_absent : (waits : Bool) (may : Bool → Type 0) (r : RouterView) (session : ℕ) (old : PassView) (output : WriterView) (mid : PassView)
@@ -185,5 +197,22 @@ writes_absent waits may r session old output mid m last new u later h k got on a
       held = got.held;
       lines = got.lines;
       after = got_after output u last.unsent later got written.writes.refused;
-      because = absent_over waits may last.cause on absent;
+      because = absent_over waits may last.cause later on absent;
+    }
+
+pub writes_unwritten : (waits : Bool) (may : Bool → Type 0) (r : RouterView) (session : ℕ) (old : PassView) (output : WriterView) (mid : PassView)
+    (m : Told) (last : WriteEnd) (new : PassView) (u : Told) (later : WriterView) →
+    HasWritten session old.fragment (told_to output) mid.fragment m → IsWrittenBy r session mid.fragment m last new.fragment u →
+    GotLinesOf output u later → WriterGoesOn waits last.cause → later.over ≡ true →
+    WritesOut waits may r session old output end.Unwritten new later
+writes_unwritten waits may r session old output mid m last new u later h k got on over =
+    let written = written_last r session old.fragment (told_to output) mid.fragment m last new.fragment u h k in
+    record {
+      end = record { cause = last.cause; sent = length (h.accepted ++ k.accepted); unsent = last.unsent };
+      last = u;
+      written = written;
+      held = got.held;
+      lines = got.lines;
+      after = got_after output u last.unsent later got written.writes.refused;
+      because = unwritten_over waits may last.cause later on over;
     }

@@ -1,5 +1,5 @@
 -- What who writes to a neighbour does. (This project's own choice.)
-use Rattle.std.specs.Prelude.{◌≡◌, ℕ, Bool, true, false, ⊤, List, Option, None, slice_get}
+use Rattle.std.specs.Prelude.{◌≡◌, ◌⊎◌, ℕ, Bool, true, false, ⊤, List, Option, None, slice_get}
 use Rattle.std.specs.Io.KnownBytes.{Appends}
 use Rattle.message_streams.specs.Views.{WriterView}
 use Rattle.route_session.specs.declared.ends.Cause.{Cause}
@@ -34,14 +34,18 @@ WriterGoesOn waits cause.Turns = ⊤
 WriterGoesOn waits cause.Full = waits ≡ true
 WriterGoesOn waits _ = ⊥
 
--- And where it used up its turns: the session was said not to be there. A full history ends no session whose writer waits: it was said not to
--- be there either.
-abbrev pub IsWriterOver : Bool → (Bool → Type 0) → Cause → SessionEnd → Type 0
-IsWriterOver waits may_be_present cause.Turns why = (why ≡ end.Closed) × may_be_present false
-IsWriterOver waits may_be_present cause.Full why = IsFullEnd waits may_be_present why
-IsWriterOver waits may_be_present c why = IsWriterStopped waits c why
+-- an empty line was not written
+abbrev pub IsUnwrittenEnd : WriterView → SessionEnd → Type 0
+IsUnwrittenEnd later why = (why ≡ end.Unwritten) × (later.over ≡ true)
 
--- What the router queued was taken, and the neighbour's stream got the lines of it, each in its turn; then, for a reason, the writer ended.
+-- And where it used up its turns: the session was said not to be there, or an empty line was not written. A full history ends no session whose writer waits: it was said not to
+-- be there either.
+abbrev pub IsWriterOver : Bool → (Bool → Type 0) → Cause → WriterView → SessionEnd → Type 0
+IsWriterOver waits may_be_present cause.Turns later why = ((why ≡ end.Closed) × may_be_present false) ⊎ IsUnwrittenEnd later why
+IsWriterOver waits may_be_present cause.Full later why = IsFullEnd waits may_be_present why ⊎ ((waits ≡ true) × IsUnwrittenEnd later why)
+IsWriterOver waits may_be_present c later why = IsWriterStopped waits c why
+
+-- What the router queued was taken, and the neighbour's stream got the lines of it, each in its turn, and empty ones; then, for a reason, the writer ended.
 -- What was taken and not written is none, but where a line was not written: then the stream got a front of the line of the first of it,
 -- or nothing of that.
 pub record WritesOut (waits : Bool) (may_be_present : Bool → Type 0) (r : RouterView) (session : ℕ) (old : PassView) (output : WriterView)
@@ -52,7 +56,7 @@ pub record WritesOut (waits : Bool) (may_be_present : Bool → Type 0) (r : Rout
   pub held : Option (List ℕ)
   pub lines : AreLines (Appends output.held held) last.given
   pub after : TearsLine (slice_get end.unsent 0) held later.held
-  pub because : IsWriterOver waits may_be_present end.cause why
+  pub because : IsWriterOver waits may_be_present end.cause later why
 
 -- and the session with it
 pub record Serves (waits : Bool) (may_be_present may_be_first : Bool → Type 0) (r : RouterView) (session : ℕ) (old : PassView) (output : WriterView)

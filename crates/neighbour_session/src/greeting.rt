@@ -5,9 +5,10 @@ ghost use Rattle.link_handshake.specs.declared.said.Said.TheVariants as said;
 ghost use Rattle.neighbour_session.specs.Greeting as spec;
 
 use crate::ends::{GreetingFault, SessionEnd};
-use link_handshake::{Greeting, Meeting, Said, read_line, skip};
+use link_handshake::{Greeting, CameUp, Said, read_line, skip};
 use message_streams::{MessageReader, StreamEnd};
 use std::io::Read;
+use std::random::RandomSource;
 use std::sync::Wait;
 
 /// A router's place in its domain.
@@ -25,7 +26,7 @@ pub trait Ears {
     ghost use Rattle.link_handshake.specs.declared.said.Said.TheVariants.{Greeting as greets};
 
     /// Hears a line. What the end of the link came up on, if it did.
-    fn hear<R: Wait>(&self, rt: &R, line: Said) -> Option<Meeting>
+    fn hear<R: Wait + RandomSource>(&self, rt: &R, line: Said) -> Option<CameUp>
         ensures { IfSome result (λ m. (line ≡ greets m.greeting) × (m.greeting.heard ≡ m.number)) };
 
     /// Whether the link is open still, so that what is heard can be answered.
@@ -63,14 +64,14 @@ fn next_said<I: Read>(input: &mut MessageReader<I>) -> Result<(Said, u32), Sessi
 
 /// Waits until a neighbour answers the present attempt of this end of the link: what the end came up on. Whatever else the neighbour says
 /// is skipped, up to 65,536 bytes between two of its greetings. A line that was heard before, and ended a session, may be the first.
-pub fn meet<R: Wait, I: Read, E: Ears>(
+pub fn meet<R: Wait + RandomSource, I: Read, E: Ears>(
     rt: &R,
     input: &mut MessageReader<I>,
     ears: &E,
     domain: Domain,
     neighbour: u16,
     first: Option<Said>,
-) -> Result<Meeting, SessionEnd>
+) -> Result<CameUp, SessionEnd>
     ensures met { IfOk result (λ m. spec.Meets domain neighbour first input.old m input.new) }
     ensures unmet { IfErr result (λ why. spec.IsUnmet why domain neighbour input.new) }
 {

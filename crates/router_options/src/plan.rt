@@ -19,6 +19,12 @@ pub const SMALLEST_ROOM: u32 = 2_048;
 /// How many messages for each node of the domain may wait for a neighbour, where no other bound is given.
 pub const WAITING_A_NODE: u32 = 64;
 
+/// Seconds: a router may be silent so long at most, unless it may be for any time.
+pub const LARGEST_HOLD: u32 = 3_600;
+
+/// Seconds: a router may be silent so long where nothing else is said.
+const USUAL_HOLD: u32 = 9;
+
 /// The numbers of a router, as they are given.
 #[derive(Clone, Copy, PartialEq, Eq)]
 pub struct Numbers {
@@ -34,6 +40,8 @@ pub struct Numbers {
     pub segments: Option<u32>,
     /// How long a link that is closed waits before it is opened again, in seconds, 1 at least; for ever where none is said.
     pub retry: Option<u32>,
+    /// How many seconds the router may be silent before its neighbours hold it for dead, at most 3,600, or 0 for any time.
+    pub hold: Option<u32>,
 }
 
 /// What a router is told before it begins. A node has at most one prefix that was given, one import filter, one export filter and one link,
@@ -62,6 +70,8 @@ pub struct RouterPlan {
     pub segments: Option<u32>,
     /// How long a closed link waits before it is opened again, in seconds.
     pub retry: Option<u32>,
+    /// How many seconds the router may be silent before its neighbours hold it for dead; 0 for any time.
+    pub hold: u16,
     /// The router goes on where its standard input ends.
     pub stays: bool,
 }
@@ -71,9 +81,9 @@ impl Model for RouterPlan {
 
     ghost Value = { PlanView };
 
-    ghost view = { λ p. record { opening = p.opening; placed = p.placed.items; limit = p.limit; queue = p.queue; filters = p.filters.items; imports = p.imports.items; exports = p.exports.items; links = p.links.items; save = p.save; segments = p.segments; retry = p.retry; stays = p.stays } };
+    ghost view = { λ p. record { opening = p.opening; placed = p.placed.items; limit = p.limit; queue = p.queue; filters = p.filters.items; imports = p.imports.items; exports = p.exports.items; links = p.links.items; save = p.save; segments = p.segments; retry = p.retry; hold = p.hold; stays = p.stays } };
 
-    ghost invariant = { λ p. IsPlan (record { opening = p.opening; placed = p.placed.items; limit = p.limit; queue = p.queue; filters = p.filters.items; imports = p.imports.items; exports = p.exports.items; links = p.links.items; save = p.save; segments = p.segments; retry = p.retry; stays = p.stays }) };
+    ghost invariant = { λ p. IsPlan (record { opening = p.opening; placed = p.placed.items; limit = p.limit; queue = p.queue; filters = p.filters.items; imports = p.imports.items; exports = p.exports.items; links = p.links.items; save = p.save; segments = p.segments; retry = p.retry; hold = p.hold; stays = p.stays }) };
 }
 
 /// Whether a domain has so many nodes.
@@ -99,6 +109,13 @@ fn queue_or(size: u32, queue: Option<u32>) -> u32
         Some(queue) => queue,
         None => size * WAITING_A_NODE,
     }
+}
+
+/// The HOLD of a router, by what is given.
+fn hold_or(hold: Option<u32>) -> u32
+    ensures { result ≡ spec.hold_or hold }
+{
+    hold.unwrap_or(USUAL_HOLD)
 }
 
 /// Looks at the numbers of a router whose history is saved or not, in order, up to the first that does not fit.
@@ -134,6 +151,10 @@ fn check_numbers(numbers: Numbers, saves: bool) -> Result<(), NumberFault>
     }
     if numbers.retry == Some(0) {
         return Err(NumberFault::Retry);
+    }
+    let hold = hold_or(numbers.hold);
+    if hold > LARGEST_HOLD {
+        return Err(NumberFault::Hold(hold));
     }
     Ok(())
 }
@@ -238,6 +259,7 @@ impl RouterPlan {
             save,
             segments: numbers.segments,
             retry: numbers.retry,
+            hold: hold_or(numbers.hold) as u16,
             stays,
         })
     }

@@ -3,7 +3,7 @@ use Rattle.message_streams.specs.Views.{WriterView}
 use Rattle.neighbour_session.specs.Links.{GotLinesOf, OutputView}
 use Rattle.neighbour_session.specs.Writing.{told_to}
 use Rattle.neighbour_session.proofs.Gaining.{sound_both, sound_same}
-use Rattle.neighbour_session.proofs.Writing.{HasWritten, writes_absent, writes_on, writes_stopped, written_none}
+use Rattle.neighbour_session.proofs.Writing.{HasWritten, writes_absent, writes_on, writes_stopped, writes_unwritten, written_none}
 use Rattle.neighbour_session.proofs.write.write_all.Goals as goal
 
 pub loop-init : goal.loop-init
@@ -35,6 +35,16 @@ returns-then-not-is_present-clause-writes g c =
     c.loop.invariant.written c.write_session-end.ensures.written
     (subst (λ (w : WriterView). GotLinesOf w u later) (sym c.requires.named) c.into_writer-then-not-is_present.ensures)
     c.in_default.ensures.goes_on c.if-not-is_present.ensures
+
+pub returns-then-owes_line-clause-writes : goal.returns-then-owes_line-clause-writes
+returns-then-owes_line-clause-writes g c =
+    let u = c.write_empty.new.self.told in
+    let later = c.into_writer-then-owes_line.result in
+    writes_unwritten c.args.waits (g.C.Crew.may_be_present c.args.crew.now) c.args.router.now c.args.session c.args.pass.now c.args.output
+    c.loop.pass c.loop.link.told c.write_session-end.result c.write_session-end.new.pass u later
+    c.loop.invariant.written c.write_session-end.ensures.written
+    (subst (λ (w : WriterView). GotLinesOf w u later) (sym c.requires.named) c.into_writer-then-owes_line.ensures)
+    c.in_default.ensures.goes_on c.write_empty.ensures.unwritten
 
 pub loop-preserved : goal.loop-preserved
 loop-preserved g c = record {
