@@ -200,7 +200,7 @@ class Rows:
             reads = os.open(back, os.O_RDONLY)
             writes = os.open(there, os.O_WRONLY)
             number = os.read(reads, 100).split()[5]
-            os.write(writes, b"netchange 2 %d 1 1 77 %s\n3 " % (SIZE, number))
+            os.write(writes, b"netchange 2 %d 1 1 77 %s\n1 0\n3 " % (SIZE, number))
             up = awaited(end.is_up, bool, 5)
             down = awaited(lambda: not end.is_up(), bool, 1 + LATE)
             self.judge("up", up)
@@ -220,7 +220,7 @@ class Rows:
             reads = os.open(back, os.O_RDONLY)
             writes = os.open(there, os.O_WRONLY)
             number = os.read(reads, 100).split()[5]
-            os.write(writes, b"netchange 2 %d 1 0 77 %s\n" % (SIZE, number))
+            os.write(writes, b"netchange 2 %d 1 0 77 %s\n1 0\n" % (SIZE, number))
             awaited(end.is_up, bool, 5)
             time.sleep(2 * HOLD)
             self.judge("stays up", end.is_up(), end.said())
@@ -243,7 +243,7 @@ class Rows:
             self.judge("answers", answer[5:] == [str(number).encode(), b"77"], answer)
             time.sleep(0.5)
             self.judge("stays down", not end.is_up())
-            os.write(writes, b"netchange 2 %d 1 9 77 %d\n" % (SIZE, number))
+            os.write(writes, b"netchange 2 %d 1 9 77 %d\n1 0\n" % (SIZE, number))
             self.judge("comes up", awaited(end.is_up, bool, 5), end.said())
             end.kill()
             os.close(reads)

@@ -5,7 +5,7 @@ ghost use Rattle.link_handshake.specs.declared.said.Said.TheVariants as said;
 ghost use Rattle.neighbour_session.specs.Greeting as spec;
 
 use crate::ends::{GreetingFault, SessionEnd};
-use link_handshake::{Greeting, CameUp, Said, read_line, skip};
+use link_handshake::{CameUp, Greeting, Said, read_line, skip};
 use message_streams::{MessageReader, StreamEnd};
 use std::io::Read;
 use std::random::RandomSource;

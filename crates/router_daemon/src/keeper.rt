@@ -292,8 +292,9 @@ fn serve_neighbour<R: Wait + Clock, I: Read + Drop, O: Write + Drop, J: Naming, 
         session,
         ticket: FreshTicket::new(writing),
     };
-    let (why, input, ticket) =
-        serve_opened(rt, alloc, shared, room, link, input, order, &answer, pass);
+    let (why, input, ticket) = serve_opened(
+        rt, alloc, shared, room, link, input, order, &answer, pass,
+    );
     shared.router.join(pass, ticket.pass());
     (why, input)
 }
@@ -315,13 +316,7 @@ fn open_station<R: Wait + Clock + RandomSource, J: Naming, E: Write>(
 
 /// Serves one session over the streams of a link, until it is over: waits first until the neighbour answers this router's greeting. A line that
 /// ended the session before may be the first that is heard. Says why it is over, and hands back the stream that was read. Notes when it began.
-fn serve_link<
-    R: Wait + Clock + RandomSource,
-    I: Read + Drop,
-    O: Write + Drop,
-    J: Naming,
-    E: Write,
->(
+fn serve_link<R: Wait + Clock + RandomSource, I: Read + Drop, O: Write + Drop, J: Naming, E: Write>(
     rt: &R,
     alloc: Global,
     shared: &Shared<J, E>,

@@ -2,7 +2,7 @@
 ghost use Rattle.std.specs.Prelude.{◌≡◌, ◌<◌, IfSome};
 ghost use Rattle.link_handshake.specs.declared.said.Said.TheVariants.{Greeting as greets};
 
-use link_handshake::{Greeting, CameUp, Post, Said, Unheard, Speaker};
+use link_handshake::{CameUp, Greeting, Post, Said, Speaker, Unheard};
 use std::alloc::{AllocError, Global};
 use std::random::RandomSource;
 use std::sync::{Mutex, Wait};
