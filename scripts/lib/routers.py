@@ -30,7 +30,7 @@ class Neighbour:
     """The other end of a link."""
 
     def __init__(self, folder, node):
-        self.node, self.told = node, b""
+        self.node, self.told, self.before = node, b"", 0
         self.there, self.back = (os.path.join(folder, f"{node}.{end}") for end in ("in", "out"))
         self.writes = self.reads = None
         for path in (self.there, self.back):
@@ -39,6 +39,7 @@ class Neighbour:
     def is_opened(self):
         """Opens both files, each once the router has opened it: whether it has. It has the lower number, so it opens its output first."""
         if self.reads is None:
+            self.before = len(self.told)
             self.reads = os.open(self.back, os.O_RDONLY | os.O_NONBLOCK)
         try:
             # Where nobody has it open, nothing comes.
@@ -67,9 +68,10 @@ class Neighbour:
         self.writes = os.open(self.there, os.O_RDWR)
 
     def greet(self, size=SIZE, node=None, hold=0):
-        """Answers the router's greeting by one of its own: then the router is up."""
-        self.hear(b"\n")
-        number = self.told.split()[5]
+        """Answers the greeting that the router wrote last by one of its own: then the router is up."""
+        self.listen(lambda: b"\n" in self.told[self.before:])
+        greeting = [line for line in self.told[self.before:].split(b"\n")[:-1] if line.startswith(b"netchange ")][-1]
+        number = greeting.split()[5]
         self.say(b"netchange 2 %d %d %d 1 %s\n" % (size, self.node if node is None else node, hold, number))
 
     def come(self, size=SIZE):

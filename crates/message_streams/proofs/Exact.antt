@@ -83,10 +83,14 @@ nothing_said : message_in [] ≡ None
 unfolding pair_in parts_at
 nothing_said = refl
 
+skip_nothing : (parts : List (List ℕ)) → filter_map message_in ([] ∷ parts) ≡ filter_map message_in parts
+skip_nothing parts = rw nothing_said refl
+
 said : (lines : List (Option Message)) → All FitsMessage (told_in lines) →
     filter_map message_in (slice_split is_line_feed (lines_text lines)) ≡ told_in lines
 said [] fits = rw nothing_said refl
-said (None ∷ lines) fits = rw (empty_part (lines_text lines), nothing_said) (said lines fits)
+said (None ∷ lines) fits =
+    ap (filter_map message_in) (empty_part (lines_text lines)) ∙ skip_nothing (slice_split is_line_feed (lines_text lines)) ∙ said lines fits
 said (Some m ∷ lines) fits =
     rw (first_part m (lines_text lines) (All-head FitsMessage m (told_in lines) fits), message_in-text m (All-head FitsMessage m (told_in lines) fits))
     (ap (λ l. m ∷ l) (said lines (All-tail FitsMessage m (told_in lines) fits)))
