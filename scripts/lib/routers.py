@@ -117,7 +117,7 @@ class Neighbour:
     def distances(self):
         """The distance to each node that it was told last, behind the greeting."""
         lines = self.told[:self.told.rfind(b"\n") + 1].decode().splitlines()
-        return dict(map(int, line.split()) for line in lines if not line.startswith("netchange "))
+        return dict(map(int, line.split()) for line in lines if line and not line.startswith("netchange "))
 
     def hear_distances(self, wanted, patience=PATIENCE):
         """Reads until it was told these distances: whether it was."""
