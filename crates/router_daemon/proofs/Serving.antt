@@ -14,11 +14,11 @@ came_back old mid other new some mid_is more new_is = omega (arith, some, mid_is
 
 -- its Up was entered, a share was cut off, the session was served, and the pass of who wrote came back
 pub serves : (r : RouterView) (neighbour : ℕ) (input : ReaderView) (old : PassView) (session : ℕ) (a : Answer)
-    (up cut writing mid new : PassView) (why : SessionEnd) (left : ReaderView) (other : Fragment) → 1 < old.fragment.shares →
+    (up cut writing mid new : PassView) (why : SessionEnd) (other : Fragment) → 1 < old.fragment.shares →
     OpensLater r neighbour old session a up → up.fragment.shares ≡ old.fragment.shares → cut ≡ one_less up → writing.fragment ≡ part_of up →
-    IsOver r session input cut why mid left → mid.fragment.shares ≡ cut.fragment.shares → 1 ≤ other.shares →
-    Merged mid.fragment other new.fragment → ServesNeighbour r neighbour input old why new left
-serves r neighbour input old session a up cut writing mid new why left other some opens same is part over kept more merged =
+    IsOver r session input cut why mid → mid.fragment.shares ≡ cut.fragment.shares → 1 ≤ other.shares →
+    Merged mid.fragment other new.fragment → ServesNeighbour r neighbour input old why new
+serves r neighbour input old session a up cut writing mid new why other some opens same is part over kept more merged =
     let shares : mid.fragment.shares ≡ old.fragment.shares - 1 = kept ∙ ap (λ (p : PassView). p.fragment.shares) is
     ∙ ap (λ (n : ℕ). n - 1) same in
     record {
@@ -33,7 +33,7 @@ serves r neighbour input old session a up cut writing mid new why left other som
           opens = opens.opens;
           writing = writing;
           part = part;
-          over = subst (λ (p : PassView). IsOver r session input p why mid left) is over;
+          over = subst (λ (p : PassView). IsOver r session input p why mid) is over;
           shares = shares ∙ ap (λ (n : ℕ). n - 1) (sym (waited_shares r old opens.mid opens.waited));
         },
       );
@@ -44,10 +44,10 @@ serves r neighbour input old session a up cut writing mid new why left other som
 
 -- no session was opened for it
 pub unserved : (r : RouterView) (neighbour : ℕ) (input : ReaderView) (old : PassView) (why : SessionEnd) (new : PassView) →
-    OpensNever r neighbour old why new → ServesNeighbour r neighbour input old why new input
+    OpensNever r neighbour old why new → ServesNeighbour r neighbour input old why new
 unserved r neighbour input old why new h = record {
   mid = new;
-  served = inl (h, refl);
+  served = inl h;
   back = inl refl;
   shares = let same : new.fragment.shares ≡ old.fragment.shares = h.shares in omega (arith, same);
 }

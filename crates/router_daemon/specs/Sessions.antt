@@ -26,9 +26,9 @@ abbrev pub part_of : PassView → Fragment
 part_of p = record { seen = p.fragment.seen; mine = []; failed_tries = 0; shares = 1; forgot = p.fragment.forgot }
 
 -- A session whose Up was entered is over: it went down with nobody to serve it; or anybody entered what the neighbour said, and its Down.
-abbrev pub IsOver : RouterView → ℕ → ReaderView → PassView → SessionEnd → PassView → ReaderView → Type 0
-IsOver r session input old why new left =
-    (GoesDown r session end.NotStarted old why new × (left ≡ input)) ⊎ Hears true (λ _. ⊤) (λ _. ⊤) r session old input why new left
+abbrev pub IsOver : RouterView → ℕ → ReaderView → PassView → SessionEnd → PassView → Type 0
+IsOver r session input old why new =
+    GoesDown r session end.NotStarted old why new ⊎ ((left : ReaderView) × Hears true (λ _. ⊤) (λ _. ⊤) r session old input why new left)
 
 -- until a pass is so, calls were made that a full history had no room for; or none was
 abbrev pub HasWaited : RouterView → PassView → PassView → Type 0
@@ -50,38 +50,35 @@ pub record OpensNever (r : RouterView) (node : ℕ) (old : PassView) (why : Sess
 
 -- Up was entered, in the answer to which the router opened a session. Then one share of the pass is the writer's, by which nothing was called.
 -- In the end the session goes down. No other share is missing: no part of the pass was split off, used and let go.
-pub record HasSession (r : RouterView) (neighbour : ℕ) (input : ReaderView) (old : PassView) (why : SessionEnd) (new : PassView)
-    (left : ReaderView) : Type 0 where
+pub record HasSession (r : RouterView) (neighbour : ℕ) (input : ReaderView) (old : PassView) (why : SessionEnd) (new : PassView) : Type 0 where
   pub session : ℕ
   pub answer : Answer
   pub up : PassView
   pub opens : Opens r neighbour old session answer up
   pub writing : PassView
   pub part : writing.fragment ≡ part_of up
-  pub over : IsOver r session input (one_less up) why new left
+  pub over : IsOver r session input (one_less up) why new
   pub shares : new.fragment.shares ≡ old.fragment.shares - 1
 
--- what becomes of a neighbour that greeted as it has to: its Up opens no session, and no more is read; or one that is served
-abbrev pub IsServed : RouterView → ℕ → ReaderView → PassView → SessionEnd → PassView → ReaderView → Type 0
-IsServed r neighbour input old why new left =
-    (OpensNever r neighbour old why new × (left ≡ input))
-    ⊎ ((mid : PassView) × HasWaited r old mid × HasSession r neighbour input mid why new left)
+-- what becomes of a neighbour that greeted as it has to: its Up opens no session, or one that is served
+abbrev pub IsServed : RouterView → ℕ → ReaderView → PassView → SessionEnd → PassView → Type 0
+IsServed r neighbour input old why new =
+    OpensNever r neighbour old why new ⊎ ((mid : PassView) × HasWaited r old mid × HasSession r neighbour input mid why new)
 
 -- It was served, and the pass of who wrote came back, and with it the share that it had.
-pub record ServesNeighbour (r : RouterView) (neighbour : ℕ) (input : ReaderView) (old : PassView) (why : SessionEnd) (new : PassView)
-    (left : ReaderView) : Type 0 where
+pub record ServesNeighbour (r : RouterView) (neighbour : ℕ) (input : ReaderView) (old : PassView) (why : SessionEnd) (new : PassView) : Type 0 where
   pub mid : PassView
-  pub served : IsServed r neighbour input old why mid left
+  pub served : IsServed r neighbour input old why mid
   pub back : TakesBack mid new
   pub shares : old.fragment.shares ≤ new.fragment.shares
 
 -- the end of the link came up, on a greeting of the neighbour that answered its present attempt, and then the neighbour was served
 pub record Meets (r : RouterView) (d : Domain) (neighbour : ℕ) (input : ReaderView) (first : Option Said) (old : PassView) (why : SessionEnd)
-    (new : PassView) (left : ReaderView) : Type 0 where
+    (new : PassView) : Type 0 where
   pub meeting : CameUp
   pub i : ReaderView
   pub meets : ComesUp d neighbour first input meeting i
-  pub serves : ServesNeighbour r neighbour i old why new left
+  pub serves : ServesNeighbour r neighbour i old why new
 
 -- the pass has no share that it could give to a writer: no session is begun
 pub record LacksShares (old : PassView) (why : SessionEnd) (new : PassView) : Type 0 where
@@ -90,14 +87,15 @@ pub record LacksShares (old : PassView) (why : SessionEnd) (new : PassView) : Ty
   pub unchanged : new ≡ old
 
 -- the neighbour did not greet as it has to: nothing is entered
-pub record IsTurnedAway (d : Domain) (neighbour : ℕ) (old : PassView) (why : SessionEnd) (new : PassView) (left : ReaderView) : Type 0 where
-  pub unmet : IsUnmet why d neighbour left
+pub record IsTurnedAway (d : Domain) (neighbour : ℕ) (old : PassView) (why : SessionEnd) (new : PassView) : Type 0 where
+  pub i : ReaderView
+  pub unmet : IsUnmet why d neighbour i
   pub unchanged : new ≡ old
 
 -- One session of a link: with a pass of one share there is none; of a neighbour that does not greet as it has to nothing is entered.
-abbrev pub Serves : RouterView → Domain → ℕ → ReaderView → Option Said → PassView → SessionEnd → PassView → ReaderView → Type 0
-Serves r d neighbour input first old why new left = LacksShares old why new ⊎ (IsTurnedAway d neighbour old why new left
-    ⊎ Meets r d neighbour input first old why new left)
+abbrev pub Serves : RouterView → Domain → ℕ → ReaderView → Option Said → PassView → SessionEnd → PassView → Type 0
+Serves r d neighbour input first old why new = LacksShares old why new ⊎ (IsTurnedAway d neighbour old why new
+    ⊎ Meets r d neighbour input first old why new)
 
 -- One of them was the last over its streams.
 pub record ServesLast (r : RouterView) (d : Domain) (neighbour : ℕ) (why : SessionEnd) : Type 0 where
@@ -105,5 +103,4 @@ pub record ServesLast (r : RouterView) (d : Domain) (neighbour : ℕ) (why : Ses
   pub first : Option Said
   pub old : PassView
   pub new : PassView
-  pub left : ReaderView
-  pub serves : Serves r d neighbour input first old why new left
+  pub serves : Serves r d neighbour input first old why new

@@ -4,6 +4,7 @@ ghost use Rattle.slot_lock.specs.Passes.{IsPassOf};
 ghost use Rattle.router_daemon.specs.Links.{AreFresh, IsUnopened, IsUnreadable, KeepsOnce, KeepsTurn, StaysClosed};
 ghost use Rattle.router_daemon.specs.Sessions.{IsOver, OpensLater, OpensNever, Serves, ServesLast, ServesNeighbour};
 ghost use Rattle.neighbour_session.specs.Ending.{GoesDown};
+ghost use Rattle.message_streams.specs.Views.{ReaderView};
 ghost use Rattle.neighbour_session.specs.Reading.{Hears};
 
 use crate::closing::stay;
@@ -149,8 +150,14 @@ fn tell_of_file<R: Wait, J: Naming, E: Write>(
     tell_unopened(alloc, &mut *errors, node, unopened.name, &unopened.why);
 }
 
+/// A stream of a session that is over, if it goes on; otherwise it is closed.
+fn going_on<I: Read + Drop>(why: SessionEnd, input: MessageReader<I>) -> Option<MessageReader<I>> {
+    if why.goes_on() { Some(input) } else { None }
+}
+
 /// Serves a session of a link that began: orders that it is written, enters what the neighbour says, and waits until the writer is done with
-/// it. Where this one ended it, tells people why it is over. Answers that, the stream that was read, and the pass of the writer.
+/// it. Where this one ended it, tells people why it is over. Answers that, the stream that was read, if it goes on, and the pass of the writer. One
+/// that does not is closed before people are told.
 fn serve_begun<R: Wait + Clock, I: Read + Drop, O: Write + Drop, J: Naming, E: Write>(
     rt: &R,
     alloc: Global,
@@ -160,11 +167,11 @@ fn serve_begun<R: Wait + Clock, I: Read + Drop, O: Write + Drop, J: Naming, E: W
     input: MessageReader<I>,
     order: Order<J>,
     pass: &mut Pass,
-) -> (SessionEnd, MessageReader<I>, Ticket<J>)
+) -> (SessionEnd, Option<MessageReader<I>>, Ticket<J>)
     requires { IsPassOf J.router pass.old }
     ensures of { IsPassOf J.router pass.new }
     ensures shares { pass.new.fragment.shares ≡ pass.old.fragment.shares }
-    ensures hears { Hears true (λ _. ⊤) (λ _. ⊤) J.router order.session pass.old input result.0 pass.new result.1 }
+    ensures hears { (left : ReaderView) × Hears true (λ _. ⊤) (λ _. ⊤) J.router order.session pass.old input result.0 pass.new left }
 {
     let (node, session) = (link.files.node, order.session);
     room.put_order(rt, order);
@@ -172,6 +179,7 @@ fn serve_begun<R: Wait + Clock, I: Read + Drop, O: Write + Drop, J: Naming, E: W
     let crew = LinkCrew::new(&shared.signals, link.index, session);
     let (why, input, leaver) = serve_reader(rt, &shared.router, pass, session, input, crew, true);
     leaver.note_owed(rt);
+    let input = going_on(why, input);
     if leaver.ended_it() {
         tell_unless_closed(rt, alloc, shared, node, why);
     }
@@ -204,7 +212,7 @@ fn abandon<R: Wait, J: Naming, E: Write>(
 }
 
 /// Serves a session whose Up has this answer, until it is over. Where the link has a session already, or the router is being closed, its Down
-/// is entered at once. Why it is over, the stream that was read, and the pass of who was to write.
+/// is entered at once. Why it is over, the stream that was read, if it goes on, and the pass of who was to write.
 fn serve_opened<R: Wait + Clock, I: Read + Drop, O: Write + Drop, J: Naming, E: Write>(
     rt: &R,
     alloc: Global,
@@ -215,11 +223,11 @@ fn serve_opened<R: Wait + Clock, I: Read + Drop, O: Write + Drop, J: Naming, E: 
     order: Order<J>,
     answer: &Answer,
     pass: &mut Pass,
-) -> (SessionEnd, MessageReader<I>, Ticket<J>)
+) -> (SessionEnd, Option<MessageReader<I>>, Ticket<J>)
     requires { IsPassOf J.router pass.old }
     ensures of { IsPassOf J.router pass.new }
     ensures shares { pass.new.fragment.shares ≡ pass.old.fragment.shares }
-    ensures over { IsOver J.router order.session input pass.old result.0 pass.new result.1 }
+    ensures over { IsOver J.router order.session input pass.old result.0 pass.new }
 {
     if shared.signals.begin(rt, link.index, order.session, answer) {
         return serve_begun(rt, alloc, shared, room, link, input, order, pass);
@@ -227,7 +235,7 @@ fn serve_opened<R: Wait + Clock, I: Read + Drop, O: Write + Drop, J: Naming, E: 
     let Order { session, ticket } = order;
     let why = abandon(rt, shared, pass, link.index, session);
     shared.signals.settle(rt, link.index);
-    (why, input, Ticket::new(ticket.pass()))
+    (why, None, Ticket::new(ticket.pass()))
 }
 
 /// Enters the Up of a link's neighbour: the session, and the answer. Where the history is full, it is tried again every few milliseconds, until
@@ -262,7 +270,7 @@ fn open_session<R: Wait + Clock, J: Naming, E: Write>(
 }
 
 /// Serves a neighbour whose greeting answered this router's: enters its Up, has the session written, enters what it says, and enters Down when
-/// it is over. Says why it is, hands back the stream that was read, and notes when it began. Where the router is being closed this never
+/// it is over. Says why it is, hands back the stream that was read, if it goes on, and notes when it began. Where the router is being closed this never
 /// returns, and its thread ends with the process.
 fn serve_neighbour<R: Wait + Clock, I: Read + Drop, O: Write + Drop, J: Naming, E: Write>(
     rt: &R,
@@ -273,17 +281,18 @@ fn serve_neighbour<R: Wait + Clock, I: Read + Drop, O: Write + Drop, J: Naming, 
     input: MessageReader<I>,
     pass: &mut Pass,
     begun: &mut Option<Instant>,
-) -> (SessionEnd, MessageReader<I>)
+) -> (SessionEnd, Option<MessageReader<I>>)
     requires of { IsPassOf J.router pass.old }
     requires shares { 1 < pass.old.fragment.shares }
     ensures of { IsPassOf J.router pass.new }
-    ensures served { ServesNeighbour J.router link.now.files.node input pass.old result.0 pass.new result.1 }
+    ensures served { ServesNeighbour J.router link.now.files.node input pass.old result.0 pass.new }
 {
     let (session, answer) = match open_session(rt, shared, link, pass) {
         Ok(opened) => opened,
         Err(why) => {
+            drop(input);
             tell_unless_closed(rt, alloc, shared, link.files.node, why);
-            return (why, input);
+            return (why, None);
         }
     };
     *begun = Instant::now(rt).ok();
@@ -315,7 +324,8 @@ fn open_station<R: Wait + Clock + RandomSource, J: Naming, E: Write>(
 }
 
 /// Serves one session over the streams of a link, until it is over: waits first until the neighbour answers this router's greeting. A line that
-/// ended the session before may be the first that is heard. Says why it is over, and hands back the stream that was read. Notes when it began.
+/// ended the session before may be the first that is heard. Says why it is over, and hands back the stream that was read, if it goes on. Notes when it
+/// began.
 fn serve_link<R: Wait + Clock + RandomSource, I: Read + Drop, O: Write + Drop, J: Naming, E: Write>(
     rt: &R,
     alloc: Global,
@@ -326,19 +336,20 @@ fn serve_link<R: Wait + Clock + RandomSource, I: Read + Drop, O: Write + Drop, J
     first: Option<Said>,
     pass: &mut Pass,
     begun: &mut Option<Instant>,
-) -> (SessionEnd, MessageReader<I>)
+) -> (SessionEnd, Option<MessageReader<I>>)
     requires { IsPassOf J.router pass.old }
     ensures of { IsPassOf J.router pass.new }
-    ensures serves { Serves J.router link.now.domain link.now.files.node input first pass.old result.0 pass.new result.1 }
+    ensures serves { Serves J.router link.now.domain link.now.files.node input first pass.old result.0 pass.new }
 {
     if pass.shares() < 2 {
-        return (SessionEnd::NotStarted, input);
+        return (SessionEnd::NotStarted, None);
     }
     let ears = LinkEars::new(&shared.signals, link.index);
     let node = link.files.node;
     match meet(rt, &mut input, &ears, link.domain, node, first) {
         Ok(_) => serve_neighbour(rt, alloc, shared, room, link, input, pass, begun),
         Err(why) => {
+            let input = going_on(why, input);
             tell_unless_closed(rt, alloc, shared, node, why);
             (why, input)
         }
@@ -373,10 +384,10 @@ fn serve_streams<
         let (why, read) = serve_link(rt, alloc, shared, room, link, input, first, pass, begun);
         settle(rt, shared, pass, link.index);
         let is_open = shared.signals.stations.is_open(rt, link.index);
-        if !is_open || !why.goes_on() || shared.signals.is_closing(rt) {
-            return why;
+        match read {
+            Some(read) if is_open && !shared.signals.is_closing(rt) => input = read,
+            _ => return why,
         }
-        input = read;
         first = why.last_line();
     }
     unreachable!()

@@ -7,6 +7,5 @@ returns-then-not-is_open-clause-last g c = record {
   first = c.loop.first;
   old = c.loop.pass;
   new = c.serve_link-why.new.pass;
-  left = c.serve_link-why.result.1;
   serves = c.serve_link-why.ensures.serves;
 }
