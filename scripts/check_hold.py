@@ -31,6 +31,9 @@ SIZE = 4
 # Seconds: the HOLD that a router has if nothing else is said; how long a close may take beyond it; how long two ends have to come up.
 HOLD, LATE, COME_UP = 9, 1.0, 15.0
 
+# Seconds: a link whose sessions are short is opened again after a minute at most.
+LONGEST_WAIT = 70.0
+
 # Seconds of a processor that an idle router may take in a minute.
 IDLE_TIME = 0.05
 
@@ -275,7 +278,7 @@ class Rows:
                 end.start()
                 time.sleep(self.random.uniform(0, 1))
             for count in range(self.starts):
-                took = pair.come_up(HOLD + 6)
+                took = pair.come_up(COME_UP if relay else LONGEST_WAIT)
                 if took is None:
                     self.judge(f"come up, start {count}", False, [end.said()[-500:] for end in pair.ends])
                     return
