@@ -22,8 +22,8 @@ from router_sizes import SizeRows
 
 GIGABYTE = 1 << 30
 
-# What a line without an end may cost: the bytes that are taken of it beyond those that a FIFO holds, which are those that are skipped until a greeting
-# comes and those of a buffer, and kilobytes of memory.
+# What a line without an end may cost: the bytes that are taken of it beyond those that a FIFO holds, which are those that are skipped until a
+# greeting comes and those of a buffer, and kilobytes of memory.
 MOST_TAKEN, MOST_MEMORY = (1 << 16) + (1 << 13), 4096
 
 # The bytes of a thread's stack where nothing else is said, and what a router has beside its threads, for the row in which these find no room.
