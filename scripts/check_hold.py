@@ -25,6 +25,7 @@ import time
 from lib.counts import Counts
 from lib.processes import Router, awaited
 from lib.program import built
+from lib.routers import Run
 
 SIZE = 4
 
@@ -312,6 +313,40 @@ class Rows:
             for relay in pair.relays:
                 relay.is_cut = False
             self.comes_up(pair, "come back")
+
+    def row_most_links(self):
+        """249 neighbours with a HOLD of 3 seconds, on one processor: all stay up as long as they say that they are there, and then none."""
+        with Run(self.program, nodes=range(1, 250), size=250, saves=False, prepare=lambda: os.sched_setaffinity(0, {0})) as run:
+            ones = list(run.neighbours.values())
+            for one in ones:
+                one.open()
+            for one in ones:
+                one.greet(250, hold=3)
+            begun = time.monotonic()
+            while time.monotonic() < begun + 12:
+                for one in ones:
+                    one.say(b"\n")
+                    one.listen(lambda: True)
+                time.sleep(0.7)
+            up = run.ask("neighbours")
+            self.judge("all are up", up.count(":") == 249, up[-100:])
+            self.judge("none is closed", "link" not in run.errors.read_text(), run.errors.read_text()[-300:])
+            quiet = time.monotonic()
+            down = awaited(lambda: run.ask("neighbours"), lambda said: ":" not in said, 3 + 10, 0.02)
+            print(f"249 links: all down {time.monotonic() - quiet:.1f} s after the last line", file=sys.stderr)
+            self.judge("all are down", ":" not in down, down[-100:])
+
+    def row_hold(self):
+        """The HOLD that `--hold` says is the one that a neighbour goes by; 0 is for any time."""
+        for hold, closes in ((1, True), (0, False)):
+            with Pair(self.program, ((), ("--hold", str(hold)))) as pair:
+                pair.start()
+                self.comes_up(pair)
+                one, other = pair.ends
+                other.router.process.send_signal(signal.SIGSTOP)
+                took = pair.goes_down(one, hold + LATE if closes else HOLD + LATE)
+                other.router.process.send_signal(signal.SIGCONT)
+                self.judge(f"--hold {hold}", (took is not None) == closes, took)
 
     def row_namespaces(self):
         """Two routers in network namespaces: an interface goes down, and packets are dropped."""
