@@ -8,6 +8,7 @@ use crate::naming::Ticket;
 use crate::room::{Order, Room};
 use crate::settling::settle;
 use crate::shared::Shared;
+use crate::telling::tell_left_out;
 use message_streams::MessageWriter;
 use neighbour_session::{SessionEnd, serve_writer};
 use router_operator::Naming;
@@ -16,10 +17,11 @@ use std::io::Write;
 use std::rt::Clock;
 use std::sync::{Arc, Wait};
 
-/// A session that was written: why it is over, what is left of who wrote it, and the writer's pass.
+/// A session that was written: why it is over, how many messages were left out, what is left of who wrote it, and the writer's pass.
 #[derive(Drop)]
 struct Done<'a, J: Naming> {
     why: SessionEnd,
+    left_out: u64,
     leaver: LinkLeaver<'a>,
     ticket: Ticket<J>,
 }
@@ -32,7 +34,8 @@ fn write_session<'a, R: Wait + Clock, O: Write + Drop, J: Naming, E: Write>(
     crew: LinkCrew<'a>,
     order: Order<O, J>,
 ) -> (Done<'a, J>, MessageWriter<O>)
-    ensures { Serves J.router.endless (λ _. ⊤) (λ _. ⊤) J.router order.session order.ticket order.output result.0.why result.0.ticket.pass result.1 }
+    ensures { Serves J.router.endless (λ _. ⊤) (λ _. ⊤) J.router order.session order.ticket order.output result.0.why result.0.ticket.pass result.1
+        result.0.left_out }
 {
     let Order {
         session,
@@ -40,7 +43,7 @@ fn write_session<'a, R: Wait + Clock, O: Write + Drop, J: Naming, E: Write>(
         ticket,
     } = order;
     let mut pass = ticket.pass();
-    let (why, written, leaver) = serve_writer(
+    let (why, written, leaver, left_out) = serve_writer(
         rt,
         alloc,
         &shared.router,
@@ -53,10 +56,25 @@ fn write_session<'a, R: Wait + Clock, O: Write + Drop, J: Naming, E: Write>(
     let ticket = Ticket::new(pass);
     let done = Done {
         why,
+        left_out,
         leaver,
         ticket,
     };
     (done, written)
+}
+
+/// Tells people how many messages of a session were left out, if there were any.
+fn tell_if_left_out<R: Wait, J: Naming, E: Write>(
+    rt: &R,
+    alloc: Global,
+    shared: &Shared<J, E>,
+    node: u16,
+    count: u64,
+) {
+    if count > 0 {
+        let mut errors = shared.errors.lock(rt);
+        tell_left_out(alloc, &mut *errors, node, count);
+    }
 }
 
 /// Writes the sessions of a link to a node, one after another, as they are ordered. The stream of each is closed before people are told why
@@ -75,6 +93,7 @@ pub(crate) fn write_link<R: Wait + Clock + Drop, O: Write + Drop, J: Naming, E: 
         let (done, written) = write_session(&rt, alloc, &shared, crew, order);
         let Done {
             why,
+            left_out,
             leaver,
             ticket,
         } = done;
@@ -83,6 +102,7 @@ pub(crate) fn write_link<R: Wait + Clock + Drop, O: Write + Drop, J: Naming, E: 
         if leaver.ended_it() {
             tell_unless_closed(&rt, alloc, &shared, node, why);
         }
+        tell_if_left_out(&rt, alloc, &shared, node, left_out);
         let mut pass = ticket.pass();
         settle(&rt, &shared, &mut pass, link);
         room.put_done(&rt, Ticket::new(pass));
