@@ -50,8 +50,9 @@ pub fn write_session<R: Wait + Clock, L: Link, G: Gate>(
     end
 }
 
-/// The same, but of the messages that a turn takes it sends the newest alone: each is left out that a later one of them about the same
-/// node follows. So whoever reads slowly is told the newest, and not every step. Says how many were left out, too.
+/// Gives a link the newest of what the router queued for a session. It does so as `write_session` does, but of the messages that a turn
+/// takes it leaves out each that a later one of them about the same node follows. So whoever reads slowly is told the newest, and not every
+/// step. Says how many were left out, too.
 pub fn write_newest<R: Wait + Clock, L: Link, G: Gate>(
     rt: &R,
     alloc: Global,
