@@ -164,19 +164,26 @@ class SizeRows(RunRows):
         self.judge("sessions", sessions == wanted, sessions)
 
     def row_long_links(self):
-        """Node 1 changes its mind 70,000 times: each line is entered, and node 2 is told of each change."""
+        """Node 1 changes its mind 70,000 times: each line is entered. Node 2 is told the newest of each Take, and the others are counted."""
         with Run(self.program) as run:
             self.bring_up(run)
             one, two = run.neighbours.values()
             one.say(b"3 0\n3 1\n" * (LINES // 2) + b"4 0\n")
             self.judge("the last line is entered", run.routes_until(4, "1:1"))
-            # Each node is told of once in the beginning.
-            is_told = two.listen(lambda: two.told.count(b"\n3 ") == 1 + LINES and two.told.endswith(b"\n4 1\n"))
-            self.judge("2 hears each time", is_told, two.told[-100:])
+            # What is told last stands for what was left out before it.
+            self.judge("2 hears the last", two.listen(lambda: two.told.endswith(b"\n4 1\n")), two.told[-100:])
             self.judge("both are up", run.ask("neighbours") == "neighbours 1:1 2:2")
             self.end(run)
-            received = sum(" recv 1 3 " in entry for entry in run.saved())
+            entries = run.saved()
+            received = sum(" recv 1 3 " in entry for entry in entries)
             self.judge("each is saved", received == LINES, received)
+            takes = [re.findall(r"(\d+):(\d+)", entry.split(" messages", 1)[1]) for entry in entries if " take 2 " in entry and " messages" in entry]
+            newest = [pair for take in takes for at, pair in enumerate(take) if pair[0] not in {later for later, _ in take[at + 1:]}]
+            lines = [tuple(line.split()) for line in two.told.decode().splitlines()[1:]]
+            self.judge("2 hears the newest of each Take", lines == newest, (len(lines), len(newest)))
+            left_out = sum(map(len, takes)) - len(newest)
+            found = re.search(r"link 2: messages left out, since later ones replaced them: (\d+)\n", run.said("left out"))
+            self.judge("the others are counted", found and int(found[1]) == left_out > 0, (found and found[0], left_out))
 
     def row_retries(self):
         """A link that was closed is opened again after as many seconds as `--retry` says: not before, and not much later. Without it, it is not."""

@@ -106,4 +106,4 @@ batch_runs d u w max from to some =
       some = some;
       after = refl;
     } in
-    (left.steps, sends d u w max, inr (inl sent), left.run)
+    (left.steps, (sends d u w max, inr (inl sent), left.run))
