@@ -166,7 +166,7 @@ class Run(Router):
 
     def told_closed(self, node, times):
         """Waits until standard error has said so many times that the link to a node was closed: then its IN is read no more."""
-        awaited(self.errors.read_text, lambda text: text.count(f"link {node}: ") >= times, PATIENCE)
+        awaited(self.errors.read_text, lambda text: len(re.findall(rf"(?m)^link {node}: .*: closed$", text)) >= times, PATIENCE)
 
     def routes_until(self, node, wanted):
         """Asks for the routes, which makes no entry, until that of a node is the wanted one: whether it is."""

@@ -11,6 +11,7 @@ use crate::naming::Ticket;
 use crate::room::{Order, Room};
 use crate::settling::settle;
 use crate::shared::Shared;
+use crate::telling::tell_left_out;
 use link_handshake::{Greeting, push_greeting};
 use message_streams::MessageWriter;
 use neighbour_session::{SessionEnd, end_session, serve_writer};
@@ -20,10 +21,11 @@ use std::io::Write;
 use std::rt::Clock;
 use std::sync::{Arc, Wait};
 
-/// A session that was written: why it is over, what is left of who wrote it, and the writer's pass.
+/// A session that was written: why it is over, how many messages were left out, what is left of who wrote it, and the writer's pass.
 #[derive(Drop)]
 struct Done<'a, J: Naming> {
     why: SessionEnd,
+    left_out: u64,
     leaver: LinkLeaver<'a>,
     ticket: Ticket<J>,
 }
@@ -37,11 +39,12 @@ fn write_session<'a, R: Wait + Clock, O: Write + Drop, J: Naming, E: Write>(
     order: Order<J>,
     output: MessageWriter<O>,
 ) -> (Done<'a, J>, MessageWriter<O>)
-    ensures { Serves true (λ _. ⊤) (λ _. ⊤) J.router order.session order.ticket output result.0.why result.0.ticket.pass result.1 }
+    ensures { Serves true (λ _. ⊤) (λ _. ⊤) J.router order.session order.ticket output result.0.why result.0.ticket.pass result.1
+        result.0.left_out }
 {
     let Order { session, ticket } = order;
     let mut pass = ticket.pass();
-    let (why, written, leaver) = serve_writer(
+    let (why, written, leaver, left_out) = serve_writer(
         rt,
         alloc,
         &shared.router,
@@ -54,6 +57,7 @@ fn write_session<'a, R: Wait + Clock, O: Write + Drop, J: Naming, E: Write>(
     let ticket = Ticket::new(pass);
     let done = Done {
         why,
+        left_out,
         leaver,
         ticket,
     };
@@ -76,6 +80,7 @@ fn end_unwritten<'a, R: Wait + Clock, J: Naming, E: Write>(
     let ticket = Ticket::new(pass);
     Done {
         why,
+        left_out: 0,
         leaver,
         ticket,
     }
@@ -134,6 +139,20 @@ fn await_work<R: Wait, O: Write + Drop, J: Naming, E: Write>(
     unreachable!()
 }
 
+/// Tells people how many messages of a session were left out, if there were any.
+fn tell_if_left_out<R: Wait, J: Naming, E: Write>(
+    rt: &R,
+    alloc: Global,
+    shared: &Shared<J, E>,
+    node: u16,
+    count: u64,
+) {
+    if count > 0 {
+        let mut errors = shared.errors.lock(rt);
+        tell_left_out(alloc, &mut *errors, node, count);
+    }
+}
+
 /// Writes a session, if its stream is there. The stream, if it can be written to still; it is closed at once where it cannot.
 fn serve_order<R: Wait + Clock, O: Write + Drop, J: Naming, E: Write>(
     rt: &R,
@@ -155,6 +174,7 @@ fn serve_order<R: Wait + Clock, O: Write + Drop, J: Naming, E: Write>(
     };
     let Done {
         why,
+        left_out,
         leaver,
         ticket,
     } = done;
@@ -166,6 +186,7 @@ fn serve_order<R: Wait + Clock, O: Write + Drop, J: Naming, E: Write>(
     if leaver.ended_it() {
         tell_unless_closed(rt, alloc, shared, node, why);
     }
+    tell_if_left_out(rt, alloc, shared, node, left_out);
     let mut pass = ticket.pass();
     settle(rt, shared, &mut pass, link);
     room.put_done(rt, Ticket::new(pass));
