@@ -11,7 +11,7 @@ use crate::naming::Ticket;
 use crate::shared::Shared;
 use history_saver::{Rotation, SaveFault, SegmentFolder, SegmentSaver};
 use netchange_core::Opening;
-use route_history::{CHUNK, LongJournal};
+use route_history::{CHUNK, LongJournal, beginnings_are_legal};
 use router_operator::Naming;
 use slot_lock::{Observer, Right};
 use std::alloc::Global;
@@ -195,6 +195,12 @@ impl<F: SegmentFolder + Drop, J: Naming> Forgetter<F, J> {
             return Ok(None);
         };
         shared.router.meet_with_right(&mut right, other.pass());
+        // What the other has seen is legal, and no clause of its pass says so: a look does.
+        let mut counting = Counting { end: 0 };
+        shared
+            .router
+            .observe_with_right(rt, &mut right, &mut counting);
+        beginnings_are_legal();
         match saver.save(rt, alloc, &shared.router, &mut right) {
             Ok(_) => Ok(Some(saver)),
             Err(fault) => Err(fault),
