@@ -1,5 +1,5 @@
 -- A history is saved whole, at least as far as another pass has seen it.
-use Rattle.std.proofs.Common.{◌≡◌, ◌∙◌, sym, ap, subst, ℕ, zero, suc, ◌+◌, ◌-◌, ◌<◌, ◌≤◌, max, true, List, [], ◌∷◌, ◌++◌, append_assoc, length, take, drop, arith}
+use Rattle.std.proofs.Common.{◌≡◌, ◌∙◌, sym, ap, subst, Option, ℕ, zero, suc, ◌+◌, ◌-◌, ◌<◌, ◌≤◌, max, true, List, [], ◌∷◌, ◌++◌, append_assoc, length, take, drop, arith}
 use Rattle.std.proofs.lemmas.List.{length-take-le, take-append-drop}
 use Rattle.history_saver.proofs.Fronts.{has_front, has_still}
 use Rattle.history_saver.specs.Looking.{Looks, seen_by}
@@ -13,7 +13,7 @@ use Rattle.slot_lock.specs.Calls.{Met}
 use Rattle.slot_lock.specs.Passes.{IsPassOf, PassView, RouterView}
 use Rattle.router_daemon.specs.Forgetting.{Forgets}
 use Rattle.router_daemon.specs.Passes.{IsLegalPass}
-use Rattle.router_daemon.specs.Running.{HasWhole, Saving, saving_of}
+use Rattle.router_daemon.specs.Running.{HasWhole}
 
 begins_both : (xs ys zs : List Entry) → Begins xs ys → Begins ys zs → Begins xs zs
 begins_both xs ys zs b c = record {
@@ -61,7 +61,7 @@ module _ (at r : RouterView) (named : at ≡ r) (right other learned left mid : 
 
   -- what is saved then is the whole of what the other had seen, and maybe more
   module _ (begun_legal : (opening : OpeningView) (es fs : List Entry) → Begins es fs → IsLegal opening fs → IsLegal opening es)
-      (new : PassView) (s : SegmentsView) (how : Saving) (is_saved : saving_of s ≡ how) (legal : IsLegal at.opening mid.fragment.seen)
+      (new : PassView) (s : SegmentsView) (most : Option ℕ) (keeps : s.keep ≡ most) (legal : IsLegal at.opening mid.fragment.seen)
       (looks : Looks at mid new) (all : IsAllSaved s) (seen : length mid.fragment.seen ≤ s.saved) (has : HasSegments s (seen_by at new)) where
     short : s.saved ≤ length new.fragment.seen
     short = let rising = has.rising in let within = has.within in omega (arith, rising, within)
@@ -83,7 +83,7 @@ module _ (at r : RouterView) (named : at ≡ r) (right other learned left mid : 
           is = ap (take s.saved) looks.begins.is ∙ take_beyond es more s.saved seen;
         }
 
-    pub whole : (p : PassView) × HasWhole r other.fragment.seen how p s
+    pub whole : (p : PassView) × HasWhole r other.fragment.seen most p s
     whole = (
       saved_pass,
       record {
@@ -93,7 +93,7 @@ module _ (at r : RouterView) (named : at ≡ r) (right other learned left mid : 
               (begun_legal at.opening saved_entries new.fragment.seen saved_first (looks.legal legal));
         };
         begins = begins_both other.fragment.seen mid.fragment.seen saved_entries other_first mid_first;
-        is_saved = is_saved;
+        keeps = keeps;
         whole = sym (length-take-le s.saved new.fragment.seen short);
         none_left = all.none_left;
         has = subst (λ (x : RouterView). HasSegments s (seen_by x saved_pass)) named

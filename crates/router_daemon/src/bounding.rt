@@ -2,7 +2,7 @@
 ghost use Rattle.std.specs.Prelude.{◌≡◌, ◌≤◌};
 ghost use Rattle.std.specs.Option.{option_map};
 ghost use Rattle.slot_lock.specs.Passes.{IsPassOf};
-ghost use Rattle.router_daemon.specs.Running.{saving_of};
+ghost use Rattle.router_daemon.specs.Running.{keep_of};
 
 use crate::forgetting::{Forgetter, slack_of};
 use crate::naming::Ticket;
@@ -134,7 +134,7 @@ fn turn<R: Wait, F: SegmentFolder + Drop, J: Naming, E: Write>(
     state: State,
     is_closing: bool,
 ) -> State
-    ensures { option_map saving_of forgetter.new.saver ≡ option_map saving_of forgetter.old.saver }
+    ensures { option_map keep_of forgetter.new.saver ≡ option_map keep_of forgetter.old.saver }
 {
     match state {
         State::Failing { wait, left } if left > SECOND && !is_closing => State::Failing {
@@ -158,7 +158,7 @@ fn bound<R: Wait + Clock, F: SegmentFolder + Drop, J: Naming, E: Write>(
     most: MostInMemory,
 ) -> Closing
     requires { IsPassOf J.router pass.old }
-    ensures { option_map saving_of forgetter.new.saver ≡ option_map saving_of forgetter.old.saver }
+    ensures { option_map keep_of forgetter.new.saver ≡ option_map keep_of forgetter.old.saver }
 {
     let saves = forgetter.saves();
     let mut state = State::Bounded(0);
@@ -188,7 +188,7 @@ pub(crate) fn bound_memory<
     ticket: Ticket<J>,
     most: MostInMemory,
 ) -> Forgetter<F, J>
-    ensures { option_map saving_of result.saver ≡ option_map saving_of forgetter.saver }
+    ensures { option_map keep_of result.saver ≡ option_map keep_of forgetter.saver }
 {
     let mut pass = ticket.pass();
     bound(&rt, alloc, &shared, &mut forgetter, &mut pass, most);
