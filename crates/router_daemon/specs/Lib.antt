@@ -7,7 +7,6 @@ pub mod Links
 pub mod Passes
 pub mod Queues
 pub mod Retries
-pub mod Saves
 pub mod Sessions
 pub mod Sets
 pub mod Told

@@ -53,4 +53,4 @@ abbrev pub EndsFirst : RouterView → ℕ → List ℕ → ℕ → Option (LongQ
 EndsFirst r most nodes from ended new =
     let w = world_of r.opening new.fragment.seen in
     MatchOption ended (NoneLong most w nodes from (length nodes)) (λ e. IsFirstLong most w nodes from e.0 × (e.1.link ≡ e.0.link)
-        × (e.1.session ≡ e.0.session))
+    × (e.1.session ≡ e.0.session))

@@ -4,6 +4,7 @@
 //! links are not joined, and end with the process.
 #![tactic(auto)]
 
+mod bounding;
 mod closing;
 mod crew;
 mod fault;
@@ -18,7 +19,6 @@ mod queues;
 mod retrying;
 mod room;
 mod run;
-mod saving;
 mod setting;
 mod settling;
 mod shared;

@@ -1,12 +1,11 @@
 //! What a full history had no room for, and a Down that was refused, are entered later.
-ghost use Rattle.std.specs.Prelude.{◌≡◌, MatchBool, true};
+ghost use Rattle.std.specs.Prelude.{◌≡◌, MatchBool};
 ghost use Rattle.slot_lock.specs.Passes.{IsPassOf};
 ghost use Rattle.router_daemon.specs.Links.{IsOwed, IsSettled};
 
 use crate::shared::Shared;
 use neighbour_session::SessionEnd;
 use netchange_core::Event;
-use route_history::CallFault;
 use router_operator::Naming;
 use slot_lock::Pass;
 use std::io::Write;
@@ -15,13 +14,10 @@ use std::sync::Wait;
 use std::thread;
 use std::time::Duration;
 
-/// Whether a call that was not entered for this reason may be a little later: the history is full, and the router is endless.
-pub(crate) fn passes(endless: bool, why: SessionEnd) -> bool
-    ensures { MatchBool result ((endless ≡ true) × (why ≡ SessionEnd.Full)) (endless ≡ true → why ≡ SessionEnd.Full → ⊥) }
+/// Whether a call that was not entered for this reason may be a little later: the history is full, and it is not so for ever.
+pub(crate) fn passes(why: SessionEnd) -> bool
+    ensures { MatchBool result (why ≡ SessionEnd.Full) (why ≡ SessionEnd.Full → ⊥) }
 {
-    if !endless {
-        return false;
-    }
     match why {
         SessionEnd::Full => true,
         _ => false,
@@ -33,8 +29,7 @@ pub(crate) fn pause<R: Clock>(rt: &R) {
     thread::sleep(rt, Duration::from_millis(5));
 }
 
-/// Enters the Down of a session that is over. False exactly where it is owed still: it is refused memory, or the history is full, if that
-/// passes. A history that is full for good takes no Down any more.
+/// Enters the Down of a session that is over. False exactly where it is owed still: it is refused memory, or the history is full.
 fn enter_again<R: Wait, J: Naming, E: Write>(
     rt: &R,
     shared: &Shared<J, E>,
@@ -50,8 +45,7 @@ fn enter_again<R: Wait, J: Naming, E: Write>(
             shared.signals.note(rt, &answer);
             true
         }
-        Err(CallFault::Full) => !shared.endless,
-        Err(CallFault::Memory) => false,
+        Err(_) => false,
     }
 }
 

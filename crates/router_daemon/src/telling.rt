@@ -72,7 +72,7 @@ fn unopened_line(alloc: Global, node: u16, name: &str, why: &str) -> Result<Stri
     closed_line(alloc, node, words.as_str())
 }
 
-/// Why a history is not saved any more.
+/// Why a history is not saved.
 fn save_words(why: SaveFault) -> &'static str
     ensures { result.now ≡ spec.save_words why }
 {
@@ -82,15 +82,17 @@ fn save_words(why: SaveFault) -> &'static str
     }
 }
 
-/// The line that tells that a history is not saved any more.
-fn unsaved_line(alloc: Global, why: SaveFault) -> Result<String, AllocError>
-    ensures { IfOk result (λ line. string_bytes line ≡ spec.unsaved_line why) }
+/// The line that tells what a fault of saving comes to.
+fn save_line(alloc: Global, why: SaveFault, what: &str) -> Result<String, AllocError>
+    ensures { IfOk result (λ line. string_bytes line ≡ spec.save_line why what.now) }
 {
     let mut line = String::from_str(alloc, "history: ")?;
     line.push_str(save_words(why))?;
     line.push_str(" (")?;
     line.push_str(why.code())?;
-    line.push_str("): not saved from here on\n")?;
+    line.push_str("): ")?;
+    line.push_str(what)?;
+    line.push_str("\n")?;
     Ok(line)
 }
 
@@ -149,11 +151,28 @@ pub(crate) fn tell_unopened<E: Write>(
     tell(errors, unopened_line_of(alloc, node, name, why));
 }
 
-/// Tells that the history is not saved any more.
+/// Tells that the history is not saved for now.
 pub(crate) fn tell_unsaved<E: Write>(alloc: Global, errors: &mut E, why: SaveFault)
     ensures { AppendsFront (E.contents errors.old) (E.contents errors.new) (spec.unsaved_line why) }
 {
-    tell(errors, unsaved_line(alloc, why));
+    tell(
+        errors,
+        save_line(alloc, why, "not saved until that works again"),
+    );
+}
+
+/// Tells that the end of the history is not saved.
+pub(crate) fn tell_lost<E: Write>(alloc: Global, errors: &mut E, why: SaveFault)
+    ensures { AppendsFront (E.contents errors.old) (E.contents errors.new) (spec.lost_line why) }
+{
+    tell(errors, save_line(alloc, why, "its end is not saved"));
+}
+
+/// Tells that the history is saved again.
+pub(crate) fn tell_saved<E: Write>(alloc: Global, errors: &mut E)
+    ensures { AppendsFront (E.contents errors.old) (E.contents errors.new) spec.saved_line }
+{
+    tell(errors, String::from_str(alloc, "history: saved again\n"));
 }
 
 /// Tells that no more of a history is kept than its last entries.
