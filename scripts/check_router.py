@@ -12,12 +12,14 @@ import os
 import re
 import resource
 import signal
+import subprocess
 import sys
 import time
 
 from lib.processes import open_files
 from lib.program import built
-from lib.routers import Run
+from lib.routers import SIZE, Run
+from lib.traffic import Drain
 from router_sizes import SizeRows
 
 GIGABYTE = 1 << 30
@@ -25,17 +27,21 @@ GIGABYTE = 1 << 30
 # What a line without an end may cost: the bytes that are taken of it beyond those that a FIFO holds, and kilobytes of memory.
 MOST_TAKEN, MOST_MEMORY = 1 << 16, 4096
 
-# How many messages may wait for a neighbour that never reads, and how many changes there are at most between two looks at what waits. How often it
-# is told how many changes, by a router with the least room for entries.
-MOST_WAITING, MOST_BETWEEN, FLOODS, FLOOD, LEAST_ROOM = 1_000, 2_048, 10, 100_000, 2_048
+# The least room for entries, and how many messages may wait for a neighbour that never reads. In how many parts how many blocks of how many changes
+# are told meanwhile, each in so many seconds at least, so that a neighbour that reads keeps up with them.
+LEAST_ROOM, MOST_WAITING, PARTS, BLOCKS, BLOCK, PAUSE = 2_048, 20_000, 10, 200, 500, 0.001
+
+# How many changes there are at most between two looks at what waits, and how many kilobytes of memory more than those of queues and entries are no
+# matter.
+MOST_BETWEEN, SLACK = 2_048, 1_024
 
 # The bytes of a thread's stack where nothing else is said, and what a router has beside its threads, for the row in which these find no room.
 STACK, BESIDE = 8 << 20, 4 << 20
 
 
-def memory_of(links, queue, at_once, entries):
-    """How many kilobytes the queues and the entries of a router have at most, by the formula of RUNNING.md."""
-    return (links * 8 * (queue + at_once) + 28 * entries) // 1024 + SLACK
+def memory_of(links, messages, entries):
+    """How many kilobytes the entries and the queues of a router have at most, by the formula of RUNNING.md."""
+    return (24 * entries + 4 * 16 * entries + 8 * links * (messages + MOST_BETWEEN)) // 1024
 
 
 def saying(text):
@@ -192,11 +198,14 @@ class Rows(SizeRows):
             drain = Drain(two)
             drain.start()
             before = run.kilobytes("VmHWM")
-            for part in range(FLOODS):
-                two.say(b"3 0\n3 1\n" * (FLOOD // 2) + b"4 %d\n" % part)
-                self.judge("2 is served", run.routes_until(4, f"{part + 1}:2"), part)
+            for part in range(PARTS):
+                for _ in range(BLOCKS):
+                    two.say(b"3 0\n3 1\n" * (BLOCK // 2))
+                    time.sleep(PAUSE)
+                two.say(b"4 %d\n" % (part % SIZE))
+                self.judge("2 is served", run.routes_until(4, f"{part % SIZE + 1}:2"), part)
             more = run.kilobytes("VmHWM") - before
-            most = memory_of(links=2, queue=MOST_WAITING, room=LEAST_ROOM, entries=LEAST_ROOM, at_once=MOST_BETWEEN)
+            most = memory_of(2, MOST_WAITING, LEAST_ROOM) + SLACK
             print(f"reads too slowly: {more} kB more memory, of {most} kB", file=sys.stderr)
             self.judge("memory", more <= most, more)
             told = re.findall(r"link 1: (\d+) messages wait: closed\n", run.said("messages wait"))
