@@ -18,7 +18,7 @@ import time
 
 from lib.processes import open_files
 from lib.program import built
-from lib.routers import SIZE, Run
+from lib.routers import Run
 from lib.traffic import Drain
 from router_sizes import SizeRows
 
@@ -202,8 +202,8 @@ class Rows(SizeRows):
                 for _ in range(BLOCKS):
                     two.say(b"3 0\n3 1\n" * (BLOCK // 2))
                     time.sleep(PAUSE)
-                two.say(b"4 %d\n" % (part % SIZE))
-                self.judge("2 is served", run.routes_until(4, f"{part % SIZE + 1}:2"), part)
+                two.say(b"4 %d\n" % (part % 2))
+                self.judge("2 is served", run.routes_until(4, f"{part % 2 + 1}:2"), part)
             more = run.kilobytes("VmHWM") - before
             most = memory_of(2, MOST_WAITING, LEAST_ROOM) + SLACK
             print(f"reads too slowly: {more} kB more memory, of {most} kB", file=sys.stderr)
