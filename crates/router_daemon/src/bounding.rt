@@ -6,13 +6,12 @@ ghost use Rattle.router_daemon.specs.Running.{keep_of};
 
 use crate::forgetting::{Forgetter, slack_of};
 use crate::naming::Ticket;
-use crate::queues::close_long_queues;
+use crate::queues::{LOOK, close_long_queues};
 use crate::retrying::next_wait;
 use crate::shared::Shared;
 use crate::signals::Closing;
 use crate::telling::{tell_saved, tell_unsaved};
 use history_saver::{SaveFault, SegmentFolder};
-use route_history::CHUNK;
 use router_operator::Naming;
 use slot_lock::Pass;
 use std::alloc::Global;
@@ -63,7 +62,7 @@ fn await_entries<R: Wait + Clock, J: Naming, E: Write>(
     saves: bool,
 ) -> Option<Closing> {
     let slack = slack_of(limit);
-    let due = looked.saturating_add(u64::from((slack / 2).min(CHUNK as u32)));
+    let due = looked.saturating_add(u64::from(slack / 2).min(LOOK));
     let end = looked.saturating_add(u64::from(slack));
     shared.signals.make_room(rt, Some(end));
     if !saves {
@@ -104,21 +103,22 @@ fn state_after<R: Wait, J: Naming, E: Write>(
     before: State,
     turned: Result<u64, SaveFault>,
 ) -> State {
-    let mut errors = shared.errors.lock(rt);
-    match (turned, before) {
-        (Ok(looked), State::Bounded(_)) => State::Bounded(looked),
-        (Ok(looked), State::Failing { .. }) => {
+    match (before, turned) {
+        (State::Bounded(_), Ok(looked)) => State::Bounded(looked),
+        (State::Failing { .. }, Ok(looked)) => {
+            let mut errors = shared.errors.lock(rt);
             tell_saved(alloc, &mut *errors);
             State::Bounded(looked)
         }
-        (Err(fault), State::Bounded(_)) => {
+        (State::Bounded(_), Err(fault)) => {
+            let mut errors = shared.errors.lock(rt);
             tell_unsaved(alloc, &mut *errors, fault);
             State::Failing {
                 wait: REST,
                 left: REST,
             }
         }
-        (Err(_), State::Failing { wait, .. }) => {
+        (State::Failing { wait, .. }, Err(_)) => {
             let wait = next_wait(REST, Some(wait), MINUTE);
             State::Failing { wait, left: wait }
         }
