@@ -6,7 +6,7 @@ use Rattle.std.specs.declared.vec.Vec.{Vec}
 use Rattle.history_saver.specs.declared.portion.Portion.{Portion}
 use Rattle.history_saver.specs.Adding.{next_count}
 use Rattle.history_saver.specs.Portions.{IsEndState, IsPortion}
-use Rattle.history_saver.specs.Saved.{seen_by}
+use Rattle.history_saver.specs.Looking.{seen_by}
 use Rattle.history_saver.specs.Segments.{HasSegments, SegmentsView}
 use Rattle.history_saver.specs.Steps.{IsStateAt, SavesNext}
 use Rattle.history_saver.proofs.Chains.{end_state, has_read, has_still}

@@ -2,7 +2,6 @@
 pub mod Codes
 pub mod Folders
 pub mod Looking
-pub mod Saved
 pub mod Segments
 pub mod Steps
 pub mod Told

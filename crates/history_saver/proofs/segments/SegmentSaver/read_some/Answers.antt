@@ -1,5 +1,5 @@
 use Rattle.std.proofs.Common.{◌≡◌, ◌∙◌, ap, arith, subst, sym}
-use Rattle.history_saver.specs.Saved.{seen_by}
+use Rattle.history_saver.specs.Looking.{seen_by}
 use Rattle.history_saver.specs.Segments.{HasSegments, SegmentsView}
 use Rattle.history_saver.proofs.Turns.{reads_on, shown, state_of, still_has}
 use Rattle.history_saver.proofs.segments.SegmentSaver.read_some.Goals as goal

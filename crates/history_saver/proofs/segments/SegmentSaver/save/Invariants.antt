@@ -1,6 +1,5 @@
 use Rattle.std.proofs.Common.{◌-◌, ◌≤◌, max}
-use Rattle.history_saver.specs.Looking.{Looks}
-use Rattle.history_saver.specs.Saved.{seen_by}
+use Rattle.history_saver.specs.Looking.{Looks, seen_by}
 use Rattle.history_saver.specs.Segments.{HasSegments}
 use Rattle.history_saver.specs.Steps.{BeginsDue, IsAllSaved, IsAsPlanned}
 use Rattle.history_saver.proofs.segments.SegmentSaver.save.Given as goal
