@@ -126,6 +126,8 @@ written_on waits r n session old t last new u on k =
     let w = k.written in
     let none : last.unsent ≡ [] = leaves_none waits last.cause last.unsent on w.leaves in
     let nothing : length last.unsent ≡ 0 = ap length none in
+    let count : n + (last.sent + length last.unsent) ≡ length (flat_map carried_by w.calls) = k.counted in
+    let sent : length w.accepted ≡ last.sent = w.sent in
     let same : IsCauseAt cause.Turns t u = same_link waits last.cause t u on w.at_link in
     record {
       calls = w.calls;
@@ -133,7 +135,7 @@ written_on waits r n session old t last new u on k =
       gained = w.writes.gained;
       takes = w.writes.takes;
       taken = w.writes.taken ∙ ap (λ (l : List Message). w.accepted ++ l) none ∙ append-nil w.accepted;
-      counted = omega (arith, k.counted, w.sent, nothing);
+      counted = omega (arith, count, sent, nothing);
       given = w.writes.given;
       refused = w.writes.refused ∙ ap (λ (l : List Message). refuse_first t.first_refused l) none;
       handed = w.writes.handed;

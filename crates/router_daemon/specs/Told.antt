@@ -43,4 +43,4 @@ deaf_line why = codes "operator: " ++ fault_code why ++ codes ": no more lines a
 -- so many messages of a session were not sent to a node, since later ones replaced them
 abbrev pub left_out_line : ℕ → ℕ → List ℕ
 left_out_line node count =
-    codes "link " ++ decimal node ++ codes ": messages left out, since later ones replaced them: " ++ decimal count ++ codes "\n"
+    codes "link " ++ decimal node ++ codes ": " ++ codes "messages left out, since later ones replaced them: " ++ decimal count ++ codes "\n"
