@@ -1,91 +1,97 @@
 #!/usr/bin/env python3
 """Runs a router for as long as it takes to enter many events, and prints what memory it has meanwhile. At last 'N passed, M failed'.
 
-usage: NCROUTE=PATH scripts/soak_router.py [--entries COUNT] [--limit ROOM]
+usage: NCROUTE=PATH scripts/soak_router.py [--entries COUNT] [--limit ROOM] [--save FOLDER]
 
 The router has three neighbours. One floods it with messages, some of which change distances, one comes and goes, and one reads what it is told; the
-operator replaces the flooding neighbour's filter, and asks for routes. COUNT is 100,000,000 if it is left out, and ROOM 10,000.
+operator replaces the flooding neighbour's filter, and asks for routes. COUNT is 100,000,000 if it is left out, and ROOM 10,000. With `--save` the
+router keeps its last two segments in FOLDER, which must not be there yet.
 
 - Once a minute has passed, its resident memory is never more than a tenth above what it was then.
 - The flooding link stays up: no message is taken for the end of a session, and none is lost, as the last distances show.
 - Old entries are forgotten (O10), and the last ones are shown.
+- With `--save` each segment is replayed, alone and behind the one before it, the removed ones too; and the last one has the last entry.
 """
 import argparse
 import os
+import pathlib
+import re
+import subprocess
+import tempfile
 import threading
 import time
 
 from lib.counts import Counts
+from lib.processes import awaited
 from lib.program import named
-from lib.routers import Run
+from lib.routers import PATIENCE, Run
+from lib.traffic import FILTERS, Churn, Drain, Flood, end_of
 
 SIZE = 8
 MINUTE = 60.0
-FILTERS = ("filter far { rip_metric = rip_metric + 1; accept; }", "filter far { accept; }")
-# Distances to five nodes, each of which is told 200 times before it changes. What changes is queued for the neighbours, and one that is told of a
-# million changes a second cannot read them all: its queue would grow, which is another matter.
-BLOCK = "".join(f"{node} {distance}\n" for distance in (2, 3, 4, 5) for _ in range(200) for node in (3, 4, 5, 6, 7)).encode() * 2
 
 
-class Flood(threading.Thread):
-    """A neighbour that says all it can until it is told to stop, and then what its distances are at last."""
+class Replays(threading.Thread):
+    """Replays each segment with the one that follows it, as soon as that is complete. It keeps names of its own for the files, since the router
+    removes them."""
 
-    def __init__(self, neighbour):
+    def __init__(self, program, folder):
         super().__init__(daemon=True)
-        self.neighbour, self.is_over, self.lines = neighbour, False, 0
+        self.program, self.folder = program, pathlib.Path(folder)
+        self.links = pathlib.Path(tempfile.mkdtemp(prefix="segments.", dir=self.folder.parent))
+        self.files, self.last, self.count, self.wrong, self.is_over = [], "", 0, [], False
 
-    def run(self):
-        while not self.is_over:
-            self.neighbour.say(BLOCK)
-            self.lines += BLOCK.count(b"\n")
-        self.neighbour.say(b"7 1\n")
+    def find(self):
+        """Names the files that are new."""
+        for name in sorted(os.listdir(self.folder)):
+            if name > self.last and name.endswith(".history") and name[0] != ".":
+                os.link(self.folder / name, self.links / name)
+                self.files.append(self.links / name)
+                self.last = name
 
+    def replay(self, files):
+        """The verdict on some segments."""
+        return subprocess.run([self.program, "replay", *files], capture_output=True).stdout.decode().strip()
 
-class Drain(threading.Thread):
-    """Reads what a neighbour is told, and drops it."""
-
-    def __init__(self, neighbour):
-        super().__init__(daemon=True)
-        self.reads = neighbour.reads
-        os.set_blocking(self.reads, True)
-
-    def run(self):
-        while os.read(self.reads, 1 << 16):
-            pass
-
-
-class Churn(threading.Thread):
-    """A neighbour that comes and goes."""
-
-    def __init__(self, neighbour):
-        super().__init__(daemon=True)
-        self.neighbour, self.is_over, self.times = neighbour, False, 0
+    def judge(self, files, end):
+        """Replays segments that go up to an end, and forgets the first."""
+        first = begin_of(files[0])
+        wanted = f"replay ok {end - first}" + (f" from {first}" if first else "")
+        if (said := self.replay(files)) != wanted:
+            self.wrong.append(f"{[file.name for file in files]}: {said!r} in place of {wanted!r}")
+        self.files.remove(files[0])
+        files[0].unlink()
+        self.count += 1
 
     def run(self):
         try:
             while not self.is_over:
-                self.neighbour.come(SIZE)
-                self.neighbour.say(b"2 0\n")
-                time.sleep(0.5)
-                self.neighbour.close()
-                self.times += 1
-        except OSError:
-            # The router ended meanwhile: nobody opens the link any more. While it runs, too few times are told.
-            pass
+                self.find()
+                if len(self.files) > 2:
+                    self.judge(self.files[:2], begin_of(self.files[2]))
+                else:
+                    time.sleep(0.1)
+        except OSError as why:
+            self.wrong.append(str(why))
+
+    def finish(self):
+        """Replays what is left once the router has ended: how many entries the history has."""
+        self.is_over = True
+        self.join()
+        self.find()
+        while len(self.files) > 2:
+            self.judge(self.files[:2], begin_of(self.files[2]))
+        text = self.files[-1].read_bytes()
+        end = begin_of(self.files[-1]) + text.count(b"\n", text.index(b"\n.\n") + 3)
+        while self.files:
+            self.judge(self.files[:2], end)
+        self.links.rmdir()
+        return end
 
 
-def end_of(run, known):
-    """How many entries the history has, where it had so many before. To ask makes no entry."""
-    step, low = 1, known
-    while not (answer := run.ask(f"history {low + step}")) == "history":
-        if not answer.startswith(("history ", "refused O10")):
-            raise ValueError(f"`history {low + step}` is answered {answer!r}")
-        low, step = low + step, 2 * step
-    high = low + step
-    while high - low > 1:
-        middle = (low + high) // 2
-        low, high = (low, middle) if run.ask(f"history {middle}") == "history" else (middle, high)
-    return high
+def begin_of(file):
+    """How many entries come before a segment."""
+    return int(re.match(r"\d+", file.name)[0])
 
 
 def soak(run, counts, entries):
@@ -93,7 +99,7 @@ def soak(run, counts, entries):
     one, two, three = (run.neighbours[node] for node in (1, 2, 3))
     one.come(SIZE)
     three.come(SIZE)
-    flood, churn = Flood(one), Churn(two)
+    flood, churn = Flood(one), Churn(two, SIZE)
     threads = [flood, churn, Drain(one), Drain(three)]
     for thread in threads:
         thread.start()
@@ -125,18 +131,30 @@ def soak(run, counts, entries):
     print(f"{known} entries in {taken:.0f} s, {flood.lines} messages of one neighbour, {churn.times} sessions of another; "
           f"resident: {sizes[0][1]} kB at first, {max(size for _, size in sizes)} kB at most, {sizes[-1][1]} kB at last; "
           f"processor time {run.processor_time():.0f} s")
+    return known
 
 
 def main():
     words = argparse.ArgumentParser()
     words.add_argument("--entries", type=int, default=100_000_000)
     words.add_argument("--limit", type=int, default=10_000)
+    words.add_argument("--save")
     chosen, counts = words.parse_args(), Counts()
-    run = Run(named(), nodes=(1, 2, 3), size=SIZE, saves=False, more=["--limit", str(chosen.limit), "--retry", "1"])
+    more = ["--limit", str(chosen.limit), "--retry", "1", *(["--save", chosen.save, "--segments", "2"] if chosen.save else [])]
+    run, replays = Run(named(), nodes=(1, 2, 3), size=SIZE, saves=False, more=more), None
     try:
-        soak(run, counts, chosen.entries)
+        if chosen.save:
+            awaited(lambda: os.path.exists(chosen.save), bool, PATIENCE)
+            replays = Replays(run.program, chosen.save)
+            replays.start()
+        known = soak(run, counts, chosen.entries)
         answer = run.quit()
         counts.expect("quit", answer == ("ok", 0), answer)
+        if replays:
+            end = replays.finish()
+            counts.judge("segments", replays.wrong)
+            counts.expect("the last entry is saved", end >= known, (end, known))
+            print(f"{replays.count} segments were replayed, of {end} entries")
     finally:
         run.close()
     counts.finish()

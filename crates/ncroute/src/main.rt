@@ -7,6 +7,7 @@ mod comparing;
 mod console;
 mod ending;
 mod filters;
+mod folders;
 mod guided;
 mod importing;
 mod including;

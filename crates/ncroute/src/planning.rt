@@ -132,6 +132,8 @@ fn begun_plan(alloc: Global, words: &RouterWords) -> Result<RouterPlan, NumberFa
         size: words.size,
         me: words.node,
         limit: words.limit,
+        queue: words.queue,
+        segments: words.segments,
         retry: words.retry,
     };
     let save = copy(alloc, &words.save)?;

@@ -210,6 +210,18 @@ impl Router {
         Pass { seat, shares }
     }
 
+    /// The same by the holder of the right to forget, who so learns all that another pass has seen.
+    pub fn meet_with_right(&self, right: &mut Right, other: Pass) -> Pass
+        requires { IsPassOf self.now right.old × IsPassOf self.now other }
+        ensures of { IsPassOf self.now right.new × IsPassOf self.now result }
+        ensures own { IsOwn right.new.fragment × IsOwn result.fragment }
+        ensures met { Met right.old other right.new result }
+    {
+        let Pass { seat, shares } = other;
+        let seat = self.lock.meet(&mut right.seat, seat);
+        Pass { seat, shares }
+    }
+
     /// Closes the router, and returns its journal. L2 if the lock is held, to which no call of this crate leads; router, pass
     /// and journal are then dropped.
     pub fn close(self, pass: Pass) -> Result<Journal, LockFault>
