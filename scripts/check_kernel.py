@@ -52,7 +52,7 @@ def why_not():
     made = ran("ip", "netns", "add", name)
     if made.returncode:
         return made.stderr.strip()
-    linked = ran("ip", "-n", name, "link", "add", "a", "type", "veth", "peer", "name", "b")
+    linked = ran("ip", "-n", name, "link", "add", "name", "one", "type", "veth", "peer", "name", "two")
     ran("ip", "netns", "del", name)
     return linked.stderr.strip() if linked.returncode else None
 
@@ -122,7 +122,7 @@ class Link:
         self.devices = [f"to{w}", f"to{u}"]
         self.addresses = [f"172.16.{number}.1", f"172.16.{number}.2"]
         a, b = self.ends
-        a.ip("link", "add", self.devices[0], "type", "veth", "peer", "name", self.devices[1], "netns", b.name)
+        a.ip("link", "add", "name", self.devices[0], "type", "veth", "peer", "name", self.devices[1], "netns", b.name)
         for node, other, mine, theirs, device in ((a, w, 0, 1, self.devices[0]), (b, u, 1, 0, self.devices[1])):
             node.ip("addr", "add", f"{self.addresses[mine]}/30", "dev", device)
             node.ip("link", "set", device, "up")
