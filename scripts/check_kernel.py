@@ -87,7 +87,7 @@ class Node:
     def start_router(self):
         topology = self.net.topology
         words = [self.net.program, "router", "--size", str(topology.size), "--node", str(self.number), "--retry", "1", "--routes", self.feed]
-        words += ["--settle", "5"]
+        words += ["--settle", "10"]
         uses = [(kind, other, name) for kind, node, other, name in topology.uses if node == self.number]
         for name in sorted({name for _, _, name in uses}):
             words += ["--filter", f"{name}={self.net.folder}/{name}.filter"]

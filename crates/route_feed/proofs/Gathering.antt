@@ -48,6 +48,7 @@ had_by prefix p (suc v) h = one (pointwise beq (prefix v) p) refl h (λ g. had_b
   where
     deeper : ((u : ℕ) × (u < v) × (prefix u ≡ p)) → (u : ℕ) × (u < suc v) × (prefix u ≡ p)
     deeper g = (g.0, omega (arith, g.1), g.2)
+
     one : (b : Bool) → pointwise beq (prefix v) p ≡ b → (if b then true else is_had_below prefix p v) ≡ true →
         (is_had_below prefix p v ≡ true → (u : ℕ) × (u < v) × (prefix u ≡ p)) → (u : ℕ) × (u < suc v) × (prefix u ≡ p)
     one true e g ih = (v, omega arith, same_prefix (prefix v) p e)
@@ -61,6 +62,7 @@ same_each old new (suc m) h v le = one (is_same (old m) (new m)) refl h (λ g be
     two : (b : Bool) → (v == m) ≡ b → old m ≡ new m → (v < m → old v ≡ new v) → old v ≡ new v
     two true q here ih = let at : v ≡ m = grind (arith, q) in subst (λ x. old x ≡ new x) (sym at) here
     two false q here ih = ih (grind (arith, q, le))
+
     one : (b : Bool) → is_same (old m) (new m) ≡ b → (if b then are_same_below old new m else false) ≡ true →
         (are_same_below old new m ≡ true → v < m → old v ≡ new v) → old v ≡ new v
     one true e g ih = two (v == m) refl (same_hop (old m) (new m) e) (ih g)
@@ -92,9 +94,9 @@ module _ (prefix : ℕ → List Bool) (old new : ℕ → Option Hop) (told now :
       let T = with_changes told (changes_below prefix old new v) in
       with_both told (changes_below prefix old new v) (change_of prefix v (old v) (new v)) p
       ∙ step T told now (prefix v) p (old v) (new v) (pointwise beq (prefix v) p) (is_same (old v) (new v))
-          (is_had_below prefix (prefix v) v) (is_had_below prefix p v) refl refl (λ e. ap (λ q. is_had_below prefix q v) e)
-          (o v (omega arith)) (n v (omega arith))
-          (below v (λ u le. o u (omega arith)) (λ u le. n u (omega arith)) p)
+      (is_had_below prefix (prefix v) v) (is_had_below prefix p v) refl refl (λ e. ap (λ q. is_had_below prefix q v) e)
+      (o v (omega arith)) (n v (omega arith))
+      (below v (λ u le. o u (omega arith)) (λ u le. n u (omega arith)) p)
 
   -- where a prefix that no node has is told and is now the same, all is gathered
   pub all_gathered : (n : ℕ) → ((v : ℕ) → v < n → old v ≡ told (prefix v)) → ((v : ℕ) → v < n → new v ≡ now (prefix v)) →
@@ -113,6 +115,7 @@ module _ (prefix : ℕ → List Bool) (old new : ℕ → Option Hop) (told now :
     where
       here : ((v : ℕ) × (v < n) × (prefix v ≡ p)) → told p ≡ now p
       here h = ap told (sym h.2) ∙ sym (o h.0 h.1) ∙ same_each old new n still h.0 h.1 ∙ w h.0 h.1 ∙ ap now h.2
+
       one : (b : Bool) → is_had_below prefix p n ≡ b → told p ≡ now p
       one true e = here (had_by prefix p n e)
       one false e = others p e
@@ -127,6 +130,7 @@ module _ (prefix : ℕ → List Bool) (old new : ℕ → Option Hop) (told now :
     where
       P : Change → Type 0
       P c = told c.prefix ≡ c.hop → ⊥
+
       one : (same first : Bool) → is_same (old v) (new v) ≡ same →
           All P (if same then [] else (if first then record { prefix = prefix v; hop = new v } ∷ [] else []))
       one true first e = All-nil P

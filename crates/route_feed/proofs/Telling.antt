@@ -19,14 +19,16 @@ use Rattle.route_feed.specs.declared.look.Look.{Look}
 use Rattle.route_feed.specs.Changes.{are_same_below, changes_below}
 use Rattle.route_feed.specs.Feeding.{AreMoments, FeedView, Got, HasFed, IsCut, IsMoment, IsTold, Tells, is_none_before, table_after}
 use Rattle.route_feed.specs.Lines.{Block, block_text, feed_text, gathered}
-use Rattle.route_feed.specs.Looks.{IsLook}
-use Rattle.route_feed.specs.Steps.{AreNowhere, IsStill}
-use Rattle.route_feed.specs.Table.{AreHops, hop_at, hop_of, is_had_below, nearer, nearest_below, route_at, table, table_by}
+use Rattle.route_feed.specs.Looks.{AreRoutes, IsLook, IsRead}
+use Rattle.route_feed.specs.Steps.{AreNowhere, IsStill, IsUnwritten, IsWritten}
+use Rattle.route_feed.specs.Table.{AreHops, hop_at, hop_of, is_had_below, nearer, nearest_below, prefix_at, route_at, table, table_by}
 use Rattle.route_feed.proofs.Gathering.{all_gathered, all_new, all_still}
 use Rattle.route_history.specs.declared.entry.Entry.{Entry}
 use Rattle.route_history.specs.Beginning.{Begins}
 use Rattle.route_history.specs.History.{world_of}
 use Rattle.route_history.specs.JournalView.{JournalView}
+use Rattle.route_history.specs.Long.{LongView, OfHistory}
+use Rattle.route_history.proofs.Windows.{kept_are, tables_are}
 
 -- the journal, after it went on
 abbrev longer : JournalView → List Entry → JournalView
@@ -88,6 +90,14 @@ module _ (j : JournalView) (es : List Entry) (b : Begins j.entries es) where
     got = got_longer f.is_broken h.blocks f.first f.held h.got;
   }
 
+-- a journal that was read is the end of its whole history
+pub looks_of : (j : LongView) (look : Look) → IsRead j look → OfHistory j (λ h. IsLook h look)
+looks_of j look h = λ o b log w legal. record {
+  end = h.end ∙ kept_are o b log j j w;
+  opening = ap (λ (x : World). x.opening) (sym (tables_are o b log j j w)) ∙ w.opened;
+  routes = subst (λ (x : World). AreRoutes x look.routes.items) (tables_are o b log j j w) h.routes;
+}
+
 -- the nearest node by the same routes
 nearest_same : (size : ℕ) (prefix : ℕ → List Bool) (one two : ℕ → BestRoute) (p : List Bool) (n : ℕ) →
     ((v : ℕ) → v < n → one v ≡ two v) → nearest_below size prefix one p n ≡ nearest_below size prefix two p n
@@ -96,7 +106,7 @@ nearest_same size prefix one two p (suc v) same =
     let before = nearest_same size prefix one two p v (λ u le. same u (omega (arith, le))) in
     ap (λ (r : BestRoute). if pointwise beq (prefix v) p then nearer r (one v) else r) before
     ∙ ap (λ (r : BestRoute). if pointwise beq (prefix v) p then nearer (nearest_below size prefix two p v) r else nearest_below size prefix two p v)
-        (same v (omega arith))
+    (same v (omega arith))
 
 -- no node has the prefix
 nearest_none : (size : ℕ) (prefix : ℕ → List Bool) (route : ℕ → BestRoute) (p : List Bool) (n : ℕ) →
@@ -229,7 +239,7 @@ module _ (f : FeedView) (j : JournalView) (same : j.opening ≡ f.opening) (look
     fed_still s =
         let still = subst (λ n. are_same_below (hop_at f.hops) (hop_at hops) n ≡ true) are.one_a_node s.same in
         let same_all = all_still (prefix_of f.opening) (hop_at f.hops) (hop_at hops) (gathered fed.blocks) (table its_world) f.opening.size
-            fed.hops.each new_hops others_same still in
+        fed.hops.each new_hops others_same still in
         record {
           blocks = fed.blocks;
           tells = record {
@@ -242,3 +252,35 @@ module _ (f : FeedView) (j : JournalView) (same : j.opening ≡ f.opening) (look
           others = fed.others;
           got = fed.got;
         }
+
+-- the same, as the code has it: by the prefixes and the size that it read
+module _ (f g : FeedView) (j : JournalView) (same : j.opening ≡ f.opening) (look : Look) (looks : IsLook j look) (fed : HasFed f j)
+    (prefixes : List (List Bool)) (size count : ℕ) (hops : List (Option Hop))
+    (prefixes_are : prefixes ≡ f.opening.prefixes) (size_is : size ≡ f.opening.size) (count_is : count ≡ f.opening.size)
+    (are : AreHops size (prefix_at prefixes) (table_by size (prefix_at prefixes) (route_at look.routes.items)) hops) where
+  are_here : AreHops f.opening.size (prefix_of f.opening) (table_by f.opening.size (prefix_of f.opening) (route_at look.routes.items)) hops
+  are_here =
+      subst (λ (ps : List (List Bool)). AreHops f.opening.size (prefix_at ps) (table_by f.opening.size (prefix_at ps) (route_at look.routes.items)) hops)
+      prefixes_are
+      (subst (λ n. AreHops n (prefix_at prefixes) (table_by n (prefix_at prefixes) (route_at look.routes.items)) hops) size_is are)
+
+  -- the block by other names
+  abbrev pub block_by : List (List Bool) → ℕ → Block
+  block_by ps n = record { at = look.end; is_whole = is_none f.at; changes = changes_below (prefix_at ps) (hop_at f.hops) (hop_at hops) n }
+
+  text_is : block_text (block_by prefixes count) ≡ block_text (block_by f.opening.prefixes f.opening.size)
+  text_is = ap (λ n. block_text (block_by prefixes n)) count_is ∙ ap (λ (ps : List (List Bool)). block_text (block_by ps f.opening.size)) prefixes_are
+
+  pub told_written : (text : List ℕ) → f.is_broken ≡ false → text ≡ block_text (block_by prefixes count) → IsWritten text hops look.end f g →
+      HasFed g j
+  told_written text sound is w = subst (λ (x : FeedView). HasFed x j) (sym w.new)
+      (fed_written f j same look looks fed hops are_here g.held sound
+      (subst (λ (t : List ℕ). Appends f.held g.held t) (is ∙ text_is) w.appends))
+
+  pub told_unwritten : (text : List ℕ) → f.is_broken ≡ false → text ≡ block_text (block_by prefixes count) → IsUnwritten text f g → HasFed g j
+  told_unwritten text sound is w = subst (λ (x : FeedView). HasFed x j) (sym w.new)
+      (fed_unwritten f j same look looks fed hops are_here g.held sound
+      (subst (λ (t : List ℕ). AppendsFront f.held g.held t) (is ∙ text_is) w.front))
+
+  pub told_still : IsStill f hops → HasFed (record f { at = Some look.end }) j
+  told_still s = fed_still f j same look looks fed hops are_here s

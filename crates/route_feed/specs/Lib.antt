@@ -1,6 +1,7 @@
 -- what callers cite
 pub mod Codes
 pub mod Feeding
+pub mod Laws
 pub mod Lines
 pub mod Table
 -- what only bodies are proved against

@@ -69,8 +69,14 @@ fn nowhere(alloc: Global, size: u16) -> Result<Vec<Option<Hop>>, AllocError>
 impl<V: Write + Drop> Feed<V> {
     /// The feed of a stream that was told nothing yet, for the router of this opening.
     pub fn new(alloc: Global, stream: V, opening: &Opening) -> Result<Feed<V>, AllocError>
-        ensures value { IfOk result (λ f. f ≡ record { opening = opening.now; first = V.contents stream; held = V.contents stream; at = None;
-            hops = f.hops; is_broken = false }) }
+        ensures value { IfOk result (λ f. f ≡ record {
+          opening = opening.now;
+          first = V.contents stream;
+          held = V.contents stream;
+          at = None;
+          hops = f.hops;
+          is_broken = false;
+        }) }
         ensures nothing { IfOk result (λ f. (j : JournalView) → HasFed f j) }
     {
         let hops = nowhere(alloc, opening.size())?;
@@ -100,7 +106,12 @@ impl<V: Write + Drop> Feed<V> {
     }
 
     /// Writes a block: where packets go now, after so many entries.
-    fn write_block(&mut self, text: &[u8], hops: Vec<Option<Hop>>, end: u64) -> Result<u64, FeedFault>
+    fn write_block(
+        &mut self,
+        text: &[u8],
+        hops: Vec<Option<Hop>>,
+        end: u64,
+    ) -> Result<u64, FeedFault>
         requires count { length hops.items ≡ self.old.opening.size }
         ensures ok { IfOk result (λ n. (n ≡ end) × spec.IsWritten text.now hops.items end self.old self.new) }
         ensures err { IfErr result (λ f. (f ≡ fault.Write) × spec.IsUnwritten text.now self.old self.new) }
@@ -140,12 +151,7 @@ impl<V: Write + Drop> Feed<V> {
         ensures err { IfErr result (λ f. spec.Fails f self.old self.new) }
     {
         let size = self.opening.size();
-        let Ok(hops) = hops_of(
-            alloc,
-            size,
-            self.opening.prefixes(),
-            look.routes.as_slice(),
-        ) else {
+        let Ok(hops) = hops_of(alloc, size, self.opening.prefixes(), look.routes.as_slice()) else {
             return Err(FeedFault::Memory);
         };
         if self.is_still(hops.as_slice()) {

@@ -8,6 +8,7 @@
 mod fault;
 mod feed;
 mod hop;
+mod laws;
 mod lines;
 mod look;
 mod table;
@@ -15,3 +16,4 @@ mod table;
 pub use fault::FeedFault;
 pub use feed::Feed;
 pub use hop::Hop;
+pub use laws::packets_go_to_the_nearest;

@@ -46,12 +46,7 @@ fn push_prefix(alloc: Global, out: &mut Vec<u8>, prefix: Prefix) -> Result<(), A
 }
 
 /// Adds the line that packets for a prefix go there.
-fn push_route(
-    alloc: Global,
-    out: &mut Vec<u8>,
-    prefix: Prefix,
-    hop: Hop,
-) -> Result<(), AllocError>
+fn push_route(alloc: Global, out: &mut Vec<u8>, prefix: Prefix, hop: Hop) -> Result<(), AllocError>
     ensures { OnOk result (out.new.items ≡ out.old.items ++ spec.line_text prefix (Some hop)) }
 {
     out.extend_from_slice(b"route ")?;
@@ -148,8 +143,11 @@ pub(crate) fn block_of(
 ) -> Result<Vec<u8>, AllocError>
     requires old { length old.now ≡ length prefixes.now }
     requires new { length new.now ≡ length prefixes.now }
-    ensures { IfOk result (λ text. text.items ≡ spec.block_text (record { at = at; is_whole = is_whole;
-        changes = changes.changes_below (prefix_at prefixes.now) (hop_at old.now) (hop_at new.now) (length prefixes.now) })) }
+    ensures { IfOk result (λ text. text.items ≡ spec.block_text (record {
+      at = at;
+      is_whole = is_whole;
+      changes = changes.changes_below (prefix_at prefixes.now) (hop_at old.now) (hop_at new.now) (length prefixes.now);
+    })) }
 {
     let mut out = Vec::new(alloc);
     push_begin(&mut out, at, is_whole)?;

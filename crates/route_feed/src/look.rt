@@ -1,7 +1,6 @@
 //! What is told of a router is read.
 ghost use Rattle.std.specs.Prelude.{◌≡◌, IfOk};
-ghost use Rattle.route_feed.specs.Looks.{AreRoutes, IsLook};
-ghost use Rattle.route_history.specs.Long.{OfHistory};
+ghost use Rattle.route_feed.specs.Looks.{AreRoutes, IsRead};
 
 use netchange_core::{BestRoute, Tables};
 use route_history::LongJournal;
@@ -31,7 +30,7 @@ fn read_routes(alloc: Global, tables: &Tables) -> Result<Vec<BestRoute>, AllocEr
 
 /// What is told of a router, as its journal stands.
 fn read_look(alloc: Global, journal: &LongJournal) -> Result<Look, AllocError>
-    ensures { IfOk result (λ look. OfHistory journal.now (λ h. IsLook h look)) }
+    ensures { IfOk result (IsRead journal.now) }
 {
     // No history has more entries than a position can tell.
     let Some(end) = journal.first().checked_add(u64::from(journal.kept())) else {

@@ -41,8 +41,9 @@ const QUIET: u32 = 3;
 /// For how many milliseconds a name rests that could not be opened, or whose stream ended.
 const PAUSE: u64 = 200;
 
-/// Waits until the router has come to rest for the first time: each link has come up or failed once, and nothing was entered for a while. It waits
-/// no longer than so many seconds. That the router is being closed, if it is.
+/// Waits until the router has come to rest for the first time: each link has come up, or failed and is not opened again, and nothing was entered for
+/// a while. A link that is opened again often fails at first, where its neighbour has not noticed yet that its old session is over. It waits no longer
+/// than so many seconds. That the router is being closed, if it is.
 fn await_rest<R: Wait + Clock, J: Naming, E: Write>(
     rt: &R,
     shared: &Shared<J, E>,
@@ -54,8 +55,8 @@ fn await_rest<R: Wait + Clock, J: Naming, E: Write>(
         if let Some(closing) = shared.signals.closing(rt) {
             return Some(closing);
         }
-        let (entries, are_tried) = shared.signals.news.look(rt);
-        quiet = if are_tried && entries == before {
+        let (entries, are_there) = shared.signals.news.look(rt);
+        quiet = if are_there && entries == before {
             quiet.saturating_add(1)
         } else {
             0

@@ -9,8 +9,8 @@ use std::sync::{Condvar, Mutex, Wait};
 struct Known {
     /// How many entries the history has at least.
     entries: u64,
-    /// For each link whether its first attempt is under way still: it has not come up, and has not failed.
-    is_untried: Vec<bool>,
+    /// For each link whether it may come up for the first time: it has not come up, and has not failed for good.
+    is_awaited: Vec<bool>,
 }
 
 /// What who tells the routes waits for.
@@ -23,14 +23,14 @@ pub(crate) struct News {
 impl News {
     /// The news of a router with so many links.
     pub(crate) fn new(alloc: Global, links: usize) -> Result<News, AllocError> {
-        let mut is_untried = Vec::with_capacity(alloc, links)?;
+        let mut is_awaited = Vec::with_capacity(alloc, links)?;
         for _ in 0..links {
-            is_untried.push(true)?;
+            is_awaited.push(true)?;
         }
         Ok(News {
             known: Mutex::new(Known {
                 entries: 0,
-                is_untried,
+                is_awaited,
             }),
             bell: Condvar::new(),
         })
@@ -44,11 +44,11 @@ impl News {
         self.bell.notify_one();
     }
 
-    /// Notes that the first attempt of a link is over: it came up or failed.
-    pub(crate) fn note_tried<R: Wait>(&self, rt: &R, link: usize) {
+    /// Notes that a link came up, or failed and is not opened again.
+    pub(crate) fn note_there<R: Wait>(&self, rt: &R, link: usize) {
         let mut known = self.known.lock(rt);
-        if link < known.is_untried.len() {
-            known.is_untried[link] = false;
+        if link < known.is_awaited.len() {
+            known.is_awaited[link] = false;
         }
     }
 
@@ -59,16 +59,16 @@ impl News {
         self.bell.notify_one();
     }
 
-    /// How many entries the history has at least, and whether each link was tried.
+    /// How many entries the history has at least, and whether no link is still to come up for the first time.
     pub(crate) fn look<R: Wait>(&self, rt: &R) -> (u64, bool) {
         let known = self.known.lock(rt);
-        let mut are_tried = true;
-        for is_untried in &known.is_untried {
-            if *is_untried {
-                are_tried = false;
+        let mut are_there = true;
+        for is_awaited in &known.is_awaited {
+            if *is_awaited {
+                are_there = false;
             }
         }
-        (known.entries, are_tried)
+        (known.entries, are_there)
     }
 
     /// Sleeps until the history has more entries than these, or is being closed: that it is, if so.

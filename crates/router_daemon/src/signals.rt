@@ -255,7 +255,7 @@ impl Signals {
         let begins = board.begin(link, session, answer.at);
         self.wake(board);
         self.news.note(rt, answer.at);
-        self.news.note_tried(rt, link);
+        self.news.note_there(rt, link);
         begins
     }
 
