@@ -30,13 +30,14 @@ import traceback
 
 from lab import Topology
 from lib.counts import Counts
-from lib.processes import PATIENCE, Process, awaited
+from lib.processes import Process, awaited
 from lib.program import TOP, built
 
 RING = "domain 4\nlink 0 1\nlink 1 2\nlink 2 3\nlink 0 3\n"
 PROTOCOL, BASE = "77", 200
-# Seconds: a ping that is not answered so long is lost; nothing else may be unanswered so long after a cut.
-LOST, LONGEST = 1, 10.0
+# Seconds: a link that was closed is opened again after a minute at most; a ping that is not answered so long is lost; after a cut pings are answered
+# again before so long.
+PATIENCE, LOST, LONGEST = 90.0, 1, 10.0
 
 
 def ran(*words, **more):
@@ -87,7 +88,7 @@ class Node:
     def start_router(self):
         topology = self.net.topology
         words = [self.net.program, "router", "--size", str(topology.size), "--node", str(self.number), "--retry", "1", "--routes", self.feed]
-        words += ["--settle", "10"]
+        words += ["--settle", "70"]
         uses = [(kind, other, name) for kind, node, other, name in topology.uses if node == self.number]
         for name in sorted({name for _, _, name in uses}):
             words += ["--filter", f"{name}={self.net.folder}/{name}.filter"]

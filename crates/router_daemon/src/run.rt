@@ -253,7 +253,8 @@ fn run_named<
     };
     let bounding = start_bounding(rt, alloc, &shared, forgetter, ticket, most)?;
     let ran = serve_all::<R, FI, FO, D, J, E, I, W>(
-        rt, alloc, folder, &shared, &mut pass, links, common, feeding, figures, filters, reader, writer,
+        rt, alloc, folder, &shared, &mut pass, links, common, feeding, figures, filters, reader,
+        writer,
     );
     close_links(rt, &shared, &mut pass);
     end_run(rt, alloc, &shared, bounding, ran)

@@ -214,5 +214,8 @@ pub(crate) fn tell_unfed<E: Write>(alloc: Global, errors: &mut E, name: &str, wh
 
 /// Tells that the routes are not told, since a thread was not started.
 pub(crate) fn tell_unfed_at_all<E: Write>(_alloc: Global, errors: &mut E) {
-    let _ = write_text(errors, b"routes: a thread was not started (X2): they are not told\n");
+    let _ = write_text(
+        errors,
+        b"routes: a thread was not started (X2): they are not told\n",
+    );
 }
