@@ -1,5 +1,5 @@
 -- How a run of `lint` ends.
-use Rattle.std.proofs.Common.{◌≡◌, inr, ℕ, ◌+◌, Bool, true, false, List, length, Option, Result, Ok, Err, IfOk, sym, subst}
+use Rattle.std.proofs.Common.{◌≡◌, inr, ℕ, ◌+◌, ◌&&◌, Bool, true, false, List, length, Option, Result, Ok, Err, IfOk, sym, subst}
 use Rattle.std.specs.Prelude.{All}
 use Rattle.filter_code.specs.CodeView.{CodeView}
 use Rattle.filter_source.specs.TextPlaces.{ArePlacesOf}
@@ -25,12 +25,13 @@ use Rattle.filter_lint.specs.declared.rules.Warnings.{Warnings}
 pub reported : {E : Type 0} (program : CodeView) (size limit : ℕ) (places others : List ℕ) (source : Named) (all : Warnings)
     (host_bits bits : List HostBits) (r : Result Report E) → others ≡ places → bits ≡ host_bits
     → AreFound program source.text others size all → All (IsTrueOf program size others) all.found.items
-    → (IsEnough size limit → all.is_complete ≡ true) → AreHostBits source.text host_bits
-    → IfOk r (λ report. report.lines.items ≡ warnings_text source.name source.text program.sets all.found.items bits all.is_complete)
-    → IfOk r (λ report. report.found ≡ linted_as all.is_complete (length all.found.items + length bits))
+    → (IsEnough size limit → all.is_complete ≡ true) → (IsEnough size limit → all.is_ordered ≡ true) → AreHostBits source.text host_bits
+    → IfOk r (λ report. report.lines.items
+    ≡ warnings_text source.name source.text program.sets all.found.items bits all.is_complete all.is_ordered)
+    → IfOk r (λ report. report.found ≡ linted_as (all.is_complete && all.is_ordered) (length all.found.items + length bits))
     → IfOk r (λ report. IsReport program size limit places source report.lines.items report.found)
-reported program size limit places others source all host_bits bits (Err why) same alike found true_of decided are lines counted = tt
-reported program size limit places others source all host_bits bits (Ok report) same alike found true_of decided are lines counted = record {
+reported program size limit places others source all host_bits bits (Err why) same alike found true_of decided ordered are lines counted = tt
+reported program size limit places others source all host_bits bits (Ok report) same alike found true_of decided ordered are lines counted = record {
   all = all;
   are_found = subst (λ (ps : List ℕ). AreFound program source.text ps size all) same found;
   are_true = subst (λ (ps : List ℕ). All (IsTrueOf program size ps) all.found.items) same true_of;
@@ -38,6 +39,7 @@ reported program size limit places others source all host_bits bits (Ok report) 
   are_host_bits = subst (AreHostBits source.text) (sym alike) are;
   lines_are = lines;
   decided = decided;
+  ordered = ordered;
   comes_to = counted;
 }
 
@@ -84,7 +86,7 @@ module _ (size limit : ℕ) (source : Named) (v : VerifiedView) (places : List �
 
     pub linted_well : (found : Linted) → WritesWarnings v.program v.size limit places source held holds found
         → LintsNamed size limit is_explained source held holds tells tells found
-    linted_well linted.Refused h = not_refused h.report.all.is_complete _ h.report.comes_to
+    linted_well linted.Refused h = not_refused (h.report.all.is_complete && h.report.all.is_ordered) _ h.report.comes_to
     linted_well (linted.Warned count) h = linted_filter (linted.Warned count) h
     linted_well (linted.Undecided count) h = linted_filter (linted.Undecided count) h
 

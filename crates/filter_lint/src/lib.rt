@@ -4,6 +4,7 @@
 mod arithmetic;
 mod commands;
 mod conditions;
+mod disorders;
 mod finding;
 mod hints;
 mod host_bits;
