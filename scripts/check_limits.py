@@ -525,8 +525,9 @@ def on_filters(ncroute, words, texts):
 def compared_filters(ncroute):
     """`diff` of that filter with itself, without a search, and with the same with one pattern less."""
     parts = ["0..15: reject | accept 15", *(f"{metric}..{metric}: reject | accept {metric}" for metric in range(16, 251))]
-    lines = [*(f"differ 10.3.255.0/24{{24,24}}, metrics {part}" for part in parts), "same on all other routes"]
-    rows = [(full_filter(), b"same on all routes\n", 0), (full_filter(patterns=1023), written(lines), 1)]
+    domain = "of a domain of 250 nodes"
+    lines = [*(f"differ 10.3.255.0/24{{24,24}}, metrics {part}" for part in parts), f"same on all other routes {domain}"]
+    rows = [(full_filter(), written([f"same on all routes {domain}"]), 0), (full_filter(patterns=1023), written(lines), 1)]
     for other, *wanted in rows:
         if wrong := differs(on_filters(ncroute, "diff --size 250", [full_filter(), other]), wanted):
             return wrong
@@ -578,7 +579,7 @@ def filters_of_each_length(ncroute):
         output, _, status = run(ncroute, "list", filter_of(count))
         if (output.count(b"\n"), status) != (count, 0):
             return f"{count} instructions: wrote {output[-40:]!r}, and ended with {status}"
-        if said := differs(on_filters(ncroute, "diff", [filter_of(count), FILTER]), (b"same on all routes\n", 0)):
+        if said := differs(on_filters(ncroute, "diff --size 16", [filter_of(count), FILTER]), (b"same on all routes of a domain of 16 nodes\n", 0)):
             return f"{count} instructions: {said}"
     return None
 

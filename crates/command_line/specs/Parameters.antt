@@ -65,13 +65,13 @@ all_taken =
     needs command.Check (codes "size") Number ∷ takes command.Check (codes "code") Flag ∷ takes command.Check (codes "names") Flag
     ∷ takes command.Check (codes "quiet") (Letter 113) ∷ takes command.Check (codes "warn") Flag
     ∷ takes command.Check (codes "explain") When ∷ takes command.Check (codes "file") Arguments
-    ∷ takes command.Diff (codes "size") Number ∷ takes command.Diff (codes "limit") Count ∷ takes command.Diff (codes "explain") When
+    ∷ needs command.Diff (codes "size") Number ∷ takes command.Diff (codes "limit") Count ∷ takes command.Diff (codes "explain") When
     ∷ needs command.Diff (codes "old") Argument ∷ needs command.Diff (codes "new") Argument
     ∷ takes command.Explain (codes "code") Argument
     ∷ needs command.Filter (codes "size") Number ∷ takes command.Filter (codes "why") Flag ∷ takes command.Filter (codes "coverage") Flag
     ∷ takes command.Filter (codes "explain") When ∷ needs command.Filter (codes "file") Argument
-    ∷ takes command.Import (codes "size") Number ∷ takes command.Import (codes "out") Text ∷ takes command.Import (codes "file") Argument
-    ∷ takes command.Lint (codes "size") Number ∷ takes command.Lint (codes "limit") Count ∷ takes command.Lint (codes "explain") When
+    ∷ needs command.Import (codes "size") Number ∷ takes command.Import (codes "out") Text ∷ takes command.Import (codes "file") Argument
+    ∷ needs command.Lint (codes "size") Number ∷ takes command.Lint (codes "limit") Count ∷ takes command.Lint (codes "explain") When
     ∷ takes command.Lint (codes "file") Arguments
     ∷ takes command.List (codes "size") Number ∷ takes command.List (codes "code") Flag ∷ takes command.List (codes "explain") When
     ∷ takes command.List (codes "file") Argument

@@ -166,7 +166,7 @@ static PARAMETERS: [(&str, Parameter); 53] = [
     ("check", WARN),
     ("check", EXPLAIN),
     ("check", CHECKED),
-    ("diff", OPTIONAL_SIZE),
+    ("diff", SIZE),
     ("diff", LIMIT),
     ("diff", EXPLAIN),
     ("diff", OLD_FILE),
@@ -177,10 +177,10 @@ static PARAMETERS: [(&str, Parameter); 53] = [
     ("filter", COVERAGE),
     ("filter", EXPLAIN),
     ("filter", TRIED),
-    ("import", OPTIONAL_SIZE),
+    ("import", SIZE),
     ("import", OUT),
     ("import", IMPORTED),
-    ("lint", OPTIONAL_SIZE),
+    ("lint", SIZE),
     ("lint", LIMIT),
     ("lint", EXPLAIN),
     ("lint", LINTED),
@@ -274,15 +274,6 @@ const CHECKED: Parameter = Parameter {
     value: "FILE",
     help: "A file to check in place of standard input; - is standard input",
     kind: ParameterKind::Arguments,
-    is_required: false,
-};
-
-/// The number of nodes that filters are verified for, which need not be said.
-const OPTIONAL_SIZE: Parameter = Parameter {
-    name: "size",
-    value: "N",
-    help: "Verify the filters for a routing domain of N nodes (2 to 250; 16)",
-    kind: ParameterKind::Number,
     is_required: false,
 };
 

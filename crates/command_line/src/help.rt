@@ -69,14 +69,18 @@ For each part of the routes on which the filters differ, or may differ, a line i
              whether they differ on these was not found out within CLASSES
 BEFORE and AFTER are `reject`, `accept METRIC`, or `accept`, which is with the metric received.
 The last line is one of these:
-  same on all routes         there is no other line: the filters do the same
-  same on all other routes   they do the same outside of these parts
-  undecided on COUNT parts   this many parts are undecided; outside of the parts they do the same
+  same on all routes of a domain of N nodes
+             there is no other line: the filters do the same
+  same on all other routes of a domain of N nodes
+             they do the same outside of these parts
+  undecided on COUNT parts
+             this many parts are undecided; outside of the parts they do the same
 
 Example:
-  sed 's/> 12/> 10/' examples/backup_link.filter | ncroute diff examples/backup_link.filter -
+  sed 's/> 12/> 10/' examples/backup_link.filter |
+    ncroute diff --size 16 examples/backup_link.filter -
 prints `differ 0.0.0.0/0{0,32}, metrics 8..8: accept 11 | reject`, the same of metric 9 with
-`accept 12`, and `same on all other routes`.
+`accept 12`, and `same on all other routes of a domain of 16 nodes`.
 The exit status is 0 if they are the same on all routes; 1 if they differ; 2 if the command
 line is wrong; 3 if that is undecided, if a filter was refused, if a fault ended the run, or if
 a file could not be read.
@@ -124,7 +128,7 @@ For each filter a line is printed:
                     what stands there is not taken
 
 Example:
-  mkdir filters; ncroute import --out filters examples/edge_router.bird
+  mkdir filters; ncroute import --size 16 --out filters examples/edge_router.bird
 The exit status is 0; 1 if something was left out or a fault ended the run; 2 if the command
 line is wrong.
 ";
@@ -148,7 +152,7 @@ W1, W2, W8 and W9 are told by all routes of the domain, which are searched as by
 Where CLASSES are not enough for W1, W2 and W8, or for W9, a line `FILE: undecided: ..` says so.
 
 Example:
-  echo 'filter f { if net.len > 32 then reject; accept; }' | ncroute lint
+  echo 'filter f { if net.len > 32 then reject; accept; }' | ncroute lint --size 16
 The exit status is 0 if nothing is said of any filter; 1 if there is a warning, or a filter was
 refused; 2 if the command line is wrong; 3 if nothing is said but a filter is undecided or was
 not read, or a fault ended the run.

@@ -138,13 +138,13 @@ fn command_words<R: Eprint>(
 {
     match command {
         CommandName::Check => check_words(alloc, words, terminals),
-        CommandName::Diff => asked(diff_in(alloc, words, terminals)),
+        CommandName::Diff => diff_words(alloc, words, terminals),
         CommandName::Domain => asked(domain_in(alloc, words, terminals)),
         CommandName::Eval => Ok(Invocation::Asked(eval_in(words, terminals))),
         CommandName::Explain => explained_in(rt, alloc, words, terminals),
         CommandName::Filter => filter_words(rt, alloc, words, terminals),
-        CommandName::Import => asked(import_in(alloc, words, terminals)),
-        CommandName::Lint => asked(lint_in(alloc, words, terminals)),
+        CommandName::Import => import_words(alloc, words, terminals),
+        CommandName::Lint => lint_words(alloc, words, terminals),
         CommandName::List => asked(list_in(alloc, words, terminals)),
         CommandName::Net => Ok(Invocation::Network),
         CommandName::Replay => asked(replay_in(alloc, words, terminals)),
@@ -215,6 +215,53 @@ fn check_words(
         return Ok(Invocation::Shown(WRONG_WORDS));
     };
     Ok(Invocation::Asked(check_in(alloc, check, size, terminals)?))
+}
+
+/// What the words of `diff` come to.
+fn diff_words(
+    alloc: Global,
+    diff: &ArgMatches<'_>,
+    terminals: Terminals,
+) -> Result<Invocation, AllocError>
+    ensures { IfOk result (ComesTo command.Diff (given_in diff.now) terminals) }
+{
+    // The parser accepts no words without a size.
+    let Some(size) = number_given(diff, "size") else {
+        return Ok(Invocation::Shown(WRONG_WORDS));
+    };
+    Ok(Invocation::Asked(diff_in(alloc, diff, size, terminals)?))
+}
+
+/// What the words of `import` come to.
+fn import_words(
+    alloc: Global,
+    import: &ArgMatches<'_>,
+    terminals: Terminals,
+) -> Result<Invocation, AllocError>
+    ensures { IfOk result (ComesTo command.Import (given_in import.now) terminals) }
+{
+    // The parser accepts no words without a size.
+    let Some(size) = number_given(import, "size") else {
+        return Ok(Invocation::Shown(WRONG_WORDS));
+    };
+    Ok(Invocation::Asked(import_in(
+        alloc, import, size, terminals,
+    )?))
+}
+
+/// What the words of `lint` come to.
+fn lint_words(
+    alloc: Global,
+    lint: &ArgMatches<'_>,
+    terminals: Terminals,
+) -> Result<Invocation, AllocError>
+    ensures { IfOk result (ComesTo command.Lint (given_in lint.now) terminals) }
+{
+    // The parser accepts no words without a size.
+    let Some(size) = number_given(lint, "size") else {
+        return Ok(Invocation::Shown(WRONG_WORDS));
+    };
+    Ok(Invocation::Asked(lint_in(alloc, lint, size, terminals)?))
 }
 
 /// What the words of `run` come to.

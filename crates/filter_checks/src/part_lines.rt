@@ -114,20 +114,53 @@ fn push_several_words(out: &mut Vec<u8>, count: usize) -> Result<(), AllocError>
     out.extend_from_slice(b" parts")
 }
 
+/// What stands between routes and the number of nodes of their domain.
+#[tactic(auto, unfolding(crate::specs::PartLines::of_a_domain))]
+fn of_a_domain() -> &'static [u8]
+    ensures { result.now ≡ spec.of_a_domain }
+{
+    b" of a domain of "
+}
+
+/// Puts the domain of routes at the end of `out`, by its size.
+fn push_domain(out: &mut Vec<u8>, size: u32) -> Result<(), AllocError>
+    ensures { OnOk result (out.new.items ≡ out.old.items ++ spec.domain_words size) }
+{
+    out.extend_from_slice(of_a_domain())?;
+    push_decimal(out, u64::from(size))?;
+    out.extend_from_slice(b" nodes")
+}
+
+/// Puts at the end of `out` with which routes the same is done: with all, or with all others where there are parts.
+fn push_same_routes(out: &mut Vec<u8>, parts: &[RoutePart]) -> Result<(), AllocError>
+    ensures { OnOk result (out.new.items ≡ out.old.items ++ spec.same_routes parts.now) }
+{
+    if parts.is_empty() {
+        out.extend_from_slice(b"same on all routes")
+    } else {
+        out.extend_from_slice(b"same on all other routes")
+    }
+}
+
+/// The same, with the size of their domain.
+fn push_same_words(out: &mut Vec<u8>, size: u32, parts: &[RoutePart]) -> Result<(), AllocError>
+    ensures { OnOk result (out.new.items ≡ out.old.items ++ spec.same_words size parts.now) }
+{
+    push_same_routes(out, parts)?;
+    push_domain(out, size)
+}
+
 /// Puts the words of the last line at the end of `out`, where so many of the parts are undecided.
 fn push_last_words(
     out: &mut Vec<u8>,
+    size: u32,
     parts: &[RoutePart],
     undecided: usize,
 ) -> Result<(), AllocError>
-    ensures { OnOk result (out.new.items ≡ out.old.items ++ spec.last_words undecided parts.now) }
+    ensures { OnOk result (out.new.items ≡ out.old.items ++ spec.last_words size undecided parts.now) }
 {
     if undecided == 0 {
-        return if parts.is_empty() {
-            out.extend_from_slice(b"same on all routes")
-        } else {
-            out.extend_from_slice(b"same on all other routes")
-        };
+        return push_same_words(out, size, parts);
     }
     if undecided == 1 {
         return out.extend_from_slice(b"undecided on 1 part");
@@ -135,15 +168,15 @@ fn push_last_words(
     push_several_words(out, undecided)
 }
 
-/// The lines of parts of the routes, and the last line, on all other routes.
-pub fn parts_text(alloc: Global, parts: &[RoutePart]) -> Result<Vec<u8>, AllocError>
-    ensures { IfOk result (λ text. text.items ≡ spec.parts_text parts.now) }
+/// The lines of parts of the routes of domains of `size` nodes, and the last line, on all other routes.
+pub fn parts_text(alloc: Global, size: u32, parts: &[RoutePart]) -> Result<Vec<u8>, AllocError>
+    ensures { IfOk result (λ text. text.items ≡ spec.parts_text size parts.now) }
 {
     let mut out = Vec::new(alloc);
     for part in parts {
         push_part(alloc, &mut out, part)?;
     }
-    push_last_words(&mut out, parts, count_undecided(parts))?;
+    push_last_words(&mut out, size, parts, count_undecided(parts))?;
     out.push(b'\n')?;
     Ok(out)
 }
