@@ -198,8 +198,9 @@ The output is that of the Test Anything Protocol, version 13, with one plan for 
 
 Example:
   ncroute test examples/customer_list.test
-The exit status is 0 if each test holds; 1 if one does not or is undecided; 2 if the command
-line is wrong; 3 if a file was refused or not read, or a fault ended the run.
+The exit status is 0 if each test holds; 1 if one does not; 2 if the command line is wrong;
+3 if one is undecided and all others hold, if a file was refused or not read, or if a fault
+ended the run.
 ";
 
 /// Of `eval`.

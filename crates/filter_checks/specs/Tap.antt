@@ -8,14 +8,22 @@ use Rattle.filter_checks.specs.PartLines.{outcome_text}
 use Rattle.prefix_patterns.specs.Spelling.{prefix_text}
 use Rattle.filter_checks.specs.declared.testing.Ran.{Ran}
 
--- whether a test does not hold, or that is not decided
+-- whether a test does not hold, and whether that is not decided
 abbrev pub fails : Checked → Bool
 fails checked.Holds = false
 fails (checked.Fails found) = true
-fails checked.Undecided = true
+fails checked.Undecided = false
 
-abbrev pub is_failure : Ran → Bool
-is_failure ran = fails ran.checked
+abbrev pub is_open : Checked → Bool
+is_open checked.Holds = false
+is_open (checked.Fails found) = false
+is_open checked.Undecided = true
+
+abbrev pub is_wrong : Ran → Bool
+is_wrong ran = fails ran.checked
+
+abbrev pub is_undecided : Ran → Bool
+is_undecided ran = is_open ran.checked
 
 -- how the line of a test begins
 abbrev pub result_word : Checked → List ℕ

@@ -1,5 +1,5 @@
 //! The lines that tell whether tests hold.
-ghost use Rattle.std.specs.Prelude.{◌≡◌, ◌+◌, ◌<◌, ◌≤◌, ◌^◌, ◌++◌, IfOk, OnOk, count_by, length};
+ghost use Rattle.std.specs.Prelude.{◌≡◌, ◌+◌, ◌<◌, ◌^◌, ◌++◌, IfOk, OnOk, count_by, length};
 ghost use Rattle.prefix_patterns.specs.Spelling.{prefix_text};
 ghost use Rattle.filter_checks.specs.Tap as spec;
 
@@ -122,22 +122,32 @@ pub(crate) fn told_of_all(
     Ok(out)
 }
 
-/// Whether a test does not hold, or that is not decided.
-fn is_failure(ran: &Ran) -> bool
-    ensures { result ≡ spec.is_failure ran.now }
+/// Whether a test does not hold.
+fn is_wrong(ran: &Ran) -> bool
+    ensures { result ≡ spec.is_wrong ran.now }
 {
-    match ran.checked {
-        Checked::Holds => false,
-        Checked::Fails(_) | Checked::Undecided => true,
-    }
+    matches!(ran.checked, Checked::Fails(_))
+}
+
+/// Whether it is not decided that a test holds.
+fn is_undecided(ran: &Ran) -> bool
+    ensures { result ≡ spec.is_undecided ran.now }
+{
+    matches!(ran.checked, Checked::Undecided)
 }
 
 /// How many tests do not hold.
-pub(crate) fn count_failures(all: &[Ran]) -> usize
-    ensures count { result ≡ count_by spec.is_failure all.now }
-    ensures few { result ≤ length all.now }
+pub(crate) fn count_wrong(all: &[Ran]) -> usize
+    ensures { result ≡ count_by spec.is_wrong all.now }
 {
-    all.iter().filter(|ran| is_failure(ran)).count()
+    all.iter().filter(|ran| is_wrong(ran)).count()
+}
+
+/// Of how many it is not decided.
+pub(crate) fn count_undecided(all: &[Ran]) -> usize
+    ensures { result ≡ count_by spec.is_undecided all.now }
+{
+    all.iter().filter(|ran| is_undecided(ran)).count()
 }
 
 /// The last line of the stream, by the number of its tests.

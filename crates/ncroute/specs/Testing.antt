@@ -32,21 +32,26 @@ bail_line = codes "Bail out!" ++ 10 ∷ []
 
 -- no test was run
 abbrev pub none_run : Tally
-none_run = record { count = 0; has_failed = false }
+none_run = record { count = 0; has_failed = false; has_undecided = false }
 
--- so many more were run, of which some do not hold; or none was, since the filter is refused
+-- so many more were run, of which some do not hold or are not decided; or none was, since the filter is refused
 abbrev pub tally_after : Tally → ℕ → Tested → Option Tally
 tally_after tally more Refused = None
-tally_after tally more (Ran failed) = Some (record { count = tally.count + more; has_failed = tally.has_failed || nat_lt 0 failed })
+tally_after tally more (Ran failed) = Some (record {
+  count = tally.count + more;
+  has_failed = tally.has_failed || nat_lt 0 failed.wrong;
+  has_undecided = tally.has_undecided || nat_lt 0 failed.undecided;
+})
 
--- the last line, and the exit status: where all files were run, and where a file was refused or not read
+-- the last line, and the exit status: where all files were run, by whether a test does not hold or is not decided, and where a file was refused or
+-- not read
 abbrev pub last_line : Option Tally → List ℕ
 last_line None = bail_line
 last_line (Some tally) = plan tally.count
 
 abbrev pub status_of_tests : Option Tally → ℕ
 status_of_tests None = 3
-status_of_tests (Some tally) = if tally.has_failed then 1 else 0
+status_of_tests (Some tally) = if tally.has_failed then 1 else if tally.has_undecided then 3 else 0
 
 -- The tests of a file were run by the filter of a text, or that is refused. `found` is how many tests were run by then.
 pub record RunsBy (how : Testing) (name : List ℕ) (file : FileView) (filter : Named) (tally : Tally) (before after : Streams)

@@ -24,8 +24,10 @@ use std::io::{Read, Write};
 pub struct Tally {
     /// How many were run.
     pub count: u64,
-    /// One of them does not hold, or is not decided.
+    /// One of them does not hold.
     pub has_failed: bool,
+    /// Of one of them it is not decided.
+    pub has_undecided: bool,
 }
 
 /// The tally after so many tests more.
@@ -37,7 +39,8 @@ fn tally_after(tally: Tally, more: usize, tested: Tested) -> Option<Tally>
         Tested::Refused => None,
         Tested::Ran(failed) => Some(Tally {
             count: tally.count + more as u64,
-            has_failed: tally.has_failed || failed > 0,
+            has_failed: tally.has_failed || failed.wrong > 0,
+            has_undecided: tally.has_undecided || failed.undecided > 0,
         }),
     }
 }
@@ -247,6 +250,7 @@ fn run_all<F: Folder, R: Read, W: Write, E: Write>(
     let mut tally = Tally {
         count: 0,
         has_failed: false,
+        has_undecided: false,
     };
     for source in sources {
         match run_source(files, alloc, how, source, tally, console)? {
@@ -304,6 +308,7 @@ fn status_of(found: Option<Tally>) -> u8
 {
     match found {
         Some(tally) if tally.has_failed => FAILED,
+        Some(tally) if tally.has_undecided => FAULT,
         Some(_) => 0,
         None => FAULT,
     }
