@@ -193,8 +193,9 @@ The output is that of the Test Anything Protocol, version 13, with one plan for 
   not ok N - TEST      it is not on the route that the next line shows, as
                        `# PREFIX METRIC -> VERDICT`; or the next line is `# undecided`:
                        that was not found out within CLASSES
+  not ok N - FILE: not run, since a file was refused or not read
+                       in place of the tests of a file; standard error says why
   1..N                 how many tests there are
-  Bail out!            a file could not be read, or was refused; nothing more is run
 
 Example:
   ncroute test examples/customer_list.test

@@ -68,6 +68,13 @@ abbrev pub told_of_all : Bool → List ℕ → List Ran → List ℕ
 told_of_all false name all = []
 told_of_all true name all = flat_map (told_of name) all
 
+-- the line in place of the tests of a file that were not run
+unfoldable pub not_run : List ℕ
+not_run = codes ": not run, since a file was refused or not read" ++ 10 ∷ []
+
+abbrev pub skipped : ℕ → List ℕ → List ℕ
+skipped number name = codes "not ok " ++ decimal number ++ codes " - " ++ shown name ++ not_run
+
 -- the last line of the stream: how many tests it has
 abbrev pub plan : ℕ → List ℕ
 plan count = codes "1.." ++ decimal count ++ 10 ∷ []

@@ -150,6 +150,27 @@ pub(crate) fn count_undecided(all: &[Ran]) -> usize
     all.iter().filter(|ran| is_undecided(ran)).count()
 }
 
+/// Why the tests of a file were not run.
+#[tactic(auto, unfolding(crate::specs::Tap::not_run))]
+fn not_run() -> &'static [u8]
+    ensures { result.now ≡ spec.not_run }
+{
+    b": not run, since a file was refused or not read\n"
+}
+
+/// The line in place of the tests of a file of this name that were not run, by its number in the stream.
+pub fn skipped_line(alloc: Global, number: u64, name: &[u8]) -> Result<Vec<u8>, AllocError>
+    ensures { IfOk result (λ out. out.items ≡ spec.skipped number name.now) }
+{
+    let mut out = Vec::new(alloc);
+    out.extend_from_slice(b"not ok ")?;
+    push_decimal(&mut out, number)?;
+    out.extend_from_slice(b" - ")?;
+    push_shown(alloc, &mut out, name)?;
+    out.extend_from_slice(not_run())?;
+    Ok(out)
+}
+
 /// The last line of the stream, by the number of its tests.
 pub fn plan_line(alloc: Global, count: u64) -> Result<Vec<u8>, AllocError>
     ensures { IfOk result (λ out. out.items ≡ spec.plan count) }
