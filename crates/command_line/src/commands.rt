@@ -218,7 +218,7 @@ static PARAMETERS: [(&str, Parameter); 53] = [
 const SIZE: Parameter = Parameter {
     name: "size",
     value: "N",
-    help: "The number of nodes of the routing domain (2 to 250)",
+    help: "The number of nodes of the routing domain (2 to 250); without it NCROUTE_SIZE in the environment says it",
     kind: ParameterKind::Number,
     is_required: true,
 };

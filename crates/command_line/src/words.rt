@@ -11,6 +11,7 @@ use crate::classes::page_of;
 use crate::command_names::{CommandName, command_named};
 use crate::commands::program;
 use crate::diff_words::diff_in;
+use crate::environment::with_size;
 use crate::filter_words::WrongFilter;
 use crate::given::{number_given, word_given};
 use crate::lint_words::lint_in;
@@ -48,7 +49,7 @@ pub enum Invocation {
     Shown(u8),
 }
 
-/// Reads the words that the program was started with. Help goes to standard output, and what is wrong with the words to
+/// Reads the words that the program was started with, and where they need a size and say none, that of the environment. Help goes to standard output, and what is wrong with the words to
 /// standard error.
 pub fn read<R: Env + AllocGlobal + Print + Eprint>(
     rt: &R,
@@ -62,6 +63,7 @@ pub fn read<R: Env + AllocGlobal + Print + Eprint>(
     // All words are text here, so that want of memory alone keeps them from being read.
     let words = env::args(&(Readable { env: rt }, alloc)).map_err(|_| StreamFault::Memory)?;
     let words: Vec<String> = words.collect(alloc).map_err(|_| StreamFault::Memory)?;
+    let words = with_size(rt, alloc, words).map_err(|_| StreamFault::Memory)?;
     request_of(rt, alloc, words.as_slice(), terminals)
 }
 
