@@ -246,9 +246,7 @@ fn import_words(
     let Some(size) = number_given(import, "size") else {
         return Ok(Invocation::Shown(WRONG_WORDS));
     };
-    Ok(Invocation::Asked(import_in(
-        alloc, import, size, terminals,
-    )?))
+    Ok(Invocation::Asked(import_in(alloc, import, size, terminals)?))
 }
 
 /// What the words of `lint` come to.
