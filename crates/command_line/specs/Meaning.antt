@@ -11,7 +11,7 @@ use Rattle.command_line.specs.CommandNames.{command_of}
 use Rattle.command_line.specs.Filters.{HasWrong, NameFirst}
 use Rattle.command_line.specs.Given.{is_set, number_of, word_of, words_of}
 use Rattle.command_line.specs.Pages.{IsPage, explained, page_head}
-use Rattle.command_line.specs.Parameters.{AreTellings, program}
+use Rattle.command_line.specs.Parameters.{AreChoices, program}
 use Rattle.command_line.specs.Readings.{is_file, readings}
 use Rattle.command_line.specs.Reads.{dash, file, filter_sources, names_read, sources_of}
 use Rattle.command_line.specs.Sources.{AreNamed}
@@ -80,13 +80,12 @@ comparing_of given terminals size = record {
   is_explained = tells given terminals true;
 }
 
--- how `lint` looks through filters for a domain of a size
-abbrev pub linting_of : List Row → Terminals → ℕ → List Source → Linting
-linting_of given terminals size sources = record {
-  size = size;
-  limit = unwrap_or (number_of 64 (codes "limit") given) usual_limit;
-  is_explained = tells given terminals (list_any is_file sources);
-}
+-- how `lint` looks through filters
+pub record IsLinting (given : List Row) (terminals : Terminals) (sources : List Source) (how : Linting) : Type 0 where
+  pub size : SaysSize given how.size
+  pub limit : how.limit ≡ unwrap_or (number_of 64 (codes "limit") given) usual_limit
+  pub allowed : map (λ copy. string_bytes copy) how.allowed.items ≡ words_of (codes "allow") given
+  pub is_explained : how.is_explained ≡ tells given terminals (list_any is_file sources)
 
 -- how `test` runs test files
 abbrev pub testing_of : List Row → Terminals → List Source → Testing
@@ -169,8 +168,7 @@ Sets command.Explain given terminals (request.Explain page) = IsPage (explained 
 Sets command.Filter given terminals (request.Filter how source) =
     IsTrying given terminals how × (names_file given ≡ true) × (asks_twice given ≡ false)
 Sets command.Import given terminals (request.Import how source) = IsImporting given how
-Sets command.Lint given terminals (request.Lint how sources) =
-    SaysSize given how.size × (how ≡ linting_of given terminals how.size sources.items)
+Sets command.Lint given terminals (request.Lint how sources) = IsLinting given terminals sources.items how
 Sets command.List given terminals (request.List size is_code source is_told) = (size ≡ number_of 32 (codes "size") given)
     × (is_code ≡ is_set (codes "code") given) × (is_told ≡ tells given terminals (is_file source))
 Sets command.Replay given terminals (request.Replay sources) = ⊤
@@ -233,14 +231,14 @@ status_of _ = 2
 -- The parser of words accepts the words of a command line, of which the first is the program's name, and met this.
 pub record Meets (line : List (List ℕ)) (met : Option (List ℕ × List Row)) : Type 0 where
   pub choices : Choices
-  pub tellings : AreTellings choices
+  pub are_choices : AreChoices choices
   pub accepted : fault_of (program choices) line ≡ []
   pub is_met : met ≡ subcommand_of (program choices) line
 
 -- It does not, and this is one of the kinds of error that the first mistake has.
 pub record Shows (line : List (List ℕ)) (shown : ErrorKind) : Type 0 where
   pub choices : Choices
-  pub tellings : AreTellings choices
+  pub are_choices : AreChoices choices
   pub among : IsAmong shown (fault_of (program choices) line)
 
 -- what the words of a command line come to

@@ -12,7 +12,7 @@ use std::alloc::{AllocError, Global};
 /// The version of the project, and the logic that it is proved in, as `rt version` names it: several kits have it.
 const VERSION: &str = "0.1.0 (Rattle logic dac8208d650f15bf)";
 
-/// The program, with all commands. `--explain` takes one of these words.
+/// The program, with all commands. `--explain` and `--allow` take these words.
 pub fn program<'a>(alloc: Global, choices: Choices<'a>) -> Result<Command<'a>, AllocError>
     ensures { IfOk result (λ program. app_of program ≡ spec.program choices.entry) }
 {
@@ -158,7 +158,7 @@ static COMMANDS: [(&str, &str); 15] = [
 ];
 
 /// The options and arguments of each command, in the order in which its help shows them.
-static PARAMETERS: [(&str, Parameter); 53] = [
+static PARAMETERS: [(&str, Parameter); 54] = [
     ("check", SIZE),
     ("check", CODE),
     ("check", NAMES),
@@ -182,6 +182,7 @@ static PARAMETERS: [(&str, Parameter); 53] = [
     ("import", IMPORTED),
     ("lint", SIZE),
     ("lint", LIMIT),
+    ("lint", ALLOW),
     ("lint", EXPLAIN),
     ("lint", LINTED),
     ("list", VERIFIED_SIZE),
@@ -229,6 +230,15 @@ const CODE: Parameter = Parameter {
     value: "",
     help: "Read a code file in hexadecimal in place of a filter",
     kind: ParameterKind::Flag,
+    is_required: false,
+};
+
+/// Warnings of a code are not told.
+const ALLOW: Parameter = Parameter {
+    name: "allow",
+    value: "CODE",
+    help: "Say no warning of this code, as W3; may be given many times",
+    kind: ParameterKind::Codes,
     is_required: false,
 };
 

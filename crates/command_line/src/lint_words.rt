@@ -6,18 +6,20 @@ ghost use Rattle.command_line.specs.declared.command_names.CommandName.TheVarian
 
 use crate::diff_words::USUAL_LIMIT;
 use crate::given::count_given;
-use crate::requests::{Request, files_in, has_files, tells_in};
+use crate::requests::{Request, files_in, has_files, tells_in, values_of};
 use crate::terminals::Terminals;
 use clap::ArgMatches;
 use std::alloc::{AllocError, Global};
 
 /// How filters are looked through for what is plainly wrong.
-#[derive(Clone, Copy)]
+#[derive(Drop)]
 pub struct Linting {
     /// The number of nodes of the domain whose routes are meant.
     pub size: u32,
     /// The largest number of classes of routes that are tried for a filter.
     pub limit: u64,
+    /// The codes of warnings that are not told.
+    pub allowed: Vec<String>,
     /// A refusal is told in words too.
     pub is_explained: bool,
 }
@@ -37,6 +39,7 @@ pub fn lint_in(
     let how = Linting {
         size,
         limit: count_given(matches, "limit").unwrap_or(USUAL_LIMIT),
+        allowed: values_of(alloc, matches, "allow")?,
         is_explained: tells_in(matches, terminals, has_files),
     };
     Ok(Request::Lint { how, sources })

@@ -396,6 +396,28 @@ pub fn text_in(
     }
 }
 
+/// A copy of each of some texts, in order.
+fn copies_of(alloc: Global, texts: &[&str]) -> Result<Vec<String>, AllocError>
+    ensures { IfOk result (λ copies. map (λ copy. string_bytes copy) copies.items ≡ map (λ text. text.now) texts.now) }
+{
+    let mut copies = Vec::with_capacity(alloc, texts.len())?;
+    for text in texts {
+        copies.push(String::from_str(alloc, text)?)?;
+    }
+    Ok(copies)
+}
+
+/// The values of an option, in order.
+pub fn values_of(
+    alloc: Global,
+    matches: &ArgMatches<'_>,
+    name: &str,
+) -> Result<Vec<String>, AllocError>
+    ensures { IfOk result (λ values. map (λ copy. string_bytes copy) values.items ≡ words_of name.now (given_in matches.now)) }
+{
+    copies_of(alloc, words_given(matches, name))
+}
+
 /// What the words of `list` ask for.
 pub fn list_in(
     alloc: Global,

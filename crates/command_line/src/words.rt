@@ -21,7 +21,7 @@ use crate::requests::{
 };
 use crate::router_words::{RouterWords, router_in};
 use crate::run_words::run_in;
-use crate::telling::tellings;
+use crate::telling::choices;
 use crate::terminals::{Terminals, reads_input_again};
 use crate::test_words::test_in;
 use crate::trying_words::{asks_twice, filter_in};
@@ -92,7 +92,7 @@ fn matches_of<'a, S: AsStr>(alloc: Global, words: &'a [S]) -> Result<ArgMatches<
     ensures ok { IfOk result (λ matches. Meets (map S.text words.entry.now) (subcommand_rows_of matches)) }
     ensures err { IfErr result (λ error. (kind_of error ≡ ErrorKind.OutOfMemory) ⊎ Shows (map S.text words.entry.now) (kind_of error)) }
 {
-    program(alloc, tellings())?.try_get_matches_from(words)
+    program(alloc, choices())?.try_get_matches_from(words)
 }
 
 /// These words, unless they ask for standard input more than once.

@@ -1,6 +1,7 @@
 //! Warnings of filters that are verified and yet do what nobody means.
 #![tactic(auto)]
 
+mod allowing;
 mod arithmetic;
 mod commands;
 mod conditions;
