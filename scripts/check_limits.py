@@ -522,6 +522,10 @@ def on_filters(ncroute, words, texts):
         return output.replace(folder.encode() + b"/", b""), shown.replace(folder.encode() + b"/", b""), status
 
 
+# So many parts come of two filters that add 1 and 2 to the metric of a region, in a domain of 250 nodes: one for each metric that both accept.
+PARTS_OF_A_REGION = 249
+
+
 def compared_filters(ncroute):
     """`diff` of that filter with itself, without a search, and with the same with one pattern less."""
     parts = ["0..15: reject | accept 15", *(f"{metric}..{metric}: reject | accept {metric}" for metric in range(16, 251))]
@@ -531,6 +535,23 @@ def compared_filters(ncroute):
     for other, *wanted in rows:
         if wrong := differs(on_filters(ncroute, "diff --size 250", [full_filter(), other]), wanted):
             return wrong
+    return None
+
+
+def parts_beyond_the_limit(ncroute):
+    """`diff` shows a thousand parts of the routes, and counts the others. Of each of COUNT regions there is one part for each metric."""
+    domain = b"of a domain of 250 nodes"
+    for count in range(3, 7):
+        regions = ", ".join(f"{20 * number + 1}.0.0.0/8" for number in range(count))
+        texts = [f"filter f {{ if net ~ [ {regions} ] then rip_metric = rip_metric + {more}; accept; }}".encode() for more in (1, 2)]
+        output, shown, status = on_filters(ncroute, "diff --size 250", texts)
+        *parts, last = output.splitlines()
+        hidden = b"parts that are not shown: %d" % (count * PARTS_OF_A_REGION - 1000)
+        wanted = [hidden] if count * PARTS_OF_A_REGION > 1000 else []
+        lines = [line for line in parts if not line.startswith(b"differ ")]
+        if (lines, last, shown, status, len(parts) - len(lines)) != (wanted, b"same on all other routes " + domain, b"", 1,
+                                                                     min(count * PARTS_OF_A_REGION, 1000)):
+            return f"{count} regions: wrote {len(parts)} lines to {parts[-1:]}, {last!r}, and ended with {status}"
     return None
 
 
@@ -648,8 +669,8 @@ def million_routes(ncroute):
 
 
 # Rows of several runs.
-SEVERAL = (hundred_files, full_filters, variables_of_each_number, compared_filters, undecided_filters, decided_filters, filters_of_each_length,
-           padded_tests, million_routes, full_router, domains_of_each_size)
+SEVERAL = (hundred_files, full_filters, variables_of_each_number, compared_filters, parts_beyond_the_limit, undecided_filters, decided_filters,
+           filters_of_each_length, padded_tests, million_routes, full_router, domains_of_each_size)
 
 
 def judged(ncroute, words, row):

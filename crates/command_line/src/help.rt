@@ -68,6 +68,7 @@ For each part of the routes on which the filters differ, or may differ, a line i
   undecided PREFIX{LOW,HIGH}, metrics LEAST..MOST
              whether they differ on these was not found out within CLASSES
 BEFORE and AFTER are `reject`, `accept METRIC`, or `accept`, which is with the metric received.
+Of more than 1,000 parts the others are counted by `parts that are not shown: COUNT`.
 The last line is one of these:
   same on all routes of a domain of N nodes
              there is no other line: the filters do the same

@@ -1,5 +1,5 @@
 -- The lines that tell of parts of the routes. (This project's own choice.)
-use Rattle.std.specs.Prelude.{ℕ, zero, suc, List, [], ◌∷◌, ◌++◌, codes, count_by, decimal, flat_map}
+use Rattle.std.specs.Prelude.{ℕ, ◌-◌, ◌==◌, zero, suc, List, [], ◌∷◌, ◌++◌, codes, count_by, decimal, flat_map, if◌then◌else◌, length, take}
 use Rattle.filter_code.specs.Outcomes.{fault_code}
 use Rattle.filter_code.specs.declared.outcome.Outcome.{Outcome}
 use Rattle.filter_code.specs.declared.outcome.Outcome.TheVariants as outcome
@@ -74,6 +74,16 @@ last_words size (suc (suc more)) parts = several_words (suc (suc more))
 abbrev pub last_line : ℕ → List RoutePart → List ℕ
 last_line size parts = last_words size (count_by undecided parts) parts ++ 10 ∷ []
 
--- the lines of all parts, and the last line
+-- so many parts have a line at most, and how many have none is said
+abbrev pub shown_limit : ℕ
+shown_limit = 1000
+
+unfoldable pub not_shown : List ℕ
+not_shown = codes "parts that are not shown: "
+
+abbrev pub hidden_text : ℕ → List ℕ
+hidden_text count = if count == 0 then [] else not_shown ++ decimal count ++ 10 ∷ []
+
+-- the lines of the parts, and the last line
 abbrev pub parts_text : ℕ → List RoutePart → List ℕ
-parts_text size parts = flat_map part_line parts ++ last_line size parts
+parts_text size parts = flat_map part_line (take shown_limit parts) ++ hidden_text (length parts - shown_limit) ++ last_line size parts

@@ -1,5 +1,5 @@
 //! The lines that tell of parts of the routes.
-ghost use Rattle.std.specs.Prelude.{◌≡◌, ◌++◌, IfOk, OnOk};
+ghost use Rattle.std.specs.Prelude.{◌≡◌, ◌++◌, IfOk, OnOk, flat_map, take};
 ghost use Rattle.filter_checks.specs.PartLines as spec;
 
 use filter_code::Outcome;
@@ -7,6 +7,9 @@ use filter_diff::{Ending, Finding, RoutePart, count_undecided};
 use filter_reports::push_prefix;
 use line_protocol::push_decimal;
 use std::alloc::{AllocError, Global};
+
+/// So many parts have a line at most.
+const SHOWN_LIMIT: usize = 1_000;
 
 /// Puts the outcome of a run at the end of `out`.
 pub fn push_outcome(out: &mut Vec<u8>, end: Outcome) -> Result<(), AllocError>
@@ -168,14 +171,50 @@ fn push_last_words(
     push_several_words(out, undecided)
 }
 
-/// The lines of parts of the routes of domains of `size` nodes, and the last line, on all other routes.
+/// The parts that have a line.
+fn shown_parts(parts: &[RoutePart]) -> &[RoutePart]
+    ensures { result.now ≡ take spec.shown_limit parts.now }
+{
+    &parts[..parts.len().min(SHOWN_LIMIT)]
+}
+
+/// Puts the lines of parts at the end of `out`.
+fn push_parts(alloc: Global, out: &mut Vec<u8>, parts: &[RoutePart]) -> Result<(), AllocError>
+    ensures { OnOk result (out.new.items ≡ out.old.items ++ flat_map spec.part_line parts.now) }
+{
+    for part in parts {
+        push_part(alloc, out, part)?;
+    }
+    Ok(())
+}
+
+/// What stands before the number of the parts that have none.
+#[tactic(auto, unfolding(crate::specs::PartLines::not_shown))]
+fn not_shown() -> &'static [u8]
+    ensures { result.now ≡ spec.not_shown }
+{
+    b"parts that are not shown: "
+}
+
+/// Puts how many they are at the end of `out`, if there are some.
+fn push_hidden(out: &mut Vec<u8>, count: usize) -> Result<(), AllocError>
+    ensures { OnOk result (out.new.items ≡ out.old.items ++ spec.hidden_text count) }
+{
+    if count == 0 {
+        return Ok(());
+    }
+    out.extend_from_slice(not_shown())?;
+    push_decimal(out, count as u64)?;
+    out.push(b'\n')
+}
+
+/// The lines of parts of the routes of domains of `size` nodes, as many as are shown, and the last line, on all other routes.
 pub fn parts_text(alloc: Global, size: u32, parts: &[RoutePart]) -> Result<Vec<u8>, AllocError>
     ensures { IfOk result (λ text. text.items ≡ spec.parts_text size parts.now) }
 {
     let mut out = Vec::new(alloc);
-    for part in parts {
-        push_part(alloc, &mut out, part)?;
-    }
+    push_parts(alloc, &mut out, shown_parts(parts))?;
+    push_hidden(&mut out, parts.len().saturating_sub(SHOWN_LIMIT))?;
     push_last_words(&mut out, size, parts, count_undecided(parts))?;
     out.push(b'\n')?;
     Ok(out)
