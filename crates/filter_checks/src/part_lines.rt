@@ -205,7 +205,8 @@ fn push_hidden(out: &mut Vec<u8>, count: usize) -> Result<(), AllocError>
     }
     out.extend_from_slice(not_shown())?;
     push_decimal(out, count as u64)?;
-    out.push(b'\n')
+    out.push(b'\n')?;
+    Ok(())
 }
 
 /// The lines of parts of the routes of domains of `size` nodes, as many as are shown, and the last line, on all other routes.
