@@ -568,7 +568,7 @@ def variables_of_each_number(ncroute):
 def undecided_filters(ncroute):
     """Two masks that are compared differ on more prefixes than are tried: `diff` and `lint` try as many as they are told to, and say that."""
     masks = b"filter f { if net.ip.mask(24) = net.ip then reject; accept; }"
-    output, shown, status = on_filters(ncroute, "diff --size 250 --limit 50000", [masks, FILTER])
+    output, shown, status = on_filters(ncroute, "diff --size 250 --limit 3000", [masks, FILTER])
     lines = output.splitlines()
     counted = sum(line.startswith(b"undecided ") for line in lines) - 1
     if counted < 1 or (lines[-1], shown, status) != (b"undecided on %d parts" % counted, b"", 1 if lines[0].startswith(b"differ ") else 3):
