@@ -3,8 +3,8 @@
 
 usage: hostile.py NCROUTE [COMMAND]
 
-What is listed is the worst that was found for each command, doubled until it takes a second or meets a limit of the language. COMMAND, as `diff`,
-has it print the rows of that command alone. A run ends after LIMIT seconds of the clock, and that is said.
+What is listed is the worst that was found for each command, its size doubled until it takes a second or meets a limit of the language. COMMAND, as
+`diff`, has it print the rows of that command alone. A run ends after LIMIT seconds of the clock, and that is said.
 """
 import os
 import resource
@@ -22,16 +22,21 @@ def filter_of(body):
 
 
 def pair(before, after):
-    """A comparison of two filters that differ in this."""
-    return ["diff", "--size", "16"], [filter_of(before), filter_of(after)]
+    """A comparison of two filters that differ in this. A number among the words stands for the file of that number."""
+    return ["diff", "--size", "16", 0, 1], [filter_of(before), filter_of(after)]
+
+
+def tested(body, tests):
+    """Tests of a filter."""
+    return ["test", 1], [filter_of(body), f"filter 0.filter\nsize 16\n{tests}"]
 
 
 def lint(text):
-    return ["lint", "--size", "16"], [text]
+    return ["lint", "--size", "16", 0], [text]
 
 
 def imported(text):
-    return ["import", "--size", "16"], [text]
+    return ["import", "--size", "16", 0], [text]
 
 
 def repeated(front, middle, back, size):
@@ -48,6 +53,18 @@ def numbered(middle, size):
     return "".join(pieces)
 
 
+def histories():
+    """A script whose first hundred events open sessions and take all that is to be told in them, and that asks for them many times."""
+    events = [f"up {node}\ntake {node}\n" for node in range(1, 51)]
+    return ["run", 0], ["network 250 0\n" + "".join(events) + "history 0\n" * 500]
+
+
+def included(depth, width):
+    """A configuration that includes so many files, each of which includes as many, so deep."""
+    files = [f'include "{at + 1}.filter";\n' * width for at in range(depth)]
+    return ["import", "--size", "16", 0], [*files, "define A = 1;\n"]
+
+
 # Rows of one size: the command, what the input is, and its words and files.
 FIXED = [
     ("an address in a prefix that is longer than what is known", pair(
@@ -59,12 +76,15 @@ FIXED = [
     ("two masks, with another metric where they are equal", pair(
         "if net.ip.mask(24) = net.ip.mask(25) then rip_metric = rip_metric + 1; accept;",
         "if net.ip.mask(24) = net.ip.mask(25) then rip_metric = rip_metric + 2; accept;")),
+    ("`every` that is undecided", tested("if net.ip.mask(24) = net.ip.mask(25) then accept; accept;", "every 0.0.0.0/0+ -> accept\n" * 8)),
+    ("`history 0` of a hundred sessions and what is told in them", histories()),
+    ("files that include the next one six times, six deep", included(6, 6)),
 ]
 
 # Rows of growing inputs: the command, what the input is, its longest size, and what makes the words and files of one size.
 GROWING = [
     ("prefixes with host bits, on one line", LONGEST, lambda size: lint(
-        repeated("filter f { if net ~ [ 9.0.0.1/8", ", 9.0.0.1/8", " ] then accept; reject; }", min(size, 11_000)))),
+        "filter f { " + f"if net ~ [ {numbered('9.{0}.0.1/16, ', 1_024)} 10.0.0.0/8 ] then accept; " * (size // 1_100) + "reject; }")),
     ("`(` that are not closed", LONGEST_CONFIG, lambda size: imported(repeated("filter f { print ", "(", "", size))),
     ("declarations", LONGEST_CONFIG, lambda size: imported("filter f { " + numbered("int a{} = 1; ", size) + "accept; }")),
     ("`&&` and `||` by turns", LONGEST_CONFIG, lambda size: imported(
@@ -81,7 +101,7 @@ GROWING = [
 
 
 def run(program, words, texts):
-    """The processor time of a run in seconds, or nothing where it did not end, and the last line that it says."""
+    """The processor time of a run in seconds, or nothing where it did not end."""
     with tempfile.TemporaryDirectory() as folder:
         names = [os.path.join(folder, f"{at}.filter") for at in range(len(texts))]
         for name, text in zip(names, texts):
@@ -89,7 +109,8 @@ def run(program, words, texts):
                 out.write(text)
         before = resource.getrusage(resource.RUSAGE_CHILDREN)
         try:
-            subprocess.run([program, *words, *names], stdout=subprocess.DEVNULL, stderr=subprocess.DEVNULL, check=False, timeout=LIMIT)
+            line = [program, *(names[word] if isinstance(word, int) else word for word in words)]
+            subprocess.run(line, stdout=subprocess.DEVNULL, stderr=subprocess.DEVNULL, check=False, timeout=LIMIT)
         except subprocess.TimeoutExpired:
             return None
         after = resource.getrusage(resource.RUSAGE_CHILDREN)
@@ -113,20 +134,17 @@ def main():
         if not wanted or wanted == words[:1]:
             show(what, words, texts, run(program, words, texts))
     for what, longest, made in GROWING:
-        size, worst = 8_192, None
+        size, last = 8_192, None
         while size <= longest:
             words, texts = made(size)
             if wanted and wanted != words[:1]:
                 break
-            seconds = run(program, words, texts)
-            each = float("inf") if seconds is None else seconds / sum(len(text) for text in texts)
-            if worst is None or each > worst[0]:
-                worst = each, words, texts, seconds
-            if seconds is None or seconds > 1:
+            last = words, texts, run(program, words, texts)
+            if last[2] is None or last[2] > 1:
                 break
             size *= 2
-        if worst is not None:
-            show(what, *worst[1:])
+        if last is not None:
+            show(what, *last)
 
 
 if __name__ == "__main__":
