@@ -26,12 +26,13 @@ IsJudged size text None = (filter : FilterView) × IsFilterOf text size filter
 IsJudged size text (Some told) = IsDiagnosis size false text told
 
 -- These are parts of the routes outside of which the two codes have the same outcome; each has a route, and on each of its routes holds
--- what is found of it. None is undecided where the limit leaves out no class of routes.
+-- what is found of it. None is undecided where the limit leaves out no class of routes. Equal codes have no parts, whatever the limit is.
 pub record AreParts (old new : CodeView) (size limit : ℕ) (parts : List RoutePart) : Type 0 where
   pub complete : Cover old new size parts
   pub sound : All (IsTrueOf old new size) parts
   pub real : All (IsReal size) parts
   pub decided : IsEnough size limit → All IsDecided parts
+  pub none : old ≡ new → parts ≡ []
 
 -- what the comparison comes to
 abbrev pub compared_as : Answer → Compared
