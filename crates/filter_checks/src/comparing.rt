@@ -108,7 +108,7 @@ fn write_parts<W: Write>(
         spec.IsCutParts (stream_fault fault) old.now new.now size limit (W.contents writer.old) (W.contents writer.new)) }
 {
     let parts = find_parts(alloc, old, new, size, limit)?;
-    let text = parts_text(alloc, parts.as_slice())?;
+    let text = parts_text(alloc, size, parts.as_slice())?;
     write_text(writer, text.as_slice())?;
     Ok(compared_as(answer_of(parts.as_slice())))
 }
