@@ -20,7 +20,7 @@ from lib.routers import Run
 from lib.traffic import BLOCK, FILTERS, Churn, Drain, Flood, end_all, end_of
 
 SIZE = 8
-# Seconds: what was answered before is saved.
+# Seconds: what was answered so long before is saved.
 LATE = 1.0
 # So many runs are beside one another, since each mostly waits.
 BESIDE = 4
@@ -55,6 +55,11 @@ class Operator:
 def before(seen, when):
     """What was seen last before a time."""
     return max((count for at, count in seen if at < when), default=0)
+
+
+def longest_wait(seen):
+    """The longest time from one look to the next. A machine with more work than it can do lets this script wait, and the router's threads, too."""
+    return max((later - at for (at, _), (later, _) in zip(seen, seen[1:])), default=0.0)
 
 
 class Folder:
@@ -121,7 +126,7 @@ def killed(program, is_over, more=(), talk=(FEW, REST, 0.05)):
     try:
         threads, operator = begin(run, *talk), Operator(run)
         operator.work(is_over)
-        when = time.monotonic() - LATE
+        when = time.monotonic() - LATE - longest_wait(operator.known)
         run.kill()
         end_all(threads)
         left = Folder(run)

@@ -94,6 +94,11 @@ def begin_of(file):
     return int(re.match(r"\d+", file.name)[0])
 
 
+def is_told_closed(run):
+    """Whether the link of the neighbour that floods was closed."""
+    return "link 1: " in run.errors.read_text()
+
+
 def soak(run, counts, entries):
     """Runs until the history has so many entries."""
     one, two, three = (run.neighbours[node] for node in (1, 2, 3))
@@ -105,7 +110,7 @@ def soak(run, counts, entries):
         thread.start()
     begun, known, sizes, rounds = time.monotonic(), 0, [], 0
     print("seconds entries resident_kilobytes")
-    while known < entries and run.is_running():
+    while known < entries and run.is_running() and not is_told_closed(run):
         time.sleep(1)
         rounds += 1
         for line in (f"load far {FILTERS[rounds % 2]}", "import 1 far", "routes"):
@@ -126,7 +131,7 @@ def soak(run, counts, entries):
     else:
         print(f"not judged: memory after a minute, since the run took {taken:.0f} s")
     counts.expect("old entries are forgotten", run.ask("history 0").startswith("refused O10"), run.ask("history 0"))
-    counts.expect("the flooding link stayed up", "link 1: " not in run.errors.read_text(), run.errors.read_text()[-400:])
+    counts.expect("the flooding link stayed up", not is_told_closed(run), run.errors.read_text()[-400:])
     counts.expect("the other one came and went", churn.times >= 3, churn.times)
     print(f"{known} entries in {taken:.0f} s, {flood.lines} messages of one neighbour, {churn.times} sessions of another; "
           f"resident: {sizes[0][1]} kB at first, {max(size for _, size in sizes)} kB at most, {sizes[-1][1]} kB at last; "
@@ -140,7 +145,8 @@ def main():
     words.add_argument("--limit", type=int, default=10_000)
     words.add_argument("--save")
     chosen, counts = words.parse_args(), Counts()
-    more = ["--limit", str(chosen.limit), "--retry", "1", *(["--save", chosen.save, "--segments", "2"] if chosen.save else [])]
+    # More messages may wait than usual: on a machine with much else to do this script reads what its neighbours are told only now and then.
+    more = ["--limit", str(chosen.limit), "--queue", "100000", "--retry", "1", *(["--save", chosen.save, "--segments", "2"] if chosen.save else [])]
     run, replays = Run(named(), nodes=(1, 2, 3), size=SIZE, saves=False, more=more), None
     try:
         if chosen.save:

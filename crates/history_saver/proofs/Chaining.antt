@@ -97,7 +97,7 @@ module _ (j : JournalView) (legal : IsLegal j.opening j.entries) where
           complete_joined first t ss s.at at older.0 older.1,
           segment_follows first s.at to s.text h,
           ap (drop first) (sym (parted j.entries s.at to rising))
-          ∙ drop-append-le first (take s.at j.entries) (drop s.at (take to j.entries)) short,
+              ∙ drop-append-le first (take s.at j.entries) (drop s.at (take to j.entries)) short,
         )
 
     -- segments that are complete tell the history up to where the newest ends
@@ -157,5 +157,5 @@ pub all_told : (s : SegmentsView) (j : JournalView) (v : FolderView) → s.folde
     HasSegments s j → TellHistory s.keep j s.saved v.segments
 all_told s j v is legal all h =
     let none : h.cut ≡ [] = sym (append-nil h.cut) ∙ ap (λ (l : List ℕ). h.cut ++ l) (sym all.none_left) ∙ sym h.lines
-        ∙ ap (λ (n : ℕ). entries_text s.saved (between j.entries s.saved n)) (sym all.all) ∙ ap (entries_text s.saved) (between_none j.entries s.saved) in
+    ∙ ap (λ (n : ℕ). entries_text s.saved (between j.entries s.saved n)) (sym all.all) ∙ ap (entries_text s.saved) (between_none j.entries s.saved) in
     tell_whole j legal s.keep s.saved h.cut v.segments none (has_told s j v is legal h)

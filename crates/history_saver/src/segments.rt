@@ -115,8 +115,16 @@ impl<F: SegmentFolder + Drop> SegmentSaver<F> {
         requires limit { (1 ≤ limit) × (limit ≤ largest_limit) }
         requires empty { IfSome (F.holds folder) (λ v. v.segments ≡ []) }
         ensures value { IfOk result (λ s. s ≡
-            record { folder = s.folder; every = rotation.every; keep = rotation.keep; back = rotation.back; begun = 0; saved = 0; read = 0;
-              rest = [] }) }
+            record {
+              folder = s.folder;
+              every = rotation.every;
+              keep = rotation.keep;
+              back = rotation.back;
+              begun = 0;
+              saved = 0;
+              read = 0;
+              rest = [];
+            }) }
         ensures begun { IfOk result (λ s. (j : JournalView) → j.opening ≡ opening.now → j.limit ≡ limit → HasSegments s j) }
     {
         let mut folder = folder;
