@@ -5,6 +5,7 @@ pub mod LongQueues
 pub mod Looking
 pub mod Passes
 pub mod Running
+pub mod SavedWhole
 pub mod Serving
 pub mod Splitting
 pub mod Waiting

@@ -12,7 +12,7 @@ use Rattle.router_options.specs.PlanView.{PlanView}
 use Rattle.slot_lock.specs.Passes.{PassView, RouterView}
 use Rattle.router_daemon.specs.Passes.{IsLegalPass}
 use Rattle.router_daemon.specs.Running.{Fails, HasOperator, IsEarly, IsOpened, IsWhy, Operated, Operates}
-use Rattle.router_daemon.specs.Running.{RunsAsOne, RunsOperator, Saves, Saving, SavesTo, asked_for, operator_of}
+use Rattle.router_daemon.specs.Running.{RunsAsOne, RunsOperator, Saves, SavesTo, asked_for, operator_of}
 use Rattle.router_daemon.specs.Uses.{BeginsWithFilters}
 use Rattle.router_daemon.specs.declared.fault.DaemonFault.{DaemonFault}
 use Rattle.router_daemon.specs.declared.fault.DaemonFault.TheVariants as fault
@@ -64,22 +64,22 @@ ran_fails operates untouched answered fault.NotStarted served is = absurd is
 ran_fails operates untouched answered fault.Memory served is = absurd is
 
 -- a history that begins with some entries begins with none
-from_none : (r : RouterView) (entries : List Entry) (how : Option Saving) (saved : Option SegmentsView) → SavesTo r entries how saved →
-    SavesTo r [] how saved
+from_none : (r : RouterView) (entries : List Entry) (most : Option (Option ℕ)) (saved : Option SegmentsView) → SavesTo r entries most saved →
+    SavesTo r [] most saved
 from_none r entries None None h = tt
-from_none r entries (Some how) (Some s) (p, h) = (
+from_none r entries (Some most) (Some s) (p, h) = (
   p,
   record {
     legal = h.legal;
     begins = record { rest = p.fragment.seen; is = refl };
-    is_saved = h.is_saved;
+    keeps = h.keeps;
     whole = h.whole;
     none_left = h.none_left;
     has = h.has;
   },
 )
 from_none r entries None (Some s) h = absurd h
-from_none r entries (Some how) None h = absurd h
+from_none r entries (Some most) None h = absurd h
 
 -- The router is opened as the plan says, and the pass of who opened it has set the filters.
 module _ (plan : PlanView) (names : Names) (r : RouterView) (first : PassView) (nodes : List ℕ) (known left held holds : Option (List ℕ))
@@ -126,22 +126,22 @@ module _ (plan : PlanView) (names : Names) (r : RouterView) (first : PassView) (
 
   -- How the operator's lines ended is an end `o`, which has an answer and a pass.
   module _ {O : Type 0} (answered_of : O → Result ℕ StreamFault) (pass_of : O → PassView) where
-    pub run_is_one : (ran : Result O AllocError) (refused : ℕ) (begun : Option Saving) (saved : Option SegmentsView) → begun ≡ asked_for plan given →
+    pub run_is_one : (ran : Result O AllocError) (refused : ℕ) (begun : Option (Option ℕ)) (saved : Option SegmentsView) → begun ≡ asked_for plan given →
         IfOk ran (λ o. Kept (answered_of o) (pass_of o)) →
         IsOkAnd ran (λ o. (answered_of o ≡ Ok refused) × SavesTo r (pass_of o).fragment.seen begun saved) →
         IfSome known (λ input. RunsAsOne plan names given saved refused input left held holds)
     run_is_one (Ok o) refused begun saved same h (is, saves) =
         as_one (answered_of o) refused (pass_of o) saved is
-        (subst (λ (f : Option Saving). SavesTo r (pass_of o).fragment.seen f saved) same saves) h
+        (subst (λ (f : Option (Option ℕ)). SavesTo r (pass_of o).fragment.seen f saved) same saves) h
     run_is_one (Err why) refused begun saved same h ends = absurd ends
 
-    pub run_saves : (ran : Result O AllocError) (refused : ℕ) (begun : Option Saving) (saved : Option SegmentsView) → begun ≡ asked_for plan given →
+    pub run_saves : (ran : Result O AllocError) (refused : ℕ) (begun : Option (Option ℕ)) (saved : Option SegmentsView) → begun ≡ asked_for plan given →
         IsOkAnd ran (λ o. (answered_of o ≡ Ok refused) × SavesTo r (pass_of o).fragment.seen begun saved) → Saves plan given saved
     run_saves (Ok o) refused begun saved same (is, saves) = (
       r,
       is_opened,
       from_none r (pass_of o).fragment.seen (asked_for plan given) saved
-          (subst (λ (f : Option Saving). SavesTo r (pass_of o).fragment.seen f saved) same saves),
+          (subst (λ (f : Option (Option ℕ)). SavesTo r (pass_of o).fragment.seen f saved) same saves),
     )
     run_saves (Err why) refused begun saved same ends = absurd ends
 

@@ -1,5 +1,5 @@
 -- How a router is run. (This project's own choice.)
-use Rattle.std.specs.Prelude.{◌≡◌, ℕ, Bool, true, List, [], length, map, Option, Some, None, is_some, Result, Ok, Err, ⊤}
+use Rattle.std.specs.Prelude.{◌≡◌, ℕ, true, List, [], length, map, Option, Some, None, Result, Ok, Err, ⊤}
 use Rattle.std.specs.Option.{option_map}
 use Rattle.history_saver.specs.Folders.{FolderView}
 use Rattle.history_saver.specs.Looking.{seen_by}
@@ -58,35 +58,28 @@ abbrev pub Operated : PlanView → Names → Result ℕ StreamFault → List ℕ
 Operated plan names answered input left held holds =
     (r : RouterView) × (now : PassView) × RunsOperator plan names answered input left held holds r now
 
--- how a history is saved: how many segments are kept at least, and all where none is said; and whether it is known what the folder holds
-pub record Saving : Type 0 where
-  pub keep : Option ℕ
-  pub is_known : Bool
-
-abbrev pub saving_as : Option ℕ → Option FolderView → Saving
-saving_as keep folder = record { keep = keep; is_known = is_some folder }
-
-abbrev pub saving_of : SegmentsView → Saving
-saving_of s = saving_as s.keep s.folder
+-- how many segments a saver keeps at least, and all where none is said
+abbrev pub keep_of : SegmentsView → Option ℕ
+keep_of s = s.keep
 
 -- A folder has, in segments, the whole of what a pass of the router has seen, and nothing behind it: a legal history, which begins with these entries.
-pub record HasWhole (r : RouterView) (entries : List Entry) (how : Saving) (p : PassView) (s : SegmentsView) : Type 0 where
+pub record HasWhole (r : RouterView) (entries : List Entry) (most : Option ℕ) (p : PassView) (s : SegmentsView) : Type 0 where
   pub legal : IsLegalPass r p
   pub begins : Begins entries p.fragment.seen
-  pub is_saved : saving_of s ≡ how
+  pub keeps : s.keep ≡ most
   pub whole : s.saved ≡ length p.fragment.seen
   pub none_left : s.rest ≡ []
   pub has : HasSegments s (seen_by r p)
 
--- a history is saved if and only if that is asked for
-abbrev pub SavesTo : RouterView → List Entry → Option Saving → Option SegmentsView → Type 0
+-- a history is saved if and only if that is asked for, with so many segments
+abbrev pub SavesTo : RouterView → List Entry → Option (Option ℕ) → Option SegmentsView → Type 0
 SavesTo r entries None None = ⊤
-SavesTo r entries (Some how) (Some s) = (p : PassView) × HasWhole r entries how p s
+SavesTo r entries (Some most) (Some s) = (p : PassView) × HasWhole r entries most p s
 SavesTo r entries _ _ = ⊥
 
--- how a plan has a history saved, in a folder of which this is known, if there is one
-abbrev pub asked_for : PlanView → Option (Option FolderView) → Option Saving
-asked_for plan given = option_map (λ folder. saving_as plan.segments folder) given
+-- a plan asks for so many segments, where there is a folder for them
+abbrev pub asked_for : PlanView → Option (Option FolderView) → Option (Option ℕ)
+asked_for plan given = option_map (λ _. plan.segments) given
 
 -- the history that is saved is of a router that was opened as a plan says
 abbrev pub Saves : PlanView → Option (Option FolderView) → Option SegmentsView → Type 0

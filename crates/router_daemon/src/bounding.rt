@@ -2,17 +2,16 @@
 ghost use Rattle.std.specs.Prelude.{◌≡◌, ◌≤◌};
 ghost use Rattle.std.specs.Option.{option_map};
 ghost use Rattle.slot_lock.specs.Passes.{IsPassOf};
-ghost use Rattle.router_daemon.specs.Running.{saving_of};
+ghost use Rattle.router_daemon.specs.Running.{keep_of};
 
 use crate::forgetting::{Forgetter, slack_of};
 use crate::naming::Ticket;
-use crate::queues::close_long_queues;
+use crate::queues::{LOOK, close_long_queues};
 use crate::retrying::next_wait;
 use crate::shared::Shared;
 use crate::signals::Closing;
 use crate::telling::{tell_saved, tell_unsaved};
 use history_saver::{SaveFault, SegmentFolder};
-use route_history::CHUNK;
 use router_operator::Naming;
 use slot_lock::Pass;
 use std::alloc::Global;
@@ -63,7 +62,7 @@ fn await_entries<R: Wait + Clock, J: Naming, E: Write>(
     saves: bool,
 ) -> Option<Closing> {
     let slack = slack_of(limit);
-    let due = looked.saturating_add(u64::from((slack / 2).min(CHUNK as u32)));
+    let due = looked.saturating_add(u64::from(slack / 2).min(LOOK));
     let end = looked.saturating_add(u64::from(slack));
     shared.signals.make_room(rt, Some(end));
     if !saves {
@@ -104,21 +103,22 @@ fn state_after<R: Wait, J: Naming, E: Write>(
     before: State,
     turned: Result<u64, SaveFault>,
 ) -> State {
-    let mut errors = shared.errors.lock(rt);
-    match (turned, before) {
-        (Ok(looked), State::Bounded(_)) => State::Bounded(looked),
-        (Ok(looked), State::Failing { .. }) => {
+    match (before, turned) {
+        (State::Bounded(_), Ok(looked)) => State::Bounded(looked),
+        (State::Failing { .. }, Ok(looked)) => {
+            let mut errors = shared.errors.lock(rt);
             tell_saved(alloc, &mut *errors);
             State::Bounded(looked)
         }
-        (Err(fault), State::Bounded(_)) => {
+        (State::Bounded(_), Err(fault)) => {
+            let mut errors = shared.errors.lock(rt);
             tell_unsaved(alloc, &mut *errors, fault);
             State::Failing {
                 wait: REST,
                 left: REST,
             }
         }
-        (Err(_), State::Failing { wait, .. }) => {
+        (State::Failing { wait, .. }, Err(_)) => {
             let wait = next_wait(REST, Some(wait), MINUTE);
             State::Failing { wait, left: wait }
         }
@@ -134,7 +134,7 @@ fn turn<R: Wait, F: SegmentFolder + Drop, J: Naming, E: Write>(
     state: State,
     is_closing: bool,
 ) -> State
-    ensures { option_map saving_of forgetter.new.saver ≡ option_map saving_of forgetter.old.saver }
+    ensures { option_map keep_of forgetter.new.saver ≡ option_map keep_of forgetter.old.saver }
 {
     match state {
         State::Failing { wait, left } if left > SECOND && !is_closing => State::Failing {
@@ -158,7 +158,7 @@ fn bound<R: Wait + Clock, F: SegmentFolder + Drop, J: Naming, E: Write>(
     most: MostInMemory,
 ) -> Closing
     requires { IsPassOf J.router pass.old }
-    ensures { option_map saving_of forgetter.new.saver ≡ option_map saving_of forgetter.old.saver }
+    ensures { option_map keep_of forgetter.new.saver ≡ option_map keep_of forgetter.old.saver }
 {
     let saves = forgetter.saves();
     let mut state = State::Bounded(0);
@@ -188,7 +188,7 @@ pub(crate) fn bound_memory<
     ticket: Ticket<J>,
     most: MostInMemory,
 ) -> Forgetter<F, J>
-    ensures { option_map saving_of result.saver ≡ option_map saving_of forgetter.saver }
+    ensures { option_map keep_of result.saver ≡ option_map keep_of forgetter.saver }
 {
     let mut pass = ticket.pass();
     bound(&rt, alloc, &shared, &mut forgetter, &mut pass, most);

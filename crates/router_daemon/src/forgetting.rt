@@ -5,13 +5,13 @@ ghost use Rattle.operator_cmds.specs.Limits.{largest_limit};
 ghost use Rattle.slot_lock.specs.Passes.{IsNew};
 ghost use Rattle.router_daemon.specs.Forgetting as spec;
 ghost use Rattle.router_daemon.specs.Passes.{IsLegalPass};
-ghost use Rattle.router_daemon.specs.Running.{SavesTo, saving_as, saving_of};
+ghost use Rattle.router_daemon.specs.Running.{SavesTo, keep_of};
 
 use crate::naming::Ticket;
 use crate::shared::Shared;
 use history_saver::{Rotation, SaveFault, SegmentFolder, SegmentSaver};
 use netchange_core::Opening;
-use route_history::{CHUNK, LongJournal};
+use route_history::{CHUNK, LongJournal, beginnings_are_legal};
 use router_operator::Naming;
 use slot_lock::{Observer, Right};
 use std::alloc::Global;
@@ -21,7 +21,8 @@ use std::snapshot::Snapshot;
 use std::sync::Wait;
 use std::thread::Promise;
 
-/// A new segment begins after about so many entries: then a segment is read back with no more memory than a journal of the largest limit.
+/// A new segment begins after about so many entries, as many as a journal has at most: some tens of megabytes of lines, beside which the state that
+/// comes before them is small.
 const SEGMENT: u64 = 1_000_000;
 
 /// How many entries are always kept of those that there is room for: the last half of them, less half of as many as are forgotten at once.
@@ -106,7 +107,7 @@ fn begin_saving<F: SegmentFolder + Drop>(
 ) -> Result<Option<SegmentSaver<F>>, SaveFault>
     requires limit { (1 ≤ limit) × (limit ≤ largest_limit) }
     requires empty { IfSome save (λ folder. IfSome (F.holds folder) (λ v. v.segments ≡ [])) }
-    ensures how { IfOk result (λ saver. option_map saving_of saver ≡ option_map (λ folder. saving_as rotation.keep (F.holds folder)) save) }
+    ensures how { IfOk result (λ saver. option_map keep_of saver ≡ option_map (λ _. rotation.keep) save) }
     ensures begun { IfOk result (λ saver. IfSome saver (spec.HasBegun opening.now limit rotation.back)) }
 {
     match save {
@@ -132,7 +133,7 @@ impl<F: SegmentFolder + Drop, J: Naming> Forgetter<F, J> {
         requires opened { (J.router.opening ≡ opening.now) × (J.router.limit ≡ limit) × (J.router.endless ≡ true) }
         requires limit { (1 ≤ limit) × (limit ≤ largest_limit) }
         requires empty { IfSome save (λ folder. IfSome (F.holds folder) (λ v. v.segments ≡ [])) }
-        ensures how { IfOk result (λ f. option_map saving_of f.saver ≡ option_map (λ folder. saving_as segments (F.holds folder)) save) }
+        ensures how { IfOk result (λ f. option_map keep_of f.saver ≡ option_map (λ _. segments) save) }
         ensures kept { IfOk result (λ f. f.kept ≡ spec.kept_of limit) }
     {
         let kept = kept_of(limit);
@@ -165,7 +166,7 @@ impl<F: SegmentFolder + Drop, J: Naming> Forgetter<F, J> {
         alloc: Global,
         shared: &Shared<J, E>,
     ) -> Result<u64, SaveFault>
-        ensures how { option_map saving_of self.new.saver ≡ option_map saving_of self.old.saver }
+        ensures how { option_map keep_of self.new.saver ≡ option_map keep_of self.old.saver }
         ensures kept { self.new.kept ≡ self.old.kept }
         ensures saved { IfOk result (λ n. IfSome self.new.saver (λ s. s.saved ≡ n)) }
         ensures forgets { IfOk result (λ n. spec.Forgets self.new.kept n self.old.right self.new.right) }
@@ -184,7 +185,7 @@ impl<F: SegmentFolder + Drop, J: Naming> Forgetter<F, J> {
         shared: &Shared<J, E>,
         other: Ticket<J>,
     ) -> Result<Option<SegmentSaver<F>>, SaveFault>
-        ensures { IfOk result (SavesTo J.router other.pass.fragment.seen (option_map saving_of self.saver)) }
+        ensures { IfOk result (SavesTo J.router other.pass.fragment.seen (option_map keep_of self.saver)) }
     {
         let Forgetter {
             saver,
@@ -195,6 +196,12 @@ impl<F: SegmentFolder + Drop, J: Naming> Forgetter<F, J> {
             return Ok(None);
         };
         shared.router.meet_with_right(&mut right, other.pass());
+        // What the other has seen is legal, and no clause of its pass says so: a look does.
+        let mut counting = Counting { end: 0 };
+        shared
+            .router
+            .observe_with_right(rt, &mut right, &mut counting);
+        beginnings_are_legal();
         match saver.save(rt, alloc, &shared.router, &mut right) {
             Ok(_) => Ok(Some(saver)),
             Err(fault) => Err(fault),
@@ -209,7 +216,7 @@ pub(crate) struct AsBegun<F: SegmentFolder, J: Naming>(pub(crate) Snapshot<Forge
 impl<F: SegmentFolder, J: Naming> Promise<Forgetter<F, J>> for AsBegun<F, J> {
     ghost use Rattle.std.specs.Prelude.{◌≡◌};
     ghost use Rattle.std.specs.Option.{option_map};
-    ghost use Rattle.router_daemon.specs.Running.{saving_of};
+    ghost use Rattle.router_daemon.specs.Running.{keep_of};
 
-    ghost kept_by = { λ p f. option_map saving_of f.saver ≡ option_map saving_of p.0.value.saver };
+    ghost kept_by = { λ p f. option_map keep_of f.saver ≡ option_map keep_of p.0.value.saver };
 }

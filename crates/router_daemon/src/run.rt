@@ -3,7 +3,7 @@ ghost use Rattle.std.specs.Prelude.{◌≡◌, [], IfErr, IfOk, IfSome, IsOkAnd,
 ghost use Rattle.std.specs.Option.{option_map};
 ghost use Rattle.router_daemon.specs.Passes.{IsLegalPass};
 ghost use Rattle.router_daemon.specs.Running as spec;
-ghost use Rattle.router_daemon.specs.Running.{HasOperator, IsEarly, IsOpened, SavesTo, saving_of};
+ghost use Rattle.router_daemon.specs.Running.{HasOperator, IsEarly, IsOpened, SavesTo, keep_of};
 ghost use Rattle.router_daemon.specs.Uses.{BeginsWithFilters};
 ghost use Rattle.slot_lock.specs.Passes.{IsNew};
 ghost use Rattle.router_daemon.specs.declared.fault.DaemonFault.TheVariants as fault;
@@ -43,7 +43,7 @@ fn begin_forgetting<S: SegmentFolder + Drop, J: Naming>(
     requires new { IsNew J.router 1 right }
     requires is_opened { IsOpened plan.now J.router }
     requires empty { IfSome save (λ folder. IfSome (S.holds folder) (λ v. v.segments ≡ [])) }
-    ensures how { IfOk result (λ forgetter. option_map saving_of forgetter.saver
+    ensures how { IfOk result (λ forgetter. option_map keep_of forgetter.saver
         ≡ spec.asked_for plan.now (option_map (λ folder. S.holds folder) save)) }
     ensures early { IfErr result IsEarly }
 {
@@ -74,7 +74,7 @@ fn end_saving<R: Wait, S: SegmentFolder + Drop, J: Naming, E: Write>(
     forgetter: Forgetter<S, J>,
     ticket: Ticket<J>,
 ) -> Result<Option<SegmentSaver<S>>, SaveFault>
-    ensures { IfOk result (SavesTo J.router ticket.pass.fragment.seen (option_map saving_of forgetter.saver)) }
+    ensures { IfOk result (SavesTo J.router ticket.pass.fragment.seen (option_map keep_of forgetter.saver)) }
 {
     let saved = forgetter.finish(rt, alloc, shared, ticket);
     if let Err(fault) = &saved {
@@ -153,7 +153,7 @@ fn end_run<R: Threads + Wait, S: SegmentFolder + Drop, J: Naming, E: Write>(
     ran: Result<OperatorEnd<J>, AllocError>,
 ) -> Result<RouterEnd<S>, DaemonFault>
     ensures ok { IfOk result (λ end. IsOkAnd ran (λ operated. (operated.answered ≡ Ok end.refused)
-        × SavesTo J.router operated.ticket.pass.fragment.seen (option_map saving_of bounding.promise.0.value.saver) end.saved)) }
+        × SavesTo J.router operated.ticket.pass.fragment.seen (option_map keep_of bounding.promise.0.value.saver) end.saved)) }
     ensures err { IfErr result (λ why. MatchResult ran (λ operated. spec.IsWhy operated.answered why) (λ _. why ≡ fault.Memory)) }
 {
     let forgetter = bounding.join(rt);
