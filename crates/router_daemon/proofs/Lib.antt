@@ -1,7 +1,6 @@
 pub mod Entering
 pub mod KeptEntries
 pub mod Lines
-pub mod LongQueues
 pub mod Looking
 pub mod Passes
 pub mod Running
