@@ -162,7 +162,7 @@ pub(crate) fn close_long_queues<R: Wait, J: Naming, E: Write>(
     let mut from = 0;
     for _ in 0..shared.nodes.len() {
         match close_first(rt, alloc, shared, pass, most, from) {
-            Some(link) => from = link + 1,
+            Some(link) => from = link.saturating_add(1),
             None => return,
         }
     }
