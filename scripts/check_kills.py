@@ -2,7 +2,7 @@
 """Kills `ncroute router --save FOLDER` 200 times at random moments, while one neighbour talks, one comes and goes, and the operator asks and
 replaces a filter; and sees what is left in FOLDER: `ncroute replay` finds all replies right, but for the front of a line at the end of the last
 file, and the entries that the operator knew of a second before are there. Some more runs are longer: there segments are begun and the oldest
-are removed. In one the disk is full for a while. Prints a line for each run where this does not hold, and at last 'N passed, M failed'.
+are removed. Prints a line for each run where this does not hold, and at last 'N passed, M failed'.
 
 usage: NCROUTE=PATH scripts/check_kills.py [RUNS [LONG [SEED]]]     (PATH: the program; 200 runs and 10 long ones, of seed 1)
 """
@@ -10,8 +10,6 @@ import concurrent.futures
 import pathlib
 import random
 import re
-import resource
-import signal
 import subprocess
 import sys
 import time
@@ -30,8 +28,6 @@ BESIDE = 4
 FEW, REST = b"3 0\n4 2\n3 1\n4 3\n" * 20, 0.005
 # Seconds: no long run takes longer.
 LONGEST = 90.0
-# Where no file may be longer than this the disk is full. A few entries fill it.
-FULL = 50_000
 # Behind this come the entries of a segment.
 STATE_END = b"\n.\n"
 
@@ -152,39 +148,6 @@ def long_run(program, entries):
     return killed(program, lambda known: known >= entries or time.monotonic() - begun > LONGEST, ("--segments", "2"), (BLOCK, 0.0, 0.5))
 
 
-def fill():
-    """No file may be longer than a little: then the disk is full. The limit can be raised again."""
-    signal.signal(signal.SIGXFSZ, signal.SIG_IGN)
-    resource.setrlimit(resource.RLIMIT_FSIZE, (FULL, resource.RLIM_INFINITY))
-
-
-def full_disk(program, counts):
-    """The disk is full for a while: nothing is forgotten that is not saved, and all of it is saved once there is room."""
-    run = Run(program, nodes=(1, 2, 3), size=SIZE, more=("--limit", "5000", "--retry", "1"), prepare=fill)
-    try:
-        threads, operator = begin(run, FEW, REST, 0.5), Operator(run)
-        operator.work(lambda known: "(E2)" in run.said("", patience=0))
-        counts.expect("full disk: told", "history: " in run.said("", patience=0), run.said("", patience=0))
-        saved = Folder(run).end()
-        answer = run.asks_until("show 0", "^refused J1 5000$")
-        counts.expect("full disk: the room is full", answer == "refused J1 5000", answer)
-        counts.expect("full disk: no file is longer", Folder(run).end() == saved, Folder(run).end())
-        answer = run.ask(f"history {saved}")
-        counts.expect("full disk: what is not saved is in memory", answer.startswith(f"history {saved} "), answer[:100])
-        resource.prlimit(run.process.pid, resource.RLIMIT_FSIZE, (resource.RLIM_INFINITY, resource.RLIM_INFINITY))
-        answer = run.asks_until("show 0", "^route ")
-        counts.expect("full disk: the router goes on", answer == "route 0 local", answer)
-        known = end_of(run, saved)
-        answer = run.quit()
-        counts.expect("full disk: quit", answer == ("ok", 0), answer)
-        end_all(threads)
-        left = Folder(run)
-        counts.judge("full disk", left.fault())
-        counts.expect("full disk: all is saved", not left.is_cut and left.end() >= known, (left.end(), known))
-    finally:
-        run.close()
-
-
 def main(runs=200, long_runs=10, seed=1):
     program, counts, chosen = built(), Counts(), random.Random(seed)
     times = [chosen.uniform(0, 2.5) for _ in range(runs)]
@@ -199,7 +162,6 @@ def main(runs=200, long_runs=10, seed=1):
         counts.judge(f"long run {number}, after {entries} entries", wrong)
         cut, later, removed = cut + left.is_cut, later + (left.end() > 1_000_000), removed + (left.first() > 0)
     print(f"{cut} of {runs + long_runs} were cut within a line; of the long ones {later} had a second segment, and {removed} had removed one")
-    full_disk(program, counts)
     counts.finish()
 
 
