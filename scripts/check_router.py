@@ -201,7 +201,8 @@ class Rows(SizeRows):
             self.judge("2 is served all the while", is_served, turn)
             more = run.kilobytes("VmHWM") - before
             most = memory_of(2, MOST_WAITING, LEAST_ROOM) + SLACK
-            print(f"reads too slowly: {more} kB more memory, of {most} kB", file=sys.stderr)
+            sizes = [segment.stat().st_size for segment in run.segments()]
+            print(f"reads too slowly: {more} kB more memory, of {most} kB; segments of {sizes} bytes", file=sys.stderr)
             self.judge("memory", more <= most, more)
             told = re.findall(r"link 1: (\d+) messages wait: closed\n", run.said("messages wait"))
             self.judge("says once", len(told) == 1 and int(told[0]) > MOST_WAITING, run.said("", patience=0))
