@@ -19,17 +19,15 @@ import time
 from lib.processes import open_files
 from lib.program import built
 from lib.routers import Run
-from lib.traffic import Drain
-from router_sizes import SizeRows
+from router_sizes import MAY_WAIT, SizeRows
 
 GIGABYTE = 1 << 30
 
 # What a line without an end may cost: the bytes that are taken of it beyond those that a FIFO holds, and kilobytes of memory.
 MOST_TAKEN, MOST_MEMORY = 1 << 16, 4096
 
-# The least room for entries, and how many messages may wait for a neighbour that never reads. In how many parts how many blocks of how many changes
-# are told meanwhile, each in so many seconds at least, so that a neighbour that reads keeps up with them.
-LEAST_ROOM, MOST_WAITING, PARTS, BLOCKS, BLOCK, PAUSE = 2_048, 20_000, 10, 200, 500, 0.001
+# The least room for entries, and how many messages may wait for a neighbour that never reads. How often how many changes are told meanwhile.
+LEAST_ROOM, MOST_WAITING, BLOCKS, BLOCK = 2_048, 1_000, 2_000, 500
 
 # How many changes there are at most between two looks at what waits, and how many kilobytes of memory more than those of queues and entries are no
 # matter.
@@ -170,7 +168,7 @@ class Rows(SizeRows):
 
     def row_never_read(self):
         """Node 1 hears nothing while node 2 changes its mind 40,000 times. So many messages may wait for it, and it stays up."""
-        with Run(self.program, more=("--queue", "100000")) as run:
+        with Run(self.program, more=MAY_WAIT) as run:
             one, two = run.neighbours[1], run.neighbours[2]
             one.come()
             self.judge("1 is up", "1:" in run.asks_until("neighbours", " 1:"))
@@ -188,31 +186,28 @@ class Rows(SizeRows):
             self.judge("each was entered", int(said.split()[-1]) > 40000, said)
 
     def row_reads_too_slowly(self):
-        """Node 1 greets and never reads, while node 2 changes its mind a million times and reads what it is told: link 1 is closed and told, its Down
-        is entered, though its writer hangs in a write. What waits is bounded, and so is memory; node 2 is served all the while."""
+        """Node 1 greets and never reads, while node 2 changes its mind a million times, and waits now and then until it is told of that: link 1 is
+        closed and told, its Down is entered, though its writer hangs in a write. What waits is bounded, and so is memory; node 2 is served."""
         with Run(self.program, more=("--queue", str(MOST_WAITING), "--limit", str(LEAST_ROOM))) as run:
             one, two = run.neighbours[1], run.neighbours[2]
             one.come()
             self.judge("1 is up", " 1:" in run.asks_until("neighbours", " 1:"))
             self.serve_two(run)
-            drain = Drain(two)
-            drain.start()
-            before = run.kilobytes("VmHWM")
-            for part in range(PARTS):
-                for _ in range(BLOCKS):
-                    two.say(b"3 0\n3 1\n" * (BLOCK // 2))
-                    time.sleep(PAUSE)
-                two.say(b"4 %d\n" % (part % 2))
-                self.judge("2 is served", run.routes_until(4, f"{part % 2 + 1}:2"), part)
+            before, turn, is_served = run.kilobytes("VmHWM"), 0, True
+            while is_served and turn < BLOCKS:
+                two.told, turn = b"", turn + 1
+                two.say(b"3 0\n3 1\n" * (BLOCK // 2) + b"4 %d\n" % (turn % 2))
+                is_served = two.hear(b"\n4 %d\n" % (turn % 2 + 1))
+            self.judge("2 is served all the while", is_served, turn)
             more = run.kilobytes("VmHWM") - before
             most = memory_of(2, MOST_WAITING, LEAST_ROOM) + SLACK
-            print(f"reads too slowly: {more} kB more memory, of {most} kB", file=sys.stderr)
+            sizes = [segment.stat().st_size for segment in run.segments()]
+            print(f"reads too slowly: {more} kB more memory, of {most} kB; segments of {sizes} bytes", file=sys.stderr)
             self.judge("memory", more <= most, more)
             told = re.findall(r"link 1: (\d+) messages wait: closed\n", run.said("messages wait"))
             self.judge("says once", len(told) == 1 and int(told[0]) > MOST_WAITING, run.said("", patience=0))
             self.judge("1 is down", run.ask("neighbours") == "neighbours 2:2", run.ask("neighbours"))
             self.end(run)
-            drain.join()
             downs = [entry for entry in run.saved() if " down 1 done " in entry]
             self.judge("its Down is entered", len(downs) == 1, downs)
 
@@ -364,7 +359,7 @@ class Rows(SizeRows):
         def prepare():
             signal.signal(signal.SIGXFSZ, signal.SIG_IGN)
             resource.setrlimit(resource.RLIMIT_FSIZE, (4096, 4096))
-        with Run(self.program, prepare=prepare) as run:
+        with Run(self.program, more=MAY_WAIT, prepare=prepare) as run:
             self.serve_two(run)
             run.neighbours[2].say(b"3 0\n3 1\n" * 1000 + b"4 0\n")
             self.judge("2 is served", run.asks_until("show 4", "via 2") == "route 1 via 2")

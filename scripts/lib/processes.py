@@ -85,7 +85,7 @@ class Process:
 
 
 class Router(Process):
-    """A process of `ncroute router`. `links` has for each neighbour the files that the router reads and writes, `history` is where it saves: a folder."""
+    """A process of `ncroute router`. `links` has the files that it reads and writes for each neighbour, `history` is the folder where it saves."""
 
     def __init__(self, program, size, node, links, history=None, options=(), **more):
         self.program, self.history = program, history

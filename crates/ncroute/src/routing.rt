@@ -227,7 +227,11 @@ fn set_up<'a, F: Folder + HistoryFolders, R: Read, W: Write, E: Write>(
 }
 
 /// Leaves the folder of a name in which a history is saved, if one is named and there is one.
-fn leave_save<F: HistoryFolders>(files: &F, save: &Option<String>, saver: Option<SegmentSaver<F::Segments>>)
+fn leave_save<F: HistoryFolders>(
+    files: &F,
+    save: &Option<String>,
+    saver: Option<SegmentSaver<F::Segments>>,
+)
     ensures { spec.LeavesSave (F.keeps files.now) save.now saver }
 {
     if let (Some(name), Some(saver)) = (save, saver) {

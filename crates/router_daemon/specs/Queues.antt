@@ -36,7 +36,7 @@ pub record IsLong (most : ℕ) (w : World) (nodes : List ℕ) (q : LongQueue) : 
 -- it is the first such link from one on
 pub record IsFirstLong (most : ℕ) (w : World) (nodes : List ℕ) (from : ℕ) (q : LongQueue) : Type 0 where
   pub long : IsLong most w nodes q
-  pub from : from ≤ q.link
+  pub on : from ≤ q.link
   pub before : NoneLong most w nodes from q.link
 
 -- the first one was found, or there is none

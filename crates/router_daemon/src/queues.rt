@@ -1,5 +1,5 @@
 //! Who reads slower than it is told is not waited for: where more messages wait for a neighbour than may, its session is ended.
-ghost use Rattle.std.specs.Prelude.{◌≡◌, ◌≤◌, IfSome, MatchOption, None, Some, false};
+ghost use Rattle.std.specs.Prelude.{◌≡◌, ◌<◌, ◌≤◌, IfSome, MatchOption, Some, false, true};
 ghost use Rattle.netchange_core.specs.Calls.{session_of};
 ghost use Rattle.route_history.specs.Beginning.{Begins};
 ghost use Rattle.slot_lock.specs.Passes.{IsPassOf};
@@ -33,6 +33,14 @@ pub(crate) struct LongQueue {
     waiting: usize,
 }
 
+/// How many messages wait for a node of the domain.
+fn waiting_for(tables: &Tables, node: u16) -> usize
+    requires { node < tables.now.opening.size }
+    ensures { result ≡ spec.waiting_for tables.now node }
+{
+    tables.neighbour(node).queue.len()
+}
+
 /// A link to a node, if it is up and more messages wait for it than may.
 fn long_queue(tables: &Tables, link: usize, node: u16, most: u32) -> Option<LongQueue>
     ensures { MatchOption result (spec.is_long most tables.now node ≡ false)
@@ -40,7 +48,7 @@ fn long_queue(tables: &Tables, link: usize, node: u16, most: u32) -> Option<Long
         × (q.waiting ≡ spec.waiting_for tables.now node) × (spec.is_long most tables.now node ≡ true)) }
 {
     let session = tables.present_session(node)?;
-    let waiting = tables.neighbour(node).queue.len();
+    let waiting = waiting_for(tables, node);
     if waiting <= most as usize {
         return None;
     }
@@ -99,7 +107,7 @@ fn end_first<R: Wait, J: Naming, E: Write>(
     requires { IsPassOf J.router pass.old }
     ensures of { IsPassOf J.router pass.new }
     ensures looks { Begins pass.old.fragment.seen pass.new.fragment.seen × (pass.new.fragment.mine ≡ pass.old.fragment.mine) }
-    ensures ends { spec.EndsFirst J.router most shared.now.nodes.items from result pass.new }
+    ensures ends { spec.EndsFirst shared.now.router most shared.now.nodes.items from result pass.new }
 {
     let mut finding = Finding {
         nodes: shared.nodes.as_slice(),
@@ -154,7 +162,7 @@ pub(crate) fn close_long_queues<R: Wait, J: Naming, E: Write>(
     let mut from = 0;
     for _ in 0..shared.nodes.len() {
         match close_first(rt, alloc, shared, pass, most, from) {
-            Some(link) => from = link + 1,
+            Some(link) => from = link.saturating_add(1),
             None => return,
         }
     }
