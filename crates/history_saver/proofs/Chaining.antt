@@ -69,7 +69,7 @@ module _ (j : JournalView) (legal : IsLegal j.opening j.entries) where
   }
 
   -- where the oldest of these begins, before which come no others
-  first_of : List Segment → ℕ → ℕ
+  abbrev first_of : List Segment → ℕ → ℕ
   first_of [] to = to
   first_of (s ∷ ss) to = first_of ss s.at
 
