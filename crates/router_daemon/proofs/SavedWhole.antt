@@ -1,5 +1,6 @@
 -- A history is saved whole, at least as far as another pass has seen it.
-use Rattle.std.proofs.Common.{◌≡◌, ◌∙◌, sym, ap, subst, Option, ℕ, zero, suc, ◌+◌, ◌-◌, ◌<◌, ◌≤◌, max, true, List, [], ◌∷◌, ◌++◌, append_assoc, length, take, drop, arith}
+use Rattle.std.proofs.Common.{◌≡◌, ◌∙◌, sym, ap, subst, Option, Some, None, ℕ, zero, suc, ◌+◌, ◌-◌, ◌<◌, ◌≤◌, max, true, List, [], ◌∷◌, ◌++◌, append_assoc, length, take, drop, arith}
+use Rattle.std.specs.Prelude.{IfSome}
 use Rattle.std.proofs.lemmas.List.{length-take-le, take-append-drop}
 use Rattle.history_saver.proofs.Fronts.{has_front, has_still}
 use Rattle.history_saver.specs.Looking.{Looks, seen_by}
@@ -10,15 +11,36 @@ use Rattle.route_history.specs.Beginning.{Begins}
 use Rattle.route_history.specs.History.{IsLegal}
 use Rattle.route_history.specs.declared.entry.Entry.{Entry}
 use Rattle.slot_lock.specs.Calls.{Met}
-use Rattle.slot_lock.specs.Passes.{IsPassOf, PassView, RouterView}
-use Rattle.router_daemon.specs.Forgetting.{Forgets}
+use Rattle.slot_lock.specs.Passes.{Fragment, IsNew, IsPassOf, PassView, RouterView}
+use Rattle.router_daemon.specs.Forgetting.{Forgets, ForgetsSaved, HasBegun, IsForgetter}
 use Rattle.router_daemon.specs.Passes.{IsLegalPass}
 use Rattle.router_daemon.specs.Running.{HasWhole}
+use Rattle.router_daemon.proofs.Passes.{legal_new}
 
 begins_both : (xs ys zs : List Entry) → Begins xs ys → Begins ys zs → Begins xs zs
 begins_both xs ys zs b c = record {
   rest = b.rest ++ c.rest;
   is = c.is ∙ ap (λ (l : List Entry). l ++ c.rest) b.is ∙ append_assoc xs b.rest c.rest;
+}
+
+-- nothing is saved or forgotten yet of a router that was just opened
+each_begun : (r : RouterView) (right : PassView) (opening : OpeningView) (limit back kept : ℕ) (saver : Option SegmentsView) → IsNew r 1 right →
+    r.opening ≡ opening → r.limit ≡ limit → back ≡ kept → IfSome saver (HasBegun opening limit back) → IfSome saver (ForgetsSaved r right kept)
+each_begun r right opening limit back kept None new is_opening is_limit same h = tt
+each_begun r right opening limit back kept (Some s) new is_opening is_limit same h =
+    let none = ap (λ (f : Fragment). f.forgot) new.fragment in record {
+      has = h.has (seen_by r right) is_opening is_limit;
+      saved = omega (arith, none);
+      back = h.back ∙ same;
+    }
+
+pub begun : (r : RouterView) (right : PassView) (opening : OpeningView) (limit back kept : ℕ) (saver : Option SegmentsView) → IsNew r 1 right →
+    r.opening ≡ opening → r.limit ≡ limit → r.endless ≡ true → back ≡ kept → IfSome saver (HasBegun opening limit back) →
+    IsForgetter r (record { saver = saver; right = right; kept = kept })
+begun r right opening limit back kept saver new is_opening is_limit endless same h = record {
+  endless = endless;
+  legal = legal_new r 1 right new;
+  forgets = each_begun r right opening limit back kept saver new is_opening is_limit same h;
 }
 
 -- the first so many of two lists, where that is all of the first list
