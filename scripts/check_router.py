@@ -29,9 +29,8 @@ MOST_TAKEN, MOST_MEMORY = 1 << 16, 4096
 # The least room for entries, and how many messages may wait for a neighbour that never reads. How often how many changes are told meanwhile.
 LEAST_ROOM, MOST_WAITING, BLOCKS, BLOCK = 2_048, 1_000, 2_000, 500
 
-# How many changes there are at most between two looks at what waits, and how many kilobytes of memory more than those of queues and entries are no
-# matter.
-MOST_BETWEEN, SLACK = 2_048, 1_024
+# So many kilobytes of memory more than those of queues and entries are no matter.
+SLACK = 1_024
 
 # The bytes of a thread's stack where nothing else is said, and what a router has beside its threads, for the row in which these find no room.
 STACK, BESIDE = 8 << 20, 4 << 20
@@ -39,7 +38,7 @@ STACK, BESIDE = 8 << 20, 4 << 20
 
 def memory_of(links, messages, entries):
     """How many kilobytes the entries and the queues of a router have at most, by the formula of RUNNING.md."""
-    return (24 * entries + 4 * 16 * entries + 8 * links * (messages + MOST_BETWEEN)) // 1024
+    return (24 * entries + 4 * 16 * entries + 8 * links * (messages + 3 * entries // 8)) // 1024
 
 
 def saying(text):
