@@ -42,7 +42,7 @@ module _ (j : JournalView) (legal : IsLegal j.opening j.entries) where
       (subst (λ (l : List Entry). IsLegalFrom (opened j.opening) l) (sym (parted j.entries from to le)) (legal_first to))
 
   -- a complete segment goes on from the chain that those before it are
-  segment_follows : (first from to : ℕ) (bytes : List ℕ) → IsSegment j from to [] bytes → Follows bytes (chain_of j first from) (chain_of j first to)
+  abbrev segment_follows : (first from to : ℕ) (bytes : List ℕ) → IsSegment j from to [] bytes → Follows bytes (chain_of j first from) (chain_of j first to)
   segment_follows first from to bytes h =
       let es = drop from (take to j.entries) in
       let rising = h.rising in
@@ -59,7 +59,7 @@ module _ (j : JournalView) (legal : IsLegal j.opening j.entries) where
       }
 
   -- the oldest begins the chain
-  segment_begins : (first from to : ℕ) (bytes : List ℕ) → from ≡ first → IsSegment j from to [] bytes → Begins bytes (chain_of j first to)
+  abbrev segment_begins : (first from to : ℕ) (bytes : List ℕ) → from ≡ first → IsSegment j from to [] bytes → Begins bytes (chain_of j first to)
   segment_begins first from to bytes at h = record {
     old = chain_of j first from;
     begun = at;
