@@ -40,6 +40,8 @@ class Replays(threading.Thread):
         self.program, self.folder = program, pathlib.Path(folder)
         self.links = pathlib.Path(tempfile.mkdtemp(prefix="segments.", dir=self.folder.parent))
         self.files, self.last, self.count, self.wrong, self.is_over = [], "", 0, [], False
+        # The replay that runs, and what it has to say.
+        self.replay, self.wanted = None, ""
 
     def find(self):
         """Names the files that are new."""
@@ -49,28 +51,30 @@ class Replays(threading.Thread):
                 self.files.append(self.links / name)
                 self.last = name
 
-    def replay(self, files):
-        """The verdict on some segments."""
-        return subprocess.run([self.program, "replay", *files], capture_output=True).stdout.decode().strip()
+    def begin(self, end):
+        """Begins to replay the first segment and the one that follows it, if there is one: they go up to an end."""
+        files, first = self.files[:2], begin_of(self.files[0])
+        self.wanted = f"replay ok {end - first}" + (f" from {first}" if first else "")
+        self.replay = subprocess.Popen([self.program, "replay", *files], stdout=subprocess.PIPE, text=True)
 
-    def judge(self, files, end):
-        """Replays segments that go up to an end, and forgets the first."""
-        first = begin_of(files[0])
-        wanted = f"replay ok {end - first}" + (f" from {first}" if first else "")
-        if (said := self.replay(files)) != wanted:
-            self.wrong.append(f"{[file.name for file in files]}: {said!r} in place of {wanted!r}")
-        self.files.remove(files[0])
-        files[0].unlink()
-        self.count += 1
+    def judge(self):
+        """Judges a replay, waiting for its end, and forgets the first segment."""
+        said = self.replay.communicate()[0].strip()
+        first = self.files.pop(0)
+        if said != self.wanted:
+            self.wrong.append(f"{first.name}: {said!r} in place of {self.wanted!r}")
+        first.unlink()
+        self.replay, self.count = None, self.count + 1
 
     def run(self):
         try:
             while not self.is_over:
                 self.find()
-                if len(self.files) > 2:
-                    self.judge(self.files[:2], begin_of(self.files[2]))
-                else:
-                    time.sleep(0.1)
+                if self.replay and self.replay.poll() is not None:
+                    self.judge()
+                if not self.replay and len(self.files) > 2:
+                    self.begin(begin_of(self.files[2]))
+                time.sleep(0.1)
         except OSError as why:
             self.wrong.append(str(why))
 
@@ -79,12 +83,12 @@ class Replays(threading.Thread):
         self.is_over = True
         self.join()
         self.find()
-        while len(self.files) > 2:
-            self.judge(self.files[:2], begin_of(self.files[2]))
         text = self.files[-1].read_bytes()
         end = begin_of(self.files[-1]) + text.count(b"\n", text.index(b"\n.\n") + 3)
         while self.files:
-            self.judge(self.files[:2], end)
+            if not self.replay:
+                self.begin(begin_of(self.files[2]) if len(self.files) > 2 else end)
+            self.judge()
         self.links.rmdir()
         return end
 

@@ -42,7 +42,7 @@ fn read_state(
     ensures left_out { IfOk result (λ state. OfHistory journal.now (λ h. IsLeftOut h due.begun due.every to state)) }
 {
     let limit = journal.bounds().limit;
-    if to.saturating_sub(due.begun) < due.every {
+    if to < due.begun || to - due.begun < due.every {
         return Ok(None);
     }
     if to - journal.first() != u64::from(journal.kept()) {
