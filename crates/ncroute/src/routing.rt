@@ -1,4 +1,16 @@
 //! The command `router`: from the words to an exit status.
+//!
+//! **`router` makes its plan first, then reads its filters, and makes the folder of its history last.** The plan asks for no file, and a folder
+//! that was made would stay behind a filter that is refused. `run_router` opens the first link, so nothing is opened before all of that is there.
+//!
+//! **`--save` takes a folder that is not there, at each start.** A router reads no history: its neighbours tell it all again. Segments of two
+//! starts in one folder would not be one history, and one that goes on in a folder would first have to see that what is there is whole.
+//!
+//! **`router` ends with 0 where it ran to its end, whatever its operator was refused**, since a router is not worse for a line that was mistyped. A
+//! filter that is refused ends it with 1, as a fault does: in both cases there is no router, and standard error says why.
+//!
+//! **People are told of links by a handle of standard error of their own**, which the threads of links share. So what `serve_router` promises of
+//! the other handle, on which it tells why a router is not there, does not depend on when a link is closed.
 ghost use Rattle.std.specs.Option.{option_map};
 ghost use Rattle.std.specs.Prelude.{◌≡◌, ◌++◌, IfErr, IfOk, IfSome, MatchOption, OnOk};
 ghost use Rattle.std.specs.Io.KnownBytes.{Appends};

@@ -1,4 +1,7 @@
 //! What bounds the memory of a router: its history is saved and forgotten as it is made, and no neighbour is waited for without end.
+//!
+//! **Who makes entries waits for who forgets them**, as far as they are links and operators: a refusal as J1 would close a link for what a moment
+//! mends.
 ghost use Rattle.std.specs.Prelude.{◌≡◌, ◌≤◌};
 ghost use Rattle.std.specs.Option.{option_map};
 ghost use Rattle.slot_lock.specs.Passes.{IsPassOf};

@@ -1,4 +1,7 @@
 //! Who forgets entries of a router's history, and saves them before, if they are saved.
+//!
+//! **Each router forgets its first entries, and with `--save` saves them before.** A router that nobody watches is to go on. So `--limit` is the
+//! room in memory, whether the history is saved or not, and a disk that is full makes the router wait, not forget.
 ghost use Rattle.std.specs.Prelude.{◌≡◌, ◌+◌, ◌-◌, ◌/◌, ◌<◌, ◌≤◌, [], true, IfOk, IfSome, length};
 ghost use Rattle.std.specs.Option.{option_map};
 ghost use Rattle.operator_cmds.specs.Limits.{largest_limit};

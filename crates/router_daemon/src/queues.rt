@@ -1,4 +1,7 @@
 //! Who reads slower than it is told is not waited for: where more messages wait for a neighbour than may, its session is ended.
+//!
+//! **A link whose neighbour reads too slowly is closed, and its queue is not shortened.** What a session was sent is what is defined for it; older
+//! distances left out of a queue would be another protocol. The Down empties the queue, and the next session tells all distances anew.
 ghost use Rattle.std.specs.Prelude.{◌≡◌, ◌<◌, ◌≤◌, IfSome, MatchOption, Some, false, true};
 ghost use Rattle.netchange_core.specs.Calls.{session_of};
 ghost use Rattle.route_history.specs.Beginning.{Begins};

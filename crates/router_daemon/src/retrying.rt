@@ -1,4 +1,8 @@
 //! When a link that was closed is opened again.
+//!
+//! **A link waits twice as long each time, while its sessions are short.** Each session that comes and goes is told to all neighbours, and costs
+//! every router of the domain entries. A minute is what an operator who mends a link is ready to wait; after a session of a minute the link counts
+//! as mended.
 ghost use Rattle.std.specs.Prelude.{◌≡◌, ◌*◌, ◌≤◌, IfSome};
 ghost use Rattle.std.specs.Duration.{as_nanos};
 ghost use Rattle.router_daemon.specs.Retries as spec;

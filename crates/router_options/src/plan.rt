@@ -1,4 +1,15 @@
 //! All that a running router is told.
+//!
+//! **`--limit` below 2,048 is refused.** Entries are forgotten 1,024 at a time, so a smaller room would be full over and over. A limit that is
+//! raised in silence would not be the one that was asked for.
+//!
+//! **`--queue` is N or more, and 64 N where it is left out.** An Up queues N messages: with fewer allowed, each session would end as it begins;
+//! with N the Up alone ends none, since a link is closed only where more wait. 64 N is 64 times all that there is to tell.
+//!
+//! **`--segments` asks for `--save`.** Without a folder nothing could be kept, and whoever asks for it has forgotten a word.
+//!
+//! **1,000,000 stays the room where no `--limit` is given.** That is 24 MB at most, and half a second of a flood can be entered while the thread
+//! that forgets does not run.
 ghost use Rattle.std.specs.Prelude.{◌≡◌, IfErr, IfOk, OnErr, OnOk, MatchOption, is_some, true};
 ghost use Rattle.router_options.specs.PlanView as view;
 ghost use Rattle.router_options.specs.Plans as spec;

@@ -1,4 +1,14 @@
 //! A router that many threads call.
+//!
+//! **`join` and `meet` load the word once more.** To join two seats of the table tells nothing about them; the load that follows tells what the
+//! rule knows of both: that one history begins the other, and that no position is in both.
+//!
+//! **`join` leaves an empty pass in the rule**, without shares and calls, since a table never forgets a seat. A pass that is dropped counts as it
+//! is, so nobody has all shares from then on, and the close by another pass tells less.
+//!
+//! **`close` asks for no memory**, since the table is taken apart in place, so L3 comes from `Router::open` and `open_endless` alone.
+//!
+//! **`close` is for routers that are not endless**: a `Journal` has its whole history. `close_long` hands out what is kept, of any router.
 
 ghost use Rattle.std.specs.Prelude.{◌≡◌, ◌≢◌, ◌-◌, ◌<◌, ◌≤◌, [], false, true, IfErr, IfOk, length};
 ghost use Rattle.slot_lock.specs.Calls.{Answered, Closed, ClosedLong, Forgot, Merged, Met, Observed, Refused, TryRefused};
