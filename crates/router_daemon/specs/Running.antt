@@ -1,5 +1,5 @@
 -- How a router is run. (This project's own choice.)
-use Rattle.std.specs.Prelude.{◌≡◌, ℕ, true, List, [], length, map, Option, Some, None, Result, Ok, Err, ⊤}
+use Rattle.std.specs.Prelude.{◌≡◌, ℕ, false, true, List, [], length, map, Option, Some, None, Result, Ok, Err, ⊤}
 use Rattle.std.specs.Option.{option_map}
 use Rattle.history_saver.specs.Folders.{FolderView}
 use Rattle.history_saver.specs.Looking.{seen_by}
