@@ -463,7 +463,7 @@ const ROOM: Parameter = Parameter {
 const QUEUE: Parameter = Parameter {
     name: "queue",
     value: "MESSAGES",
-    help: "Close a link where more messages wait for the neighbour (N or more; 64 N if left out)",
+    help: "Close a link where more messages wait for the neighbour (N or more; 65,536 if left out)",
     kind: ParameterKind::Number,
     is_required: false,
 };

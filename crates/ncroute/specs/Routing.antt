@@ -73,7 +73,7 @@ module _ (makes : List ℕ → Result (Option FolderView) Error → Type 0) wher
     pub record FitsOut (words : RouterWords) (plan : PlanView) (names : Names) (kept : Option (Option FolderView)) (before after : Streams)
         : Type 0 where
       pub loads : LoadsFilters opens words.filters.items plan.opening.size names before.reads after.reads
-      pub makes : MakesSave words.save kept
+      pub saves : MakesSave words.save kept
       pub holds : after.holds ≡ before.holds
       pub tells : after.tells ≡ before.tells
 

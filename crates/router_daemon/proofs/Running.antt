@@ -50,6 +50,7 @@ early_fails operates untouched (fault.Stream why) early left = absurd early
 early_fails operates untouched (fault.Call why) early left = left
 early_fails operates untouched (fault.Lock why) early left = left
 early_fails operates untouched (fault.Save why) early left = absurd early
+early_fails operates untouched (fault.NotBegun why) early left = left
 early_fails operates untouched fault.NotStarted early left = left
 early_fails operates untouched fault.Memory early left = left
 
@@ -60,6 +61,7 @@ ran_fails operates untouched answered (fault.Stream why) served is = subst opera
 ran_fails operates untouched answered (fault.Call why) served is = absurd is
 ran_fails operates untouched answered (fault.Lock why) served is = absurd is
 ran_fails operates untouched answered (fault.Save why) served is = (is.0, subst operates is.1 served)
+ran_fails operates untouched answered (fault.NotBegun why) served is = absurd is
 ran_fails operates untouched answered fault.NotStarted served is = absurd is
 ran_fails operates untouched answered fault.Memory served is = absurd is
 

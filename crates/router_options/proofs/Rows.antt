@@ -27,14 +27,14 @@ room_next = (refl, refl, refl)
 much_room : RefusesNumbers (record { size = 4; me = 3; limit = Some 1000001; queue = None; segments = None; retry = None }) true (number.Limit 1000001)
 much_room = (refl, refl, refl)
 
--- as many messages may wait as the domain has nodes, and not one less; 64 times as many where nothing is said
+-- as many messages may wait as the domain has nodes, and not one less; 65,536 where nothing is said
 queue_next : RefusesNumbers (record { size = 4; me = 3; limit = None; queue = Some 3; segments = Some 0; retry = Some 0 }) false (number.Queue 3 4)
 queue_next = (refl, refl, refl, refl)
 
 least_queue : is_queue 4 4 ≡ true
 least_queue = refl
 
-usual_queue : queue_or 250 None ≡ 16000
+usual_queue : queue_or None ≡ 65536
 usual_queue = refl
 
 segments_next : RefusesNumbers (record { size = 4; me = 3; limit = None; queue = None; segments = Some 0; retry = Some 0 }) true number.Segments

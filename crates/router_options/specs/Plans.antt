@@ -1,5 +1,5 @@
 -- What an option adds to what a router is told, or why it is refused. (This project's own choice.)
-use Rattle.std.specs.Prelude.{◌≡◌, ℕ, ◌+◌, ◌*◌, ◌&&◌, Bool, true, false, nat_le, nat_lt, List, []}
+use Rattle.std.specs.Prelude.{◌≡◌, ℕ, ◌+◌, ◌&&◌, Bool, true, false, nat_le, nat_lt, List, []}
 use Rattle.std.specs.Prelude.{◌∷◌, ◌++◌, Option, Some, None, String, slice_set, string_bytes}
 use Rattle.std.specs.declared.alloc.Global.{Global}
 use Rattle.filter_code.specs.Limits.{smallest_size, largest_size}
@@ -30,10 +30,10 @@ is_size size = nat_le smallest_size size && nat_le size largest_size
 abbrev pub is_limit : ℕ → Bool
 is_limit limit = nat_le smallest_room limit && nat_le limit largest_limit
 
--- the most messages that may wait for a neighbour, where it may be left out: then 64 for each node of the domain
-abbrev pub queue_or : ℕ → Option ℕ → ℕ
-queue_or size None = size * 64
-queue_or size (Some queue) = queue
+-- the most messages that may wait for a neighbour, where it may be left out
+abbrev pub queue_or : Option ℕ → ℕ
+queue_or None = 65536
+queue_or (Some queue) = queue
 
 -- Up queues one message for each node of the domain. A lower bound would end each session that begins; with this one Up alone ends none.
 abbrev pub is_queue : ℕ → ℕ → Bool
@@ -55,7 +55,7 @@ abbrev pub has_room : Numbers → Bool
 has_room n = is_network n.size n.me && is_limit (limit_or n.limit)
 
 abbrev pub has_bounds : Numbers → Bool
-has_bounds n = has_room n && is_queue n.size (queue_or n.size n.queue)
+has_bounds n = has_room n && is_queue n.size (queue_or n.queue)
 
 abbrev pub can_save : Numbers → Bool → Bool
 can_save n saves = has_bounds n && are_segments n.segments saves
@@ -88,7 +88,7 @@ new_plan n save stays = record {
   opening = default_opening n.size n.me;
   placed = [];
   limit = limit_or n.limit;
-  queue = queue_or n.size n.queue;
+  queue = queue_or n.queue;
   filters = [];
   imports = [];
   exports = [];

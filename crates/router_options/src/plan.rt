@@ -3,8 +3,9 @@
 //! **`--limit` below 2,048 is refused.** Entries are forgotten 1,024 at a time, so a smaller room would be full over and over. A limit that is
 //! raised in silence would not be the one that was asked for.
 //!
-//! **`--queue` is N or more, and 64 N where it is left out.** An Up queues N messages: with fewer allowed, each session would end as it begins;
-//! with N the Up alone ends none, since a link is closed only where more wait. 64 N is 64 times all that there is to tell.
+//! **`--queue` is N or more, and 65,536 where it is left out.** An Up queues N messages: with fewer allowed, each session would end as it begins;
+//! with N the Up alone ends none, since a link is closed only where more wait. A bound that grows with N, as 64 N, is small where N is: with 8
+//! nodes, a neighbour that said 70,000 changes at once had the sessions of those ended who read all the time, ten times of ten.
 //!
 //! **`--segments` asks for `--save`.** Without a folder nothing could be kept, and whoever asks for it has forgotten a word.
 //!
@@ -27,8 +28,9 @@ use std::marker::Model;
 /// The least number of entries that a router has room for in memory.
 pub const SMALLEST_ROOM: u32 = 2_048;
 
-/// How many messages for each node of the domain may wait for a neighbour, where no other bound is given.
-pub const WAITING_A_NODE: u32 = 64;
+/// The most messages that may wait for a neighbour, where no other bound is given. It is far above what one failure queues at a time in most
+/// domains, so that a burst of changes ends no session whose neighbour reads; and 249 such queues take 65 MB.
+pub const USUAL_QUEUE: u32 = 65_536;
 
 /// The numbers of a router, as they are given.
 #[derive(Clone, Copy, PartialEq, Eq)]
@@ -99,17 +101,6 @@ fn is_limit(limit: u32) -> bool
     ensures { result ≡ spec.is_limit limit }
 {
     SMALLEST_ROOM <= limit && limit <= LARGEST_LIMIT
-}
-
-/// The most messages that may wait for a neighbour in a domain of this size, by what is given.
-fn queue_or(size: u32, queue: Option<u32>) -> u32
-    requires { spec.is_size size ≡ true }
-    ensures { result ≡ spec.queue_or size queue }
-{
-    match queue {
-        Some(queue) => queue,
-        None => size * WAITING_A_NODE,
-    }
 }
 
 /// Looks at the numbers of a router whose history is saved or not, in order, up to the first that does not fit.
@@ -241,7 +232,7 @@ impl RouterPlan {
             opening: Opening::new(size, me, prefixes).unwrap(),
             placed: Vec::new(alloc),
             limit: numbers.limit.unwrap_or(LARGEST_LIMIT),
-            queue: queue_or(numbers.size, numbers.queue),
+            queue: numbers.queue.unwrap_or(USUAL_QUEUE),
             filters: Vec::new(alloc),
             imports: Vec::new(alloc),
             exports: Vec::new(alloc),
