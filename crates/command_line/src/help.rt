@@ -68,15 +68,19 @@ For each part of the routes on which the filters differ, or may differ, a line i
   undecided PREFIX{LOW,HIGH}, metrics LEAST..MOST
              whether they differ on these was not found out within CLASSES
 BEFORE and AFTER are `reject`, `accept METRIC`, or `accept`, which is with the metric received.
+Of more than 1,000 parts the others are counted by `parts that are not shown: COUNT`.
 The last line is one of these:
-  same on all routes         there is no other line: the filters do the same
-  same on all other routes   they do the same outside of these parts
-  undecided on COUNT parts   this many parts are undecided; outside of the parts they do the same
+  same on all routes of a domain of N nodes
+             there is no other line: the filters do the same
+  same on all other routes of a domain of N nodes
+             they do the same outside of these parts
+  undecided on COUNT parts
+             this many parts are undecided; outside of the parts they do the same
 
 Example:
   sed 's/> 12/> 10/' examples/backup_link.filter | ncroute diff examples/backup_link.filter -
 prints `differ 0.0.0.0/0{0,32}, metrics 8..8: accept 11 | reject`, the same of metric 9 with
-`accept 12`, and `same on all other routes`.
+`accept 12`, and `same on all other routes of a domain of 16 nodes`.
 The exit status is 0 if they are the same on all routes; 1 if they differ; 2 if the command
 line is wrong; 3 if that is undecided, if a filter was refused, if a fault ended the run, or if
 a file could not be read.
