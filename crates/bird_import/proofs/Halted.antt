@@ -1,5 +1,5 @@
 -- Where the steps from the words of a filter go no further.
-use Rattle.std.proofs.Common.{◌≡◌, ℕ, zero, suc, ◌+◌, ◌<◌, ◌≤◌, ◌⊎◌, List, Option, Some, None, ◌∙◌, length, subst, inl, inr, add-one, refl}
+use Rattle.std.proofs.Common.{◌≡◌, ℕ, zero, suc, ◌+◌, ◌*◌, ◌<◌, ◌≤◌, ◌⊎◌, List, Option, Some, None, ◌∙◌, length, subst, inl, inr, add-one, refl}
 use Rattle.std.specs.Prelude.{IfOk, IfSome, Result, Ok, Err, slice_get}
 use Rattle.bird_import.specs.Drafts.{words_of}
 use Rattle.bird_import.specs.Indices.{kind_of_word}
@@ -142,4 +142,8 @@ module _ (config : Config) (depth n : ℕ) (before words : List Word) (steps : R
 
   -- there are too many steps
   pub by_steps : (outcome : Outcome) → why_of outcome ≡ Some TooLong → 65536 ≤ n → IfSome (why_of outcome) (IsStuck config depth before)
-  by_steps outcome is long = rw is (inl (inr (n, words, long, steps)))
+  by_steps outcome is long = rw is (inl (inr (n, words, inl long, steps)))
+
+  -- they go through too many words
+  pub by_work : (outcome : Outcome) → why_of outcome ≡ Some TooLong → 33554432 < n * length words → IfSome (why_of outcome) (IsStuck config depth before)
+  by_work outcome is long = rw is (inl (inr (n, words, inr long, steps)))

@@ -36,6 +36,12 @@ use std::alloc::{AllocError, Global};
 /// The most steps that are made for a filter.
 const STEP_LIMIT: usize = 65_536;
 
+/// The most words that the steps of a filter go through: their number times that of the words that are there.
+const WORK_LIMIT: u64 = 33_554_432;
+
+/// How far behind a parenthesis or a bracket that is not closed the `;` is looked for that shows it.
+const REACH: usize = 1_024;
+
 /// How deep functions call functions at most.
 const CALL_DEPTH: u8 = 16;
 
@@ -297,6 +303,9 @@ fn rewrite<'a>(
         if all.len() > WORD_LIMIT {
             return Ok(too_long(all));
         }
+        if (made as u64).saturating_mul(all.len() as u64) > WORK_LIMIT {
+            return Ok(too_long(all));
+        }
         match next_words(alloc, config, all, depth)? {
             Next::Words(after) => words = after,
             Next::Stuck(reason) => return Ok(Outcome::LeftOut(reason)),
@@ -431,12 +440,19 @@ fn is_left_open(words: &[Word<'_>], at: usize) -> bool
     }
 }
 
-/// The index of the first parenthesis or bracket from an index on that is not closed, if there is one.
+/// Whether a `;` is near behind an index, before what closes the parentheses, brackets or braces that are open there.
+fn has_stop_near(words: &[Word<'_>], at: usize) -> bool {
+    let end = at.saturating_add(REACH).min(words.len());
+    find_outside(&words[..end], at.saturating_add(1), Symbol::Semicolon).is_some()
+}
+
+/// The index of the first parenthesis or bracket from an index on that is not closed, if there is one. It is not found where the `;` that
+/// shows it is far behind it: so each word is passed over but so often.
 fn first_left_open(words: &[Word<'_>], from: usize) -> Option<usize>
     ensures { IfSome result (λ k. (from ≤ k) × (k < length words.now) × IsLeftOpen words.now k) }
 {
     for at in from..words.len() {
-        if is_left_open(words, at) {
+        if has_stop_near(words, at) && is_left_open(words, at) {
             return Some(at);
         }
     }

@@ -1,4 +1,5 @@
 -- What callers cite.
+pub mod Allowing
 pub mod Linting
 pub mod SurveyedFilters
 pub mod WarningLines
@@ -6,6 +7,7 @@ pub mod WarningLines
 pub mod Arithmetic
 pub mod Commands
 pub mod Conditions
+pub mod Disorders
 pub mod Finding
 pub mod Hints
 pub mod HostBits

@@ -6,9 +6,11 @@
 //! language. Where a program reads the report, without words, nothing is told that was not asked for.
 #![tactic(auto)]
 
+mod allowing;
 mod arithmetic;
 mod commands;
 mod conditions;
+mod disorders;
 mod finding;
 mod hints;
 mod host_bits;

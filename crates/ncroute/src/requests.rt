@@ -154,7 +154,7 @@ fn answer<F: Folder, R: Read, W: Write, E: Write>(
         Request::Filter { how, source } => try_filter(files, alloc, *how, source, console),
         Request::Import { how, source } => import_source(files, alloc, how, source, console),
         Request::Lint { how, sources } => {
-            lint_sources(files, alloc, *how, sources.as_slice(), console)
+            lint_sources(files, alloc, how, sources.as_slice(), console)
         }
         Request::List {
             size,
