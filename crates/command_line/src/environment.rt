@@ -1,4 +1,8 @@
 //! The size of the domain that the environment has.
+//!
+//! **No command has a size that is meant where none is said.** Filters that do the same in a domain of 16 nodes may differ in one of 64, so an
+//! answer that rests on a size that nobody named fails open. Those that look at filters take it from the environment too, where a build says it
+//! once for all of them; `test` has it from the test file.
 
 use crate::arguments::Readable;
 use std::alloc::{AllocError, Global};

@@ -1,6 +1,7 @@
 //! `ncroute test`: whether a filter says of routes what the tests of a file say.
 //!
-//! **A test that is undecided counts as one that does not hold**: a build is to go on only with what is known.
+//! **A test that is undecided is `not ok` in the stream, as one that does not hold.** A build is to go on only with what is known. The exit status
+//! tells the two apart.
 //!
 //! **The tests of a file are all run before their lines are written**, so that a refused allocation leaves nothing written of them.
 ghost use Rattle.std.specs.Prelude.{◌≡◌, ◌+◌, ◌<◌, ◌≤◌, ◌^◌, IfErr, IfOk, OnOk, count_by, length, map, vec_len};

@@ -1,4 +1,11 @@
 //! Warnings that are allowed, and so not told: by their codes, or by a comment of the line that they are said of.
+//!
+//! **What is allowed is taken out of the finished list of warnings, by its code and its line.** So no rule works otherwise where something is
+//! allowed.
+//!
+//! **A comment allows what is said of its own line.** One for the next line, or for a part of a file, is soon about another line than was meant.
+//!
+//! **Words that are no codes behind `# lint: allow` make it allow nothing.** A code that is misspelt is noticed.
 ghost use Rattle.std.specs.Prelude.{◌≡◌, IfOk, map};
 ghost use Rattle.std.specs.List.{list_all};
 ghost use Rattle.std.specs.Option.{option_map};

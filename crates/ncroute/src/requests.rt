@@ -1,4 +1,7 @@
 //! From what is asked for to an exit status.
+//!
+//! **`diff`, `lint` and `test` mean one thing by each exit status.** It is 0 that all is right, 1 that something is wrong which they show, 2 that the
+//! words are, and 3 that this is undecided, or not known since something was not read. What is wrong counts before what is undecided.
 ghost use Rattle.std.specs.Prelude.{◌≡◌, IfErr, IfOk};
 ghost use Rattle.filter_reports.specs.Faults.{stream_fault};
 ghost use Rattle.ncroute.specs.Requests.{Answers, EvaluatesTold, FailsToReport, ListsSource, ListsText};

@@ -1,8 +1,10 @@
 //! How test files are run.
 //!
-//! **`test` ends with 0 only where each test holds, and with 1 only where one does not or is undecided.** A test file or a filter that is refused
-//! or not read ends the run with 3 and `Bail out!`, whatever files follow: a harness takes such a stream for failed, and a plan would say that all
-//! is there.
+//! **`test` ends with 0 only where each test holds, and with 1 only where one does not.** Where none is found that does not, but one is undecided,
+//! it is 3.
+//!
+//! **A test file that is refused or not read, or whose filter is, stands in the stream as one test that does not hold.** It has its name, and the
+//! files behind it are run: a harness takes the stream for failed, and one bad file hides no other. Its status is 3, too.
 ghost use Rattle.std.specs.Prelude.{◌≡◌, ◌+◌, ◌<◌, ◌^◌, IfErr, IfOk, OnOk};
 ghost use Rattle.filter_checks.specs.Files.{file_view};
 ghost use Rattle.filter_checks.specs.Tap.{plan};
