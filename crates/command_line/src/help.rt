@@ -187,7 +187,7 @@ A test file names a filter, the number of nodes of the routing domain, and tests
   PREFIX METRIC -> VERDICT    a route, and the verdict on it
   every PATTERN -> VERDICT    all routes whose prefix matches, with each metric
   every PATTERN metric A..B -> VERDICT    the same with these metrics alone, or with one
-PATTERN is PREFIX, PREFIX+ or PREFIX{LOW,HIGH}; VERDICT is `accept METRIC`, `reject`, or
+PATTERN is PREFIX, PREFIX+, PREFIX- or PREFIX{LOW,HIGH}; VERDICT is `accept METRIC`, `reject`, or
 `accept`, which is with the metric received. Empty lines and lines that begin with # are
 skipped. The filter is verified first.
 
