@@ -8,7 +8,7 @@
 //! is long: it would take seconds and end undecided of filters of which nothing else is to be said.
 //!
 //! **W9 is said once of a filter, at its first instruction.** Which command is to blame no rule can tell.
-ghost use Rattle.std.specs.Prelude.{◌≡◌};
+ghost use Rattle.std.specs.Prelude.{◌≡◌, Some};
 ghost use Rattle.filter_lint.specs.Disorders as spec;
 
 use crate::surveyed_filter::SurveyedFilter;
@@ -17,24 +17,32 @@ use filter_diff::Order;
 
 /// What is said of a filter, where this is found of the order of metrics, or that is not asked for. It is said where the filter's first
 /// instruction comes from.
-pub(crate) fn disorder_of(source: &SurveyedFilter, found: Option<Order>) -> Option<Warning>
-    ensures { result ≡ spec.disorder_of source.now found }
+pub(crate) fn disorder_of(source: &SurveyedFilter, found: &Option<Order>) -> Option<Warning>
+    ensures { result ≡ spec.disorder_of source.now found.now }
 {
-    let found = found?;
-    let byte = source.place(0)?;
+    match found {
+        Some(found) => disorder_at(source.place(0)?, found),
+        None => None,
+    }
+}
+
+/// The same, at this byte.
+fn disorder_at(byte: usize, found: &Order) -> Option<Warning>
+    ensures { result ≡ spec.disorder_at (Some byte) found.now }
+{
     match found {
         Order::Lost(shown) => Some(Warning {
             instruction: 0,
             byte,
-            cause: Cause::Disordered(shown),
+            cause: Cause::Disordered(*shown),
         }),
         Order::Kept | Order::Undecided => None,
     }
 }
 
 /// Whether the search could tell what it was asked.
-pub(crate) fn is_told(found: Option<Order>) -> bool
-    ensures { result ≡ spec.is_told found }
+pub(crate) fn is_told(found: &Option<Order>) -> bool
+    ensures { result ≡ spec.is_told found.now }
 {
     match found {
         None | Some(Order::Kept | Order::Lost(_)) => true,

@@ -74,9 +74,9 @@ fn said_of(
     alloc: Global,
     source: &SurveyedFilter,
     reached: &Reach,
-    order: Option<Order>,
+    order: &Option<Order>,
 ) -> Result<Vec<Warning>, AllocError>
-    ensures { IfOk result (λ found. found.items ≡ spec.said_of source.now reached.now order) }
+    ensures { IfOk result (λ found. found.items ≡ spec.said_of source.now reached.now order.now) }
 {
     let mut found = said_on_routes(alloc, source, reached)?;
     if let Some(warning) = disorder_of(source, order) {
@@ -127,11 +127,11 @@ fn find_in(
         watched.as_slice(),
     )?;
     let order = order_of(alloc, source, limit, asks_order)?;
-    let found = said_of(alloc, source, &reached, order)?;
+    let found = said_of(alloc, source, &reached, &order)?;
     Ok(Warnings {
         found,
         is_complete: reached.is_complete,
-        is_ordered: is_told(order),
+        is_ordered: is_told(&order),
     })
 }
 
