@@ -1,6 +1,6 @@
 //! The filters of a configuration, word by word.
 ghost use Rattle.std.specs.List.{list_all};
-ghost use Rattle.std.specs.Prelude.{◌≡◌, ◌↔◌, ◌⊎◌, ◌+◌, ◌<◌, ◌≤◌, false, [], ◌∷◌, List, IfErr, IfOk, IfSome, IsTrue, None, OnOk, Some, length, max};
+ghost use Rattle.std.specs.Prelude.{◌≡◌, ◌↔◌, ◌⊎◌, ◌+◌, ◌*◌, ◌<◌, ◌≤◌, false, [], ◌∷◌, List, IfErr, IfOk, IfSome, IsTrue, None, OnOk, Some, length, max};
 ghost use Rattle.bird_import.specs.Drafts.{BeginsAs, IfDrafted, IsCallee, IsNext, kinds_of, words_of};
 ghost use Rattle.bird_import.specs.Functions.{IsCallOf};
 ghost use Rattle.bird_import.specs.Indices.{place_at};
@@ -278,6 +278,13 @@ fn next_words<'a>(
     }
 }
 
+/// Whether so many steps that go through so many words are too much.
+fn is_much(made: usize, words: usize) -> bool
+    ensures { IsTrue result → 33554432 < made * words }
+{
+    (made as u64).saturating_mul(words as u64) > WORK_LIMIT
+}
+
 /// Makes all steps for some words.
 #[cycle(rewriting)]
 fn rewrite<'a>(
@@ -303,7 +310,7 @@ fn rewrite<'a>(
         if all.len() > WORD_LIMIT {
             return Ok(too_long(all));
         }
-        if (made as u64).saturating_mul(all.len() as u64) > WORK_LIMIT {
+        if is_much(made, all.len()) {
             return Ok(too_long(all));
         }
         match next_words(alloc, config, all, depth)? {
