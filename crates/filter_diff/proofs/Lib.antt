@@ -11,7 +11,6 @@ pub mod Joined
 pub mod Real
 pub mod Witness
 pub mod Expected
-pub mod Ordered
 pub mod Marking
 pub mod Reached
 pub mod Completed

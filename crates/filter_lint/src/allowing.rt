@@ -19,9 +19,7 @@ use line_protocol::{next_word, strip_carriage_return};
 use std::alloc::{AllocError, Global};
 
 /// The codes of warnings.
-static CODES: [&[u8]; 9] = [
-    b"W1", b"W2", b"W3", b"W4", b"W5", b"W6", b"W7", b"W8", b"W9",
-];
+static CODES: [&[u8]; 8] = [b"W1", b"W2", b"W3", b"W4", b"W5", b"W6", b"W7", b"W8"];
 
 /// The table of codes.
 #[tactic(auto, unfolding(crate::specs::Allowing::all_codes))]

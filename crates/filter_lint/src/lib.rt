@@ -10,7 +10,6 @@ mod allowing;
 mod arithmetic;
 mod commands;
 mod conditions;
-mod disorders;
 mod finding;
 mod hints;
 mod host_bits;
