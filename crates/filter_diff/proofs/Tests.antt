@@ -125,8 +125,8 @@ own_ip_outside class a outer kept least most first last is short first_is last_i
     let b : AreBetween least most (address_of (take kept route.net)) = own_is_between route a kept least most is (h route of) in
     let no : LiesWithin (address_bits (address_of (take kept route.net))) outer → ⊥ =
     λ within. apart least most first last _ b away
-        (subst (λ (n : ℕ). AreBetween n last (address_of (take kept route.net))) (sym first_is)
-        (subst (λ (n : ℕ). AreBetween (address_of outer) n (address_of (take kept route.net))) (sym last_is) (ends_there _ outer fits short within))) in
+    (subst (λ (n : ℕ). AreBetween n last (address_of (take kept route.net))) (sym first_is)
+    (subst (λ (n : ℕ). AreBetween (address_of outer) n (address_of (take kept route.net))) (sym last_is) (ends_there _ outer fits short within))) in
     own_ip_tested route a outer kept false is
     (false_from_ne_true _ (λ yes. no ((lies_within-Decides (address_bits (address_of (take kept route.net))) outer).0 yes)))
 
