@@ -6,9 +6,10 @@
 //! **A comment allows what is said of its own line.** One for the next line, or for a part of a file, is soon about another line than was meant.
 //!
 //! **Words that are no codes behind `# lint: allow` make it allow nothing.** A code that is misspelt is noticed.
-ghost use Rattle.std.specs.Prelude.{◌≡◌, IfOk, map};
+ghost use Rattle.std.specs.Prelude.{◌≡◌, IfOk, string_bytes};
 ghost use Rattle.std.specs.List.{list_all};
 ghost use Rattle.std.specs.Option.{option_map};
+ghost use Rattle.std.specs.Str.{bytes_eq};
 ghost use Rattle.line_protocol.specs.Words.{words};
 ghost use Rattle.filter_lint.specs.Allowing as spec;
 
@@ -18,27 +19,26 @@ use filter_reports::place_in;
 use line_protocol::{next_word, strip_carriage_return};
 use std::alloc::{AllocError, Global};
 
-/// The codes of warnings.
-static CODES: [&[u8]; 8] = [b"W1", b"W2", b"W3", b"W4", b"W5", b"W6", b"W7", b"W8"];
-
-/// The table of codes.
-#[tactic(auto, unfolding(crate::specs::Allowing::all_codes))]
-fn all_codes() -> &'static [&'static [u8]]
-    ensures { map (λ code. code.now) result.now ≡ spec.all_codes }
+/// Whether a word is this one.
+fn is_word(known: &[u8], word: &[u8]) -> bool
+    ensures { result ≡ bytes_eq known.now word.now }
 {
-    &CODES
+    known == word
 }
 
 /// Whether a word is the code of a warning.
+#[tactic(auto, unfolding(crate::specs::Allowing::all_codes))]
 fn is_code(word: &[u8]) -> bool
     ensures { result ≡ spec.is_among spec.all_codes word.now }
 {
-    for code in all_codes() {
-        if *code == word {
-            return true;
-        }
-    }
-    false
+    is_word(b"W1", word)
+        || is_word(b"W2", word)
+        || is_word(b"W3", word)
+        || is_word(b"W4", word)
+        || is_word(b"W5", word)
+        || is_word(b"W6", word)
+        || is_word(b"W7", word)
+        || is_word(b"W8", word)
 }
 
 /// Whether the words of a line are codes alone.
@@ -113,16 +113,18 @@ fn ends_with_comment(line: &[u8], code: &[u8]) -> bool
     false
 }
 
+/// Whether a text is a word.
+fn is_spelled(text: &String, word: &[u8]) -> bool
+    ensures { result ≡ bytes_eq (string_bytes text.now) word.now }
+{
+    text.as_bytes() == word
+}
+
 /// Whether a code is among those that are allowed.
 fn is_named(allowed: &[String], code: &[u8]) -> bool
     ensures { result ≡ spec.is_named allowed.now code.now }
 {
-    for word in allowed {
-        if word.as_bytes() == code {
-            return true;
-        }
-    }
-    false
+    allowed.iter().any(|word| is_spelled(word, code))
 }
 
 /// Whether what is said of a byte of a text by the rule of a code is allowed.
