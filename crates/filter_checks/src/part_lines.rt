@@ -172,10 +172,11 @@ fn push_last_words(
 }
 
 /// The parts that have a line.
+#[tactic(auto, using(std::proofs::lemmas::List::take_min))]
 fn shown_parts(parts: &[RoutePart]) -> &[RoutePart]
     ensures { result.now ≡ take spec.shown_limit parts.now }
 {
-    &parts[..parts.len().min(SHOWN_LIMIT)]
+    &parts[..SHOWN_LIMIT.min(parts.len())]
 }
 
 /// Puts the lines of parts at the end of `out`.
