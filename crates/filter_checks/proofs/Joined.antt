@@ -31,8 +31,7 @@ all_joined old new size limit others (Ok joined) apart stand are = parts_joined 
 all_joined old new size limit others (Err why) apart stand are = tt
 
 pub never_both : (b : Bool) → b ≡ true → b ≡ false → ⊥
-never_both true yes no = cc
-never_both false yes no = cc
+never_both b holds fails = cc
 
 -- equal codes
 pub none_of_equal : (old new : CodeView) (size limit : ℕ) → old ≡ new → AreParts old new size limit []

@@ -75,7 +75,8 @@ fn find_parts(
     requires { size ≤ largest_size }
     ensures { IfOk result (λ parts. spec.AreParts old.now new.now size limit parts.items) }
 {
-    if are_equal(alloc, old, new)? {
+    let same = are_equal(alloc, old, new)?;
+    if same {
         return Ok(Vec::new(alloc));
     }
     let parts = compare(alloc, old, new, size, limit)?;
