@@ -30,7 +30,7 @@ class Neighbour:
     """The other end of a link."""
 
     def __init__(self, folder, node):
-        self.node, self.told = node, b""
+        self.node, self.told, self.before = node, b"", 0
         self.there, self.back = (os.path.join(folder, f"{node}.{end}") for end in ("in", "out"))
         self.writes = self.reads = None
         for path in (self.there, self.back):
@@ -39,6 +39,7 @@ class Neighbour:
     def is_opened(self):
         """Opens both files, each once the router has opened it: whether it has. It has the lower number, so it opens its output first."""
         if self.reads is None:
+            self.before = len(self.told)
             self.reads = os.open(self.back, os.O_RDONLY | os.O_NONBLOCK)
         try:
             # Where nobody has it open, nothing comes.
@@ -66,8 +67,12 @@ class Neighbour:
         """Opens what the router reads before anybody reads it."""
         self.writes = os.open(self.there, os.O_RDWR)
 
-    def greet(self, size=SIZE, node=None):
-        self.say(b"netchange 1 %d %d\n" % (size, self.node if node is None else node))
+    def greet(self, size=SIZE, node=None, hold=0):
+        """Answers the greeting that the router wrote last by one of its own: then the router is up."""
+        self.listen(lambda: b"\n" in self.told[self.before:])
+        greeting = [line for line in self.told[self.before:].split(b"\n")[:-1] if line.startswith(b"netchange ")][-1]
+        number = greeting.split()[5]
+        self.say(b"netchange 2 %d %d %d 1 %s\n" % (size, self.node if node is None else node, hold, number))
 
     def come(self, size=SIZE):
         """Opens both files, and greets."""
@@ -112,7 +117,7 @@ class Neighbour:
     def distances(self):
         """The distance to each node that it was told last, behind the greeting."""
         lines = self.told[:self.told.rfind(b"\n") + 1].decode().splitlines()
-        return dict(map(int, line.split()) for line in lines if not line.startswith("netchange "))
+        return dict(map(int, line.split()) for line in lines if line and not line.startswith("netchange "))
 
     def hear_distances(self, wanted, patience=PATIENCE):
         """Reads until it was told these distances: whether it was."""
@@ -161,7 +166,7 @@ class Run(Router):
 
     def told_closed(self, node, times):
         """Waits until standard error has said so many times that the link to a node was closed: then its IN is read no more."""
-        awaited(self.errors.read_text, lambda text: text.count(f"link {node}: ") >= times, PATIENCE)
+        awaited(self.errors.read_text, lambda text: len(re.findall(rf"(?m)^link {node}: .*: closed$", text)) >= times, PATIENCE)
 
     def routes_until(self, node, wanted):
         """Asks for the routes, which makes no entry, until that of a node is the wanted one: whether it is."""

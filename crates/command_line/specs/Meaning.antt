@@ -150,6 +150,7 @@ pub record IsRouting (given : List Row) (words : RouterWords) : Type 0 where
   pub limit : words.limit ≡ number_of 32 (codes "limit") given
   pub queue : words.queue ≡ number_of 32 (codes "queue") given
   pub retry : words.retry ≡ number_of 32 (codes "retry") given
+  pub hold : words.hold ≡ number_of 32 (codes "hold") given
   pub save : option_map (λ copy. string_bytes copy) words.save ≡ word_of (codes "save") given
   pub segments : words.segments ≡ number_of 32 (codes "segments") given
   pub stays : words.stays ≡ is_set (codes "stay") given

@@ -158,7 +158,7 @@ static COMMANDS: [(&str, &str); 15] = [
 ];
 
 /// The options and arguments of each command, in the order in which its help shows them.
-static PARAMETERS: [(&str, Parameter); 55] = [
+static PARAMETERS: [(&str, Parameter); 56] = [
     ("check", SIZE),
     ("check", CODE),
     ("check", NAMES),
@@ -201,6 +201,7 @@ static PARAMETERS: [(&str, Parameter); 55] = [
     ("router", ROOM),
     ("router", QUEUE),
     ("router", RETRY),
+    ("router", HOLD),
     ("router", PREFIX),
     ("router", NAMED_FILTER),
     ("router", IMPORT),
@@ -473,6 +474,15 @@ const RETRY: Parameter = Parameter {
     name: "retry",
     value: "SECONDS",
     help: "Reopen a closed link after this many seconds (1 or more), later each time, up to 60",
+    kind: ParameterKind::Number,
+    is_required: false,
+};
+
+/// How long a router may be silent.
+const HOLD: Parameter = Parameter {
+    name: "hold",
+    value: "SECONDS",
+    help: "Neighbours hold the router for dead after this silence (0 to 3,600; 0: never; 9 if left out)",
     kind: ParameterKind::Number,
     is_required: false,
 };

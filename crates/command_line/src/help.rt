@@ -314,9 +314,9 @@ command line is wrong; 3 if a fault ended the run or a file could not be read.
 /// Of `router`.
 const ROUTER_HELP: &str = "\
 Of two neighbours the one with the lower number opens its OUT first, the other its IN, so
-that FIFOs meet. Each writes a line, `netchange 1 N ME`, and reads the other's. Then the
-neighbour is up, and each line is a message, `V D`: node V is at distance D. When a stream
-ends or has another line, the neighbour is down, and standard error says why.
+that FIFOs meet. Each greets, `netchange 2 N ME HOLD NUMBER HEARD`, and answers the other's
+greeting. Then the neighbour is up, and each line is a message, `V D`: node V is at distance
+D. When its stream ends, or it is silent for its HOLD, it is down, and standard error says why.
 
 Standard input has the operator's commands, as `ncroute run` answers them, without
 `network`, `prefix`, `recv` and `take`. `up`, and `down` of a node with a link, are refused

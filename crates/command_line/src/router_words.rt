@@ -23,6 +23,8 @@ pub struct RouterWords {
     pub queue: Option<u32>,
     /// How long a closed link waits before it is opened again, in seconds.
     pub retry: Option<u32>,
+    /// How many seconds the router may be silent before its neighbours hold it for dead.
+    pub hold: Option<u32>,
     /// The folder in which the history is saved.
     pub save: Option<String>,
     /// How many segments of it are kept there.
@@ -75,6 +77,7 @@ fn routing_in(
         limit: number_given(matches, "limit"),
         queue: number_given(matches, "queue"),
         retry: number_given(matches, "retry"),
+        hold: number_given(matches, "hold"),
         save: text_in(alloc, matches, "save")?,
         segments: number_given(matches, "segments"),
         stays: is_given(matches, "stay"),

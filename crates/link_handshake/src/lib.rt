@@ -1,5 +1,5 @@
 //! Two ends of a link that stay in step over any line: the lines of version 2, what an end does at each line that it hears, and how long
-//! it was silent. The router does not use it yet; it talks by version 1 (`message_streams`).
+//! it was silent.
 //!
 //! # The lines
 //!

@@ -1,51 +1,80 @@
 -- Links over the streams of one session after a call.
 use Rattle.std.proofs.Common.{◌≡◌, ◌<◌, ℕ, Bool, false}
-use Rattle.std.proofs.Common.{arith, List, [], Option, Some, None, Ok, refl, sym, ap, subst}
-use Rattle.std.proofs.KnownBytes.{Appends-nil}
+use Rattle.std.proofs.Common.{arith, List, [], ◌∷◌, Option, Some, None, Ok, refl, sym, ap, subst, append-nil}
+use Rattle.std.proofs.KnownBytes.{Appends-nil, Appends-trans}
 use Rattle.std.specs.Io.KnownBytes.{Appends, Consumes}
 use Rattle.std.specs.Option.{option_or}
 use Rattle.line_protocol.specs.Runs.{AppendsFront}
 use Rattle.line_protocol.specs.declared.faults.StreamFault.{StreamFault}
 use Rattle.line_protocol.specs.declared.faults.StreamFault.TheVariants as fault
-use Rattle.message_streams.specs.Lines.{FitsMessage, message_line}
+use Rattle.message_streams.specs.Lines.{FitsMessage, lines_text, message_line}
 use Rattle.message_streams.specs.Views.{IsUnwritten, ReaderView, WriterView}
-use Rattle.message_streams.specs.declared.ends.StreamEnd.{StreamEnd}
 use Rattle.netchange_core.specs.declared.message.Message.{Message}
 use Rattle.route_session.specs.Links.{Received, Sent}
 use Rattle.route_session.specs.Telling.{known}
 use Rattle.route_session.specs.declared.link.Got.TheVariants as got
 use Rattle.neighbour_session.specs.Links.{IsInput, IsOutput, GotLinesOf, ReadsLines, TakesAfter, TearsLine, input_view, output_view}
-use Rattle.neighbour_session.specs.Said.{said_by}
-use Rattle.neighbour_session.proofs.Saying.{gave_more, got_more, got_none, lines_read, lines_written, said_more, written_more}
+use Rattle.neighbour_session.specs.Said.{GotLines, said_by}
+use Rattle.neighbour_session.specs.declared.ends.SessionEnd.{SessionEnd}
+use Rattle.neighbour_session.proofs.Saying.{gave_empty, gave_more, got_empty, got_more, got_none, lines_read, lines_written, said_empty, said_more, written_more}
 
 -- ---- reading
 
--- a reader that goes on
-nothing_after : (end : Option StreamEnd) (left : Option (List ℕ)) → end ≡ None → TakesAfter end left left
-nothing_after end left e = subst (λ (o : Option StreamEnd). TakesAfter o left left) (sym e) refl
-
-pub input_lines : (first last now : ReaderView) → IsInput first last now → ReadsLines first (said_by first.left last.left) now
-input_lines first last now h = record { left = last.left; lines = lines_read first.left last.left h.gave; after = h.after }
+pub input_lines : (first last now : ReaderView) (over : Option SessionEnd) → IsInput first last now over →
+    ReadsLines first (said_by first.left last.left) over now
+input_lines first last now over h = record { left = last.left; lines = lines_read first.left last.left h.gave; after = h.after }
 
 -- a message was read
-pub input_read : (first last now new : ReaderView) (m : Message) → IsInput first last now → now.end ≡ None → new.end ≡ None → FitsMessage m →
-    Consumes now.left new.left (message_line m) → IsInput first new new
-input_read first last now new m h before unended fits moved = record {
+pub input_read : (first last now new : ReaderView) (m : Message) → IsInput first last now None → new.end ≡ None → FitsMessage m →
+    Consumes now.left new.left (message_line m) → IsInput first new new None
+input_read first last now new m h readable fits moved = record {
   gave = gave_more first.left last.left new.left m h.gave fits
-      (subst (λ (r : ReaderView). Consumes r.left new.left (message_line m)) (h.unended before) moved);
+      (subst (λ (r : ReaderView). Consumes r.left new.left (message_line m)) (h.unended refl) moved);
   unended = λ e. refl;
-  after = λ e. nothing_after new.end new.left unended;
+  readable = λ e f. readable;
+  after = λ e. refl;
 }
 
-pub input_told : (first last now new : ReaderView) (m : Message) (ended : Bool) (failures : ℕ) → IsInput first last now → now.end ≡ None →
-    FitsMessage m → Consumes now.left new.left (message_line m) → Received (input_view first last now ended failures false).told
-    (Ok (got.Message m)) (input_view first new new ended failures false).told
-input_told first last now new m ended failures h before fits moved = (
+pub input_told : (first last now new : ReaderView) (m : Message) (ended : Bool) (failures : ℕ) → IsInput first last now None →
+    FitsMessage m → Consumes now.left new.left (message_line m) → Received (input_view first last now None ended failures false).told
+    (Ok (got.Message m)) (input_view first new new None ended failures false).told
+input_told first last now new m ended failures h fits moved = (
   refl,
-  ap (λ h. record { handed = h; given = Some []; first_refused = None; nothings = Some 0; ended = Some ended; failures = known failures; closed = false })
+  ap (λ h. record { handed = h; given = Some []; first_refused = None; nothings = None; ended = Some ended; failures = known failures; closed = false })
       (said_more first.left last.left new.left m h.gave fits
-      (subst (λ (r : ReaderView). Consumes r.left new.left (message_line m)) (h.unended before) moved)),
+      (subst (λ (r : ReaderView). Consumes r.left new.left (message_line m)) (h.unended refl) moved)),
 )
+
+-- an empty line was read, which changes nothing
+pub input_empty : (first last now new : ReaderView) → IsInput first last now None → new.end ≡ None → Consumes now.left new.left (10 ∷ []) →
+    IsInput first new new None
+input_empty first last now new h readable moved = record {
+  gave = gave_empty first.left last.left new.left h.gave
+      (subst (λ (r : ReaderView). Consumes r.left new.left (10 ∷ [])) (h.unended refl) moved);
+  unended = λ e. refl;
+  readable = λ e f. readable;
+  after = λ e. refl;
+}
+
+pub empty_told : (first last now new : ReaderView) (ended : Bool) (failures : ℕ) → IsInput first last now None →
+    Consumes now.left new.left (10 ∷ []) → Received (input_view first last now None ended failures false).told (Ok got.Nothing)
+    (input_view first new new None ended failures false).told
+empty_told first last now new ended failures h moved = (
+  refl,
+  ap (λ h. record { handed = h; given = Some []; first_refused = None; nothings = None; ended = Some ended; failures = known failures; closed = false })
+      (said_empty first.left last.left new.left h.gave
+      (subst (λ (r : ReaderView). Consumes r.left new.left (10 ∷ [])) (h.unended refl) moved)),
+)
+
+-- what ended the session was read
+pub input_over : (first last now new : ReaderView) (why : SessionEnd) → IsInput first last now None →
+    (now.end ≡ None → TakesAfter (Some why) now.left new) → IsInput first last new (Some why)
+input_over first last now new why h takes = record {
+  gave = h.gave;
+  unended = λ e. absurd cc;
+  readable = λ e f. absurd cc;
+  after = λ e. subst (λ (r : ReaderView). TakesAfter (Some why) r.left new) (h.unended refl) (takes (h.readable refl e));
+}
 
 -- ---- writing
 
@@ -74,6 +103,29 @@ pub output_sent : (first last now new : WriterView) (refused : Option Message) (
 output_sent first last now new refused m h fits moved = record {
   got = got_more first.held last.held new.held m h.got fits
       (subst (λ (w : WriterView). Appends w.held new.held (message_line m)) (h.whole refl).0 moved);
+  whole = λ e. (refl, (h.whole refl).1);
+  torn = subst (λ (o : Option Message). TearsLine o new.held new.held) (sym (h.whole refl).1) refl;
+}
+
+-- an empty line was written, or nothing of it: either way the stream has whole lines
+pub whole_or_none : (first before after : Option (List ℕ)) → GotLines first before → AppendsFront before after (10 ∷ []) → GotLines first after
+whole_or_none first before after got ([], back, is, moved) = record {
+  lines = got.lines;
+  fits = got.fits;
+  moved = subst (λ text. Appends first after text) (append-nil (lines_text got.lines))
+      (Appends-trans first before after (lines_text got.lines) [] got.moved moved);
+}
+whole_or_none first before after got (b ∷ [], back, is, moved) =
+    let same : 10 ≡ b = cc in
+    got_empty first before after got (subst (λ byte. Appends before after (byte ∷ [])) (sym same) moved)
+whole_or_none first before after got (b ∷ c ∷ front, back, is, moved) = absurd cc
+
+-- an empty line was written, or not, by a writer that did not fail before
+pub output_empty : (first last now new : WriterView) (refused : Option Message) → IsOutput first last now refused 0 →
+    AppendsFront now.held new.held (10 ∷ []) → IsOutput first new new refused 0
+output_empty first last now new refused h moved = record {
+  got = whole_or_none first.held last.held new.held h.got
+      (subst (λ (w : WriterView). AppendsFront w.held new.held (10 ∷ [])) (h.whole refl).0 moved);
   whole = λ e. (refl, (h.whole refl).1);
   torn = subst (λ (o : Option Message). TearsLine o new.held new.held) (sym (h.whole refl).1) refl;
 }

@@ -11,6 +11,8 @@ ghost use Rattle.std.specs.Prelude.{◌≡◌, ◌<◌, None, Some, false};
 ghost use Rattle.route_session.specs.Telling.{known};
 ghost use Rattle.route_session.specs.Told.{Rose};
 
+use crate::ends::SessionEnd;
+use link_handshake::{Said, read_line};
 use message_streams::{MessageReader, MessageWriter, StreamEnd};
 use netchange_core::Message;
 use route_session::{Got, Link, LinkFault};
@@ -53,13 +55,14 @@ impl GivenReader for Brand {
 
 /// A link over the stream that a neighbour is read from. A contract sees it as an `InputView`.
 ///
-/// It waits for a line. It has ended where the stream ended after a whole line; any other end of the reader is a failure. It takes no
-/// messages.
+/// It waits for a line, and answers that no message is there at an empty one. It has ended where the stream ended after a whole line; any
+/// other line that is no message, and any other end of the stream, is a failure. It takes no messages.
 #[derive(Drop)]
 pub(crate) struct InputLink<I: Read, S: GivenReader> {
     input: MessageReader<I>,
-    // The reader as it was after the message that was handed out last.
+    // The reader as it was after the last line that is a message or empty.
     last: Snapshot<MessageReader<I>>,
+    over: Option<SessionEnd>,
     has_ended: bool,
     failures: u64,
     is_closed: bool,
@@ -71,22 +74,23 @@ impl<I: Read, S: GivenReader> Model for InputLink<I, S> {
 
     ghost Value = { InputView };
 
-    ghost view = { λ l. input_view S.reader l.last.value l.input l.has_ended l.failures l.is_closed };
+    ghost view = { λ l. input_view S.reader l.last.value l.input l.over l.has_ended l.failures l.is_closed };
 
-    ghost invariant = { λ l. IsInput S.reader l.last.value l.input };
+    ghost invariant = { λ l. IsInput S.reader l.last.value l.input l.over };
 }
 
-impl<I: Read, S: GivenReader> InputLink<I, S> {
+impl<I: Read + Drop, S: GivenReader> InputLink<I, S> {
     ghost use Rattle.neighbour_session.specs.Links.{ReadsLines, input_view};
 
     /// A link over this reader.
     pub(crate) fn new(input: MessageReader<I>) -> InputLink<I, S>
         requires { input ≡ S.reader }
-        ensures { result ≡ input_view input input input false 0 false }
+        ensures { result ≡ input_view input input input None false 0 false }
     {
         InputLink {
             last: Snapshot::of(&input),
             input,
+            over: None,
             has_ended: false,
             failures: 0,
             is_closed: false,
@@ -94,25 +98,19 @@ impl<I: Read, S: GivenReader> InputLink<I, S> {
         }
     }
 
-    /// Why the reader ended, once it has.
-    pub(crate) fn end(&self) -> Option<StreamEnd>
-        ensures { result ≡ self.now.reader.end }
+    /// Why the link hands out no more, once it does not.
+    pub(crate) fn over(&self) -> Option<SessionEnd>
+        ensures { result ≡ self.now.over }
     {
-        self.input.end()
+        self.over
     }
 
-    /// The number of the line that was read last, or at which the reader ended.
-    pub(crate) fn line(&self) -> u64
-        ensures { result ≡ self.now.reader.line }
+    /// The reader. What the link handed out is what the lines of its stream say.
+    pub(crate) fn into_reader(self) -> MessageReader<I>
+        ensures { ReadsLines S.reader self.told.handed self.over result }
     {
-        self.input.line()
-    }
-
-    /// What the link handed out is what the lines of its stream say.
-    pub(crate) fn lines_are_told(&self)
-        ensures { ReadsLines S.reader self.now.told.handed self.now.reader }
-    {
-        let _ = &self.is_closed;
+        let InputLink { input, .. } = self;
+        input
     }
 }
 
@@ -124,16 +122,40 @@ impl<I: Read, S: GivenReader> Link for InputLink<I, S> {
             self.has_ended = true;
             return Ok(Got::Ended);
         }
-        match self.input.next_message() {
-            Ok(message) => {
+        if self.over.is_some() {
+            return Err(fail(&mut self.failures));
+        }
+        let line = match self.input.next_line() {
+            Ok(line) => line,
+            Err(why) => {
+                self.over = Some(SessionEnd::Read {
+                    why,
+                    line: self.input.line(),
+                });
+                if why != StreamEnd::Ended {
+                    return Err(fail(&mut self.failures));
+                }
+                self.has_ended = true;
+                return Ok(Got::Ended);
+            }
+        };
+        match read_line(line.as_slice()) {
+            Said::Message(message) => {
                 self.last = Snapshot::of(&self.input);
                 Ok(Got::Message(message))
             }
-            Err(StreamEnd::Ended) => {
-                self.has_ended = true;
-                Ok(Got::Ended)
+            Said::Alive => {
+                self.last = Snapshot::of(&self.input);
+                Ok(Got::Nothing)
             }
-            Err(_) => Err(fail(&mut self.failures)),
+            Said::Greeting(greeting) => {
+                self.over = Some(SessionEnd::Greeted(greeting));
+                Err(fail(&mut self.failures))
+            }
+            Said::Nothing => {
+                self.over = Some(SessionEnd::NoMessage(self.input.line()));
+                Err(fail(&mut self.failures))
+            }
         }
     }
 
@@ -201,6 +223,17 @@ impl<O: Write + Drop, T: Target> OutputLink<O, T> {
             is_closed: false,
             of: PhantomData,
         }
+    }
+
+    /// Writes an empty line. False where it was not written.
+    pub(crate) fn write_empty(&mut self) -> bool
+        requires { self.old.told.failures ≡ known 0 }
+        ensures told { self.new.told ≡ self.old.told }
+        ensures unwritten { result ≡ false → self.new.writer.over ≡ true }
+    {
+        let is_written = self.output.write_text(b"\n").is_ok();
+        self.last = Snapshot::of(&self.output);
+        is_written
     }
 
     /// The writer. What its stream got is what the link was given.
