@@ -1,4 +1,6 @@
 //! Who keeps a link.
+//!
+//! **The next session is had over the same streams**, wherever these go on, without `--retry` too: a line that outlives its ends has no other end.
 ghost use Rattle.std.specs.Prelude.{◌≡◌, ◌<◌, ⊤, false, true, IfErr, IfNone, IfOk};
 ghost use Rattle.slot_lock.specs.Passes.{IsPassOf};
 ghost use Rattle.router_daemon.specs.Links.{AreFresh, IsUnopened, IsUnreadable, KeepsOnce, KeepsTurn, StaysClosed};

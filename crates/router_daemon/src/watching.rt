@@ -1,4 +1,8 @@
 //! Who looks at the clock for all links.
+//!
+//! **A thread that waits for a file is not woken.** Who finds a neighbour silent ends its session at once, and greets it again over the same
+//! streams. Whoever reads or writes these streams goes on as soon as the neighbour says or takes a byte, or ends them. To open the other end of a
+//! FIFO for a moment, so that a read or a write returns, would bring the link back no sooner.
 ghost use Rattle.slot_lock.specs.Passes.{IsPassOf};
 
 use crate::crew::LinkCrew;
