@@ -198,6 +198,6 @@ unknown_filter old v uses text u given filters name is says near same named has 
     )
 
 -- numbers that fit are those of a domain
-pub fit_network : (a b c d e : Bool) → ((((a && b) && c) && d) && e) ≡ true → a ≡ true
-fit_network true b c d e h = refl
-fit_network false b c d e h = cc
+pub fit_network : (a b c d e f : Bool) → (((((a && b) && c) && d) && e) && f) ≡ true → a ≡ true
+fit_network true b c d e f h = refl
+fit_network false b c d e f h = cc
