@@ -75,6 +75,22 @@ fn look_at<R: Wait + Clock, J: Naming, E: Write>(
     }
 }
 
+/// Looks at the clock for all links once.
+fn look_at_all<R: Wait + Clock, J: Naming, E: Write>(
+    rt: &R,
+    alloc: Global,
+    shared: &Shared<J, E>,
+    pass: &mut Pass,
+    now: u64,
+)
+    requires { IsPassOf J.router pass.old }
+    ensures { IsPassOf J.router pass.new }
+{
+    for link in 0..shared.nodes.len() {
+        look_at(rt, alloc, shared, pass, link, now);
+    }
+}
+
 /// Looks at the clock for all links a few times a second, until the router is being closed. A clock that cannot be read closes nothing.
 pub(crate) fn watch_links<R: Wait + Clock + Drop, J: Naming, E: Write + Drop>(
     rt: R,
@@ -88,11 +104,8 @@ pub(crate) fn watch_links<R: Wait + Clock + Drop, J: Naming, E: Write + Drop>(
         if shared.signals.is_closing(&rt) {
             return;
         }
-        let Some(now) = now(&rt) else {
-            continue;
-        };
-        for link in 0..shared.nodes.len() {
-            look_at(&rt, alloc, &shared, &mut pass, link, now);
+        if let Some(now) = now(&rt) {
+            look_at_all(&rt, alloc, &shared, &mut pass, now);
         }
     }
 }

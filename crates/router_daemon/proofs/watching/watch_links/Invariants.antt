@@ -1,7 +1,6 @@
 use Rattle.slot_lock.specs.Passes.{IsPassOf}
 use Rattle.router_daemon.proofs.watching.watch_links.Given as goal
 
--- between two looks, and within one
 abbrev pub invariant-loop : goal.invariant-loop
 invariant-loop g l = record {
   next : (goal.iterator-loop g).can_next l.iterator';
