@@ -98,7 +98,10 @@ fn write_greeting<O: Write>(
     let Ok(()) = push_greeting(&mut line, greeting) else {
         return false;
     };
-    output.write_text(line.as_slice()).is_ok()
+    match output.write_text(line.as_slice()) {
+        Ok(()) => true,
+        Err(_) => false,
+    }
 }
 
 /// What who writes to a link is to do next.
