@@ -5,13 +5,13 @@ use Rattle.prefix_patterns.specs.Number.{decimal_value}
 use Rattle.prefix_patterns.specs.Reading.{number_in}
 use Rattle.router_options.specs.Forms.{is_link, is_use, node_in}
 use Rattle.router_options.specs.PlanView.{has_prefix}
-use Rattle.router_options.specs.Plans.{IsNoMember, IsNoNeighbour, RefusesNumbers, are_numbers, is_queue, queue_or}
+use Rattle.router_options.specs.Plans.{IsNoMember, IsNoNeighbour, RefusesNumbers, are_numbers, hold_or, is_queue, queue_or}
 use Rattle.router_options.specs.declared.fault.NodeFault.TheVariants.{Outside, Itself}
 use Rattle.router_options.specs.declared.fault.NumberFault.TheVariants as number
 
 -- ---- the numbers
 
-largest_domain : are_numbers (record { size = 250; me = 249; limit = Some 1000000; queue = Some 250; segments = Some 1; retry = Some 1; hold = None }) true ≡ true
+largest_domain : are_numbers (record { size = 250; me = 249; limit = Some 1000000; queue = Some 250; segments = Some 1; retry = Some 1; hold = Some 3600 }) true ≡ true
 largest_domain = refl
 
 -- the size is wrong, and so are all others: it is told
@@ -46,6 +46,17 @@ no_folder = (refl, refl, refl, refl)
 
 no_wait : RefusesNumbers (record { size = 4; me = 3; limit = None; queue = None; segments = Some 2; retry = Some 0; hold = None }) true number.Retry
 no_wait = (refl, refl)
+
+-- a router may be silent for an hour at most; 0 says for any time, and 9 seconds are meant where nothing is said
+long_silence : RefusesNumbers (record { size = 4; me = 3; limit = None; queue = None; segments = None; retry = Some 1; hold = Some 3601 }) false
+    (number.Hold 3601)
+long_silence = (refl, refl, refl)
+
+any_silence : are_numbers (record { size = 4; me = 3; limit = None; queue = None; segments = None; retry = None; hold = Some 0 }) false ≡ true
+any_silence = refl
+
+usual_hold : hold_or None ≡ 9
+usual_hold = refl
 
 -- ---- the options
 

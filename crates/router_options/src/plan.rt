@@ -154,9 +154,10 @@ fn check_numbers(numbers: Numbers, saves: bool) -> Result<(), NumberFault>
     if numbers.retry == Some(0) {
         return Err(NumberFault::Retry);
     }
-    let hold = hold_or(numbers.hold);
-    if hold > LARGEST_HOLD {
-        return Err(NumberFault::Hold(hold));
+    if let Some(hold) = numbers.hold {
+        if hold > LARGEST_HOLD {
+            return Err(NumberFault::Hold(hold));
+        }
     }
     Ok(())
 }
