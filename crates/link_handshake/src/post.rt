@@ -124,6 +124,13 @@ impl Post {
         self.clocks = self.clocks.hear(Said::Alive);
     }
 
+    /// Whether its greeting is to be written now.
+    fn has_to_greet(&self) -> bool
+        ensures { IsTrue result ↔ spec.HasToGreet self.now }
+    {
+        self.owes_greeting || (!self.end.is_up && self.clocks.is_due())
+    }
+
     /// The greeting that it has to write now, if it has to: it owes one; or it has no session, and wrote nothing for a third of its HOLD. It
     /// counts as written.
     pub fn take_greeting(&mut self) -> Option<Greeting>
@@ -131,7 +138,7 @@ impl Post {
             × (self.new ≡ record self.old { owes_greeting = false; clocks = after_writing self.old.clocks })) }
         ensures none { IfNone result ((self.new ≡ self.old) × (spec.HasToGreet self.old → ⊥)) }
     {
-        if !self.owes_greeting && (self.end.is_up || !self.clocks.is_due()) {
+        if !self.has_to_greet() {
             return None;
         }
         self.owes_greeting = false;

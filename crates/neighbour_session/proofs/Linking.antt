@@ -1,12 +1,17 @@
 -- Links over the streams of one session after a call.
-use Rattle.std.proofs.Common.{◌≡◌, ◌<◌, ℕ, Bool, false}
-use Rattle.std.proofs.Common.{arith, List, [], ◌∷◌, Option, Some, None, Ok, refl, sym, ap, subst, append-nil}
+use Rattle.std.proofs.Common.{◌≡◌, ◌∙◌, ◌-◌, ◌^◌, ◌<◌, ℕ, Bool, false, true}
+use Rattle.std.specs.Prelude.{if◌then◌else◌, nat_lt, Result, OnOk, IfErr, is_ok}
+use Rattle.std.proofs.Common.{arith, List, [], ◌∷◌, ◌++◌, Option, Some, None, Ok, Err, refl, sym, ap, subst, append-nil}
 use Rattle.std.proofs.KnownBytes.{Appends-nil, Appends-trans}
 use Rattle.std.specs.Io.KnownBytes.{Appends, Consumes}
 use Rattle.std.specs.Option.{option_or}
 use Rattle.line_protocol.specs.Runs.{AppendsFront}
 use Rattle.line_protocol.specs.declared.faults.StreamFault.{StreamFault}
 use Rattle.line_protocol.specs.declared.faults.StreamFault.TheVariants as fault
+use Rattle.link_handshake.proofs.Greetings.{alive_said_exactly, message_said_exactly}
+use Rattle.link_handshake.specs.Reading.{said_by as line_says}
+use Rattle.link_handshake.specs.declared.said.Said.TheVariants as said
+use Rattle.message_streams.specs.Ends.{ReadsLine}
 use Rattle.message_streams.specs.Lines.{FitsMessage, lines_text, message_line}
 use Rattle.message_streams.specs.Views.{IsUnwritten, ReaderView, WriterView}
 use Rattle.netchange_core.specs.declared.message.Message.{Message}
@@ -14,9 +19,9 @@ use Rattle.route_session.specs.Links.{Received, Sent}
 use Rattle.route_session.specs.Telling.{known}
 use Rattle.route_session.specs.declared.link.Got.TheVariants as got
 use Rattle.neighbour_session.specs.Links.{IsInput, IsOutput, GotLinesOf, ReadsLines, TakesAfter, TearsLine, input_view, output_view}
-use Rattle.neighbour_session.specs.Said.{GotLines, said_by}
+use Rattle.neighbour_session.specs.Said.{GotLines, said_by, said_to}
 use Rattle.neighbour_session.specs.declared.ends.SessionEnd.{SessionEnd}
-use Rattle.neighbour_session.proofs.Saying.{gave_empty, gave_more, got_empty, got_more, got_none, lines_read, lines_written, said_empty, said_more, written_more}
+use Rattle.neighbour_session.proofs.Saying.{gave_empty, gave_more, got_empty, got_more, got_none, lines_read, lines_written, said_empty, said_more, written_empty, written_more}
 
 -- ---- reading
 
@@ -24,56 +29,71 @@ pub input_lines : (first last now : ReaderView) (over : Option SessionEnd) → I
     ReadsLines first (said_by first.left last.left) over now
 input_lines first last now over h = record { left = last.left; lines = lines_read first.left last.left h.gave; after = h.after }
 
--- a message was read
-pub input_read : (first last now new : ReaderView) (m : Message) → IsInput first last now None → new.end ≡ None → FitsMessage m →
-    Consumes now.left new.left (message_line m) → IsInput first new new None
-input_read first last now new m h readable fits moved = record {
-  gave = gave_more first.left last.left new.left m h.gave fits
-      (subst (λ (r : ReaderView). Consumes r.left new.left (message_line m)) (h.unended refl) moved);
-  unended = λ e. refl;
-  readable = λ e f. readable;
-  after = λ e. refl;
-}
+-- what was read of a stream, by what the line says
+message_read : (line : List ℕ) (m : Message) (known left : Option (List ℕ)) → ReadsLine line known left → line_says line ≡ said.Message m →
+    FitsMessage m × Consumes known left (message_line m)
+message_read line m known left read says =
+    let is = (message_said_exactly line m).0 says in
+    (is.0, subst (λ text. Consumes known left (text ++ 10 ∷ [])) is.1 read.consumed)
 
-pub input_told : (first last now new : ReaderView) (m : Message) (ended : Bool) (failures : ℕ) → IsInput first last now None →
-    FitsMessage m → Consumes now.left new.left (message_line m) → Received (input_view first last now None ended failures false).told
-    (Ok (got.Message m)) (input_view first new new None ended failures false).told
-input_told first last now new m ended failures h fits moved = (
-  refl,
-  ap (λ h. record { handed = h; given = Some []; first_refused = None; nothings = None; ended = Some ended; failures = known failures; closed = false })
-      (said_more first.left last.left new.left m h.gave fits
-      (subst (λ (r : ReaderView). Consumes r.left new.left (message_line m)) (h.unended refl) moved)),
-)
+empty_read : (line : List ℕ) (known left : Option (List ℕ)) → ReadsLine line known left → line_says line ≡ said.Alive →
+    Consumes known left (10 ∷ [])
+empty_read line known left read says =
+    subst (λ text. Consumes known left (text ++ 10 ∷ [])) ((alive_said_exactly line).0 says) read.consumed
+
+-- a message was read
+pub input_read : (first last now new : ReaderView) (over : Option SessionEnd) (line : List ℕ) (m : Message) → IsInput first last now over →
+    over ≡ None → new.end ≡ None → ReadsLine line now.left new.left → line_says line ≡ said.Message m → IsInput first new new over
+input_read first last now new over line m h none readable read says =
+    let moved = message_read line m now.left new.left read says in
+    record {
+      gave = gave_more first.left last.left new.left m h.gave moved.0
+          (subst (λ (r : ReaderView). Consumes r.left new.left (message_line m)) (h.unended none) moved.1);
+      unended = λ e. refl;
+      readable = λ e f. readable;
+      after = λ e. subst (λ (o : Option SessionEnd). TakesAfter o new.left new) (sym none) refl;
+    }
+
+pub input_told : (first last now new : ReaderView) (over : Option SessionEnd) (line : List ℕ) (m : Message) (ended : Bool) (failures : ℕ) →
+    IsInput first last now over → over ≡ None → ReadsLine line now.left new.left → line_says line ≡ said.Message m →
+    Received (input_view first last now over ended failures false).told (Ok (got.Message m)) (input_view first new new over ended failures false).told
+input_told first last now new over line m ended failures h none read says =
+    let moved = message_read line m now.left new.left read says in (
+      refl,
+      ap (λ h. record { handed = h; given = Some []; first_refused = None; nothings = None; ended = Some ended; failures = known failures; closed = false })
+          (said_more first.left last.left new.left m h.gave moved.0
+          (subst (λ (r : ReaderView). Consumes r.left new.left (message_line m)) (h.unended none) moved.1)),
+    )
 
 -- an empty line was read, which changes nothing
-pub input_empty : (first last now new : ReaderView) → IsInput first last now None → new.end ≡ None → Consumes now.left new.left (10 ∷ []) →
-    IsInput first new new None
-input_empty first last now new h readable moved = record {
+pub input_empty : (first last now new : ReaderView) (over : Option SessionEnd) (line : List ℕ) → IsInput first last now over → over ≡ None →
+    new.end ≡ None → ReadsLine line now.left new.left → line_says line ≡ said.Alive → IsInput first new new over
+input_empty first last now new over line h none readable read says = record {
   gave = gave_empty first.left last.left new.left h.gave
-      (subst (λ (r : ReaderView). Consumes r.left new.left (10 ∷ [])) (h.unended refl) moved);
+      (subst (λ (r : ReaderView). Consumes r.left new.left (10 ∷ [])) (h.unended none) (empty_read line now.left new.left read says));
   unended = λ e. refl;
   readable = λ e f. readable;
-  after = λ e. refl;
+  after = λ e. subst (λ (o : Option SessionEnd). TakesAfter o new.left new) (sym none) refl;
 }
 
-pub empty_told : (first last now new : ReaderView) (ended : Bool) (failures : ℕ) → IsInput first last now None →
-    Consumes now.left new.left (10 ∷ []) → Received (input_view first last now None ended failures false).told (Ok got.Nothing)
-    (input_view first new new None ended failures false).told
-empty_told first last now new ended failures h moved = (
+pub empty_told : (first last now new : ReaderView) (over : Option SessionEnd) (line : List ℕ) (ended : Bool) (failures : ℕ) →
+    IsInput first last now over → over ≡ None → ReadsLine line now.left new.left → line_says line ≡ said.Alive →
+    Received (input_view first last now over ended failures false).told (Ok got.Nothing) (input_view first new new over ended failures false).told
+empty_told first last now new over line ended failures h none read says = (
   refl,
   ap (λ h. record { handed = h; given = Some []; first_refused = None; nothings = None; ended = Some ended; failures = known failures; closed = false })
       (said_empty first.left last.left new.left h.gave
-      (subst (λ (r : ReaderView). Consumes r.left new.left (10 ∷ [])) (h.unended refl) moved)),
+      (subst (λ (r : ReaderView). Consumes r.left new.left (10 ∷ [])) (h.unended none) (empty_read line now.left new.left read says))),
 )
 
 -- what ended the session was read
-pub input_over : (first last now new : ReaderView) (why : SessionEnd) → IsInput first last now None →
+pub input_over : (first last now new : ReaderView) (over : Option SessionEnd) (why : SessionEnd) → IsInput first last now over → over ≡ None →
     (now.end ≡ None → TakesAfter (Some why) now.left new) → IsInput first last new (Some why)
-input_over first last now new why h takes = record {
+input_over first last now new over why h none takes = record {
   gave = h.gave;
   unended = λ e. absurd cc;
   readable = λ e f. absurd cc;
-  after = λ e. subst (λ (r : ReaderView). TakesAfter (Some why) r.left new) (h.unended refl) (takes (h.readable refl e));
+  after = λ e. subst (λ (r : ReaderView). TakesAfter (Some why) r.left new) (h.unended none) (takes (h.readable none e));
 }
 
 -- ---- writing
@@ -119,6 +139,60 @@ whole_or_none first before after got (b ∷ [], back, is, moved) =
     let same : 10 ≡ b = cc in
     got_empty first before after got (subst (λ byte. Appends before after (byte ∷ [])) (sym same) moved)
 whole_or_none first before after got (b ∷ c ∷ front, back, is, moved) = absurd cc
+
+-- a text was written, or not
+pub written_or_not : (r : Result (Unit {0}) StreamFault) (old new : WriterView) (text : List ℕ) →
+    OnOk r ((old.over ≡ false) × (new.over ≡ false) × Appends old.held new.held text) →
+    IfErr r (λ why. (why ≡ fault.Write) × IsUnwritten why old new text) → AppendsFront old.held new.held text
+written_or_not (Ok done) old new text ok err = (text, [], sym (append-nil text), ok.2)
+written_or_not (Err why) old new text ok err = (subst (λ (f : StreamFault). IsUnwritten f old new text) err.0 err.1).1
+
+pub over_where_not : (r : Result (Unit {0}) StreamFault) (old new : WriterView) (text : List ℕ) →
+    IfErr r (λ why. (why ≡ fault.Write) × IsUnwritten why old new text) → is_ok r ≡ false → new.over ≡ true
+over_where_not (Ok done) old new text err not_ok = absurd cc
+over_where_not (Err why) old new text err not_ok = (subst (λ (f : StreamFault). IsUnwritten f old new text) err.0 err.1).0
+
+nothing_more : (first : Option (List ℕ)) (ys : List ℕ) (after : Option (List ℕ)) → Appends (Some ys) after [] → said_to first after ≡ said_to first (Some ys)
+nothing_more first ys None moved = absurd moved
+nothing_more first ys (Some zs) moved = ap (λ l. said_to first (Some l)) (moved ∙ append-nil ys)
+
+-- either way it says the same
+same_or_empty : (first before after : Option (List ℕ)) → GotLines first before → AppendsFront before after (10 ∷ []) →
+    said_to first after ≡ said_to first before
+same_or_empty None before after got moved = refl
+same_or_empty (Some xs) None after got moved = absurd got.moved
+same_or_empty (Some xs) (Some ys) after got ([], back, is, moved) = nothing_more (Some xs) ys after moved
+same_or_empty (Some xs) (Some ys) after got (b ∷ [], back, is, moved) =
+    let same : 10 ≡ b = cc in
+    written_empty (Some xs) (Some ys) after got (subst (λ byte. Appends (Some ys) after (byte ∷ [])) (sym same) moved)
+same_or_empty (Some xs) (Some ys) after got (b ∷ c ∷ front, back, is, moved) = absurd cc
+
+known_small : (n : ℕ) (small : Bool) → (if small then Some n else None) ≡ Some 0 → n ≡ 0
+known_small n true e = cc
+known_small n false e = absurd cc
+
+-- a count that is told to be 0 is 0
+known_zero : (n : ℕ) → known n ≡ known 0 → n ≡ 0
+known_zero n e = known_small n (nat_lt n (2 ^ 64 - 1)) e
+
+pub output_unfailed : (first last now : WriterView) (refused : Option Message) (ended closed : Bool) (failures : ℕ) →
+    (output_view first last now refused ended failures closed).told.failures ≡ known 0 → failures ≡ 0
+output_unfailed first last now refused ended closed failures e = known_zero failures e
+
+pub empty_written : (first last now new : WriterView) (refused : Option Message) (ended closed : Bool) → IsOutput first last now refused 0 →
+    AppendsFront now.held new.held (10 ∷ []) →
+    (output_view first new new refused ended 0 closed).told ≡ (output_view first last now refused ended 0 closed).told
+empty_written first last now new refused ended closed h moved =
+    ap (λ g. record {
+      handed = Some [];
+      given = g;
+      first_refused = Some refused;
+      nothings = Some 0;
+      ended = Some ended;
+      failures = known 0;
+      closed = closed;
+    }) (same_or_empty first.held last.held new.held h.got
+    (subst (λ (w : WriterView). AppendsFront w.held new.held (10 ∷ [])) (h.whole refl).0 moved))
 
 -- an empty line was written, or not, by a writer that did not fail before
 pub output_empty : (first last now new : WriterView) (refused : Option Message) → IsOutput first last now refused 0 →

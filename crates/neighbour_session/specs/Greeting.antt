@@ -32,6 +32,15 @@ pub record HearsLine (heard : Said) (input i : ReaderView) : Type 0 where
   pub line : ((text : List ℕ) × ReadsLine text input.left i.left × (said_by text ≡ heard))
       ⊎ (StopsAtLine stream.TooLong input.left i.left × (heard ≡ said.Nothing))
 
+-- this was heard: it is what was heard before, and nothing was read; or else a line says it
+abbrev pub TakesSaid : Option Said → Said → ReaderView → ReaderView → Type 0
+TakesSaid before heard input i = ((before ≡ Some heard) × (i ≡ input)) ⊎ HearsLine heard input i
+
+-- no greeting but that of this node of the router's domain
+abbrev pub IsWelcome : Domain → ℕ → Said → Type 0
+IsWelcome d neighbour (said.Greeting g) = IsOf d neighbour g
+IsWelcome d neighbour _ = Unit {0}
+
 -- no line was heard any more
 abbrev pub IsUnheard : SessionEnd → ReaderView → ReaderView → Type 0
 IsUnheard (end.Read why line) input i = (i.end ≡ Some why) × (line ≡ i.line)

@@ -1,7 +1,5 @@
 //! Two neighbours greet one another.
-ghost use Rattle.std.specs.Prelude.{◌≡◌, IfErr, IfOk, IfSome, MatchResult, OnOk};
-ghost use Rattle.link_handshake.specs.Reading.{said_by};
-ghost use Rattle.link_handshake.specs.declared.said.Said.TheVariants as said;
+ghost use Rattle.std.specs.Prelude.{◌≡◌, IfErr, IfOk, None, OnOk};
 ghost use Rattle.neighbour_session.specs.Greeting as spec;
 
 use crate::ends::{GreetingFault, SessionEnd};
@@ -52,11 +50,57 @@ fn next_said<I: Read>(input: &mut MessageReader<I>) -> Result<(Said, u32), Sessi
     ensures said { IfOk result (λ r. spec.HearsLine r.0 input.old input.new) }
     ensures end { IfErr result (λ why. spec.IsUnheard why input.old input.new) }
 {
+    // A reader that has ended hands out no line any more.
+    if let Some(why) = input.end() {
+        return Err(SessionEnd::Read {
+            why,
+            line: input.line(),
+        });
+    }
     match input.next_line() {
         Ok(line) => Ok((read_line(line.as_slice()), line.len() as u32 + 1)),
         Err(StreamEnd::TooLong) => Ok((Said::Nothing, 64)),
         Err(why) => Err(SessionEnd::Read {
             why,
+            line: input.line(),
+        }),
+    }
+}
+
+/// What the line says that was heard before, if there is one, which is taken, or else the next line of a stream; and how many bytes were read.
+fn take_said<I: Read>(
+    before: &mut Option<Said>,
+    input: &mut MessageReader<I>,
+) -> Result<(Said, u32), SessionEnd>
+    ensures said { IfOk result (λ r. spec.TakesSaid before.old r.0 input.old input.new) }
+    ensures taken { before.new ≡ None }
+    ensures end { IfErr result (λ why. spec.IsUnheard why input.old input.new) }
+{
+    match before.take() {
+        Some(said) => Ok((said, 0)),
+        None => next_said(input),
+    }
+}
+
+/// How many bytes were skipped since the last greeting, after a line of so many. A greeting has to be the neighbour's.
+fn count_skipped<I: Read>(
+    said: Said,
+    skipped: u32,
+    bytes: u32,
+    input: &MessageReader<I>,
+    domain: Domain,
+    neighbour: u16,
+) -> Result<u32, SessionEnd>
+    ensures ok { OnOk result (spec.IsWelcome domain neighbour said) }
+    ensures err { IfErr result (λ why. spec.IsUnmet why domain neighbour input.now) }
+{
+    let Said::Greeting(greeting) = said else {
+        return skip(skipped, bytes).ok_or(SessionEnd::Ungreeted);
+    };
+    match check_greeting(greeting, domain, neighbour) {
+        Ok(()) => Ok(0),
+        Err(fault) => Err(SessionEnd::Mistaken {
+            fault,
             line: input.line(),
         }),
     }
@@ -78,21 +122,8 @@ pub fn meet<R: Wait + RandomSource, I: Read, E: Ears>(
     let mut before = first;
     let mut skipped = 0;
     for _ in rt.forever() {
-        let (said, bytes) = match before.take() {
-            Some(said) => (said, 0),
-            None => next_said(input)?,
-        };
-        if let Said::Greeting(greeting) = said {
-            if let Err(fault) = check_greeting(greeting, domain, neighbour) {
-                return Err(SessionEnd::Mistaken {
-                    fault,
-                    line: input.line(),
-                });
-            }
-            skipped = 0;
-        } else {
-            skipped = skip(skipped, bytes).ok_or(SessionEnd::Ungreeted)?;
-        }
+        let (said, bytes) = take_said(&mut before, input)?;
+        skipped = count_skipped(said, skipped, bytes, input, domain, neighbour)?;
         if let Some(meeting) = ears.hear(rt, said) {
             return Ok(meeting);
         }

@@ -7,7 +7,7 @@
 //! that it was handed, and `serve_writer` hands the writer back, whose stream got the lines of what its Takes brought. Whoever asked for it closes
 //! it.
 ghost use Rattle.std.specs.Option.{option_or};
-ghost use Rattle.std.specs.Prelude.{◌≡◌, ◌<◌, None, Some, false};
+ghost use Rattle.std.specs.Prelude.{◌≡◌, ◌<◌, None, Some, false, true};
 ghost use Rattle.route_session.specs.Telling.{known};
 ghost use Rattle.route_session.specs.Told.{Rose};
 

@@ -1,5 +1,6 @@
 //! Who writes to a neighbour.
-ghost use Rattle.std.specs.Prelude.{◌≡◌, ◌≢◌, Bool, IfNone, IfSome};
+ghost use Rattle.std.specs.Prelude.{◌≡◌, false, true, IfNone, IfSome};
+ghost use Rattle.route_session.specs.Telling.{known};
 ghost use Rattle.neighbour_session.specs.Writing as spec;
 ghost use Rattle.route_session.specs.Calls.{StaysSound};
 ghost use Rattle.slot_lock.specs.Passes.{IsPassOf};
@@ -42,6 +43,22 @@ fn pause_if_full<R: Clock>(rt: &R, cause: Cause) {
     }
 }
 
+/// Writes an empty line, where the crew says that one is owed. False where it was not written.
+fn write_owed<T: Target, R: Wait + Clock, O: Write + Drop, C: Crew>(
+    rt: &R,
+    link: &mut OutputLink<O, T>,
+    crew: &C,
+) -> bool
+    requires { link.old.told.failures ≡ known 0 }
+    ensures told { link.new.told ≡ link.old.told }
+    ensures unwritten { result ≡ false → link.new.writer.over ≡ true }
+{
+    if !crew.owes_line(rt) {
+        return true;
+    }
+    link.write_empty()
+}
+
 /// Gives a neighbour what the router queued for it, until the session is over, and an empty line between two messages where the crew says that
 /// one is owed: why the session is over, the stream, and how many messages were left out.
 fn write_all<T: Target, R: Wait + Clock, O: Write + Drop, C: Crew>(
@@ -74,7 +91,7 @@ fn write_all<T: Target, R: Wait + Clock, O: Write + Drop, C: Crew>(
         if !crew.is_present(rt) {
             return (SessionEnd::Closed, link.into_writer(), left_out);
         }
-        if crew.owes_line(rt) && !link.write_empty() {
+        if !write_owed(rt, &mut link, crew) {
             return (SessionEnd::Unwritten, link.into_writer(), left_out);
         }
     }

@@ -1,4 +1,5 @@
-use Rattle.std.proofs.Common.{◌∙◌, ◌+◌, refl, subst, sym}
+use Rattle.std.proofs.Common.{◌∙◌, ◌+◌, refl, rules, subst, sym}
+use Rattle.route_session.specs.Told.{Told}
 use Rattle.message_streams.specs.Views.{WriterView}
 use Rattle.neighbour_session.specs.Links.{GotLinesOf, OutputView}
 use Rattle.neighbour_session.specs.Writing.{told_to}
@@ -41,16 +42,17 @@ returns-then-not-is_present-clause-writes g c =
     c.in_default.ensures.goes_on c.if-not-is_present.ensures
     (c.saturating_add.ensures ∙ min_more c.loop.left_out c.loop.invariant.count end.result.1 c.loop.invariant.counted)
 
-pub returns-then-owes_line-clause-writes : goal.returns-then-owes_line-clause-writes
-returns-then-owes_line-clause-writes g c =
+pub returns-then-not-write_owed-clause-writes : goal.returns-then-not-write_owed-clause-writes
+returns-then-not-write_owed-clause-writes g c =
     let end = c.write_newest-end in
-    let u = c.write_empty.new.self.told in
-    let later = c.into_writer-then-owes_line.result in
+    let u = end.new.link.told in
+    let later = c.into_writer-then-not-write_owed.result in
     writes_unwritten c.args.waits (g.C.Crew.may_be_present c.args.crew.now) c.args.router.now c.loop.invariant.count end.result.1
     c.saturating_add.result c.args.session c.args.pass.now c.args.output c.loop.pass c.loop.link.told end.result.0 end.new.pass u later
     c.loop.invariant.written end.ensures.written
-    (subst (λ (w : WriterView). GotLinesOf w u later) (sym c.requires.named) c.into_writer-then-owes_line.ensures)
-    c.in_default.ensures.goes_on c.write_empty.ensures.unwritten
+    (subst (λ (w : WriterView). GotLinesOf w u later) (sym c.requires.named)
+    (subst (λ (t : Told). GotLinesOf g.T.Target.writer t later) c.write_owed.ensures.told c.into_writer-then-not-write_owed.ensures))
+    c.in_default.ensures.goes_on (c.write_owed.ensures.unwritten (search rules))
     (c.saturating_add.ensures ∙ min_more c.loop.left_out c.loop.invariant.count end.result.1 c.loop.invariant.counted)
 
 pub loop-preserved : goal.loop-preserved
@@ -63,7 +65,9 @@ loop-preserved g c =
       shares = end.ensures.written.written.writes.gained.shares ∙ c.loop.invariant.shares;
       count = c.loop.invariant.count + end.result.1;
       counted = c.saturating_add.ensures ∙ min_more c.loop.left_out c.loop.invariant.count end.result.1 c.loop.invariant.counted;
-      written = writes_on c.args.waits c.args.router.now c.loop.invariant.count end.result.1 c.args.session c.args.pass.now.fragment
+      written = subst (λ (t : Told). HasWritten (c.loop.invariant.count + end.result.1) c.args.session c.args.pass.now.fragment
+          (told_to c.args.output) end.new.pass.fragment t) (sym c.write_owed.ensures.told)
+          (writes_on c.args.waits c.args.router.now c.loop.invariant.count end.result.1 c.args.session c.args.pass.now.fragment
           (told_to c.args.output) c.loop.pass.fragment c.loop.link.told end.result.0 end.new.pass.fragment end.new.link.told
-          c.loop.invariant.written c.in_default.ensures.goes_on end.ensures.written;
+          c.loop.invariant.written c.in_default.ensures.goes_on end.ensures.written);
     }
