@@ -1,6 +1,6 @@
 -- Links over the streams of one session after a call.
 use Rattle.std.proofs.Common.{◌≡◌, ◌∙◌, ◌-◌, ◌^◌, ◌<◌, ℕ, Bool, false, true}
-use Rattle.std.specs.Prelude.{if◌then◌else◌, nat_lt, Result, OnOk, IfErr, is_ok}
+use Rattle.std.specs.Prelude.{if◌then◌else◌, nat_lt, Result, OnErr, OnOk, IfErr, IfOk, is_ok, is_some}
 use Rattle.std.proofs.Common.{arith, List, [], ◌∷◌, ◌++◌, Option, Some, None, Ok, Err, refl, sym, ap, subst, append-nil}
 use Rattle.std.proofs.KnownBytes.{Appends-nil, Appends-trans}
 use Rattle.std.specs.Io.KnownBytes.{Appends, Consumes}
@@ -10,6 +10,7 @@ use Rattle.line_protocol.specs.declared.faults.StreamFault.{StreamFault}
 use Rattle.line_protocol.specs.declared.faults.StreamFault.TheVariants as fault
 use Rattle.link_handshake.proofs.Greetings.{alive_said_exactly, message_said_exactly}
 use Rattle.link_handshake.specs.Reading.{said_by as line_says}
+use Rattle.link_handshake.specs.declared.said.Said.{Said}
 use Rattle.link_handshake.specs.declared.said.Said.TheVariants as said
 use Rattle.message_streams.specs.Ends.{ReadsLine}
 use Rattle.message_streams.specs.Lines.{FitsMessage, lines_text, message_line}
@@ -17,9 +18,13 @@ use Rattle.message_streams.specs.Views.{IsUnwritten, ReaderView, WriterView}
 use Rattle.netchange_core.specs.declared.message.Message.{Message}
 use Rattle.route_session.specs.Links.{Received, Sent}
 use Rattle.route_session.specs.Telling.{known}
+use Rattle.route_session.specs.Told.{Rose, Told}
+use Rattle.route_session.specs.declared.link.Got.{Got}
 use Rattle.route_session.specs.declared.link.Got.TheVariants as got
-use Rattle.neighbour_session.specs.Links.{IsInput, IsOutput, GotLinesOf, ReadsLines, TakesAfter, TearsLine, input_view, output_view}
-use Rattle.neighbour_session.specs.Said.{GotLines, said_by, said_to}
+use Rattle.route_session.specs.declared.link.LinkFault.{LinkFault}
+use Rattle.neighbour_session.specs.Links.{IsInput, IsOutput, GotLinesOf, ReadsLines, ReadsTold, TakesAfter, TearsLine, got_of, in_session}
+use Rattle.neighbour_session.specs.Links.{input_view, output_view}
+use Rattle.neighbour_session.specs.Said.{GaveLines, GotLines, said_by, said_to}
 use Rattle.neighbour_session.specs.declared.ends.SessionEnd.{SessionEnd}
 use Rattle.neighbour_session.proofs.Saying.{gave_empty, gave_more, got_empty, got_more, got_none, lines_read, lines_written, said_empty, said_more, written_empty, written_more}
 
@@ -31,59 +36,113 @@ input_lines first last now over h = record { left = last.left; lines = lines_rea
 
 -- what was read of a stream, by what the line says
 message_read : (line : List ℕ) (m : Message) (known left : Option (List ℕ)) → ReadsLine line known left → line_says line ≡ said.Message m →
-    FitsMessage m × Consumes known left (message_line m)
+    ReadsTold (Some m) known left
 message_read line m known left read says =
     let is = (message_said_exactly line m).0 says in
     (is.0, subst (λ text. Consumes known left (text ++ 10 ∷ [])) is.1 read.consumed)
 
 empty_read : (line : List ℕ) (known left : Option (List ℕ)) → ReadsLine line known left → line_says line ≡ said.Alive →
-    Consumes known left (10 ∷ [])
+    ReadsTold None known left
 empty_read line known left read says =
     subst (λ text. Consumes known left (text ++ 10 ∷ [])) ((alive_said_exactly line).0 says) read.consumed
 
--- a message was read
-pub input_read : (first last now new : ReaderView) (over : Option SessionEnd) (line : List ℕ) (m : Message) → IsInput first last now over →
-    over ≡ None → new.end ≡ None → ReadsLine line now.left new.left → line_says line ≡ said.Message m → IsInput first new new over
-input_read first last now new over line m h none readable read says =
-    let moved = message_read line m now.left new.left read says in
-    record {
-      gave = gave_more first.left last.left new.left m h.gave moved.0
-          (subst (λ (r : ReaderView). Consumes r.left new.left (message_line m)) (h.unended none) moved.1);
-      unended = λ e. refl;
-      readable = λ e f. readable;
-      after = λ e. subst (λ (o : Option SessionEnd). TakesAfter o new.left new) (sym none) refl;
-    }
+told_read : (line : List ℕ) (s : Said) (number : ℕ) (known : Option (List ℕ)) (now : ReaderView) → now.end ≡ None → ReadsLine line known now.left →
+    line_says line ≡ s → IfOk (in_session s number) (λ told. (now.end ≡ None) × ReadsTold told known now.left)
+told_read line (said.Message m) number known now readable read says = (readable, message_read line m known now.left read says)
+told_read line said.Alive number known now readable read says = (readable, empty_read line known now.left read says)
+told_read line (said.Greeting g) number known now readable read says = tt
+told_read line said.Nothing number known now readable read says = tt
 
-pub input_told : (first last now new : ReaderView) (over : Option SessionEnd) (line : List ℕ) (m : Message) (ended : Bool) (failures : ℕ) →
-    IsInput first last now over → over ≡ None → ReadsLine line now.left new.left → line_says line ≡ said.Message m →
-    Received (input_view first last now over ended failures false).told (Ok (got.Message m)) (input_view first new new over ended failures false).told
-input_told first last now new over line m ended failures h none read says =
-    let moved = message_read line m now.left new.left read says in (
-      refl,
-      ap (λ h. record { handed = h; given = Some []; first_refused = None; nothings = None; ended = Some ended; failures = known failures; closed = false })
-          (said_more first.left last.left new.left m h.gave moved.0
-          (subst (λ (r : ReaderView). Consumes r.left new.left (message_line m)) (h.unended none) moved.1)),
-    )
+over_read : (line : List ℕ) (s : Said) (number : ℕ) (known : Option (List ℕ)) (now : ReaderView) → number ≡ now.line → ReadsLine line known now.left →
+    line_says line ≡ s → IfErr (in_session s number) (λ why. TakesAfter (Some why) known now)
+over_read line (said.Message m) number known now at read says = tt
+over_read line said.Alive number known now at read says = tt
+over_read line (said.Greeting g) number known now at read says = (line, read, says)
+over_read line said.Nothing number known now at read says = (at, line, read, says)
 
--- an empty line was read, which changes nothing
-pub input_empty : (first last now new : ReaderView) (over : Option SessionEnd) (line : List ℕ) → IsInput first last now over → over ≡ None →
-    new.end ≡ None → ReadsLine line now.left new.left → line_says line ≡ said.Alive → IsInput first new new over
-input_empty first last now new over line h none readable read says = record {
-  gave = gave_empty first.left last.left new.left h.gave
-      (subst (λ (r : ReaderView). Consumes r.left new.left (10 ∷ [])) (h.unended none) (empty_read line now.left new.left read says));
+-- and what a call says of it that answered so
+pub line_told : (r : Result (Option Message) SessionEnd) (line : List ℕ) (s : Said) (number : ℕ) (known : Option (List ℕ)) (now : ReaderView) →
+    r ≡ in_session s number → now.end ≡ None → ReadsLine line known now.left → line_says line ≡ s →
+    IfOk r (λ told. (now.end ≡ None) × ReadsTold told known now.left)
+line_told r line s number known now is readable read says =
+    subst (λ (a : Result (Option Message) SessionEnd). IfOk a (λ told. (now.end ≡ None) × ReadsTold told known now.left)) (sym is)
+    (told_read line s number known now readable read says)
+
+if_ever : (r : Result (Option Message) SessionEnd) (A : Type 0) (P : SessionEnd → Type 0) → IfErr r P → IfErr r (λ why. A → P why)
+if_ever (Ok told) A P h = tt
+if_ever (Err why) A P h = λ a. h
+
+pub line_over : (r : Result (Option Message) SessionEnd) (line : List ℕ) (s : Said) (number : ℕ) (known : Option (List ℕ)) (now : ReaderView)
+    (A : Type 0) → r ≡ in_session s number → number ≡ now.line → ReadsLine line known now.left → line_says line ≡ s →
+    IfErr r (λ why. A → TakesAfter (Some why) known now)
+line_over r line s number known now A is at read says =
+    if_ever r A (λ why. TakesAfter (Some why) known now)
+    (subst (λ (a : Result (Option Message) SessionEnd). IfErr a (λ why. TakesAfter (Some why) known now)) (sym is)
+    (over_read line s number known now at read says))
+
+-- a link that is not over
+pub none_where_not : (over : Option SessionEnd) → is_some over ≡ false → over ≡ None
+none_where_not None e = refl
+none_where_not (Some why) e = absurd cc
+
+-- a message was read, or an empty line, which changes nothing
+gave_told : (first a b : Option (List ℕ)) (told : Option Message) → GaveLines first a → ReadsTold told a b → GaveLines first b
+gave_told first a b None gave read = gave_empty first a b gave read
+gave_told first a b (Some m) gave read = gave_more first a b m gave read.0 read.1
+
+pub input_read : (first last now new : ReaderView) (over : Option SessionEnd) (told : Option Message) → IsInput first last now over →
+    over ≡ None → new.end ≡ None → ReadsTold told now.left new.left → IsInput first new new over
+input_read first last now new over told h none readable read = record {
+  gave = gave_told first.left last.left new.left told h.gave
+      (subst (λ (r : ReaderView). ReadsTold told r.left new.left) (h.unended none) read);
   unended = λ e. refl;
   readable = λ e f. readable;
   after = λ e. subst (λ (o : Option SessionEnd). TakesAfter o new.left new) (sym none) refl;
 }
 
-pub empty_told : (first last now new : ReaderView) (over : Option SessionEnd) (line : List ℕ) (ended : Bool) (failures : ℕ) →
-    IsInput first last now over → over ≡ None → ReadsLine line now.left new.left → line_says line ≡ said.Alive →
-    Received (input_view first last now over ended failures false).told (Ok got.Nothing) (input_view first new new over ended failures false).told
-empty_told first last now new over line ended failures h none read says = (
+-- what a link tells that has handed out these messages
+abbrev telling : Bool → ℕ → Option (List Message) → Told
+telling ended failures handed = record {
+  handed = handed;
+  given = Some [];
+  first_refused = None;
+  nothings = None;
+  ended = Some ended;
+  failures = known failures;
+  closed = false;
+}
+
+got_told : (first a b : Option (List ℕ)) (told : Option Message) (ended : Bool) (failures : ℕ) → GaveLines first a → ReadsTold told a b →
+    Received (telling ended failures (said_by first a)) (Ok (got_of told)) (telling ended failures (said_by first b))
+got_told first a b None ended failures gave read = (refl, ap (telling ended failures) (said_empty first a b gave read))
+got_told first a b (Some m) ended failures gave read = (refl, ap (telling ended failures) (said_more first a b m gave read.0 read.1))
+
+pub input_told : (first last now new : ReaderView) (over : Option SessionEnd) (told : Option Message) (ended : Bool) (failures : ℕ) →
+    IsInput first last now over → over ≡ None → ReadsTold told now.left new.left →
+    Received (input_view first last now over ended failures false).told (Ok (got_of told)) (input_view first new new over ended failures false).told
+input_told first last now new over told ended failures h none read =
+    got_told first.left last.left new.left told ended failures h.gave
+    (subst (λ (r : ReaderView). ReadsTold told r.left new.left) (h.unended none) read)
+
+abbrev input_told_as : ReaderView → ReaderView → ReaderView → Option SessionEnd → Bool → ℕ → Told
+input_told_as first last now over ended failures = (input_view first last now over ended failures false).told
+
+-- what a link answers whose session is over
+pub answer_told : (r : Result Got LinkFault) (first last now new : ReaderView) (over later : Option SessionEnd) (ended ends : Bool)
+    (failures fails : ℕ) → IfOk r (λ a. (a ≡ got.Ended) × (ends ≡ true) × (fails ≡ failures)) →
+    OnErr r ((ends ≡ ended) × Rose (known failures) (known fails)) →
+    Received (input_view first last now over ended failures false).told r (input_view first last new later ends fails false).told
+answer_told (Ok a) first last now new over later ended ends failures fails ok err =
+    subst (λ (g : Got). Received (input_view first last now over ended failures false).told (Ok g) (input_view first last new later ends fails false).told)
+    (sym ok.0)
+    (subst (λ (b : Bool). input_told_as first last now over b fails ≡ input_told_as first last now over true failures) (sym ok.1)
+    (ap (λ n. input_told_as first last now over true n) ok.2))
+answer_told (Err f) first last now new over later ended ends failures fails ok err = (
   refl,
-  ap (λ h. record { handed = h; given = Some []; first_refused = None; nothings = None; ended = Some ended; failures = known failures; closed = false })
-      (said_empty first.left last.left new.left h.gave
-      (subst (λ (r : ReaderView). Consumes r.left new.left (10 ∷ [])) (h.unended none) (empty_read line now.left new.left read says))),
+  record {
+    only = ap (λ b. input_told_as first last now over b fails) err.0;
+    rose = err.1;
+  },
 )
 
 -- what ended the session was read

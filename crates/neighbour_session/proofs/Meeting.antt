@@ -1,19 +1,59 @@
 -- What was read while two neighbours greet one another.
-use Rattle.std.proofs.Common.{◌≡◌, ℕ, List, [], ◌∷◌, ◌++◌, Option, Some, None, inl, inr, refl, sym, ◌∙◌, ap, subst}
-use Rattle.std.specs.Prelude.{◌⊎◌}
+use Rattle.std.proofs.Common.{◌≡◌, ℕ, List, [], ◌∷◌, ◌++◌, Ok, Err, Option, Some, None, false, true, inl, inr, refl, sym, ◌∙◌, ap, subst}
+use Rattle.std.specs.Prelude.{◌⊎◌, Result, IfErr, IfOk}
 use Rattle.std.proofs.KnownBytes.{Consumes-nil, Consumes-trans}
 use Rattle.std.specs.Io.KnownBytes.{Consumes}
 use Rattle.link_handshake.specs.Reading.{said_by}
 use Rattle.link_handshake.specs.declared.greeting.Greeting.{Greeting}
 use Rattle.link_handshake.specs.declared.said.Said.{Said}
 use Rattle.link_handshake.specs.declared.said.Said.TheVariants as said
-use Rattle.message_streams.specs.Ends.{ReadsLine, StopsAtLine}
+use Rattle.message_streams.specs.Ends.{ReadsLine, StopsAtLine, is_lasting, lasting}
 use Rattle.message_streams.specs.Views.{ReaderView}
+use Rattle.message_streams.specs.declared.ends.StreamEnd.{StreamEnd}
 use Rattle.message_streams.specs.declared.ends.StreamEnd.TheVariants as stream
-use Rattle.neighbour_session.specs.Greeting.{Comes, HearsLine, IsOf, IsUnheard, IsUnmet, IsWelcome, TakesSaid}
+use Rattle.neighbour_session.specs.Greeting.{Comes, HearsLine, IsUnheard, IsUnmet, TakesSaid, read_end}
 use Rattle.neighbour_session.specs.declared.ends.SessionEnd.{SessionEnd}
 use Rattle.neighbour_session.specs.declared.ends.SessionEnd.TheVariants as end
 use Rattle.neighbour_session.specs.declared.greeting.Domain.{Domain}
+
+-- a line was not read whole
+not_lasting : (why : StreamEnd) → is_lasting why ≡ false → why ≡ stream.TooLong
+not_lasting stream.TooLong e = refl
+not_lasting stream.Ended e = absurd cc
+not_lasting stream.Unfinished e = absurd cc
+not_lasting stream.Read e = absurd cc
+
+too_long : (why : StreamEnd) (input i : ReaderView) → is_lasting why ≡ false → input.end ≡ None →
+    (i.end ≡ lasting why) × StopsAtLine why input.left i.left → HearsLine said.Nothing input i
+too_long stream.TooLong input i e unended stops = record { readable = unended; readable_on = stops.0; line = inr (stops.1, refl) }
+too_long stream.Ended input i e unended stops = absurd cc
+too_long stream.Unfinished input i e unended stops = absurd cc
+too_long stream.Read input i e unended stops = absurd cc
+
+lasts : (why : StreamEnd) → is_lasting why ≡ true → lasting why ≡ Some why
+lasts stream.TooLong e = absurd cc
+lasts stream.Ended e = refl
+lasts stream.Unfinished e = refl
+lasts stream.Read e = refl
+
+pub nothing_heard : (r : Result (Said × ℕ) SessionEnd) (why : StreamEnd) (input i : ReaderView) →
+    IfOk r (λ p. (p.0 ≡ said.Nothing) × (is_lasting why ≡ false)) → input.end ≡ None →
+    (i.end ≡ lasting why) × StopsAtLine why input.left i.left → IfOk r (λ p. HearsLine p.0 input i)
+nothing_heard (Ok p) why input i ok unended stops =
+    subst (λ (s : Said). HearsLine s input i) (sym ok.0) (too_long why input i ok.1 unended stops)
+nothing_heard (Err e) why input i ok unended stops = tt
+
+pub no_more_heard : (r : Result (Said × ℕ) SessionEnd) (why : StreamEnd) (line : ℕ) (input i : ReaderView) →
+    IfErr r (λ e. (e ≡ read_end why line) × (is_lasting why ≡ true)) → line ≡ i.line → i.end ≡ lasting why → IfErr r (λ e. IsUnheard e input i)
+no_more_heard (Ok p) why line input i err at ends = tt
+no_more_heard (Err e) why line input i err at ends =
+    subst (λ (s : SessionEnd). IsUnheard s input i) (sym err.0) (ends ∙ lasts why err.1, at)
+
+-- the line that was heard before, or the next one
+pub taken_next : (before : Option Said) (r : Result (Said × ℕ) SessionEnd) (input i : ReaderView) → IfOk r (λ p. HearsLine p.0 input i) →
+    IfOk r (λ p. TakesSaid before p.0 input i)
+taken_next before (Ok p) input i h = inr h
+taken_next before (Err why) input i h = tt
 
 -- so many bytes were read of a stream
 abbrev pub IsRead : Option (List ℕ) → Option (List ℕ) → Type 0

@@ -8,6 +8,7 @@ use Rattle.link_handshake.specs.declared.said.Said.{Said}
 use Rattle.link_handshake.specs.declared.said.Said.TheVariants as said
 use Rattle.message_streams.specs.Ends.{ReadsLine, StopsAtLine}
 use Rattle.message_streams.specs.Views.{ReaderView}
+use Rattle.message_streams.specs.declared.ends.StreamEnd.{StreamEnd}
 use Rattle.message_streams.specs.declared.ends.StreamEnd.TheVariants as stream
 use Rattle.neighbour_session.specs.declared.ends.GreetingFault.{GreetingFault}
 use Rattle.neighbour_session.specs.declared.ends.GreetingFault.TheVariants as fault
@@ -40,6 +41,10 @@ TakesSaid before heard input i = ((before ≡ Some heard) × (i ≡ input)) ⊎ 
 abbrev pub IsWelcome : Domain → ℕ → Said → Type 0
 IsWelcome d neighbour (said.Greeting g) = IsOf d neighbour g
 IsWelcome d neighbour _ = Unit {0}
+
+-- no line was read, for this reason, at a line of this number
+abbrev pub read_end : StreamEnd → ℕ → SessionEnd
+read_end why line = end.Read why line
 
 -- no line was heard any more
 abbrev pub IsUnheard : SessionEnd → ReaderView → ReaderView → Type 0

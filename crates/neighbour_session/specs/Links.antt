@@ -1,8 +1,8 @@
 -- Links over the streams of one session: one that is read, and one that is written. (This project's own choice.)
-use Rattle.std.specs.Prelude.{◌≡◌, ℕ, Bool, true, List, [], Option, None, Some}
+use Rattle.std.specs.Prelude.{◌≡◌, ℕ, Bool, true, List, [], Option, None, Some, Result, Ok, Err}
 use Rattle.std.specs.Io.KnownBytes.{Appends, Consumes}
 use Rattle.line_protocol.specs.Runs.{AppendsFront}
-use Rattle.message_streams.specs.Lines.{FitsMessage, message_line}
+use Rattle.message_streams.specs.Lines.{FitsMessage, line_of, message_line}
 use Rattle.link_handshake.specs.Reading.{said_by as line_says}
 use Rattle.link_handshake.specs.declared.said.Said.{Said}
 use Rattle.link_handshake.specs.declared.said.Said.TheVariants as said
@@ -10,6 +10,8 @@ use Rattle.message_streams.specs.Ends.{ReadsLine, StopsAtLine}
 use Rattle.message_streams.specs.Views.{ReaderView, WriterView}
 use Rattle.netchange_core.specs.declared.message.Message.{Message}
 use Rattle.route_session.specs.Telling.{known}
+use Rattle.route_session.specs.declared.link.Got.{Got}
+use Rattle.route_session.specs.declared.link.Got.TheVariants as got
 use Rattle.route_session.specs.Told.{Told}
 use Rattle.neighbour_session.specs.declared.ends.SessionEnd.{SessionEnd}
 use Rattle.neighbour_session.specs.declared.ends.SessionEnd.TheVariants as end
@@ -20,6 +22,23 @@ use Rattle.neighbour_session.specs.Said.{AreLines, GaveLines, GotLines, said_by,
 -- a line was read that says this
 abbrev pub ReadsSaid : Said → Option (List ℕ) → Option (List ℕ) → Type 0
 ReadsSaid said known left = (line : List ℕ) × ReadsLine line known left × (line_says line ≡ said)
+
+-- a line was read that is this message, or an empty one
+abbrev pub ReadsTold : Option Message → Option (List ℕ) → Option (List ℕ) → Type 0
+ReadsTold None known left = Consumes known left (line_of None)
+ReadsTold (Some m) known left = FitsMessage m × Consumes known left (line_of (Some m))
+
+-- what a link answers to it
+abbrev pub got_of : Option Message → Got
+got_of None = got.Nothing
+got_of (Some m) = got.Message m
+
+-- What a line of this number means in session: a message, or that its writer is there. Any other ends the session.
+abbrev pub in_session : Said → ℕ → Result (Option Message) SessionEnd
+in_session (said.Message m) line = Ok (Some m)
+in_session said.Alive line = Ok None
+in_session (said.Greeting g) line = Err (end.Greeted g)
+in_session said.Nothing line = Err (end.NoMessage line)
 
 -- What a reader took of its stream after the last line of a message, or the last empty one, which left these bytes: nothing, or what ended the
 -- session. That is a greeting, a line that says nothing, or no line.

@@ -1,5 +1,7 @@
 //! Two neighbours greet one another.
-ghost use Rattle.std.specs.Prelude.{◌≡◌, IfErr, IfOk, None, OnOk};
+ghost use Rattle.std.specs.Prelude.{◌≡◌, false, true, IfErr, IfOk, None, OnOk};
+ghost use Rattle.link_handshake.specs.declared.said.Said.TheVariants as said;
+ghost use Rattle.message_streams.specs.Ends.{is_lasting};
 ghost use Rattle.neighbour_session.specs.Greeting as spec;
 
 use crate::ends::{GreetingFault, SessionEnd};
@@ -45,25 +47,42 @@ fn check_greeting(greeting: Greeting, domain: Domain, neighbour: u16) -> Result<
     Ok(())
 }
 
-/// What the next line of a stream says, and of how many bytes it is. A line that is too long says nothing, and neither does what is left of it.
+/// What a line says that was not read whole, for this reason, at a line of this number. One that is too long says nothing; with any other no
+/// line is heard any more.
+fn said_without_line(why: StreamEnd, line: u64) -> Result<(Said, u32), SessionEnd>
+    ensures said { IfOk result (λ r. (r.0 ≡ said.Nothing) × (is_lasting why ≡ false)) }
+    ensures end { IfErr result (λ end. (end ≡ spec.read_end why line) × (is_lasting why ≡ true)) }
+{
+    if !why.is_lasting() {
+        return Ok((Said::Nothing, 64));
+    }
+    Err(SessionEnd::Read { why, line })
+}
+
+/// What the next line of a stream says that has not ended, and of how many bytes it is. A line that is too long says nothing, and neither does
+/// what is left of it.
+fn hear_next<I: Read>(input: &mut MessageReader<I>) -> Result<(Said, u32), SessionEnd>
+    requires { input.old.end ≡ None }
+    ensures said { IfOk result (λ r. spec.HearsLine r.0 input.old input.new) }
+    ensures end { IfErr result (λ why. spec.IsUnheard why input.old input.new) }
+{
+    match input.next_line() {
+        Ok(text) => Ok((read_line(text.as_slice()), text.len() as u32 + 1)),
+        Err(why) => said_without_line(why, input.line()),
+    }
+}
+
+/// The same of any stream: where it has ended, no line is heard any more.
 fn next_said<I: Read>(input: &mut MessageReader<I>) -> Result<(Said, u32), SessionEnd>
     ensures said { IfOk result (λ r. spec.HearsLine r.0 input.old input.new) }
     ensures end { IfErr result (λ why. spec.IsUnheard why input.old input.new) }
 {
-    // A reader that has ended hands out no line any more.
-    if let Some(why) = input.end() {
-        return Err(SessionEnd::Read {
-            why,
-            line: input.line(),
-        });
-    }
-    match input.next_line() {
-        Ok(line) => Ok((read_line(line.as_slice()), line.len() as u32 + 1)),
-        Err(StreamEnd::TooLong) => Ok((Said::Nothing, 64)),
-        Err(why) => Err(SessionEnd::Read {
+    match input.end() {
+        Some(why) => Err(SessionEnd::Read {
             why,
             line: input.line(),
         }),
+        None => hear_next(input),
     }
 }
 

@@ -7,7 +7,8 @@
 //! that it was handed, and `serve_writer` hands the writer back, whose stream got the lines of what its Takes brought. Whoever asked for it closes
 //! it.
 ghost use Rattle.std.specs.Option.{option_or};
-ghost use Rattle.std.specs.Prelude.{◌≡◌, ◌<◌, None, Some, false, true};
+ghost use Rattle.std.specs.Prelude.{◌≡◌, ◌<◌, None, Some, false, true, IfErr, IfOk, OnErr};
+ghost use Rattle.neighbour_session.specs.Links as spec;
 ghost use Rattle.route_session.specs.Telling.{known};
 ghost use Rattle.route_session.specs.Told.{Rose};
 
@@ -38,6 +39,58 @@ fn refuse(message: Message, first_refused: &mut Option<Message>, failures: &mut 
 {
     *first_refused = first_refused.or(Some(message));
     fail(failures)
+}
+
+/// What a link answers to a message, or to an empty line.
+fn got_of(told: Option<Message>) -> Got
+    ensures { result ≡ spec.got_of told }
+{
+    match told {
+        Some(message) => Got::Message(message),
+        None => Got::Nothing,
+    }
+}
+
+/// What a line of this number means in session: a message, or that its writer is there. Any other ends the session.
+fn in_session(said: Said, line: u64) -> Result<Option<Message>, SessionEnd>
+    ensures { result ≡ spec.in_session said line }
+{
+    match said {
+        Said::Message(message) => Ok(Some(message)),
+        Said::Alive => Ok(None),
+        Said::Greeting(greeting) => Err(SessionEnd::Greeted(greeting)),
+        Said::Nothing => Err(SessionEnd::NoMessage(line)),
+    }
+}
+
+/// The message that the next line says, or nothing at an empty one; or why the session is over.
+fn hear_line<I: Read>(input: &mut MessageReader<I>) -> Result<Option<Message>, SessionEnd>
+    ensures told { IfOk result (λ told. (input.new.end ≡ None) × spec.ReadsTold told input.old.left input.new.left) }
+    ensures over { IfErr result (λ why. input.old.end ≡ None → spec.TakesAfter (Some why) input.old.left input.new) }
+{
+    match input.next_line() {
+        Ok(text) => in_session(read_line(text.as_slice()), input.line()),
+        Err(why) => Err(SessionEnd::Read {
+            why,
+            line: input.line(),
+        }),
+    }
+}
+
+/// What a link answers whose session is over for this reason: that it has ended, where the stream ended after a whole line, and else a failure.
+fn answer_of(why: SessionEnd, has_ended: &mut bool, failures: &mut u64) -> Result<Got, LinkFault>
+    ensures ended { IfOk result (λ got. (got ≡ Got.Ended) × (has_ended.new ≡ true) × (failures.new ≡ failures.old)) }
+    ensures failed { OnErr result ((has_ended.new ≡ has_ended.old) × Rose (known failures.old) (known failures.new)) }
+{
+    if let SessionEnd::Read {
+        why: StreamEnd::Ended,
+        ..
+    } = why
+    {
+        *has_ended = true;
+        return Ok(Got::Ended);
+    }
+    Err(fail(failures))
 }
 
 /// The reader that a link was given.
@@ -125,36 +178,14 @@ impl<I: Read, S: GivenReader> Link for InputLink<I, S> {
         if self.over.is_some() {
             return Err(fail(&mut self.failures));
         }
-        let line = match self.input.next_line() {
-            Ok(line) => line,
+        match hear_line(&mut self.input) {
+            Ok(told) => {
+                self.last = Snapshot::of(&self.input);
+                Ok(got_of(told))
+            }
             Err(why) => {
-                self.over = Some(SessionEnd::Read {
-                    why,
-                    line: self.input.line(),
-                });
-                if why != StreamEnd::Ended {
-                    return Err(fail(&mut self.failures));
-                }
-                self.has_ended = true;
-                return Ok(Got::Ended);
-            }
-        };
-        match read_line(line.as_slice()) {
-            Said::Message(message) => {
-                self.last = Snapshot::of(&self.input);
-                Ok(Got::Message(message))
-            }
-            Said::Alive => {
-                self.last = Snapshot::of(&self.input);
-                Ok(Got::Nothing)
-            }
-            Said::Greeting(greeting) => {
-                self.over = Some(SessionEnd::Greeted(greeting));
-                Err(fail(&mut self.failures))
-            }
-            Said::Nothing => {
-                self.over = Some(SessionEnd::NoMessage(self.input.line()));
-                Err(fail(&mut self.failures))
+                self.over = Some(why);
+                answer_of(why, &mut self.has_ended, &mut self.failures)
             }
         }
     }

@@ -42,6 +42,14 @@ returns-then-not-is_present-clause-writes g c =
     c.in_default.ensures.goes_on c.if-not-is_present.ensures
     (c.saturating_add.ensures ∙ min_more c.loop.left_out c.loop.invariant.count end.result.1 c.loop.invariant.counted)
 
+-- the link has not failed where the writer goes on
+pub write_owed-requires : goal.write_owed-requires
+write_owed-requires g c =
+    let end = c.write_newest-end in
+    (writes_on c.args.waits c.args.router.now c.loop.invariant.count end.result.1 c.args.session c.args.pass.now.fragment
+    (told_to c.args.output) c.loop.pass.fragment c.loop.link.told end.result.0 end.new.pass.fragment end.new.link.told
+    c.loop.invariant.written c.in_default.ensures.goes_on end.ensures.written).failures
+
 pub returns-then-not-write_owed-clause-writes : goal.returns-then-not-write_owed-clause-writes
 returns-then-not-write_owed-clause-writes g c =
     let end = c.write_newest-end in
