@@ -210,8 +210,8 @@ fn left_out_line(alloc: Global, node: u16, count: u64) -> Result<String, AllocEr
     ensures { IfOk result (λ line. string_bytes line ≡ spec.left_out_line node count) }
 {
     let mut line = String::new(alloc);
-    push_numbered(&mut line, "link ", node, ": ")?;
-    line.push_str("messages left out, since later ones replaced them: ")?;
+    let words = ": messages left out, since later ones replaced them: ";
+    push_numbered(&mut line, "link ", node, words)?;
     let mut digits = Buffer::new();
     line.push_str(digits.format(count))?;
     line.push_str("\n")?;
