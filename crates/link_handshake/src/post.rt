@@ -1,5 +1,5 @@
 //! An end of a link that several threads serve: who reads it, who writes to it, and who looks at the clock.
-ghost use Rattle.std.specs.Prelude.{◌≡◌, ◌<◌, ◌||◌, ◌↔◌, IfNone, IfSome, IsTrue, true};
+ghost use Rattle.std.specs.Prelude.{◌≡◌, ◌<◌, ◌||◌, ◌↔◌, IfNone, IfSome, IsTrue, false, true};
 ghost use Rattle.link_handshake.specs.Clocks.{IsSilent, after_line, after_writing, looked};
 ghost use Rattle.link_handshake.specs.Ends.{begun, greeting_of, heard_line};
 ghost use Rattle.link_handshake.specs.Posts as spec;

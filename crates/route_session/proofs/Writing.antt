@@ -147,7 +147,7 @@ write_end why n unsent = record { cause = why; sent = n; unsent = unsent }
 
 -- nothing is left unsent
 none_unsent : (b : Bool) (r : RouterView) (session : ℕ) (old : PassView) (t : Told) (n k : ℕ) (p : PassView) (u : Told)
-    (i : IsWriting b r session old t n k p u) → k + (n + length {X = Message} []) ≡ length (flat_map carried_by i.calls)
+    (i : IsWriting b r session old t n k p u) → k + (n + 0) ≡ length (flat_map carried_by i.calls)
 none_unsent b r session old t n k p u i = omega (arith, i.counted)
 
 pub ends_by_turns : (b : Bool) (r : RouterView) (session : ℕ) (old : PassView) (t : Told) (n k : ℕ) (p : PassView) (u : Told) →
