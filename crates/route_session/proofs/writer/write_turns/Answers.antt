@@ -6,7 +6,8 @@ use Rattle.route_session.specs.declared.ends.Cause.TheVariants as cause
 use Rattle.route_session.specs.Calls.{stale, take}
 use Rattle.route_session.specs.Writes.{Hands, told_of}
 use Rattle.route_session.proofs.Gaining.{called}
-use Rattle.route_session.proofs.Writing.{at_most_16, begins_writing, ends_by_failure, ends_full, ends_stale, none_left, writes_on}
+use Rattle.route_session.proofs.Writing.{at_most_16, begins_writing, ends_by_failure, ends_by_turns, ends_full, ends_stale, ends_without_memory}
+use Rattle.route_session.proofs.Writing.{none_left, writes_on}
 use Rattle.route_session.proofs.Turning.{no_turn_taken, take_held_back, take_made, take_refused, taken_so_far}
 use Rattle.slot_lock.specs.Calls.{Answered, Refused}
 use Rattle.slot_lock.specs.Passes.{PassView}
@@ -28,6 +29,21 @@ returns-in-Err-Full-clause-written g c =
     (ends_full c.args.newest_only c.args.router.now c.args.session c.args.pass.now (g.L.Link.told c.args.link.now) c.loop-turn.sent
     c.loop-turn.left_out c.loop-turn.pass c.call.new.pass (g.L.Link.told c.loop-turn.link) c.loop-turn.invariant.writing refused
     (called c.args.router.now c.loop-turn.pass c.call.new.pass c.call.ensures.pass c.call.ensures.own c.call.ensures.failed_tries))
+
+pub returns-in-Err-Memory-clause-written : goal.returns-in-Err-Memory-clause-written
+returns-in-Err-Memory-clause-written g c =
+    let refused : Refused fault.Memory c.args.router.now c.loop-turn.pass c.call.new.pass = rw c.in-Err-Memory.field-0-is at
+    c.in-Err-Memory.ensures.refused in
+    rw c.ended-in-Err-Memory.ensures
+    (ends_without_memory c.args.newest_only c.args.router.now c.args.session c.args.pass.now (g.L.Link.told c.args.link.now) c.loop-turn.sent
+    c.loop-turn.left_out c.loop-turn.pass c.call.new.pass (g.L.Link.told c.loop-turn.link) c.loop-turn.invariant.writing refused
+    (called c.args.router.now c.loop-turn.pass c.call.new.pass c.call.ensures.pass c.call.ensures.own c.call.ensures.failed_tries))
+
+pub returns-clause-written : goal.returns-clause-written
+returns-clause-written g c =
+    rw c.ended-2.ensures
+    (ends_by_turns c.args.newest_only c.args.router.now c.args.session c.args.pass.now (g.L.Link.told c.args.link.now) c.loop-turn.sent
+    c.loop-turn.left_out c.loop-turn.pass (g.L.Link.told c.loop-turn.link) c.loop-turn.invariant.writing)
 
 pub returns-then-is_stale-clause-written : goal.returns-then-is_stale-clause-written
 returns-then-is_stale-clause-written g c =
