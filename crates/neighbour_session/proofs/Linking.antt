@@ -58,7 +58,7 @@ over_read : (line : List ℕ) (s : Said) (number : ℕ) (known : Option (List �
 over_read line (said.Message m) number known now at read says = tt
 over_read line said.Alive number known now at read says = tt
 over_read line (said.Greeting g) number known now at read says = (line, read, says)
-over_read line said.Nothing number known now at read says = (at, line, read, says)
+over_read line said.Nothing number known now at read says = (at, (line, read, says))
 
 -- and what a call says of it that answered so
 pub line_told : (r : Result (Option Message) SessionEnd) (line : List ℕ) (s : Said) (number : ℕ) (known : Option (List ℕ)) (now : ReaderView) →

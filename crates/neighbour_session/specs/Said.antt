@@ -29,12 +29,12 @@ pub record GotLines (first last : Option (List ℕ)) : Type 0 where
   pub moved : Appends first last (lines_text lines)
 
 -- the messages that a link tells, if it does, are those of the lines by which a stream moved, each in its turn; the other lines are empty
-pub record AreThese (moved : List ℕ → Type 0) (messages : List Message) : Type 0 where
+pub record AreThese (moves : List ℕ → Type 0) (messages : List Message) : Type 0 where
   pub lines : List (Option Message)
   pub told : told_in lines ≡ messages
   pub fits : All FitsMessage messages
-  pub moved : moved (lines_text lines)
+  pub moved : moves (lines_text lines)
 
 abbrev pub AreLines : (List ℕ → Type 0) → Option (List Message) → Type 0
-AreLines moved None = Unit {0}
-AreLines moved (Some messages) = AreThese moved messages
+AreLines moves None = Unit {0}
+AreLines moves (Some messages) = AreThese moves messages

@@ -269,7 +269,8 @@ impl<O: Write + Drop, T: Target> OutputLink<O, T> {
 
     /// The writer. What its stream got is what the link was given.
     pub(crate) fn into_writer(self) -> MessageWriter<O>
-        ensures { GotLinesOf T.writer self.told result }
+        ensures lines { GotLinesOf T.writer self.told result }
+        ensures writer { result ≡ self.writer }
     {
         let OutputLink { output, .. } = self;
         output

@@ -1,4 +1,4 @@
-use Rattle.std.proofs.Common.{◌∙◌, ◌+◌, refl, rules, subst, sym}
+use Rattle.std.proofs.Common.{◌∙◌, ◌+◌, ap, refl, rules, subst, sym}
 use Rattle.route_session.specs.Told.{Told}
 use Rattle.message_streams.specs.Views.{WriterView}
 use Rattle.neighbour_session.specs.Links.{GotLinesOf, OutputView}
@@ -27,7 +27,7 @@ returns-in-Some-end_of_writer-clause-writes g c =
     writes_stopped c.args.waits (g.C.Crew.may_be_present c.args.crew.now) c.args.router.now c.loop.invariant.count end.result.1
     c.saturating_add.result c.args.session c.args.pass.now c.args.output c.loop.pass c.loop.link.told end.result.0 c.in-Some-end_of_writer.why
     end.new.pass u later c.loop.invariant.written end.ensures.written
-    (subst (λ (w : WriterView). GotLinesOf w u later) (sym c.requires.named) c.into_writer.ensures) c.in-Some-end_of_writer.ensures.over
+    (subst (λ (w : WriterView). GotLinesOf w u later) (sym c.requires.named) c.into_writer.ensures.lines) c.in-Some-end_of_writer.ensures.over
     (c.saturating_add.ensures ∙ min_more c.loop.left_out c.loop.invariant.count end.result.1 c.loop.invariant.counted)
 
 pub returns-then-not-is_present-clause-writes : goal.returns-then-not-is_present-clause-writes
@@ -38,7 +38,7 @@ returns-then-not-is_present-clause-writes g c =
     writes_absent c.args.waits (g.C.Crew.may_be_present c.args.crew.now) c.args.router.now c.loop.invariant.count end.result.1
     c.saturating_add.result c.args.session c.args.pass.now c.args.output c.loop.pass c.loop.link.told end.result.0 end.new.pass u later
     c.loop.invariant.written end.ensures.written
-    (subst (λ (w : WriterView). GotLinesOf w u later) (sym c.requires.named) c.into_writer-then-not-is_present.ensures)
+    (subst (λ (w : WriterView). GotLinesOf w u later) (sym c.requires.named) c.into_writer-then-not-is_present.ensures.lines)
     c.in_default.ensures.goes_on c.if-not-is_present.ensures
     (c.saturating_add.ensures ∙ min_more c.loop.left_out c.loop.invariant.count end.result.1 c.loop.invariant.counted)
 
@@ -59,8 +59,9 @@ returns-then-not-write_owed-clause-writes g c =
     c.saturating_add.result c.args.session c.args.pass.now c.args.output c.loop.pass c.loop.link.told end.result.0 end.new.pass u later
     c.loop.invariant.written end.ensures.written
     (subst (λ (w : WriterView). GotLinesOf w u later) (sym c.requires.named)
-    (subst (λ (t : Told). GotLinesOf g.T.Target.writer t later) c.write_owed.ensures.told c.into_writer-then-not-write_owed.ensures))
-    c.in_default.ensures.goes_on (c.write_owed.ensures.unwritten (search rules))
+    (subst (λ (t : Told). GotLinesOf g.T.Target.writer t later) c.write_owed.ensures.told c.into_writer-then-not-write_owed.ensures.lines))
+    c.in_default.ensures.goes_on
+    (ap (λ (w : WriterView). w.over) c.into_writer-then-not-write_owed.ensures.writer ∙ c.write_owed.ensures.unwritten (search rules))
     (c.saturating_add.ensures ∙ min_more c.loop.left_out c.loop.invariant.count end.result.1 c.loop.invariant.counted)
 
 pub loop-preserved : goal.loop-preserved

@@ -43,5 +43,6 @@ returns-clause-told g c =
 
 pub returns-clause-unwritten : goal.returns-clause-unwritten
 returns-clause-unwritten g c =
-    let i = c.self.inside in
-    over_where_not c.write_text.result i.output c.write_text.new.self (10 ∷ []) c.write_text.ensures.err (search rules)
+    let i = c.self.inside in λ unwritten.
+    over_where_not c.write_text.result i.output c.write_text.new.self (10 ∷ []) c.write_text.ensures.err
+    (sym c.is_ok-is_written.ensures.value ∙ unwritten)
