@@ -130,7 +130,10 @@ impl SessionEnd {
         match self {
             SessionEnd::Greeted(greeting) => Some(Said::Greeting(greeting)),
             SessionEnd::NoMessage(_) => Some(Said::Nothing),
-            SessionEnd::Read { why, .. } if why == StreamEnd::TooLong => Some(Said::Nothing),
+            SessionEnd::Read {
+                why: StreamEnd::TooLong,
+                ..
+            } => Some(Said::Nothing),
             _ => None,
         }
     }
