@@ -31,14 +31,17 @@ use filter_reports::ProgramFault;
 use history_saver::{SaveFault, SegmentSaver};
 use line_protocol::StreamFault;
 use route_history::CallFault;
-use router_daemon::{DaemonFault, LinkFolder, Setting, run_router};
+use router_daemon::{DaemonFault, FeedFile, LinkFolder, Setting, run_router};
 use router_options::RouterPlan;
 use slot_lock::LockFault;
-use std::alloc::Global;
+use std::alloc::{AllocError, Global};
 use std::io::{Read, Write};
 use std::rt::Clock;
 use std::sync::Wait;
 use std::thread::Threads;
+
+/// For how many seconds the first table of routes waits at most, if no word says otherwise.
+const SETTLE: u32 = 10;
 
 /// The exit status where the words are wrong.
 const WRONG_WORDS: u8 = 2;
@@ -171,6 +174,17 @@ fn size_of(plan: &RouterPlan) -> u16
     plan.opening.size()
 }
 
+/// Where the routes are told, if they are to be.
+fn feed_of(alloc: Global, words: &RouterWords) -> Result<Option<FeedFile>, AllocError> {
+    match &words.routes {
+        None => Ok(None),
+        Some(name) => Ok(Some(FeedFile {
+            name: String::from_str(alloc, name.as_str())?,
+            settle: words.settle.unwrap_or(SETTLE),
+        })),
+    }
+}
+
 /// What a router of this plan is run with: its filters are read and verified, and then the folder of its history is made. There is none
 /// where something is not there, which people are told.
 fn fit_out<F: Folder + HistoryFolders, R: Read, W: Write, E: Write>(
@@ -189,6 +203,9 @@ fn fit_out<F: Folder + HistoryFolders, R: Read, W: Write, E: Write>(
         console.old console.new) }
 {
     let size = size_of(&plan);
+    let Ok(feed) = feed_of(alloc, words) else {
+        return Err(ProgramFault::MEMORY);
+    };
     let named = words.filters.as_slice();
     match load_filters(
         files,
@@ -203,6 +220,7 @@ fn fit_out<F: Folder + HistoryFolders, R: Read, W: Write, E: Write>(
                 plan,
                 filters,
                 save,
+                feed,
             })),
             Ok(None) => Ok(None),
             Err(fault) => Err(fault),

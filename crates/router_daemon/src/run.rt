@@ -11,6 +11,7 @@ ghost use Rattle.router_daemon.specs.declared.fault.DaemonFault.TheVariants as f
 use crate::bounding::MostInMemory;
 use crate::closing::close_links;
 use crate::fault::DaemonFault;
+use crate::feeding::Feeding;
 use crate::folder::LinkFolder;
 use crate::forgetting::Forgetter;
 use crate::naming::{LegalTicket, Ticket};
@@ -18,7 +19,7 @@ use crate::opening::open_router;
 use crate::operating::{Figures, OperatorEnd, serve_lines};
 use crate::setting::{Filters, RouterEnd, Setting};
 use crate::shared::{Shared, shared_of};
-use crate::starting::{Bounding, Links, start_bounding, start_links, take_part};
+use crate::starting::{Bounding, Links, start_bounding, start_feeding, start_links, take_part};
 use crate::telling::{tell_lost, tell_unkept};
 use history_saver::{SaveFault, SegmentFolder, SegmentSaver};
 use line_protocol::StreamFault;
@@ -102,6 +103,7 @@ fn serve_all<
     pass: &mut Pass,
     links: Vec<LinkFiles>,
     common: Links,
+    feeding: Option<Feeding>,
     figures: Figures,
     filters: Filters,
     reader: &mut I,
@@ -123,6 +125,7 @@ fn serve_all<
     let operators = LegalTicket::new(shared.router.split(pass, 1));
     let folder = Arc::new(alloc, folder)?;
     start_links::<R, FI, FO, D, J, E>(rt, alloc, &folder, shared, pass, links, common)?;
+    start_feeding::<R, FI, FO, D, J, E>(rt, alloc, &folder, shared, pass, feeding)?;
     Ok(serve_lines(
         rt, alloc, shared, operators, figures, filters, reader, writer,
     ))
@@ -207,6 +210,7 @@ fn run_named<
         plan,
         filters,
         save,
+        feed,
     } = setting;
     let forgetter = begin_forgetting(alloc, save, &plan, right)?;
     let RouterPlan {
@@ -230,6 +234,13 @@ fn run_named<
         },
         retry,
     };
+    let feeding = match feed {
+        Some(file) => Some(Feeding {
+            file,
+            opening: opening.copy(alloc)?,
+        }),
+        None => None,
+    };
     let shared: Arc<Shared<J, E>> = Arc::new(
         alloc,
         shared_of(alloc, router, links.as_slice(), errors)?,
@@ -242,7 +253,8 @@ fn run_named<
     };
     let bounding = start_bounding(rt, alloc, &shared, forgetter, ticket, most)?;
     let ran = serve_all::<R, FI, FO, D, J, E, I, W>(
-        rt, alloc, folder, &shared, &mut pass, links, common, figures, filters, reader, writer,
+        rt, alloc, folder, &shared, &mut pass, links, common, feeding, figures, filters, reader,
+        writer,
     );
     close_links(rt, &shared, &mut pass);
     end_run(rt, alloc, &shared, bounding, ran)

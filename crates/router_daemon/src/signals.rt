@@ -2,6 +2,7 @@
 ghost use Rattle.std.specs.Prelude.{◌≡◌, IfOk, is_some};
 ghost use Rattle.link_board.specs.Boards.{AllAwake};
 
+use crate::news::News;
 use link_board::{Board, Ending};
 use router_operator::Listener;
 use slot_lock::Answer;
@@ -33,6 +34,8 @@ pub(crate) struct Signals {
     room_end: Mutex<Option<u64>>,
     /// Who made the last entry that there is room for sleeps on it.
     room_bell: Condvar,
+    /// What who tells the routes waits for.
+    pub(crate) news: News,
 }
 
 /// That the router is being closed, if a board says so.
@@ -101,6 +104,7 @@ impl Signals {
             owed: owed_of(alloc, nodes.len())?,
             room_end: Mutex::new(None),
             room_bell: Condvar::new(),
+            news: News::new(alloc, nodes.len())?,
         })
     }
 
@@ -130,6 +134,7 @@ impl Signals {
         let mut board = self.board.lock(rt);
         let has_changed = board.note(answer.at, &answer.reply);
         self.wake_after(board, has_changed);
+        self.news.note(rt, answer.at);
     }
 
     /// Notes the answer to a call of those who serve a session of a link.
@@ -137,6 +142,7 @@ impl Signals {
         let mut board = self.board.lock(rt);
         let has_changed = board.note_served(link, answer.at, &answer.reply);
         self.wake_after(board, has_changed);
+        self.news.note(rt, answer.at);
     }
 
     /// The session of a link, if one is there.
@@ -209,6 +215,15 @@ impl Signals {
         closing_of(&board)
     }
 
+    /// Sleeps until the history has more entries than are told, or the router is being closed: that it is, if so.
+    pub(crate) fn await_news<R: Wait>(&self, rt: &R, told: u64) -> Option<Closing> {
+        if self.news.wait(rt, told, &self.board) {
+            Some(Closing { of: () })
+        } else {
+            None
+        }
+    }
+
     /// Says that entries are to be forgotten before more are made than up to this position; or that none have to.
     pub(crate) fn make_room<R: Wait>(&self, rt: &R, end: Option<u64>) {
         *self.room_end.lock(rt) = end;
@@ -239,6 +254,8 @@ impl Signals {
         let mut board = self.board.lock(rt);
         let begins = board.begin(link, session, answer.at);
         self.wake(board);
+        self.news.note(rt, answer.at);
+        self.news.note_there(rt, link);
         begins
     }
 
@@ -275,5 +292,6 @@ impl Listener for Signals {
         let mut board = self.board.lock(rt);
         board.note_exported(node, answer.at, &answer.reply);
         self.wake(board);
+        self.news.note(rt, answer.at);
     }
 }

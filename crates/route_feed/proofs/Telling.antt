@@ -1,0 +1,286 @@
+-- What a feed has told, as the history goes on and as more is told.
+use Rattle.std.proofs.Common.{◌≡◌, ◌∙◌, sym, ap, subst, refl, ℕ, suc, zero, ◌<◌, ◌≤◌, Bool, true, false, Option, Some, None, List, [], ◌∷◌, ◌++◌}
+use Rattle.std.proofs.Common.{length, length-append, take, arith, rules}
+use Rattle.std.proofs.KnownBytes.{Appends-trans}
+use Rattle.std.proofs.lemmas.List.{take-append-le, take_all}
+use Rattle.std.specs.Prelude.{if◌then◌else◌, is_none, IsSome}
+use Rattle.std.specs.Bool.{beq}
+use Rattle.std.specs.Cmp.Lexicographic.{pointwise}
+use Rattle.std.specs.Io.KnownBytes.{Appends}
+use Rattle.line_protocol.specs.Runs.{AppendsFront}
+use Rattle.netchange_core.specs.declared.best_route.BestRoute.{BestRoute}
+use Rattle.netchange_core.specs.declared.reply.Via.TheVariants.{Nowhere}
+use Rattle.netchange_core.specs.Best.{best, route_of}
+use Rattle.netchange_core.specs.FilteredDistance.{prefix_of}
+use Rattle.netchange_core.specs.OpeningView.{OpeningView}
+use Rattle.netchange_core.specs.World.{World}
+use Rattle.route_feed.specs.declared.hop.Hop.{Hop}
+use Rattle.route_feed.specs.declared.look.Look.{Look}
+use Rattle.route_feed.specs.Changes.{are_same_below, changes_below}
+use Rattle.route_feed.specs.Feeding.{AreMoments, FeedView, Got, HasFed, IsCut, IsMoment, IsTold, Tells, is_none_before, table_after}
+use Rattle.route_feed.specs.Lines.{Block, block_text, feed_text, gathered}
+use Rattle.route_feed.specs.Looks.{AreRoutes, IsLook, IsRead}
+use Rattle.route_feed.specs.Steps.{AreNowhere, IsStill, IsUnwritten, IsWritten}
+use Rattle.route_feed.specs.Table.{AreHops, hop_at, hop_of, is_had_below, nearer, nearest_below, prefix_at, route_at, table, table_by}
+use Rattle.route_feed.proofs.Gathering.{all_gathered, all_new, all_still}
+use Rattle.route_history.specs.declared.entry.Entry.{Entry}
+use Rattle.route_history.specs.Beginning.{Begins}
+use Rattle.route_history.specs.History.{world_of}
+use Rattle.route_history.specs.JournalView.{JournalView}
+use Rattle.route_history.specs.Long.{LongView, OfHistory}
+use Rattle.route_history.proofs.Windows.{kept_are, tables_are}
+
+-- the journal, after it went on
+abbrev longer : JournalView → List Entry → JournalView
+longer j es = record j { entries = es }
+
+module _ (j : JournalView) (es : List Entry) (b : Begins j.entries es) where
+  not_shorter : length j.entries ≤ length es
+  not_shorter = omega (arith, ap (λ (l : List Entry). length l) b.is, length-append j.entries b.rest)
+
+  same_start : (n : ℕ) → n ≤ length j.entries → take n es ≡ take n j.entries
+  same_start n within = ap (λ (l : List Entry). take n l) b.is ∙ take-append-le n j.entries b.rest within
+
+  same_table : (n : ℕ) (p : List Bool) → n ≤ length j.entries → table_after j n p ≡ table_after (longer j es) n p
+  same_table n p within = ap (λ (l : List Entry). table (world_of j.opening l) p) (sym (same_start n within))
+
+  moment_longer : (upto more : ℕ) (c : Block) (bs : List Block) → upto ≤ length j.entries → upto ≤ more → IsMoment j upto c bs →
+      IsMoment (longer j es) more c bs
+  moment_longer upto more c bs within le m = record {
+    at = omega (arith, m.at, le);
+    table = λ p. m.table p ∙ same_table c.at p (omega (arith, m.at, within));
+    new = m.new;
+    whole = m.whole;
+  }
+
+  moments_longer : (upto : ℕ) (bs : List Block) → upto ≤ length j.entries → AreMoments j upto bs → AreMoments (longer j es) upto bs
+  moments_longer upto [] within h = tt
+  moments_longer upto (c ∷ bs) within h = (
+    moment_longer upto upto c bs within (omega arith) h.0,
+    moments_longer c.at bs (omega (arith, h.0.at, within)) h.1,
+  )
+
+  tells_longer : (at : Option ℕ) (bs : List Block) → Tells j at bs → Tells (longer j es) at bs
+  tells_longer None bs h = h
+  tells_longer (Some n) bs h = record {
+    within = omega (arith, h.within, not_shorter);
+    begun = h.begun;
+    moments = moments_longer n bs h.within h.moments;
+    now = λ p. h.now p ∙ same_table n p h.within;
+  }
+
+  got_longer : (broken : Bool) (bs : List Block) (first held : Option (List ℕ)) → Got broken j bs first held → Got broken (longer j es) bs first held
+  got_longer false bs first held h = h
+  got_longer true bs first held h = record {
+    block = h.block;
+    moment = moment_longer (length j.entries) (length es) h.block bs (omega arith) not_shorter h.moment;
+    front = h.front;
+    back = h.back;
+    text = h.text;
+    got = h.got;
+  }
+
+  -- what was told of a history was told of what it grew to
+  pub fed_longer : (f : FeedView) → HasFed f j → HasFed f (longer j es)
+  fed_longer f h = record {
+    blocks = h.blocks;
+    tells = tells_longer f.at h.blocks h.tells;
+    hops = h.hops;
+    others = h.others;
+    got = got_longer f.is_broken h.blocks f.first f.held h.got;
+  }
+
+-- a journal that was read is the end of its whole history
+pub looks_of : (j : LongView) (look : Look) → IsRead j look → OfHistory j (λ h. IsLook h look)
+looks_of j look h = λ o b log w legal. record {
+  end = h.end ∙ kept_are o b log j j w;
+  opening = ap (λ (x : World). x.opening) (sym (tables_are o b log j j w)) ∙ w.opened;
+  routes = subst (λ (x : World). AreRoutes x look.routes.items) (tables_are o b log j j w) h.routes;
+}
+
+-- the nearest node by the same routes
+nearest_same : (size : ℕ) (prefix : ℕ → List Bool) (one two : ℕ → BestRoute) (p : List Bool) (n : ℕ) →
+    ((v : ℕ) → v < n → one v ≡ two v) → nearest_below size prefix one p n ≡ nearest_below size prefix two p n
+nearest_same size prefix one two p zero same = refl
+nearest_same size prefix one two p (suc v) same =
+    let before = nearest_same size prefix one two p v (λ u le. same u (omega (arith, le))) in
+    ap (λ (r : BestRoute). if pointwise beq (prefix v) p then nearer r (one v) else r) before
+    ∙ ap (λ (r : BestRoute). if pointwise beq (prefix v) p then nearer (nearest_below size prefix two p v) r else nearest_below size prefix two p v)
+    (same v (omega arith))
+
+-- no node has the prefix
+nearest_none : (size : ℕ) (prefix : ℕ → List Bool) (route : ℕ → BestRoute) (p : List Bool) (n : ℕ) →
+    is_had_below prefix p n ≡ false → nearest_below size prefix route p n ≡ route_of size Nowhere
+nearest_none size prefix route p zero h = refl
+nearest_none size prefix route p (suc v) h = one (pointwise beq (prefix v) p) h (λ g. nearest_none size prefix route p v g)
+  where
+    one : (b : Bool) → (if b then true else is_had_below prefix p v) ≡ false →
+        (is_had_below prefix p v ≡ false → nearest_below size prefix route p v ≡ route_of size Nowhere) →
+        (if b then nearer (nearest_below size prefix route p v) (route v) else nearest_below size prefix route p v) ≡ route_of size Nowhere
+    one true g before = search rules
+    one false g before = before g
+
+-- blocks of moments up to one are of moments up to a later one
+moments_upto : (j : JournalView) (upto more : ℕ) (bs : List Block) → upto ≤ more → AreMoments j upto bs → AreMoments j more bs
+moments_upto j upto more [] le h = tt
+moments_upto j upto more (c ∷ bs) le h = (record { at = omega (arith, h.0.at, le); table = h.0.table; new = h.0.new; whole = h.0.whole }, h.1)
+
+moments_of : (j : JournalView) (at : Option ℕ) (bs : List Block) → Tells j at bs → AreMoments j (length j.entries) bs
+moments_of j None bs h = subst (λ (l : List Block). AreMoments j (length j.entries) l) (sym h) tt
+moments_of j (Some n) bs h = moments_upto j n (length j.entries) bs h.within h.moments
+
+whole_of : (j : JournalView) (at : Option ℕ) (bs : List Block) → Tells j at bs → is_none at ≡ is_none_before bs
+whole_of j None bs h = ap is_none_before (sym h)
+whole_of j (Some n) [] h = absurd (h.begun refl)
+whole_of j (Some n) (b ∷ bs) h = refl
+
+begun_of : (j : JournalView) (at : Option ℕ) (bs : List Block) → IsSome at → Tells j at bs → bs ≡ [] → ⊥
+begun_of j None bs some h = absurd some
+begun_of j (Some n) bs some h = h.begun
+
+-- a feed that told nothing
+pub nothing_fed : (f : FeedView) (j : JournalView) → f.at ≡ None → f.held ≡ f.first → f.is_broken ≡ false → AreNowhere f.opening.size f.hops →
+    Appends f.first f.held [] → HasFed f j
+nothing_fed f j at held sound hops got = record {
+  blocks = [];
+  tells = subst (λ (a : Option ℕ). Tells j a []) (sym at) refl;
+  hops = record { one_a_node = hops.one_a_node; each = hops.each };
+  others = λ p e. refl;
+  got = subst (λ b. Got b j [] f.first f.held) (sym sound) got;
+}
+
+-- a look at a router, and a feed that told of its history
+module _ (f : FeedView) (j : JournalView) (same : j.opening ≡ f.opening) (look : Look) (looks : IsLook j look) (fed : HasFed f j) where
+  abbrev its_world : World
+  its_world = world_of j.opening j.entries
+
+  opening_is : its_world.opening ≡ f.opening
+  opening_is = looks.opening ∙ same
+
+  at_end : (p : List Bool) → table_after j look.end p ≡ table its_world p
+  at_end p = ap (λ (l : List Entry). table (world_of j.opening l) p) (take_all look.end j.entries (omega (arith, looks.end)))
+
+  table_is : (p : List Bool) → table its_world p ≡ table_by f.opening.size (prefix_of f.opening) (best its_world) p
+  table_is p = ap (λ (o : OpeningView). table_by o.size (prefix_of o) (best its_world) p) opening_is
+
+  by_routes : (p : List Bool) → table_by f.opening.size (prefix_of f.opening) (route_at look.routes.items) p ≡ table its_world p
+  by_routes p = ap hop_of (nearest_same f.opening.size (prefix_of f.opening) (route_at look.routes.items) (best its_world) p f.opening.size
+      (λ v le. looks.routes.each v (subst (λ (o : OpeningView). v < o.size) (sym opening_is) le))) ∙ sym (table_is p)
+
+  none_there : (p : List Bool) → is_had_below (prefix_of f.opening) p f.opening.size ≡ false → table its_world p ≡ None
+  none_there p e = table_is p ∙ ap hop_of (nearest_none f.opening.size (prefix_of f.opening) (best its_world) p f.opening.size e)
+
+  module _ (hops : List (Option Hop))
+      (are : AreHops f.opening.size (prefix_of f.opening) (table_by f.opening.size (prefix_of f.opening) (route_at look.routes.items)) hops) where
+    new_hops : (v : ℕ) → v < f.opening.size → hop_at hops v ≡ table its_world (prefix_of f.opening v)
+    new_hops v le = are.each v le ∙ by_routes (prefix_of f.opening v)
+
+    others_same : (p : List Bool) → is_had_below (prefix_of f.opening) p f.opening.size ≡ false → gathered fed.blocks p ≡ table its_world p
+    others_same p e = fed.others p e ∙ sym (none_there p e)
+
+    abbrev pub its_block : Block
+    its_block = record { at = look.end; is_whole = is_none f.at; changes = changes_below (prefix_of f.opening) (hop_at f.hops) (hop_at hops) f.opening.size }
+
+    gathered_now : (p : List Bool) → gathered (its_block ∷ fed.blocks) p ≡ table its_world p
+    gathered_now p = all_gathered (prefix_of f.opening) (hop_at f.hops) (hop_at hops) (gathered fed.blocks) (table its_world) f.opening.size
+        fed.hops.each new_hops others_same p
+
+    moment : (upto : ℕ) → look.end ≤ upto → IsMoment j upto its_block fed.blocks
+    moment upto le = record {
+      at = le;
+      table = λ p. gathered_now p ∙ sym (at_end p);
+      new = all_new (prefix_of f.opening) (hop_at f.hops) (hop_at hops) (gathered fed.blocks) (table its_world) f.opening.size fed.hops.each;
+      whole = whole_of j f.at fed.blocks fed.tells;
+    }
+
+    before : AreMoments j look.end fed.blocks
+    before = subst (λ n. AreMoments j n fed.blocks) (sym looks.end) (moments_of j f.at fed.blocks fed.tells)
+
+    got_before : f.is_broken ≡ false → Appends f.first f.held (feed_text fed.blocks)
+    got_before sound = subst (λ b. Got b j fed.blocks f.first f.held) sound fed.got
+
+    -- the block was written
+    pub fed_written : (now : Option (List ℕ)) → f.is_broken ≡ false → Appends f.held now (block_text its_block) →
+        HasFed (record f { held = now; at = Some look.end; hops = hops }) j
+    fed_written now sound more = record {
+      blocks = its_block ∷ fed.blocks;
+      tells = record {
+        within = omega (arith, looks.end);
+        begun = λ e. search rules;
+        moments = (moment look.end (omega arith), before);
+        now = λ p. gathered_now p ∙ sym (at_end p);
+      };
+      hops = record { one_a_node = are.one_a_node; each = λ v le. new_hops v le ∙ sym (gathered_now (prefix_of f.opening v)) };
+      others = λ p e. gathered_now p ∙ none_there p e;
+      got = subst (λ b. Got b j (its_block ∷ fed.blocks) f.first now) (sym sound)
+          (Appends-trans f.first f.held now (feed_text fed.blocks) (block_text its_block) (got_before sound) more);
+    }
+
+    -- or a front of it
+    pub fed_unwritten : (now : Option (List ℕ)) → f.is_broken ≡ false → AppendsFront f.held now (block_text its_block) →
+        HasFed (record f { held = now; is_broken = true }) j
+    fed_unwritten now sound more = record {
+      blocks = fed.blocks;
+      tells = fed.tells;
+      hops = fed.hops;
+      others = fed.others;
+      got = record {
+        block = its_block;
+        moment = moment (length j.entries) (omega (arith, looks.end));
+        front = more.0;
+        back = more.1;
+        text = more.2;
+        got = Appends-trans f.first f.held now (feed_text fed.blocks) more.0 (got_before sound) more.3;
+      };
+    }
+
+    -- or there is nothing to write
+    pub fed_still : IsStill f hops → HasFed (record f { at = Some look.end }) j
+    fed_still s =
+        let still = subst (λ n. are_same_below (hop_at f.hops) (hop_at hops) n ≡ true) are.one_a_node s.same in
+        let same_all = all_still (prefix_of f.opening) (hop_at f.hops) (hop_at hops) (gathered fed.blocks) (table its_world) f.opening.size
+        fed.hops.each new_hops others_same still in
+        record {
+          blocks = fed.blocks;
+          tells = record {
+            within = omega (arith, looks.end);
+            begun = begun_of j f.at fed.blocks s.told fed.tells;
+            moments = before;
+            now = λ p. same_all p ∙ sym (at_end p);
+          };
+          hops = fed.hops;
+          others = fed.others;
+          got = fed.got;
+        }
+
+-- the same, as the code has it: by the prefixes and the size that it read
+module _ (f g : FeedView) (j : JournalView) (same : j.opening ≡ f.opening) (look : Look) (looks : IsLook j look) (fed : HasFed f j)
+    (prefixes : List (List Bool)) (size count : ℕ) (hops : List (Option Hop))
+    (prefixes_are : prefixes ≡ f.opening.prefixes) (size_is : size ≡ f.opening.size) (count_is : count ≡ f.opening.size)
+    (are : AreHops size (prefix_at prefixes) (table_by size (prefix_at prefixes) (route_at look.routes.items)) hops) where
+  are_here : AreHops f.opening.size (prefix_of f.opening) (table_by f.opening.size (prefix_of f.opening) (route_at look.routes.items)) hops
+  are_here =
+      subst (λ (ps : List (List Bool)). AreHops f.opening.size (prefix_at ps) (table_by f.opening.size (prefix_at ps) (route_at look.routes.items)) hops)
+      prefixes_are
+      (subst (λ n. AreHops n (prefix_at prefixes) (table_by n (prefix_at prefixes) (route_at look.routes.items)) hops) size_is are)
+
+  -- the block by other names
+  abbrev pub block_by : List (List Bool) → ℕ → Block
+  block_by ps n = record { at = look.end; is_whole = is_none f.at; changes = changes_below (prefix_at ps) (hop_at f.hops) (hop_at hops) n }
+
+  text_is : block_text (block_by prefixes count) ≡ block_text (block_by f.opening.prefixes f.opening.size)
+  text_is = ap (λ n. block_text (block_by prefixes n)) count_is ∙ ap (λ (ps : List (List Bool)). block_text (block_by ps f.opening.size)) prefixes_are
+
+  pub told_written : (text : List ℕ) → f.is_broken ≡ false → text ≡ block_text (block_by prefixes count) → IsWritten text hops look.end f g →
+      HasFed g j
+  told_written text sound is w = subst (λ (x : FeedView). HasFed x j) (sym w.new)
+      (fed_written f j same look looks fed hops are_here g.held sound
+      (subst (λ (t : List ℕ). Appends f.held g.held t) (is ∙ text_is) w.appends))
+
+  pub told_unwritten : (text : List ℕ) → f.is_broken ≡ false → text ≡ block_text (block_by prefixes count) → IsUnwritten text f g → HasFed g j
+  told_unwritten text sound is w = subst (λ (x : FeedView). HasFed x j) (sym w.new)
+      (fed_unwritten f j same look looks fed hops are_here g.held sound
+      (subst (λ (t : List ℕ). AppendsFront f.held g.held t) (is ∙ text_is) w.front))
+
+  pub told_still : IsStill f hops → HasFed (record f { at = Some look.end }) j
+  told_still s = fed_still f j same look looks fed hops are_here s
