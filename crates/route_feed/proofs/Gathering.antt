@@ -1,6 +1,6 @@
 -- The lines that tell what changed, gathered.
 use Rattle.std.proofs.Common.{◌≡◌, ◌∙◌, sym, ap, subst, refl, ℕ, suc, zero, ◌<◌, ◌≤◌, Bool, true, false, Option, Some, None, List, [], ◌∷◌, ◌++◌, arith, rules}
-use Rattle.std.proofs.lemmas.List.Elements.{All-append, All-cons, All-nil}
+use Rattle.std.proofs.lemmas.List.Elements.{All-append, All-cons, All-head, All-nil, All-tail}
 use Rattle.std.specs.Prelude.{◌==◌, All, if◌then◌else◌, not}
 use Rattle.std.specs.Bool.{beq}
 use Rattle.std.specs.Cmp.{booleans_Decides}
@@ -36,6 +36,17 @@ pub with_both : (table : List Bool → Option Hop) (xs ys : List Change) (p : Li
     with_changes table (xs ++ ys) p ≡ with_changes (with_changes table xs) ys p
 with_both table [] ys p = refl
 with_both table (x ∷ xs) ys p = with_both (with_change table x) xs ys p
+
+-- where no line is for a prefix, it is as it was
+pub untouched : (table : List Bool → Option Hop) (cs : List Change) (p : List Bool) → All (λ c. c.prefix ≡ p → ⊥) cs →
+    with_changes table cs p ≡ table p
+untouched table [] p h = refl
+untouched table (c ∷ cs) p h =
+    untouched (with_change table c) cs p (All-tail (λ (d : Change). d.prefix ≡ p → ⊥) c cs h) ∙ other (pointwise beq c.prefix p) refl
+  where
+    other : (b : Bool) → pointwise beq c.prefix p ≡ b → (if b then c.hop else table p) ≡ table p
+    other true e = absurd (All-head (λ (d : Change). d.prefix ≡ p → ⊥) c cs h (same_prefix c.prefix p e))
+    other false e = refl
 
 either : (b : Bool) (x y : Option Hop) → y ≡ x → (if b then x else y) ≡ x
 either true x y e = refl
@@ -136,3 +147,23 @@ module _ (prefix : ℕ → List Bool) (old new : ℕ → Option Hop) (told now :
       one true first e = All-nil P
       one false false e = All-nil P
       one false true e = All-cons P (record { prefix = prefix v; hop = new v }) [] (λ h. other_hop (old v) (new v) e (o v (omega arith) ∙ h)) (All-nil P)
+
+  -- no line is for a prefix for which packets went nowhere, and go nowhere now
+  pub none_for : (own : List Bool) → told own ≡ None → now own ≡ None → (n : ℕ) → ((v : ℕ) → v < n → old v ≡ told (prefix v)) →
+      ((v : ℕ) → v < n → new v ≡ now (prefix v)) → All (λ c. c.prefix ≡ own → ⊥) (changes_below prefix old new n)
+  none_for own was is zero o w = All-nil (λ (c : Change). c.prefix ≡ own → ⊥)
+  none_for own was is (suc v) o w = All-append P (changes_below prefix old new v) (change_of prefix v (old v) (new v))
+      (none_for own was is v (λ u le. o u (omega (arith, le))) (λ u le. w u (omega (arith, le))))
+      (one (is_same (old v) (new v)) (is_first prefix v) refl)
+    where
+      P : Change → Type 0
+      P c = c.prefix ≡ own → ⊥
+
+      nowhere : prefix v ≡ own → old v ≡ new v
+      nowhere e = o v (omega arith) ∙ ap told e ∙ was ∙ sym is ∙ ap now (sym e) ∙ sym (w v (omega arith))
+
+      one : (same first : Bool) → is_same (old v) (new v) ≡ same →
+          All P (if same then [] else (if first then record { prefix = prefix v; hop = new v } ∷ [] else []))
+      one true first e = All-nil P
+      one false false e = All-nil P
+      one false true e = All-cons P (record { prefix = prefix v; hop = new v }) [] (λ h. other_hop (old v) (new v) e (nowhere h)) (All-nil P)

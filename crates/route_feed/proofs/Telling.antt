@@ -22,7 +22,8 @@ use Rattle.route_feed.specs.Lines.{Block, block_text, feed_text, gathered}
 use Rattle.route_feed.specs.Looks.{AreRoutes, IsLook, IsRead}
 use Rattle.route_feed.specs.Steps.{AreNowhere, IsStill, IsUnwritten, IsWritten}
 use Rattle.route_feed.specs.Table.{AreHops, hop_at, hop_of, is_had_below, nearer, nearest_below, prefix_at, route_at, table, table_by}
-use Rattle.route_feed.proofs.Gathering.{all_gathered, all_new, all_still}
+use Rattle.route_feed.proofs.Choosing.{to_itself}
+use Rattle.route_feed.proofs.Gathering.{all_gathered, all_new, all_still, none_for, untouched}
 use Rattle.route_history.specs.declared.entry.Entry.{Entry}
 use Rattle.route_history.specs.Beginning.{Begins}
 use Rattle.route_history.specs.History.{world_of}
@@ -50,6 +51,7 @@ module _ (j : JournalView) (es : List Entry) (b : Begins j.entries es) where
     at = omega (arith, m.at, le);
     table = λ p. m.table p ∙ same_table c.at p (omega (arith, m.at, within));
     new = m.new;
+    foreign = m.foreign;
     whole = m.whole;
   }
 
@@ -123,11 +125,17 @@ nearest_none size prefix route p (suc v) h = one (pointwise beq (prefix v) p) h 
 -- blocks of moments up to one are of moments up to a later one
 moments_upto : (j : JournalView) (upto more : ℕ) (bs : List Block) → upto ≤ more → AreMoments j upto bs → AreMoments j more bs
 moments_upto j upto more [] le h = tt
-moments_upto j upto more (c ∷ bs) le h = (record { at = omega (arith, h.0.at, le); table = h.0.table; new = h.0.new; whole = h.0.whole }, h.1)
+moments_upto j upto more (c ∷ bs) le h = (record { at = omega (arith, h.0.at, le); table = h.0.table; new = h.0.new; foreign = h.0.foreign; whole = h.0.whole }, h.1)
 
 moments_of : (j : JournalView) (at : Option ℕ) (bs : List Block) → Tells j at bs → AreMoments j (length j.entries) bs
 moments_of j None bs h = subst (λ (l : List Block). AreMoments j (length j.entries) l) (sym h) tt
 moments_of j (Some n) bs h = moments_upto j n (length j.entries) bs h.within h.moments
+
+-- for the router's own prefix nothing is told
+never_own : (j : JournalView) (upto : ℕ) (bs : List Block) → AreMoments j upto bs → gathered bs (prefix_of j.opening j.opening.me) ≡ None
+never_own j upto [] h = refl
+never_own j upto (b ∷ bs) h =
+    untouched (gathered bs) b.changes (prefix_of j.opening j.opening.me) h.0.foreign ∙ never_own j b.at bs h.1
 
 whole_of : (j : JournalView) (at : Option ℕ) (bs : List Block) → Tells j at bs → is_none at ≡ is_none_before bs
 whole_of j None bs h = ap is_none_before (sym h)
@@ -150,7 +158,8 @@ nothing_fed f j at held sound hops got = record {
 }
 
 -- a look at a router, and a feed that told of its history
-module _ (f : FeedView) (j : JournalView) (same : j.opening ≡ f.opening) (look : Look) (looks : IsLook j look) (fed : HasFed f j) where
+module _ (f : FeedView) (j : JournalView) (same : j.opening ≡ f.opening) (member : f.opening.me < f.opening.size) (look : Look)
+    (looks : IsLook j look) (fed : HasFed f j) where
   abbrev its_world : World
   its_world = world_of j.opening j.entries
 
@@ -166,6 +175,10 @@ module _ (f : FeedView) (j : JournalView) (same : j.opening ≡ f.opening) (look
   by_routes : (p : List Bool) → table_by f.opening.size (prefix_of f.opening) (route_at look.routes.items) p ≡ table its_world p
   by_routes p = ap hop_of (nearest_same f.opening.size (prefix_of f.opening) (route_at look.routes.items) (best its_world) p f.opening.size
       (λ v le. looks.routes.each v (subst (λ (o : OpeningView). v < o.size) (sym opening_is) le))) ∙ sym (table_is p)
+
+  own_nowhere : table its_world (prefix_of j.opening j.opening.me) ≡ None
+  own_nowhere = ap (λ (o : OpeningView). table its_world (prefix_of o o.me)) (sym looks.opening)
+      ∙ to_itself its_world (subst (λ (o : OpeningView). o.me < o.size) (sym opening_is) member)
 
   none_there : (p : List Bool) → is_had_below (prefix_of f.opening) p f.opening.size ≡ false → table its_world p ≡ None
   none_there p e = table_is p ∙ ap hop_of (nearest_none f.opening.size (prefix_of f.opening) (best its_world) p f.opening.size e)
@@ -190,6 +203,9 @@ module _ (f : FeedView) (j : JournalView) (same : j.opening ≡ f.opening) (look
       at = le;
       table = λ p. gathered_now p ∙ sym (at_end p);
       new = all_new (prefix_of f.opening) (hop_at f.hops) (hop_at hops) (gathered fed.blocks) (table its_world) f.opening.size fed.hops.each;
+      foreign = none_for (prefix_of f.opening) (hop_at f.hops) (hop_at hops) (gathered fed.blocks) (table its_world)
+          (prefix_of j.opening j.opening.me) (never_own j (length j.entries) fed.blocks (moments_of j f.at fed.blocks fed.tells)) own_nowhere
+          f.opening.size fed.hops.each new_hops;
       whole = whole_of j f.at fed.blocks fed.tells;
     }
 
@@ -254,7 +270,8 @@ module _ (f : FeedView) (j : JournalView) (same : j.opening ≡ f.opening) (look
         }
 
 -- the same, as the code has it: by the prefixes and the size that it read
-module _ (f g : FeedView) (j : JournalView) (same : j.opening ≡ f.opening) (look : Look) (looks : IsLook j look) (fed : HasFed f j)
+module _ (f g : FeedView) (j : JournalView) (same : j.opening ≡ f.opening) (member : f.opening.me < f.opening.size) (look : Look)
+    (looks : IsLook j look) (fed : HasFed f j)
     (prefixes : List (List Bool)) (size count : ℕ) (hops : List (Option Hop))
     (prefixes_are : prefixes ≡ f.opening.prefixes) (size_is : size ≡ f.opening.size) (count_is : count ≡ f.opening.size)
     (are : AreHops size (prefix_at prefixes) (table_by size (prefix_at prefixes) (route_at look.routes.items)) hops) where
@@ -274,13 +291,13 @@ module _ (f g : FeedView) (j : JournalView) (same : j.opening ≡ f.opening) (lo
   pub told_written : (text : List ℕ) → f.is_broken ≡ false → text ≡ block_text (block_by prefixes count) → IsWritten text hops look.end f g →
       HasFed g j
   told_written text sound is w = subst (λ (x : FeedView). HasFed x j) (sym w.new)
-      (fed_written f j same look looks fed hops are_here g.held sound
+      (fed_written f j same member look looks fed hops are_here g.held sound
       (subst (λ (t : List ℕ). Appends f.held g.held t) (is ∙ text_is) w.appends))
 
   pub told_unwritten : (text : List ℕ) → f.is_broken ≡ false → text ≡ block_text (block_by prefixes count) → IsUnwritten text f g → HasFed g j
   told_unwritten text sound is w = subst (λ (x : FeedView). HasFed x j) (sym w.new)
-      (fed_unwritten f j same look looks fed hops are_here g.held sound
+      (fed_unwritten f j same member look looks fed hops are_here g.held sound
       (subst (λ (t : List ℕ). AppendsFront f.held g.held t) (is ∙ text_is) w.front))
 
   pub told_still : IsStill f hops → HasFed (record f { at = Some look.end }) j
-  told_still s = fed_still f j same look looks fed hops are_here s
+  told_still s = fed_still f j same member look looks fed hops are_here s

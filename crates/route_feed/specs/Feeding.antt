@@ -34,11 +34,12 @@ is_none_before [] = true
 is_none_before (b ∷ bs) = false
 
 -- A block behind others, of which the newest comes first: it is of no later moment than this one, and who gathers all of them has the table of
--- its moment. Each of its lines tells something new, and only the first block says that it is the whole table.
+-- its moment. Each of its lines tells something new, and none is for the router's own prefix. Only the first block says that it is the whole table.
 pub record IsMoment (j : JournalView) (upto : ℕ) (b : Block) (bs : List Block) : Type 0 where
   pub at : b.at ≤ upto
   pub table : (p : List Bool) → gathered (b ∷ bs) p ≡ table_after j b.at p
   pub new : All (λ c. gathered bs c.prefix ≡ c.hop → ⊥) b.changes
+  pub foreign : All (λ c. c.prefix ≡ prefix_of j.opening j.opening.me → ⊥) b.changes
   pub whole : b.is_whole ≡ is_none_before bs
 
 -- each block is of a moment of the history, none later than the next

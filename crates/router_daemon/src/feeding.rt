@@ -1,22 +1,25 @@
 //! Who tells where packets go.
 ghost use Rattle.std.specs.Prelude.{◌≡◌};
 ghost use Rattle.slot_lock.specs.Passes.{IsPassOf};
+ghost use Rattle.router_daemon.specs.Passes.{IsLegalPass};
 
 use crate::folder::LinkFolder;
 use crate::naming::Ticket;
 use crate::settling::pause;
 use crate::shared::Shared;
 use crate::signals::Closing;
-use crate::telling::tell_unfed;
+use crate::starting::take_part;
+use line_protocol::write_text;
 use netchange_core::Opening;
 use route_feed::{Feed, FeedFault};
 use router_operator::Naming;
 use slot_lock::Pass;
-use std::alloc::Global;
-use std::io::{Read, Write};
+use std::alloc::{AllocError, Global};
+use std::io::{self, Read, Write};
+use std::marker::{Model, PhantomData};
 use std::rt::Clock;
 use std::sync::{Arc, Wait};
-use std::thread;
+use std::thread::{self, Threads};
 use std::time::Duration;
 
 /// Where the routes are told.
@@ -28,11 +31,57 @@ pub struct FeedFile {
     pub settle: u32,
 }
 
-/// Where the routes of a router are told that was opened so.
+/// Where the routes of the router are told. A contract sees it as what the router was opened with.
 #[derive(Drop)]
-pub(crate) struct Feeding {
-    pub(crate) file: FeedFile,
-    pub(crate) opening: Opening,
+pub(crate) struct Feeding<J: Naming> {
+    file: FeedFile,
+    opening: Opening,
+    of: PhantomData<J>,
+}
+
+impl<J: Naming> Model for Feeding<J> {
+    ghost use Rattle.netchange_core.specs.OpeningView.{OpeningView};
+
+    ghost Value = { OpeningView };
+
+    ghost view = { λ f. f.opening };
+
+    ghost invariant = { λ f. f.opening ≡ J.router.opening };
+}
+
+impl<J: Naming> Feeding<J> {
+    /// The routes of the router are told there, if they are to be told.
+    pub(crate) fn new(
+        alloc: Global,
+        file: Option<FeedFile>,
+        opening: &Opening,
+    ) -> Result<Option<Feeding<J>>, AllocError>
+        requires { opening.now ≡ J.router.opening }
+    {
+        match file {
+            None => Ok(None),
+            Some(file) => Ok(Some(Feeding {
+                file,
+                opening: opening.copy(alloc)?,
+                of: PhantomData,
+            })),
+        }
+    }
+}
+
+/// Tells that the routes are not told, since a file could not be opened.
+fn tell_unfed<E: Write>(alloc: Global, errors: &mut E, name: &str, why: &io::Error) {
+    if let Ok(line) = format!(in alloc; "routes: {name}: {why}\n") {
+        let _ = write_text(errors, line.as_bytes());
+    }
+}
+
+/// Tells that the routes are not told, since a thread was not started.
+fn tell_unfed_at_all<E: Write>(errors: &mut E) {
+    let _ = write_text(
+        errors,
+        b"routes: a thread was not started (X2): they are not told\n",
+    );
 }
 
 /// For how many tenths of a second nothing is entered by a router at rest.
@@ -103,7 +152,7 @@ fn tell_stream<R: Wait + Clock, O: Write + Drop, J: Naming, E: Write>(
 
 /// Tells where packets go, from the first rest of the router on, until it is closed: whoever reads the file. A reader that comes later, or again, is
 /// told the whole table first.
-pub(crate) fn feed_routes<
+fn feed_routes<
     R: Wait + Clock + Drop,
     I: Read + Drop,
     O: Write + Drop,
@@ -115,11 +164,9 @@ pub(crate) fn feed_routes<
     alloc: Global,
     folder: Arc<D>,
     shared: Arc<Shared<J, E>>,
-    feeding: Feeding,
+    feeding: Feeding<J>,
     ticket: Ticket<J>,
-) -> Closing
-    requires { feeding.opening ≡ J.router.opening }
-{
+) -> Closing {
     let mut pass = ticket.pass();
     if let Some(closing) = await_rest(&rt, &shared, feeding.file.settle) {
         return closing;
@@ -149,4 +196,40 @@ pub(crate) fn feed_routes<
         thread::sleep(&rt, Duration::from_millis(PAUSE));
     }
     unreachable!()
+}
+
+/// Starts the thread that tells the routes, if they are to be told. Where it is not started, people are told.
+pub(crate) fn start_feeding<
+    R: Threads + Wait + Clock + Copy + Send + Drop + 'static,
+    I: Read + Send + Drop + 'static,
+    O: Write + Send + Drop + 'static,
+    D: LinkFolder<I, O> + Send + Sync + Drop + 'static,
+    J: Naming + Send + Sync + 'static,
+    E: Write + Send + Drop + 'static,
+>(
+    rt: &R,
+    alloc: Global,
+    folder: &Arc<D>,
+    shared: &Arc<Shared<J, E>>,
+    pass: &mut Pass,
+    feeding: Option<Feeding<J>>,
+) -> Result<(), AllocError>
+    requires { IsLegalPass J.router pass.old }
+    ensures { IsLegalPass J.router pass.new }
+{
+    let Some(feeding) = feeding else {
+        return Ok(());
+    };
+    let ticket = take_part(shared, pass, 1)?;
+    let handle = *rt;
+    let folder = Arc::try_clone(folder)?;
+    let shared_with = Arc::try_clone(shared)?;
+    let started = thread::spawn(rt, move || {
+        feed_routes::<R, I, O, D, J, E>(handle, alloc, folder, shared_with, feeding, ticket)
+    });
+    if started.is_err() {
+        let mut errors = shared.errors.lock(rt);
+        tell_unfed_at_all(&mut *errors);
+    }
+    Ok(())
 }

@@ -1,6 +1,6 @@
 //! Who tells the routes waits for something new.
 
-use link_board::Board;
+use crate::signals::{Closing, Signals};
 use std::alloc::{AllocError, Global};
 use std::sync::{Condvar, Mutex, Wait};
 
@@ -70,16 +70,18 @@ impl News {
         }
         (known.entries, are_there)
     }
+}
 
-    /// Sleeps until the history has more entries than these, or is being closed: that it is, if so.
-    pub(crate) fn wait<R: Wait>(&self, rt: &R, told: u64, board: &Mutex<Board>) -> bool {
-        let mut known = self.known.lock(rt);
+impl Signals {
+    /// Sleeps until the history has more entries than are told, or the router is being closed: that it is, if so.
+    pub(crate) fn await_news<R: Wait>(&self, rt: &R, told: u64) -> Option<Closing> {
+        let mut known = self.news.known.lock(rt);
         for _ in rt.forever() {
-            let is_closing = board.lock(rt).is_closing();
-            if is_closing || known.entries > told {
-                return is_closing;
+            let closing = self.closing(rt);
+            if closing.is_some() || known.entries > told {
+                return closing;
             }
-            known = self.bell.wait(rt, known);
+            known = self.news.bell.wait(rt, known);
         }
         unreachable!()
     }

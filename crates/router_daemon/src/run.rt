@@ -11,7 +11,7 @@ ghost use Rattle.router_daemon.specs.declared.fault.DaemonFault.TheVariants as f
 use crate::bounding::MostInMemory;
 use crate::closing::close_links;
 use crate::fault::DaemonFault;
-use crate::feeding::Feeding;
+use crate::feeding::{Feeding, start_feeding};
 use crate::folder::LinkFolder;
 use crate::forgetting::Forgetter;
 use crate::naming::{LegalTicket, Ticket};
@@ -19,7 +19,7 @@ use crate::opening::open_router;
 use crate::operating::{Figures, OperatorEnd, serve_lines};
 use crate::setting::{Filters, RouterEnd, Setting};
 use crate::shared::{Shared, shared_of};
-use crate::starting::{Bounding, Links, start_bounding, start_feeding, start_links, take_part};
+use crate::starting::{Bounding, Links, start_bounding, start_links, take_part};
 use crate::telling::{tell_lost, tell_unkept};
 use history_saver::{SaveFault, SegmentFolder, SegmentSaver};
 use line_protocol::StreamFault;
@@ -103,7 +103,7 @@ fn serve_all<
     pass: &mut Pass,
     links: Vec<LinkFiles>,
     common: Links,
-    feeding: Option<Feeding>,
+    feeding: Option<Feeding<J>>,
     figures: Figures,
     filters: Filters,
     reader: &mut I,
@@ -234,13 +234,7 @@ fn run_named<
         },
         retry,
     };
-    let feeding = match feed {
-        Some(file) => Some(Feeding {
-            file,
-            opening: opening.copy(alloc)?,
-        }),
-        None => None,
-    };
+    let feeding = Feeding::<J>::new(alloc, feed, &opening)?;
     let shared: Arc<Shared<J, E>> = Arc::new(
         alloc,
         shared_of(alloc, router, links.as_slice(), errors)?,

@@ -215,15 +215,6 @@ impl Signals {
         closing_of(&board)
     }
 
-    /// Sleeps until the history has more entries than are told, or the router is being closed: that it is, if so.
-    pub(crate) fn await_news<R: Wait>(&self, rt: &R, told: u64) -> Option<Closing> {
-        if self.news.wait(rt, told, &self.board) {
-            Some(Closing { of: () })
-        } else {
-            None
-        }
-    }
-
     /// Says that entries are to be forgotten before more are made than up to this position; or that none have to.
     pub(crate) fn make_room<R: Wait>(&self, rt: &R, end: Option<u64>) {
         *self.room_end.lock(rt) = end;

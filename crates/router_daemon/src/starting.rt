@@ -5,14 +5,13 @@ ghost use Rattle.router_daemon.specs.Running.{IsEarly};
 
 use crate::bounding::{MostInMemory, bound_memory};
 use crate::fault::DaemonFault;
-use crate::feeding::{Feeding, feed_routes};
 use crate::folder::LinkFolder;
 use crate::forgetting::{AsBegun, Forgetter};
 use crate::keeper::{Link, keep_link};
 use crate::naming::Ticket;
 use crate::room::Room;
 use crate::shared::Shared;
-use crate::telling::{tell_unfed_at_all, tell_unstarted};
+use crate::telling::tell_unstarted;
 use crate::writer::write_link;
 use history_saver::SegmentFolder;
 use neighbour_session::Domain;
@@ -165,42 +164,6 @@ pub(crate) fn start_links<
             let mut errors = shared.errors.lock(rt);
             tell_unstarted(alloc, &mut *errors, node);
         }
-    }
-    Ok(())
-}
-
-/// Starts the thread that tells the routes, if they are to be told. Where it is not started, people are told.
-pub(crate) fn start_feeding<
-    R: Threads + Wait + Clock + Copy + Send + Drop + 'static,
-    I: Read + Send + Drop + 'static,
-    O: Write + Send + Drop + 'static,
-    D: LinkFolder<I, O> + Send + Sync + Drop + 'static,
-    J: Naming + Send + Sync + 'static,
-    E: Write + Send + Drop + 'static,
->(
-    rt: &R,
-    alloc: Global,
-    folder: &Arc<D>,
-    shared: &Arc<Shared<J, E>>,
-    pass: &mut Pass,
-    feeding: Option<Feeding>,
-) -> Result<(), AllocError>
-    requires { IsLegalPass J.router pass.old }
-    ensures { IsLegalPass J.router pass.new }
-{
-    let Some(feeding) = feeding else {
-        return Ok(());
-    };
-    let ticket = take_part(shared, pass, 1)?;
-    let handle = *rt;
-    let folder = Arc::try_clone(folder)?;
-    let shared_with = Arc::try_clone(shared)?;
-    let started = thread::spawn(rt, move || {
-        feed_routes::<R, I, O, D, J, E>(handle, alloc, folder, shared_with, feeding, ticket)
-    });
-    if started.is_err() {
-        let mut errors = shared.errors.lock(rt);
-        tell_unfed_at_all(alloc, &mut *errors);
     }
     Ok(())
 }

@@ -204,18 +204,3 @@ pub(crate) fn tell_deaf<E: Write>(alloc: Global, errors: &mut E, why: StreamFaul
 {
     tell(errors, deaf_line(alloc, why));
 }
-
-/// Tells that the routes are not told, since a file could not be opened.
-pub(crate) fn tell_unfed<E: Write>(alloc: Global, errors: &mut E, name: &str, why: &io::Error) {
-    if let Ok(line) = format!(in alloc; "routes: {name}: {why}\n") {
-        let _ = write_text(errors, line.as_bytes());
-    }
-}
-
-/// Tells that the routes are not told, since a thread was not started.
-pub(crate) fn tell_unfed_at_all<E: Write>(_alloc: Global, errors: &mut E) {
-    let _ = write_text(
-        errors,
-        b"routes: a thread was not started (X2): they are not told\n",
-    );
-}
