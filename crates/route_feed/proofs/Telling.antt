@@ -3,7 +3,7 @@ use Rattle.std.proofs.Common.{◌≡◌, ◌∙◌, sym, ap, subst, refl, ℕ, s
 use Rattle.std.proofs.Common.{length, length-append, take, arith, rules}
 use Rattle.std.proofs.KnownBytes.{Appends-trans}
 use Rattle.std.proofs.lemmas.List.{take-append-le, take_all}
-use Rattle.std.specs.Prelude.{if◌then◌else◌, is_none, IsSome}
+use Rattle.std.specs.Prelude.{if◌then◌else◌, is_none, IfErr, IfOk, IfSome, IsSome, Result, Ok, Err}
 use Rattle.std.specs.Bool.{beq}
 use Rattle.std.specs.Cmp.Lexicographic.{pointwise}
 use Rattle.std.specs.Io.KnownBytes.{Appends}
@@ -14,13 +14,15 @@ use Rattle.netchange_core.specs.Best.{best, route_of}
 use Rattle.netchange_core.specs.FilteredDistance.{prefix_of}
 use Rattle.netchange_core.specs.OpeningView.{OpeningView}
 use Rattle.netchange_core.specs.World.{World}
+use Rattle.route_feed.specs.declared.fault.FeedFault.{FeedFault}
+use Rattle.route_feed.specs.declared.fault.FeedFault.TheVariants as fault
 use Rattle.route_feed.specs.declared.hop.Hop.{Hop}
 use Rattle.route_feed.specs.declared.look.Look.{Look}
 use Rattle.route_feed.specs.Changes.{are_same_below, changes_below}
-use Rattle.route_feed.specs.Feeding.{AreMoments, FeedView, Got, HasFed, IsCut, IsMoment, IsTold, Tells, is_none_before, table_after}
+use Rattle.route_feed.specs.Feeding.{AreMoments, FeedView, Got, HasFed, IsCut, IsMoment, IsTold, Tells, is_none_before, seen_by, table_after}
 use Rattle.route_feed.specs.Lines.{Block, block_text, feed_text, gathered}
 use Rattle.route_feed.specs.Looks.{AreRoutes, IsLook, IsRead}
-use Rattle.route_feed.specs.Steps.{AreNowhere, IsStill, IsUnwritten, IsWritten}
+use Rattle.route_feed.specs.Steps.{AreNowhere, IsStill, IsUntold, IsUnwritten, IsWritten, news_block}
 use Rattle.route_feed.specs.Table.{AreHops, hop_at, hop_of, is_had_below, nearer, nearest_below, prefix_at, route_at, table, table_by}
 use Rattle.route_feed.proofs.Choosing.{to_itself}
 use Rattle.route_feed.proofs.Gathering.{all_gathered, all_new, all_still, none_for, untouched}
@@ -30,6 +32,7 @@ use Rattle.route_history.specs.History.{world_of}
 use Rattle.route_history.specs.JournalView.{JournalView}
 use Rattle.route_history.specs.Long.{LongView, OfHistory}
 use Rattle.route_history.proofs.Windows.{kept_are, tables_are}
+use Rattle.slot_lock.specs.Passes.{PassView, RouterView}
 
 -- the journal, after it went on
 abbrev longer : JournalView → List Entry → JournalView
@@ -91,6 +94,15 @@ module _ (j : JournalView) (es : List Entry) (b : Begins j.entries es) where
     others = h.others;
     got = got_longer f.is_broken h.blocks f.first f.held h.got;
   }
+
+-- what was told of the history as one pass has seen it, and as it has seen it later
+pub still_fed : (r : RouterView) (old new : PassView) → Begins old.fragment.seen new.fragment.seen → (f : FeedView) → HasFed f (seen_by r old) →
+    HasFed f (seen_by r new)
+still_fed r old new begins f h = fed_longer (seen_by r old) new.fragment.seen begins f h
+
+-- a look that was found
+pub look_found : (j : JournalView) (found : Option Look) (look : Look) → found ≡ Some look → IfSome found (IsLook j) → IsLook j look
+look_found j found look is h = subst (λ (o : Option Look). IfSome o (IsLook j)) is h
 
 -- a journal that was read is the end of its whole history
 pub looks_of : (j : LongView) (look : Look) → IsRead j look → OfHistory j (λ h. IsLook h look)
@@ -191,8 +203,8 @@ module _ (f : FeedView) (j : JournalView) (same : j.opening ≡ f.opening) (memb
     others_same : (p : List Bool) → is_had_below (prefix_of f.opening) p f.opening.size ≡ false → gathered fed.blocks p ≡ table its_world p
     others_same p e = fed.others p e ∙ sym (none_there p e)
 
-    abbrev pub its_block : Block
-    its_block = record { at = look.end; is_whole = is_none f.at; changes = changes_below (prefix_of f.opening) (hop_at f.hops) (hop_at hops) f.opening.size }
+    abbrev its_block : Block
+    its_block = news_block f hops look.end
 
     gathered_now : (p : List Bool) → gathered (its_block ∷ fed.blocks) p ≡ table its_world p
     gathered_now p = all_gathered (prefix_of f.opening) (hop_at f.hops) (hop_at hops) (gathered fed.blocks) (table its_world) f.opening.size
@@ -269,11 +281,10 @@ module _ (f : FeedView) (j : JournalView) (same : j.opening ≡ f.opening) (memb
           got = fed.got;
         }
 
--- the same, as the code has it: by the prefixes and the size that it read
+-- the same, as the code has it: by the size and the prefixes that it read
 module _ (f g : FeedView) (j : JournalView) (same : j.opening ≡ f.opening) (member : f.opening.me < f.opening.size) (look : Look)
     (looks : IsLook j look) (fed : HasFed f j)
-    (prefixes : List (List Bool)) (size count : ℕ) (hops : List (Option Hop))
-    (prefixes_are : prefixes ≡ f.opening.prefixes) (size_is : size ≡ f.opening.size) (count_is : count ≡ f.opening.size)
+    (prefixes : List (List Bool)) (size : ℕ) (hops : List (Option Hop)) (prefixes_are : prefixes ≡ f.opening.prefixes) (size_is : size ≡ f.opening.size)
     (are : AreHops size (prefix_at prefixes) (table_by size (prefix_at prefixes) (route_at look.routes.items)) hops) where
   are_here : AreHops f.opening.size (prefix_of f.opening) (table_by f.opening.size (prefix_of f.opening) (route_at look.routes.items)) hops
   are_here =
@@ -281,23 +292,22 @@ module _ (f g : FeedView) (j : JournalView) (same : j.opening ≡ f.opening) (me
       prefixes_are
       (subst (λ n. AreHops n (prefix_at prefixes) (table_by n (prefix_at prefixes) (route_at look.routes.items)) hops) size_is are)
 
-  -- the block by other names
-  abbrev pub block_by : List (List Bool) → ℕ → Block
-  block_by ps n = record { at = look.end; is_whole = is_none f.at; changes = changes_below (prefix_at ps) (hop_at f.hops) (hop_at hops) n }
-
-  text_is : block_text (block_by prefixes count) ≡ block_text (block_by f.opening.prefixes f.opening.size)
-  text_is = ap (λ n. block_text (block_by prefixes n)) count_is ∙ ap (λ (ps : List (List Bool)). block_text (block_by ps f.opening.size)) prefixes_are
-
-  pub told_written : (text : List ℕ) → f.is_broken ≡ false → text ≡ block_text (block_by prefixes count) → IsWritten text hops look.end f g →
-      HasFed g j
-  told_written text sound is w = subst (λ (x : FeedView). HasFed x j) (sym w.new)
-      (fed_written f j same member look looks fed hops are_here g.held sound
-      (subst (λ (t : List ℕ). Appends f.held g.held t) (is ∙ text_is) w.appends))
-
-  pub told_unwritten : (text : List ℕ) → f.is_broken ≡ false → text ≡ block_text (block_by prefixes count) → IsUnwritten text f g → HasFed g j
-  told_unwritten text sound is w = subst (λ (x : FeedView). HasFed x j) (sym w.new)
-      (fed_unwritten f j same member look looks fed hops are_here g.held sound
-      (subst (λ (t : List ℕ). AppendsFront f.held g.held t) (is ∙ text_is) w.front))
-
   pub told_still : IsStill f hops → HasFed (record f { at = Some look.end }) j
   told_still s = fed_still f j same member look looks fed hops are_here s
+
+  module _ (sound : f.is_broken ≡ false) where
+    abbrev pub text : List ℕ
+    text = block_text (news_block f hops look.end)
+
+    written : IsWritten text hops look.end f g → HasFed g j
+    written w = subst (λ (x : FeedView). HasFed x j) (sym w.is) (fed_written f j same member look looks fed hops are_here g.held sound w.appends)
+
+    untold : (why : FeedFault) → IsUntold why text f g → HasFed g j
+    untold fault.Memory is = subst (λ (x : FeedView). HasFed x j) (sym is) fed
+    untold fault.Write w =
+        subst (λ (x : FeedView). HasFed x j) (sym w.is) (fed_unwritten f j same member look looks fed hops are_here g.held sound w.front)
+
+    pub told_hops : (r : Result ℕ FeedFault) → IfOk r (λ n. (n ≡ look.end) × IsWritten text hops look.end f g) →
+        IfErr r (λ why. IsUntold why text f g) → HasFed g j
+    told_hops (Ok n) ok err = written ok.1
+    told_hops (Err why) ok err = untold why err

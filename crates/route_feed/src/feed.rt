@@ -1,6 +1,7 @@
 //! A feed of a router's routes.
 ghost use Rattle.std.specs.Prelude.{◌≡◌, ◌≤◌, None, Some, false, true, IfErr, IfOk, length};
 ghost use Rattle.route_feed.specs.Feeding.{HasFed, seen_by};
+ghost use Rattle.route_feed.specs.Lines.{block_text};
 ghost use Rattle.route_feed.specs.Looks.{IsLook};
 ghost use Rattle.route_feed.specs.Steps as spec;
 ghost use Rattle.route_feed.specs.declared.fault.FeedFault.TheVariants as fault;
@@ -140,6 +141,32 @@ impl<V: Write + Drop> Feed<V> {
         }
     }
 
+    /// Tells where packets go now, after so many entries: what of it is another way than it was told.
+    fn tell_hops(
+        &mut self,
+        alloc: Global,
+        hops: Vec<Option<Hop>>,
+        end: u64,
+    ) -> Result<u64, FeedFault>
+        requires count { length hops.items ≡ self.old.opening.size }
+        ensures ok { IfOk result (λ n. (n ≡ end)
+            × spec.IsWritten (block_text (spec.news_block self.old hops.items end)) hops.items end self.old self.new) }
+        ensures err { IfErr result (λ f. spec.IsUntold f (block_text (spec.news_block self.old hops.items end)) self.old self.new) }
+    {
+        let is_first = self.at.is_none();
+        match block_of(
+            alloc,
+            self.opening.prefixes(),
+            self.hops.as_slice(),
+            hops.as_slice(),
+            end,
+            is_first,
+        ) {
+            Ok(text) => self.write_block(text.as_slice(), hops, end),
+            Err(_) => Err(FeedFault::Memory),
+        }
+    }
+
     /// Tells what is new by a look.
     fn tell_look(&mut self, alloc: Global, look: &Look) -> Result<u64, FeedFault>
         requires goes_on { self.old.is_broken ≡ false }
@@ -151,24 +178,16 @@ impl<V: Write + Drop> Feed<V> {
         ensures err { IfErr result (λ f. spec.Fails f self.old self.new) }
     {
         let size = self.opening.size();
-        let Ok(hops) = hops_of(alloc, size, self.opening.prefixes(), look.routes.as_slice()) else {
-            return Err(FeedFault::Memory);
-        };
-        if self.is_still(hops.as_slice()) {
-            self.at = Some(look.end);
-            return Ok(look.end);
+        match hops_of(alloc, size, self.opening.prefixes(), look.routes.as_slice()) {
+            Ok(hops) => {
+                if self.is_still(hops.as_slice()) {
+                    self.at = Some(look.end);
+                    return Ok(look.end);
+                }
+                self.tell_hops(alloc, hops, look.end)
+            }
+            Err(_) => Err(FeedFault::Memory),
         }
-        let Ok(text) = block_of(
-            alloc,
-            self.opening.prefixes(),
-            self.hops.as_slice(),
-            hops.as_slice(),
-            look.end,
-            self.at.is_none(),
-        ) else {
-            return Err(FeedFault::Memory);
-        };
-        self.write_block(text.as_slice(), hops, look.end)
     }
 
     /// Tells the stream where packets go at a moment of the router's history that is no earlier than what the pass has seen: the whole table at the

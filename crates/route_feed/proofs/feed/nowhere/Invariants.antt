@@ -2,5 +2,5 @@ use Rattle.route_feed.specs.Steps.{AreNowhere}
 use Rattle.route_feed.proofs.feed.nowhere.Given as goal
 
 -- as many nodes as so far
-abbrev pub invariant-loop-_node : goal.invariant-loop-_node
-invariant-loop-_node l = record { nowhere : AreNowhere l._node l.hops.items }
+abbrev pub invariant-loop-node : goal.invariant-loop-node
+invariant-loop-node l = record { nowhere : AreNowhere l.node l.hops.items }
