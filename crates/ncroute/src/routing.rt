@@ -12,7 +12,7 @@
 //! **People are told of links by a handle of standard error of their own**, which the threads of links share. So what `serve_router` promises of
 //! the other handle, on which it tells why a router is not there, does not depend on when a link is closed.
 ghost use Rattle.std.specs.Option.{option_map};
-ghost use Rattle.std.specs.Prelude.{◌≡◌, ◌++◌, IfErr, IfOk, IfSome, MatchOption, OnOk};
+ghost use Rattle.std.specs.Prelude.{◌≡◌, ◌++◌, IfErr, IfOk, IfSome, MatchOption, OnOk, is_some};
 ghost use Rattle.std.specs.Io.KnownBytes.{Appends};
 ghost use Rattle.filter_reports.specs.Cuts.{IsCut};
 ghost use Rattle.filter_reports.specs.Faults.{stream_fault};
@@ -34,7 +34,7 @@ use route_history::CallFault;
 use router_daemon::{DaemonFault, FeedFile, LinkFolder, Setting, run_router};
 use router_options::RouterPlan;
 use slot_lock::LockFault;
-use std::alloc::{AllocError, Global};
+use std::alloc::Global;
 use std::io::{Read, Write};
 use std::rt::Clock;
 use std::sync::Wait;
@@ -175,13 +175,15 @@ fn size_of(plan: &RouterPlan) -> u16
 }
 
 /// Where the routes are told, if they are to be.
-fn feed_of(alloc: Global, words: &RouterWords) -> Result<Option<FeedFile>, AllocError> {
+fn feed_of(words: &RouterWords) -> Option<FeedFile<'_>>
+    ensures { is_some result ≡ is_some words.now.routes }
+{
     match &words.routes {
-        None => Ok(None),
-        Some(name) => Ok(Some(FeedFile {
-            name: String::from_str(alloc, name.as_str())?,
+        Some(name) => Some(FeedFile {
+            name: name.as_str(),
             settle: words.settle.unwrap_or(SETTLE),
-        })),
+        }),
+        None => None,
     }
 }
 
@@ -203,9 +205,6 @@ fn fit_out<F: Folder + HistoryFolders, R: Read, W: Write, E: Write>(
         console.old console.new) }
 {
     let size = size_of(&plan);
-    let Ok(feed) = feed_of(alloc, words) else {
-        return Err(ProgramFault::MEMORY);
-    };
     let named = words.filters.as_slice();
     match load_filters(
         files,
@@ -220,7 +219,6 @@ fn fit_out<F: Folder + HistoryFolders, R: Read, W: Write, E: Write>(
                 plan,
                 filters,
                 save,
-                feed,
             })),
             Ok(None) => Ok(None),
             Err(fault) => Err(fault),
@@ -293,6 +291,7 @@ fn run_setting<
     alloc: Global,
     save: &Option<String>,
     setting: Setting<R::Segments>,
+    feed: Option<FeedFile<'_>>,
     console: &mut Console<I, W, E>,
     voice: T,
 ) -> Result<u8, Untold>
@@ -309,6 +308,7 @@ where
         alloc,
         *rt,
         setting,
+        feed,
         voice,
         &mut console.reader,
         &mut console.writer,
@@ -361,6 +361,7 @@ where
             alloc,
             &words.save,
             setting,
+            feed_of(words),
             console,
             voice,
         ),

@@ -22,11 +22,11 @@ use std::sync::{Arc, Wait};
 use std::thread::{self, Threads};
 use std::time::Duration;
 
-/// Where the routes are told.
-#[derive(Drop)]
-pub struct FeedFile {
+/// Where the routes are to be told.
+#[derive(Clone, Copy)]
+pub struct FeedFile<'a> {
     /// The name of a FIFO or a file.
-    pub name: String,
+    pub name: &'a str,
     /// How many seconds the first table waits at most.
     pub settle: u32,
 }
@@ -34,7 +34,8 @@ pub struct FeedFile {
 /// Where the routes of the router are told. A contract sees it as what the router was opened with.
 #[derive(Drop)]
 pub(crate) struct Feeding<J: Naming> {
-    file: FeedFile,
+    name: String,
+    settle: u32,
     opening: Opening,
     of: PhantomData<J>,
 }
@@ -53,15 +54,16 @@ impl<J: Naming> Feeding<J> {
     /// The routes of the router are told there, if they are to be told.
     pub(crate) fn new(
         alloc: Global,
-        file: Option<FeedFile>,
+        file: Option<FeedFile<'_>>,
         opening: &Opening,
     ) -> Result<Option<Feeding<J>>, AllocError>
         requires { opening.now ≡ J.router.opening }
     {
         match file {
             None => Ok(None),
-            Some(file) => Ok(Some(Feeding {
-                file,
+            Some(FeedFile { name, settle }) => Ok(Some(Feeding {
+                name: String::from_str(alloc, name)?,
+                settle,
                 opening: opening.copy(alloc)?,
                 of: PhantomData,
             })),
@@ -168,11 +170,11 @@ fn feed_routes<
     ticket: Ticket<J>,
 ) -> Closing {
     let mut pass = ticket.pass();
-    if let Some(closing) = await_rest(&rt, &shared, feeding.file.settle) {
+    if let Some(closing) = await_rest(&rt, &shared, feeding.settle) {
         return closing;
     }
     for _ in rt.forever() {
-        match folder.open_output(feeding.file.name.as_str()) {
+        match folder.open_output(feeding.name.as_str()) {
             Ok(stream) => {
                 if let Some(closing) = tell_stream::<R, O, J, E>(
                     &rt,
@@ -187,7 +189,7 @@ fn feed_routes<
             }
             Err(why) => {
                 let mut errors = shared.errors.lock(&rt);
-                tell_unfed(alloc, &mut *errors, feeding.file.name.as_str(), &why);
+                tell_unfed(alloc, &mut *errors, feeding.name.as_str(), &why);
             }
         }
         if let Some(closing) = shared.signals.closing(&rt) {

@@ -11,7 +11,7 @@ ghost use Rattle.router_daemon.specs.declared.fault.DaemonFault.TheVariants as f
 use crate::bounding::MostInMemory;
 use crate::closing::close_links;
 use crate::fault::DaemonFault;
-use crate::feeding::{Feeding, start_feeding};
+use crate::feeding::{FeedFile, Feeding, start_feeding};
 use crate::folder::LinkFolder;
 use crate::forgetting::Forgetter;
 use crate::naming::{LegalTicket, Ticket};
@@ -185,6 +185,7 @@ fn run_named<
     alloc: Global,
     folder: D,
     setting: Setting<S>,
+    feed: Option<FeedFile<'_>>,
     errors: E,
     reader: &mut I,
     writer: &mut W,
@@ -210,7 +211,6 @@ fn run_named<
         plan,
         filters,
         save,
-        feed,
     } = setting;
     let forgetter = begin_forgetting(alloc, save, &plan, right)?;
     let RouterPlan {
@@ -255,7 +255,7 @@ fn run_named<
 }
 
 /// Runs a router: its links, its operator and its history, until the operator quits or their lines end. The folder in which its history is to be
-/// saved has no segments before.
+/// saved has no segments before. Its routes are told, if a file is named for them.
 pub fn run_router<
     R: Threads + Wait + Clock + Copy + Send + Drop + 'static,
     FI: Read + Send + Drop + 'static,
@@ -270,6 +270,7 @@ pub fn run_router<
     alloc: Global,
     folder: D,
     setting: Setting<S>,
+    feed: Option<FeedFile<'_>>,
     errors: E,
     reader: &mut I,
     writer: &mut W,
@@ -285,6 +286,6 @@ pub fn run_router<
 {
     let (router, pass, right) = open_router(rt, alloc, &setting.plan, &setting.filters)?;
     run_named::<Brand, R, FI, FO, D, S, E, I, W>(
-        rt, alloc, folder, setting, errors, reader, writer, router, pass, right,
+        rt, alloc, folder, setting, feed, errors, reader, writer, router, pass, right,
     )
 }

@@ -1,6 +1,5 @@
 //! What a router is run with, and what it comes to.
 
-use crate::feeding::FeedFile;
 use filter_verifier::Verified;
 use history_saver::{SegmentFolder, SegmentSaver};
 use router_options::RouterPlan;
@@ -19,8 +18,6 @@ pub struct Setting<F: SegmentFolder> {
     pub filters: Filters,
     /// Where its history is saved, in segments.
     pub save: Option<F>,
-    /// Where its routes are told.
-    pub feed: Option<FeedFile>,
 }
 
 /// What a router came to that was run to its end.
