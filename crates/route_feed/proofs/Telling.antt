@@ -1,7 +1,7 @@
 -- What a feed has told, as the history goes on and as more is told.
 use Rattle.std.proofs.Common.{◌≡◌, ◌∙◌, sym, ap, subst, refl, ℕ, suc, zero, ◌<◌, ◌≤◌, Bool, true, false, Option, Some, None, List, [], ◌∷◌, ◌++◌}
 use Rattle.std.proofs.Common.{length, length-append, take, arith, rules}
-use Rattle.std.proofs.KnownBytes.{Appends-trans}
+use Rattle.std.proofs.KnownBytes.{Appends-nil, Appends-trans}
 use Rattle.std.proofs.lemmas.List.{take-append-le, take_all}
 use Rattle.std.specs.Prelude.{if◌then◌else◌, is_none, IfErr, IfOk, IfSome, IsSome, Result, Ok, Err}
 use Rattle.std.specs.Bool.{beq}
@@ -159,15 +159,17 @@ begun_of j None bs some h = absurd some
 begun_of j (Some n) bs some h = h.begun
 
 -- a feed that told nothing
-pub nothing_fed : (f : FeedView) (j : JournalView) → f.at ≡ None → f.held ≡ f.first → f.is_broken ≡ false → AreNowhere f.opening.size f.hops →
-    Appends f.first f.held [] → HasFed f j
-nothing_fed f j at held sound hops got = record {
-  blocks = [];
-  tells = subst (λ (a : Option ℕ). Tells j a []) (sym at) refl;
-  hops = record { one_a_node = hops.one_a_node; each = hops.each };
-  others = λ p e. refl;
-  got = subst (λ b. Got b j [] f.first f.held) (sym sound) got;
-}
+pub new_fed : (o opened : OpeningView) (size : ℕ) (first stream : Option (List ℕ)) (hops : List (Option Hop)) (j : JournalView) → opened ≡ o →
+    size ≡ o.size → first ≡ stream → AreNowhere size hops →
+    HasFed (record { opening = opened; first = first; held = stream; at = None; hops = hops; is_broken = false }) j
+new_fed o opened size first stream hops j opened_is size_is first_is nowhere =
+    let here = subst (λ n. AreNowhere n hops) (size_is ∙ sym (ap (λ (x : OpeningView). x.size) opened_is)) nowhere in record {
+      blocks = [];
+      tells = refl;
+      hops = record { one_a_node = here.one_a_node; each = here.each };
+      others = λ p e. refl;
+      got = subst (λ (x : Option (List ℕ)). Appends x stream []) (sym first_is) (Appends-nil stream);
+    }
 
 -- a look at a router, and a feed that told of its history
 module _ (f : FeedView) (j : JournalView) (same : j.opening ≡ f.opening) (member : f.opening.me < f.opening.size) (look : Look)
@@ -203,7 +205,7 @@ module _ (f : FeedView) (j : JournalView) (same : j.opening ≡ f.opening) (memb
     others_same : (p : List Bool) → is_had_below (prefix_of f.opening) p f.opening.size ≡ false → gathered fed.blocks p ≡ table its_world p
     others_same p e = fed.others p e ∙ sym (none_there p e)
 
-    abbrev its_block : Block
+    abbrev pub its_block : Block
     its_block = news_block f hops look.end
 
     gathered_now : (p : List Bool) → gathered (its_block ∷ fed.blocks) p ≡ table its_world p
