@@ -155,7 +155,7 @@ whole_of j (Some n) [] h = absurd (h.begun refl)
 whole_of j (Some n) (b ∷ bs) h = refl
 
 begun_of : (j : JournalView) (at : Option ℕ) (bs : List Block) → IsSome at → Tells j at bs → bs ≡ [] → ⊥
-begun_of j None bs some h = absurd some
+begun_of j None bs some h = λ e. let no : false ≡ true = some in search rules
 begun_of j (Some n) bs some h = h.begun
 
 -- a feed that told nothing
@@ -282,6 +282,47 @@ module _ (f : FeedView) (j : JournalView) (same : j.opening ≡ f.opening) (memb
           others = fed.others;
           got = fed.got;
         }
+
+-- the text of the block, as the code has it: by what it read of the feed
+pub block_is : (f : FeedView) (text : List ℕ) (prefixes : List (List Bool)) (old new hops : List (Option Hop)) (end : ℕ) (first : Bool) →
+    text ≡ block_text (record { at = end; is_whole = first; changes = changes_below (prefix_at prefixes) (hop_at old) (hop_at new) (length prefixes) }) →
+    prefixes ≡ f.opening.prefixes → length prefixes ≡ f.opening.size → old ≡ f.hops → new ≡ hops → first ≡ is_none f.at →
+    text ≡ block_text (news_block f hops end)
+block_is f text prefixes old new hops end first is prefixes_are count old_is new_is first_is =
+    is
+    ∙ ap (λ (b : Bool). block_text (record { at = end; is_whole = b; changes = changes_below (prefix_at prefixes) (hop_at old) (hop_at new) (length prefixes) }))
+    first_is
+    ∙ ap (λ n. block_text (record { at = end; is_whole = is_none f.at; changes = changes_below (prefix_at prefixes) (hop_at old) (hop_at new) n }))
+    count
+    ∙ ap (λ (ps : List (List Bool)). block_text (record {
+      at = end;
+      is_whole = is_none f.at;
+      changes = changes_below (prefix_at ps) (hop_at old) (hop_at new) f.opening.size;
+    })) prefixes_are
+    ∙ ap (λ (l : List (Option Hop)). block_text (record {
+      at = end;
+      is_whole = is_none f.at;
+      changes = changes_below (prefix_of f.opening) (hop_at l) (hop_at new) f.opening.size;
+    })) old_is
+    ∙ ap (λ (l : List (Option Hop)). block_text (record {
+      at = end;
+      is_whole = is_none f.at;
+      changes = changes_below (prefix_of f.opening) (hop_at f.hops) (hop_at l) f.opening.size;
+    })) new_is
+
+module _ (f g : FeedView) (r : Result ℕ FeedFault) (text news : List ℕ) (is : text ≡ news) where
+  -- it was written
+  pub wrote_it : (hops : List (Option Hop)) (end : ℕ) → IfOk r (λ n. (n ≡ end) × IsWritten text hops end f g) →
+      IfOk r (λ n. (n ≡ end) × IsWritten news hops end f g)
+  wrote_it hops end h = subst (λ (t : List ℕ). IfOk r (λ n. (n ≡ end) × IsWritten t hops end f g)) is h
+
+  -- or not all of it
+  pub wrote_not_all : IfErr r (λ why. (why ≡ fault.Write) × IsUnwritten text f g) → IfErr r (λ why. IsUntold why news f g)
+  wrote_not_all h = one r (subst (λ (t : List ℕ). IfErr r (λ why. (why ≡ fault.Write) × IsUnwritten t f g)) is h)
+    where
+      one : (x : Result ℕ FeedFault) → IfErr x (λ why. (why ≡ fault.Write) × IsUnwritten news f g) → IfErr x (λ why. IsUntold why news f g)
+      one (Ok n) e = e
+      one (Err why) e = subst (λ (w : FeedFault). IsUntold w news f g) (sym e.0) e.1
 
 -- the same, as the code has it: by the size and the prefixes that it read
 module _ (f g : FeedView) (j : JournalView) (same : j.opening ≡ f.opening) (member : f.opening.me < f.opening.size) (look : Look)
