@@ -3,7 +3,7 @@ use Rattle.std.proofs.Common.{◌≡◌, ◌∙◌, sym, ap, subst, refl, ℕ, s
 use Rattle.std.proofs.Common.{length, length-append, take, arith, rules}
 use Rattle.std.proofs.KnownBytes.{Appends-nil, Appends-trans}
 use Rattle.std.proofs.lemmas.List.{take-append-le, take_all}
-use Rattle.std.specs.Prelude.{if◌then◌else◌, is_none, IfErr, IfOk, IfSome, IsSome, Result, Ok, Err}
+use Rattle.std.specs.Prelude.{if◌then◌else◌, is_none, is_some, not, IfErr, IfOk, IfSome, IsSome, Result, Ok, Err}
 use Rattle.std.specs.Bool.{beq}
 use Rattle.std.specs.Cmp.Lexicographic.{pointwise}
 use Rattle.std.specs.Io.KnownBytes.{Appends}
@@ -283,15 +283,21 @@ module _ (f : FeedView) (j : JournalView) (same : j.opening ≡ f.opening) (memb
           got = fed.got;
         }
 
+none_is : (at : Option ℕ) (b : Bool) → is_some at ≡ not b → b ≡ is_none at
+none_is None true h = refl
+none_is None false h = search rules
+none_is (Some n) true h = search rules
+none_is (Some n) false h = refl
+
 -- the text of the block, as the code has it: by what it read of the feed
 pub block_is : (f : FeedView) (text : List ℕ) (prefixes : List (List Bool)) (old new hops : List (Option Hop)) (end : ℕ) (first : Bool) →
     text ≡ block_text (record { at = end; is_whole = first; changes = changes_below (prefix_at prefixes) (hop_at old) (hop_at new) (length prefixes) }) →
-    prefixes ≡ f.opening.prefixes → length prefixes ≡ f.opening.size → old ≡ f.hops → new ≡ hops → first ≡ is_none f.at →
+    prefixes ≡ f.opening.prefixes → length prefixes ≡ f.opening.size → old ≡ f.hops → new ≡ hops → is_some f.at ≡ not first →
     text ≡ block_text (news_block f hops end)
 block_is f text prefixes old new hops end first is prefixes_are count old_is new_is first_is =
     is
     ∙ ap (λ (b : Bool). block_text (record { at = end; is_whole = b; changes = changes_below (prefix_at prefixes) (hop_at old) (hop_at new) (length prefixes) }))
-    first_is
+    (none_is f.at first first_is)
     ∙ ap (λ n. block_text (record { at = end; is_whole = is_none f.at; changes = changes_below (prefix_at prefixes) (hop_at old) (hop_at new) n }))
     count
     ∙ ap (λ (ps : List (List Bool)). block_text (record {
@@ -327,13 +333,15 @@ module _ (f g : FeedView) (r : Result ℕ FeedFault) (text news : List ℕ) (is 
 -- the same, as the code has it: by the size and the prefixes that it read
 module _ (f g : FeedView) (j : JournalView) (same : j.opening ≡ f.opening) (member : f.opening.me < f.opening.size) (look : Look)
     (looks : IsLook j look) (fed : HasFed f j)
-    (prefixes : List (List Bool)) (size : ℕ) (hops : List (Option Hop)) (prefixes_are : prefixes ≡ f.opening.prefixes) (size_is : size ≡ f.opening.size)
-    (are : AreHops size (prefix_at prefixes) (table_by size (prefix_at prefixes) (route_at look.routes.items)) hops) where
+    (prefixes : List (List Bool)) (size : ℕ) (routes : List BestRoute) (hops : List (Option Hop)) (prefixes_are : prefixes ≡ f.opening.prefixes)
+    (size_is : size ≡ f.opening.size) (routes_are : routes ≡ look.routes.items)
+    (are : AreHops size (prefix_at prefixes) (table_by size (prefix_at prefixes) (route_at routes)) hops) where
   are_here : AreHops f.opening.size (prefix_of f.opening) (table_by f.opening.size (prefix_of f.opening) (route_at look.routes.items)) hops
   are_here =
       subst (λ (ps : List (List Bool)). AreHops f.opening.size (prefix_at ps) (table_by f.opening.size (prefix_at ps) (route_at look.routes.items)) hops)
       prefixes_are
-      (subst (λ n. AreHops n (prefix_at prefixes) (table_by n (prefix_at prefixes) (route_at look.routes.items)) hops) size_is are)
+      (subst (λ n. AreHops n (prefix_at prefixes) (table_by n (prefix_at prefixes) (route_at look.routes.items)) hops) size_is
+      (subst (λ (l : List BestRoute). AreHops size (prefix_at prefixes) (table_by size (prefix_at prefixes) (route_at l)) hops) routes_are are))
 
   pub told_still : IsStill f hops → HasFed (record f { at = Some look.end }) j
   told_still s = fed_still f j same member look looks fed hops are_here s

@@ -1,5 +1,5 @@
-use Rattle.std.proofs.Common.{◌∙◌, ap}
-use Rattle.std.specs.Prelude.{is_none}
+use Rattle.std.proofs.Common.{◌∙◌, ap, sym}
+use Rattle.std.specs.Prelude.{is_some}
 use Rattle.route_feed.specs.Feeding.{FeedView}
 use Rattle.route_feed.proofs.Telling.{block_is, wrote_it, wrote_not_all}
 use Rattle.route_feed.proofs.feed.Feed.tell_hops.Goals as goal
@@ -11,7 +11,7 @@ returns-in-Ok-clause-ok g c =
     c.is_none-is_first.result c.in-Ok.ensures (c.prefixes.ensures.value ∙ ap (λ (x : FeedView). x.opening.prefixes) c.self.view_is)
     (c.prefixes.ensures.one_a_node ∙ ap (λ (x : FeedView). x.opening.size) c.self.view_is)
     (c.as_slice.ensures.value ∙ ap (λ (x : FeedView). x.hops) c.self.view_is) c.as_slice-2.ensures.value
-    (c.is_none-is_first.ensures ∙ ap (λ (x : FeedView). is_none x.at) c.self.view_is) in
+    (ap (λ (x : FeedView). is_some x.at) (sym c.self.view_is) ∙ c.is_none-is_first.ensures) in
     wrote_it f c.write_block.new.self c.write_block.result c.as_slice-in-Ok.result.now _ (c.as_slice-in-Ok.ensures.value ∙ is)
     c.args.hops.items c.args.end c.write_block.ensures.ok
 
@@ -22,6 +22,6 @@ returns-in-Ok-clause-err g c =
     c.is_none-is_first.result c.in-Ok.ensures (c.prefixes.ensures.value ∙ ap (λ (x : FeedView). x.opening.prefixes) c.self.view_is)
     (c.prefixes.ensures.one_a_node ∙ ap (λ (x : FeedView). x.opening.size) c.self.view_is)
     (c.as_slice.ensures.value ∙ ap (λ (x : FeedView). x.hops) c.self.view_is) c.as_slice-2.ensures.value
-    (c.is_none-is_first.ensures ∙ ap (λ (x : FeedView). is_none x.at) c.self.view_is) in
+    (ap (λ (x : FeedView). is_some x.at) (sym c.self.view_is) ∙ c.is_none-is_first.ensures) in
     wrote_not_all f c.write_block.new.self c.write_block.result c.as_slice-in-Ok.result.now _ (c.as_slice-in-Ok.ensures.value ∙ is)
     c.write_block.ensures.err

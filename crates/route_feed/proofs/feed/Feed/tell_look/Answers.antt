@@ -10,17 +10,17 @@ returns-then-is_still-clause-fed g c j same looks fed =
     let f = c.args.self.now in
     subst (λ (x : FeedView). HasFed x j) (ap (λ (x : FeedView). record x { at = Some c.args.look.now.end }) (sym c.self.view_is))
     (told_still f f j same (subst (λ (x : FeedView). x.opening.me < x.opening.size) c.self.view_is c.size-size.ensures.limits.member)
-    c.args.look.now looks fed c.prefixes.result.now c.size-size.result c.in-Ok.hops.items
+    c.args.look.now looks fed c.prefixes.result.now c.size-size.result c.as_slice.result.now c.in-Ok.hops.items
     (c.prefixes.ensures.value ∙ ap (λ (x : FeedView). x.opening.prefixes) c.self.view_is)
     (c.size-size.ensures.value ∙ ap (λ (x : FeedView). x.opening.size) c.self.view_is)
-    c.in-Ok.ensures
+    c.as_slice.ensures.value c.in-Ok.ensures
     (subst (λ (l : List (Option Hop)). IsStill f l) c.as_slice-in-Ok.ensures.value (c.is_still.ensures c.if-is_still.true)))
 
 pub returns-else-is_still-clause-fed : goal.returns-else-is_still-clause-fed
 returns-else-is_still-clause-fed g c j same looks fed =
     let f = c.args.self.now in
     told_hops f c.tell_hops.new.self j same (subst (λ (x : FeedView). x.opening.me < x.opening.size) c.self.view_is c.size-size.ensures.limits.member)
-    c.args.look.now looks fed c.prefixes.result.now c.size-size.result c.in-Ok.hops.items
+    c.args.look.now looks fed c.prefixes.result.now c.size-size.result c.as_slice.result.now c.in-Ok.hops.items
     (c.prefixes.ensures.value ∙ ap (λ (x : FeedView). x.opening.prefixes) c.self.view_is)
     (c.size-size.ensures.value ∙ ap (λ (x : FeedView). x.opening.size) c.self.view_is)
-    c.in-Ok.ensures c.requires.goes_on c.tell_hops.result c.tell_hops.ensures.ok c.tell_hops.ensures.err
+    c.as_slice.ensures.value c.in-Ok.ensures c.requires.goes_on c.tell_hops.result c.tell_hops.ensures.ok c.tell_hops.ensures.err
