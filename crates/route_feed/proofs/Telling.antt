@@ -1,5 +1,5 @@
 -- What a feed has told, as the history goes on and as more is told.
-use Rattle.std.proofs.Common.{◌≡◌, ◌∙◌, sym, ap, subst, refl, ℕ, suc, zero, ◌<◌, ◌≤◌, Bool, true, false, Option, Some, None, List, [], ◌∷◌, ◌++◌}
+use Rattle.std.proofs.Common.{◌≡◌, ◌∙◌, sym, ap, subst, refl, ℕ, suc, zero, ◌<◌, ◌≤◌, Bool, true, false, Option, Some, None, List, [], ◌∷◌}
 use Rattle.std.proofs.Common.{length, length-append, take, arith, rules}
 use Rattle.std.proofs.KnownBytes.{Appends-nil, Appends-trans}
 use Rattle.std.proofs.lemmas.List.{take-append-le, take_all}
@@ -19,9 +19,9 @@ use Rattle.route_feed.specs.declared.fault.FeedFault.TheVariants as fault
 use Rattle.route_feed.specs.declared.hop.Hop.{Hop}
 use Rattle.route_feed.specs.declared.look.Look.{Look}
 use Rattle.route_feed.specs.Changes.{are_same_below, changes_below}
-use Rattle.route_feed.specs.Feeding.{AreMoments, FeedView, Got, HasFed, IsCut, IsMoment, IsTold, Tells, is_none_before, seen_by, table_after}
+use Rattle.route_feed.specs.Feeding.{AreMoments, FeedView, Got, HasFed, IsMoment, Tells, is_none_before, seen_by, table_after}
 use Rattle.route_feed.specs.Lines.{Block, block_text, feed_text, gathered}
-use Rattle.route_feed.specs.Looks.{AreRoutes, IsLook, IsRead}
+use Rattle.route_feed.specs.Looks.{IsLook}
 use Rattle.route_feed.specs.Steps.{AreNowhere, IsStill, IsUntold, IsUnwritten, IsWritten, news_block}
 use Rattle.route_feed.specs.Table.{AreHops, hop_at, hop_of, is_had_below, nearer, nearest_below, prefix_at, route_at, table, table_by}
 use Rattle.route_feed.proofs.Choosing.{to_itself}
@@ -30,8 +30,6 @@ use Rattle.route_history.specs.declared.entry.Entry.{Entry}
 use Rattle.route_history.specs.Beginning.{Begins}
 use Rattle.route_history.specs.History.{world_of}
 use Rattle.route_history.specs.JournalView.{JournalView}
-use Rattle.route_history.specs.Long.{LongView, OfHistory}
-use Rattle.route_history.proofs.Windows.{kept_are, tables_are}
 use Rattle.slot_lock.specs.Passes.{PassView, RouterView}
 
 -- the journal, after it went on
@@ -103,14 +101,6 @@ still_fed r old new begins f h = fed_longer (seen_by r old) new.fragment.seen be
 -- a look that was found
 pub look_found : (j : JournalView) (found : Option Look) (look : Look) → found ≡ Some look → IfSome found (IsLook j) → IsLook j look
 look_found j found look is h = subst (λ (o : Option Look). IfSome o (IsLook j)) is h
-
--- a journal that was read is the end of its whole history
-pub looks_of : (j : LongView) (look : Look) → IsRead j look → OfHistory j (λ h. IsLook h look)
-looks_of j look h = λ o b log w legal. record {
-  end = h.end ∙ kept_are o b log j j w;
-  opening = ap (λ (x : World). x.opening) (sym (tables_are o b log j j w)) ∙ w.opened;
-  routes = subst (λ (x : World). AreRoutes x look.routes.items) (tables_are o b log j j w) h.routes;
-}
 
 -- the nearest node by the same routes
 nearest_same : (size : ℕ) (prefix : ℕ → List Bool) (one two : ℕ → BestRoute) (p : List Bool) (n : ℕ) →

@@ -1,5 +1,5 @@
 -- Which lines tell what changed. (This project's own choice.)
-use Rattle.std.specs.Prelude.{◌≡◌, ℕ, suc, zero, ◌==◌, ◌&&◌, not, if◌then◌else◌, Bool, true, false, Option, Some, None, List, [], ◌∷◌, ◌++◌}
+use Rattle.std.specs.Prelude.{ℕ, suc, zero, ◌==◌, ◌&&◌, not, if◌then◌else◌, Bool, true, false, Option, Some, None, List, [], ◌∷◌, ◌++◌}
 use Rattle.route_feed.specs.declared.hop.Hop.{Hop}
 use Rattle.route_feed.specs.Lines.{Change}
 use Rattle.route_feed.specs.Table.{is_had_below}

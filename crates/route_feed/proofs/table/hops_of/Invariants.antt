@@ -1,4 +1,3 @@
-use Rattle.std.proofs.Common.{◌≡◌}
 use Rattle.route_feed.specs.Table.{AreHops, prefix_at, route_at, table_by}
 use Rattle.route_feed.proofs.table.hops_of.Given as goal
 
