@@ -41,6 +41,7 @@ pub(crate) struct Feeding<J: Naming> {
 }
 
 impl<J: Naming> Model for Feeding<J> {
+    ghost use Rattle.std.specs.Prelude.{◌≡◌};
     ghost use Rattle.netchange_core.specs.OpeningView.{OpeningView};
 
     ghost Value = { OpeningView };
