@@ -177,7 +177,7 @@ absent_over waits may cause.Memory later on absent = absurd on
 unwritten_over : (waits : Bool) (may : Bool → Type 0) (c : Cause) (later : WriterView) → WriterGoesOn waits c → later.over ≡ true →
     IsWriterOver waits may c later end.Unwritten
 unwritten_over waits may cause.Turns later on over = inr (refl, over)
-unwritten_over waits may cause.Full later on over = inr (on, refl, over)
+unwritten_over waits may cause.Full later on over = inr (on, (refl, over))
 unwritten_over waits may cause.LinkEnded later on over = absurd on
 unwritten_over waits may cause.LinkFault later on over = absurd on
 unwritten_over waits may cause.Stale later on over = absurd on

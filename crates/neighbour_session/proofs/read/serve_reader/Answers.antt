@@ -6,5 +6,5 @@ returns-clause-hears g c = record {
   before = c.read_all-why.new.pass;
   why = c.read_all-why.result.0;
   reads = c.read_all-why.ensures.reads;
-  ends = c.end_session.ensures.ends;
+  ends = c.end_session-why.ensures.ends;
 }
