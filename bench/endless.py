@@ -11,11 +11,28 @@ times with none. The least processor time with none is subtracted from the least
 that a run with all rounds had.
 """
 import os
+import re
+import subprocess
 import sys
+import time
 
-from router import alone, events_of, most_memory, words_said
+from router import alone, events_of, words_said
 
 EVENTS = 10_000_000
+
+
+def most_memory(command, path):
+    """The most memory that a command has at a time, in bytes, as it is looked at while it runs. What the system says of a process that has ended is
+    at least what the one had that started it, which is more than a router without end has."""
+    most = 0
+    with open(path, "rb") as given:
+        started = subprocess.Popen(command, stdin=given, stdout=subprocess.DEVNULL)
+        while started.poll() is None:
+            with open(f"/proc/{started.pid}/status") as told:
+                if found := re.search(r"VmHWM:\s*(\d+)", told.read()):
+                    most = max(most, int(found[1]) * 1024)
+            time.sleep(0.002)
+    return most
 
 
 def main(words):

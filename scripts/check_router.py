@@ -12,21 +12,33 @@ import os
 import re
 import resource
 import signal
+import subprocess
 import sys
 import time
 
 from lib.processes import open_files
 from lib.program import built
 from lib.routers import Run
-from router_sizes import SizeRows
+from router_sizes import MAY_WAIT, SizeRows
 
 GIGABYTE = 1 << 30
 
 # What a line without an end may cost: the bytes that are taken of it beyond those that a FIFO holds, and kilobytes of memory.
 MOST_TAKEN, MOST_MEMORY = 1 << 16, 4096
 
+# The least room for entries, and how many messages may wait for a neighbour that never reads. How often how many changes are told meanwhile.
+LEAST_ROOM, MOST_WAITING, BLOCKS, BLOCK = 2_048, 1_000, 2_000, 500
+
+# So many kilobytes of memory more than those of queues and entries are no matter.
+SLACK = 1_024
+
 # The bytes of a thread's stack where nothing else is said, and what a router has beside its threads, for the row in which these find no room.
 STACK, BESIDE = 8 << 20, 4 << 20
+
+
+def memory_of(links, messages, entries):
+    """How many kilobytes the entries and the queues of a router have at most, by the formula of RUNNING.md."""
+    return (24 * entries + 4 * 16 * entries + 8 * links * (messages + 3 * entries // 8)) // 1024
 
 
 def saying(text):
@@ -154,8 +166,8 @@ class Rows(SizeRows):
             self.end(run)
 
     def row_never_read(self):
-        """Node 1 hears nothing while node 2 changes its mind 40,000 times."""
-        with Run(self.program) as run:
+        """Node 1 hears nothing while node 2 changes its mind 40,000 times. So many messages may wait for it, and it stays up."""
+        with Run(self.program, more=MAY_WAIT) as run:
             one, two = run.neighbours[1], run.neighbours[2]
             one.come()
             self.judge("1 is up", "1:" in run.asks_until("neighbours", " 1:"))
@@ -167,9 +179,36 @@ class Rows(SizeRows):
             took = time.monotonic() - begun
             print(f"never read: {40000 / took:.0f} messages a second were entered", file=sys.stderr)
             self.judge("2 is served", run.ask("show 3") == "route 2 via 2", run.ask("show 3"))
+            self.judge("1 is up still", " 1:" in run.ask("neighbours"), run.ask("neighbours"))
             self.end(run)
             said = run.replays()
             self.judge("each was entered", int(said.split()[-1]) > 40000, said)
+
+    def row_reads_too_slowly(self):
+        """Node 1 greets and never reads, while node 2 changes its mind a million times, and waits now and then until it is told of that: link 1 is
+        closed and told, its Down is entered, though its writer hangs in a write. What waits is bounded, and so is memory; node 2 is served."""
+        with Run(self.program, more=("--queue", str(MOST_WAITING), "--limit", str(LEAST_ROOM))) as run:
+            one, two = run.neighbours[1], run.neighbours[2]
+            one.come()
+            self.judge("1 is up", " 1:" in run.asks_until("neighbours", " 1:"))
+            self.serve_two(run)
+            before, turn, is_served = run.kilobytes("VmHWM"), 0, True
+            while is_served and turn < BLOCKS:
+                two.told, turn = b"", turn + 1
+                two.say(b"3 0\n3 1\n" * (BLOCK // 2) + b"4 %d\n" % (turn % 2))
+                is_served = two.hear(b"\n4 %d\n" % (turn % 2 + 1))
+            self.judge("2 is served all the while", is_served, turn)
+            more = run.kilobytes("VmHWM") - before
+            most = memory_of(2, MOST_WAITING, LEAST_ROOM) + SLACK
+            sizes = [segment.stat().st_size for segment in run.segments()]
+            print(f"reads too slowly: {more} kB more memory, of {most} kB; segments of {sizes} bytes", file=sys.stderr)
+            self.judge("memory", more <= most, more)
+            told = re.findall(r"link 1: (\d+) messages wait: closed\n", run.said("messages wait"))
+            self.judge("says once", len(told) == 1 and int(told[0]) > MOST_WAITING, run.said("", patience=0))
+            self.judge("1 is down", run.ask("neighbours") == "neighbours 2:2", run.ask("neighbours"))
+            self.end(run)
+            downs = [entry for entry in run.saved() if " down 1 done " in entry]
+            self.judge("its Down is entered", len(downs) == 1, downs)
 
     def row_out_breaks(self):
         """Node 1 closes what it is told, and says something after its session is over."""
@@ -319,24 +358,47 @@ class Rows(SizeRows):
         def prepare():
             signal.signal(signal.SIGXFSZ, signal.SIG_IGN)
             resource.setrlimit(resource.RLIMIT_FSIZE, (4096, 4096))
-        with Run(self.program, prepare=prepare) as run:
+        with Run(self.program, more=MAY_WAIT, prepare=prepare) as run:
             self.serve_two(run)
             run.neighbours[2].say(b"3 0\n3 1\n" * 1000 + b"4 0\n")
             self.judge("2 is served", run.asks_until("show 4", "via 2") == "route 1 via 2")
-            self.says(run, "history: the history could not be written (E2): not saved from here on\n")
+            self.says(run, "history: the history could not be written (E2): not saved until that works again\n")
             self.judge("quit", run.quit() == ("ok", 1))
+            self.says(run, "history: the history could not be written (E2): its end is not saved\n")
             said = run.replays()
             self.judge("replay", said.startswith(("cut ", "replay ok ")), said)
 
-    def row_full_history(self):
-        with Run(self.program, more=("--limit", "60", "--retry", "1")) as run:
+    def row_disk_has_room_again(self):
+        """The disk is full for longer than there is room for entries in memory: nothing is forgotten, and the link waits. Once there is room, all
+        is saved, and each message is entered."""
+        def prepare():
+            signal.signal(signal.SIGXFSZ, signal.SIG_IGN)
+            resource.setrlimit(resource.RLIMIT_FSIZE, (4096, resource.RLIM_INFINITY))
+        with Run(self.program, more=("--limit", str(LEAST_ROOM)), prepare=prepare) as run:
             self.serve_two(run)
-            run.neighbours[2].say(b"3 0\n3 1\n" * 100)
-            self.says(run, "link 2: the history is full (J1): closed\n")
-            answer = run.ask("show 2")
-            self.judge("answers", answer == "refused J1 60", answer)
-            self.judge("looks", run.ask("routes").startswith("routes 0:0 "))
+            run.neighbours[2].say(b"3 8\n3 9\n" * LEAST_ROOM + b"4 0\n")
+            self.says(run, "history: the history could not be written (E2): not saved until that works again\n")
+            answer = run.asks_until("show 2", f"^refused J1 {LEAST_ROOM}$")
+            self.judge("the room is full", answer == f"refused J1 {LEAST_ROOM}", answer)
+            answer = run.ask("history 0")
+            self.judge("nothing is forgotten", answer.startswith("history 0 up 2 opened 1 | "), answer[:100])
+            self.judge("2 is up", run.ask("neighbours") == "neighbours 2:1", run.ask("neighbours"))
+            resource.prlimit(run.process.pid, resource.RLIMIT_FSIZE, (resource.RLIM_INFINITY, resource.RLIM_INFINITY))
+            self.says(run, "history: saved again\n")
+            self.judge("the last message is entered", run.routes_until(4, "1:2"))
             self.end(run)
+            received = sum(" recv 1 3 " in entry for entry in run.saved())
+            self.judge("each is entered, and saved", received == 2 * LEAST_ROOM, received)
+
+    def row_folder_is_there(self):
+        """A folder that is there already is not written to, and nothing is started."""
+        with Run(self.program, saves=False) as run:
+            self.serve_two(run)
+            there = os.path.join(run.folder, "there")
+            os.mkdir(there)
+            ran = subprocess.run([self.program, "router", "--size", "8", "--node", "0", "--save", there], input=b"routes\n", capture_output=True)
+            found = (ran.stdout, ran.stderr, ran.returncode, os.listdir(there))
+            self.judge("refused", found == (b"", f"{there}: File exists (E2)\n".encode(), 1, []), found)
 
     def row_memory_is_refused(self):
         """Memory is refused while node 1 floods the link, and is there again later: no session stays that nobody serves."""

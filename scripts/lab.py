@@ -20,6 +20,7 @@ The last line is 'N passed, M failed'. With --keep the folder with the FIFOs and
 import argparse
 import os
 import pathlib
+import re
 import shutil
 import subprocess
 import sys
@@ -76,7 +77,7 @@ class Node:
     def start(self):
         self.starts += 1
         lab, topology = self.lab, self.lab.topology
-        history = os.path.join(lab.folder, f"{self.number}.{self.starts}.history")
+        history = os.path.join(lab.folder, f"{self.number}.{self.starts}.segments")
         options = ["--retry", "1"]
         for node, prefix in topology.prefixes:
             options += ["--prefix", f"{node}={prefix}"]
@@ -91,10 +92,7 @@ class Node:
 
     def saved(self):
         """How many bytes of its history are saved."""
-        try:
-            return os.path.getsize(self.router.history)
-        except OSError:
-            return 0
+        return sum(segment.stat().st_size for segment in self.router.segments())
 
 
 class Lab:
@@ -226,7 +224,7 @@ class Lab:
 
     def replay(self, node, may_be_cut=False):
         said = node.router.replays()
-        right = said.startswith("replay ok ") or may_be_cut and said.startswith("cut ")
+        right = said.startswith("replay ok ") or may_be_cut and re.fullmatch(r"(file \d+ )?cut \d+", said)
         self.judge(f"replay: node {node.number}", right, said)
 
     def close(self, keep):

@@ -27,6 +27,9 @@ WAITS, FASTER = (1, 2, 4, 8, 16, 32, 60, 60), 20
 # How often a router is ended while its neighbours greet it, and how many they are.
 GREETED_QUITS, GREETING = 20, 70
 
+# So many messages may wait for a neighbour that does not read what it is told while another one says all at once.
+MAY_WAIT = ("--queue", "100000")
+
 FAR = "load far filter far { rip_metric = rip_metric + 2; accept; }"
 
 # How many lines a neighbour says to a router that has room for as few entries as a router can have, and how many are always kept of these. How many
@@ -66,7 +69,7 @@ class SizeRows(RunRows):
     def row_killed(self):
         """A router is killed a second after its last entry, whichever that is: its file has all that it answered of its history."""
         with contextlib.ExitStack() as stack:
-            runs = {what: stack.enter_context(Run(self.program)) for what in LAST_ENTRIES}
+            runs = {what: stack.enter_context(Run(self.program, more=MAY_WAIT)) for what in LAST_ENTRIES}
             answered = {}
             for what, run in runs.items():
                 self.bring_up(run)
@@ -165,7 +168,7 @@ class SizeRows(RunRows):
 
     def row_long_links(self):
         """Node 1 changes its mind 70,000 times: each line is entered, and node 2 is told of each change."""
-        with Run(self.program) as run:
+        with Run(self.program, more=MAY_WAIT) as run:
             self.bring_up(run)
             one, two = run.neighbours.values()
             one.say(b"3 0\n3 1\n" * (LINES // 2) + b"4 0\n")

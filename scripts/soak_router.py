@@ -1,91 +1,106 @@
 #!/usr/bin/env python3
 """Runs a router for as long as it takes to enter many events, and prints what memory it has meanwhile. At last 'N passed, M failed'.
 
-usage: NCROUTE=PATH scripts/soak_router.py [--entries COUNT] [--limit ROOM]
+usage: NCROUTE=PATH scripts/soak_router.py [--entries COUNT] [--limit ROOM] [--save FOLDER]
 
 The router has three neighbours. One floods it with messages, some of which change distances, one comes and goes, and one reads what it is told; the
-operator replaces the flooding neighbour's filter, and asks for routes. COUNT is 100,000,000 if it is left out, and ROOM 10,000.
+operator replaces the flooding neighbour's filter, and asks for routes. COUNT is 100,000,000 if it is left out, and ROOM 10,000. With `--save` the
+router keeps its last two segments in FOLDER, which must not be there yet.
 
 - Once a minute has passed, its resident memory is never more than a tenth above what it was then.
 - The flooding link stays up: no message is taken for the end of a session, and none is lost, as the last distances show.
 - Old entries are forgotten (O10), and the last ones are shown.
+- With `--save` each segment is replayed, alone and behind the one before it, the removed ones too; and the last one has the last entry.
 """
 import argparse
 import os
+import pathlib
+import re
+import subprocess
+import tempfile
 import threading
 import time
 
 from lib.counts import Counts
+from lib.processes import awaited
 from lib.program import named
-from lib.routers import Run
+from lib.routers import PATIENCE, Run
+from lib.traffic import FILTERS, Churn, Drain, Flood, end_of
 
 SIZE = 8
 MINUTE = 60.0
-FILTERS = ("filter far { rip_metric = rip_metric + 1; accept; }", "filter far { accept; }")
-# Distances to five nodes, each of which is told 200 times before it changes. What changes is queued for the neighbours, and one that is told of a
-# million changes a second cannot read them all: its queue would grow, which is another matter.
-BLOCK = "".join(f"{node} {distance}\n" for distance in (2, 3, 4, 5) for _ in range(200) for node in (3, 4, 5, 6, 7)).encode() * 2
 
 
-class Flood(threading.Thread):
-    """A neighbour that says all it can until it is told to stop, and then what its distances are at last."""
+class Replays(threading.Thread):
+    """Replays each segment with the one that follows it, as soon as that is complete. It keeps names of its own for the files, since the router
+    removes them."""
 
-    def __init__(self, neighbour):
+    def __init__(self, program, folder):
         super().__init__(daemon=True)
-        self.neighbour, self.is_over, self.lines = neighbour, False, 0
+        self.program, self.folder = program, pathlib.Path(folder)
+        self.links = pathlib.Path(tempfile.mkdtemp(prefix="segments.", dir=self.folder.parent))
+        self.files, self.last, self.count, self.wrong, self.is_over = [], "", 0, [], False
+        # The replay that runs, and what it has to say.
+        self.replay, self.wanted = None, ""
 
-    def run(self):
-        while not self.is_over:
-            self.neighbour.say(BLOCK)
-            self.lines += BLOCK.count(b"\n")
-        self.neighbour.say(b"7 1\n")
+    def find(self):
+        """Names the files that are new."""
+        for name in sorted(os.listdir(self.folder)):
+            if name > self.last and name.endswith(".history") and name[0] != ".":
+                os.link(self.folder / name, self.links / name)
+                self.files.append(self.links / name)
+                self.last = name
 
+    def begin(self, end):
+        """Begins to replay the first segment and the one that follows it, if there is one: they go up to an end."""
+        files, first = self.files[:2], begin_of(self.files[0])
+        self.wanted = f"replay ok {end - first}" + (f" from {first}" if first else "")
+        self.replay = subprocess.Popen([self.program, "replay", *files], stdout=subprocess.PIPE, text=True)
 
-class Drain(threading.Thread):
-    """Reads what a neighbour is told, and drops it."""
-
-    def __init__(self, neighbour):
-        super().__init__(daemon=True)
-        self.reads = neighbour.reads
-        os.set_blocking(self.reads, True)
-
-    def run(self):
-        while os.read(self.reads, 1 << 16):
-            pass
-
-
-class Churn(threading.Thread):
-    """A neighbour that comes and goes."""
-
-    def __init__(self, neighbour):
-        super().__init__(daemon=True)
-        self.neighbour, self.is_over, self.times = neighbour, False, 0
+    def judge(self):
+        """Judges a replay, waiting for its end, and forgets the first segment."""
+        said = self.replay.communicate()[0].strip()
+        first = self.files.pop(0)
+        if said != self.wanted:
+            self.wrong.append(f"{first.name}: {said!r} in place of {self.wanted!r}")
+        first.unlink()
+        self.replay, self.count = None, self.count + 1
 
     def run(self):
         try:
             while not self.is_over:
-                self.neighbour.come(SIZE)
-                self.neighbour.say(b"2 0\n")
-                time.sleep(0.5)
-                self.neighbour.close()
-                self.times += 1
-        except OSError:
-            # The router ended meanwhile: nobody opens the link any more. While it runs, too few times are told.
-            pass
+                self.find()
+                if self.replay and self.replay.poll() is not None:
+                    self.judge()
+                if not self.replay and len(self.files) > 2:
+                    self.begin(begin_of(self.files[2]))
+                time.sleep(0.1)
+        except OSError as why:
+            self.wrong.append(str(why))
+
+    def finish(self):
+        """Replays what is left once the router has ended: how many entries the history has."""
+        self.is_over = True
+        self.join()
+        self.find()
+        text = self.files[-1].read_bytes()
+        end = begin_of(self.files[-1]) + text.count(b"\n", text.index(b"\n.\n") + 3)
+        while self.files:
+            if not self.replay:
+                self.begin(begin_of(self.files[2]) if len(self.files) > 2 else end)
+            self.judge()
+        self.links.rmdir()
+        return end
 
 
-def end_of(run, known):
-    """How many entries the history has, where it had so many before. To ask makes no entry."""
-    step, low = 1, known
-    while not (answer := run.ask(f"history {low + step}")) == "history":
-        if not answer.startswith(("history ", "refused O10")):
-            raise ValueError(f"`history {low + step}` is answered {answer!r}")
-        low, step = low + step, 2 * step
-    high = low + step
-    while high - low > 1:
-        middle = (low + high) // 2
-        low, high = (low, middle) if run.ask(f"history {middle}") == "history" else (middle, high)
-    return high
+def begin_of(file):
+    """How many entries come before a segment."""
+    return int(re.match(r"\d+", file.name)[0])
+
+
+def is_told_closed(run):
+    """Whether the link of the neighbour that floods was closed."""
+    return "link 1: " in run.errors.read_text()
 
 
 def soak(run, counts, entries):
@@ -93,13 +108,13 @@ def soak(run, counts, entries):
     one, two, three = (run.neighbours[node] for node in (1, 2, 3))
     one.come(SIZE)
     three.come(SIZE)
-    flood, churn = Flood(one), Churn(two)
+    flood, churn = Flood(one), Churn(two, SIZE)
     threads = [flood, churn, Drain(one), Drain(three)]
     for thread in threads:
         thread.start()
     begun, known, sizes, rounds = time.monotonic(), 0, [], 0
     print("seconds entries resident_kilobytes")
-    while known < entries and run.is_running():
+    while known < entries and run.is_running() and not is_told_closed(run):
         time.sleep(1)
         rounds += 1
         for line in (f"load far {FILTERS[rounds % 2]}", "import 1 far", "routes"):
@@ -120,23 +135,36 @@ def soak(run, counts, entries):
     else:
         print(f"not judged: memory after a minute, since the run took {taken:.0f} s")
     counts.expect("old entries are forgotten", run.ask("history 0").startswith("refused O10"), run.ask("history 0"))
-    counts.expect("the flooding link stayed up", "link 1: " not in run.errors.read_text(), run.errors.read_text()[-400:])
+    counts.expect("the flooding link stayed up", not is_told_closed(run), run.errors.read_text()[-400:])
     counts.expect("the other one came and went", churn.times >= 3, churn.times)
     print(f"{known} entries in {taken:.0f} s, {flood.lines} messages of one neighbour, {churn.times} sessions of another; "
           f"resident: {sizes[0][1]} kB at first, {max(size for _, size in sizes)} kB at most, {sizes[-1][1]} kB at last; "
           f"processor time {run.processor_time():.0f} s")
+    return known
 
 
 def main():
     words = argparse.ArgumentParser()
     words.add_argument("--entries", type=int, default=100_000_000)
     words.add_argument("--limit", type=int, default=10_000)
+    words.add_argument("--save")
     chosen, counts = words.parse_args(), Counts()
-    run = Run(named(), nodes=(1, 2, 3), size=SIZE, saves=False, more=["--limit", str(chosen.limit), "--retry", "1"])
+    # More messages may wait than usual: on a machine with much else to do this script reads what its neighbours are told only now and then.
+    more = ["--limit", str(chosen.limit), "--queue", "100000", "--retry", "1", *(["--save", chosen.save, "--segments", "2"] if chosen.save else [])]
+    run, replays = Run(named(), nodes=(1, 2, 3), size=SIZE, saves=False, more=more), None
     try:
-        soak(run, counts, chosen.entries)
+        if chosen.save:
+            awaited(lambda: os.path.exists(chosen.save), bool, PATIENCE)
+            replays = Replays(run.program, chosen.save)
+            replays.start()
+        known = soak(run, counts, chosen.entries)
         answer = run.quit()
         counts.expect("quit", answer == ("ok", 0), answer)
+        if replays:
+            end = replays.finish()
+            counts.judge("segments", replays.wrong)
+            counts.expect("the last entry is saved", end >= known, (end, known))
+            print(f"{replays.count} segments were replayed, of {end} entries")
     finally:
         run.close()
     counts.finish()

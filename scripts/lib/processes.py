@@ -85,7 +85,7 @@ class Process:
 
 
 class Router(Process):
-    """A process of `ncroute router`. `links` has for each neighbour the files that the router reads and writes, `history` is where it saves."""
+    """A process of `ncroute router`. `links` has the files that it reads and writes for each neighbour, `history` is the folder where it saves."""
 
     def __init__(self, program, size, node, links, history=None, options=(), **more):
         self.program, self.history = program, history
@@ -109,13 +109,25 @@ class Router(Process):
             raise ValueError(f"`history {len(found)}` is answered {answer!r}")
         return found
 
+    def segments(self):
+        """The files of the history's segments, in order. One that is being made is none of them."""
+        return sorted(pathlib.Path(self.history).glob("[0-9]*.history"))
+
     def saved(self):
-        """The entries in the file of the history, as far as their lines are whole."""
-        return pathlib.Path(self.history).read_text().split("\n")[1:-1]
+        """The entries in the segments of the history, as far as their lines are whole."""
+        found = []
+        for segment in self.segments():
+            lines = segment.read_text().split("\n")[:-1]
+            # A state comes first, up to a full stop.
+            found += lines[lines.index(".") + 1:]
+        return found
 
     def replays(self):
-        """The verdict of `ncroute replay` on the history that was saved."""
-        ran = subprocess.run([self.program, "replay", self.history], capture_output=True, check=False)
+        """The verdict of `ncroute replay` on the segments of the history, and that there are none."""
+        segments = self.segments()
+        if not segments:
+            return "no segments"
+        ran = subprocess.run([self.program, "replay", *segments], capture_output=True, check=False)
         return ran.stdout.decode().strip()
 
 

@@ -1,4 +1,6 @@
 //! Whether words are whole commands.
+//!
+//! **A `;` that is missing before `else` or a closing brace is put in.** BIRD refuses such a text, but it has only one reading.
 ghost use Rattle.std.specs.Prelude.{◌≡◌, IfSome, IsTrue, true};
 ghost use Rattle.bird_import.specs.Blocks as spec;
 
@@ -26,7 +28,7 @@ fn is_colon(kind: WordKind) -> bool
     matches!(kind, WordKind::Symbol(Symbol::Colon))
 }
 
-/// Whether no label is among some words, but for those of a `case` that begins there.
+/// Whether the words have no label outside a `case` that begins in them.
 #[tactic(auto, unfolding(crate::specs::Blocks::has_no_label))]
 fn has_no_label(words: &[Word<'_>]) -> bool
     ensures { IsTrue result → (spec.has_no_label 0 words.now ≡ true) }

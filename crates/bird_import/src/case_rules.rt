@@ -1,4 +1,7 @@
 //! `case` of addresses: whether what is written for one means the same.
+//!
+//! **`case` of addresses computes its argument once for each address.** It has no operators, so that changes nothing; a variable in its place could
+//! be over the limit of 16. Behind `then`, and before an `else`, the tests stand in braces, so that this `else` stays that of the condition.
 ghost use Rattle.std.specs.Prelude.{◌≡◌, ◌⊎◌, ◌↔◌, ◌<◌, ◌≤◌, ℕ, All, IfSome, IsTrue, length, true};
 ghost use Rattle.bird_import.specs.Cases as spec;
 ghost use Rattle.bird_import.specs.Indices.{kind_at};

@@ -1,4 +1,12 @@
 //! Defined names: the definition stands where the name is used.
+//!
+//! **A definition stands before what it is used for by the places of the text.** The name that is replaced may itself come from a definition, and
+//! has its own place there. So places go down with each replacement, a definition in a circle needs no rule of its own, and what is defined too
+//! late is so at any depth.
+//!
+//! **A definition is put in as its words, and not computed.** BIRD computes `define FAR = 2 + 3;` where it stands, and takes `FAR` wherever a
+//! constant may be. Here `( 2 + 3 )` is put in, which is the same in an expression. In a set, a label or a mask nothing is computed, so a filter
+//! that has such a name there is left out.
 ghost use Rattle.std.specs.Prelude.{◌≡◌, ◌≢◌, ◌↔◌, ◌<◌, ℕ, [], ◌∷◌, List, IfErr, IfOk, IfSome, IsTrue, None, OnOk, Some, length, slice_get};
 ghost use Rattle.bird_import.specs.Indices.{IsNameAt};
 ghost use Rattle.bird_import.specs.Reasons.{IsVariable, IsVariableAt, why_of_plan};

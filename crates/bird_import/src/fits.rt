@@ -1,4 +1,8 @@
 //! Whether a step is one of its rule.
+//!
+//! **What is written is judged, not how it was found.** How a step is found takes a hundred functions, of which only that they are safe and return
+//! is proved. Whether a step fits its rule is asked once more, by `fits`, before it is made, and by `is_call_of` whether words stand for a call;
+//! and whether a text is the one that was meant, by parsing it. A step or a text that fails there is left out with its filter.
 ghost use Rattle.std.specs.Prelude.{IsTrue};
 ghost use Rattle.bird_import.specs.Steps.{Fits};
 

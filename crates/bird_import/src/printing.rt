@@ -1,4 +1,7 @@
 //! What BIRD writes to its log: it changes no route, and is left out.
+//!
+//! **Print is left out, and not refused**: it changes no route. Where what is printed calls a function, divides or compares, the filter is left
+//! out, since a run may end there. Attributes that no route has here may be printed, and so may what is in parentheses or behind `.mask`.
 
 ghost use Rattle.std.specs.Prelude.{◌≡◌, ◌⊎◌, ◌+◌, ◌<◌, IfOk, IfSome, IsTrue, Some, codes, length};
 ghost use Rattle.filter_tokens.specs.declared.symbol.Symbol.TheVariants as symbol;

@@ -1,4 +1,8 @@
 //! Whether words are written as others by the rules that look at few of them.
+//!
+//! **Long rewrites are made in small steps.** A `case` is written one label at a time, and what a function returns one condition at a time, so that
+//! each rule is about a few parts that stand side by side. What stands between two such steps need be a text of neither language: the parser takes
+//! the last one only.
 ghost use Rattle.bird_import.specs.Alike.{AreAlike};
 ghost use Rattle.std.specs.Prelude.{◌≡◌, ◌↔◌, ◌≢◌, ◌∷◌, ◌++◌, ◌<◌, false, length, All, IfSome, IsTrue, Some};
 ghost use Rattle.bird_import.specs.Rules as spec;

@@ -1,4 +1,7 @@
 //! Where variables are known: from their declaration on, up to the end of its block, or of its part of a `case`.
+//!
+//! **A parenthesis or a bracket is told as not closed where a `;` comes before what closes it.** No expression has a `;`, so of several that are
+//! open this finds the innermost. What ends such a filter is unknown, so nothing behind it is read.
 
 ghost use Rattle.std.specs.Prelude.{◌≡◌, ◌↔◌, ◌<◌, ℕ, List, IfSome, IsTrue, None, length};
 ghost use Rattle.bird_import.specs.Reasons.{IsVariableAt};

@@ -1,4 +1,7 @@
 //! Variables that are sets: the set stands where the variable is used.
+//!
+//! **A variable that is a set is used in the block of its assignment only.** Then no run comes to a use past the assignment, whatever the scopes of
+//! blocks are in BIRD.
 
 ghost use Rattle.std.specs.Prelude.{◌≡◌, IfOk, IfSome};
 ghost use Rattle.bird_import.specs.Reasons.{why_of_plan};

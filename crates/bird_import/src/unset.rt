@@ -1,4 +1,7 @@
 //! Variables that are read before they are assigned: they are 0 here, and void in BIRD.
+//!
+//! **A variable that may be read before it is assigned, and one that a body declares without a value, leave the filter out.** BIRD 2.0.12 holds a
+//! variable of the first sort for void, and rejects each route at the second. Both are 0 here.
 
 ghost use Rattle.std.specs.Prelude.{◌≡◌, ◌⊎◌, ◌<◌, ◌||◌, IfSome, IsTrue, None, Some, is_some, length, map, not, true};
 ghost use Rattle.expression_parser.specs.Syntax.{view, view_more};

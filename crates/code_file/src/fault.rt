@@ -1,4 +1,7 @@
 //! Why bytes are not a code file.
+//!
+//! **A fault of a code file carries its place in its variant**, so that `code` and `at` cannot disagree with it, and the text for a person names
+//! the place.
 
 ghost use Rattle.std.specs.Prelude.{◌≡◌};
 ghost use Rattle.code_file.specs.declared.fault.FileFault.TheVariants.{Memory};

@@ -1,4 +1,9 @@
 //! What holds of every file and of all bytes.
+//!
+//! **The printed code of a text is always within the limit of a line, and other code may be over it.** A code file has at most 989,449 bytes, more
+//! than a line holds in hexadecimal, so the laws on printed code have that premise. The law `translations_fit_a_line` of `filter_reports` says that
+//! each text's code meets it. A range takes 2 bytes of the text and 8 of the file, so a file has at most four times as many bytes as its text, and
+//! 6,409 for the rest: 268,553 at most, as a text has at most 65,536.
 
 ghost use Rattle.std.specs.Prelude.{◌≡◌, ◌∷◌, ◌++◌, ◌↔◌, ℕ, List, length, false, Ok, Err};
 ghost use Rattle.filter_code.specs.CodeView.{CodeView};

@@ -1,3 +1,9 @@
+//! The two forms of a code file.
+//!
+//! **What is written is the newer form of the code file.** `check`, histories and `history` lines have one spelling for each code, `NCF2`, also
+//! where the code came from an `NCF1` file. `rewrite --old` gives the older form, for programs that read that alone. A text that tells a history
+//! with `NCF1` files is refused (H1): each history has one text.
+
 ghost use Rattle.std.specs.Prelude.{◌≡◌};
 ghost use Rattle.code_file.specs.Fields.{version_byte, version_of, has_int_sets};
 

@@ -148,8 +148,10 @@ pub record IsRouting (given : List Row) (words : RouterWords) : Type 0 where
   pub size : words.size ≡ unwrap_or (number_of 32 (codes "size") given) 0
   pub node : words.node ≡ unwrap_or (number_of 32 (codes "node") given) 0
   pub limit : words.limit ≡ number_of 32 (codes "limit") given
+  pub queue : words.queue ≡ number_of 32 (codes "queue") given
   pub retry : words.retry ≡ number_of 32 (codes "retry") given
   pub save : option_map (λ copy. string_bytes copy) words.save ≡ word_of (codes "save") given
+  pub segments : words.segments ≡ number_of 32 (codes "segments") given
   pub stays : words.stays ≡ is_set (codes "stay") given
   pub prefixes : map (λ copy. string_bytes copy) words.prefixes.items ≡ words_of (codes "prefix") given
   pub filters : AreFilters given words.filters.items

@@ -81,9 +81,10 @@ all_taken =
     ∷ takes command.Domain (codes "explain") When ∷ takes command.Domain (codes "file") Argument
     ∷ takes command.Replay (codes "file") Arguments
     ∷ needs command.Router (codes "size") Number ∷ needs command.Router (codes "node") Number ∷ takes command.Router (codes "limit") Number
-    ∷ takes command.Router (codes "retry") Number ∷ takes command.Router (codes "prefix") Texts ∷ takes command.Router (codes "filter") Texts
-    ∷ takes command.Router (codes "import") Texts ∷ takes command.Router (codes "export") Texts ∷ takes command.Router (codes "link") Texts
-    ∷ takes command.Router (codes "save") Text ∷ takes command.Router (codes "stay") Flag
+    ∷ takes command.Router (codes "queue") Number ∷ takes command.Router (codes "retry") Number ∷ takes command.Router (codes "prefix") Texts
+    ∷ takes command.Router (codes "filter") Texts ∷ takes command.Router (codes "import") Texts ∷ takes command.Router (codes "export") Texts
+    ∷ takes command.Router (codes "link") Texts ∷ takes command.Router (codes "save") Text ∷ takes command.Router (codes "segments") Number
+    ∷ takes command.Router (codes "stay") Flag
     ∷ takes command.Run (codes "filter") Texts ∷ takes command.Run (codes "save") Text ∷ takes command.Run (codes "stop") Flag
     ∷ takes command.Run (codes "explain") When ∷ takes command.Run (codes "file") Arguments ∷ []
 

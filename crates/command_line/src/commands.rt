@@ -158,7 +158,7 @@ static COMMANDS: [(&str, &str); 15] = [
 ];
 
 /// The options and arguments of each command, in the order in which its help shows them.
-static PARAMETERS: [(&str, Parameter); 53] = [
+static PARAMETERS: [(&str, Parameter); 55] = [
     ("check", SIZE),
     ("check", CODE),
     ("check", NAMES),
@@ -198,14 +198,16 @@ static PARAMETERS: [(&str, Parameter); 53] = [
     ("replay", REPLAYED),
     ("router", ROUTER_SIZE),
     ("router", NODE),
-    ("router", HISTORY_LIMIT),
+    ("router", ROOM),
+    ("router", QUEUE),
     ("router", RETRY),
     ("router", PREFIX),
     ("router", NAMED_FILTER),
     ("router", IMPORT),
     ("router", EXPORT),
     ("router", LINK),
-    ("router", SAVE),
+    ("router", SEGMENT_FOLDER),
+    ("router", SEGMENTS),
     ("router", STAY),
     ("run", FILTER),
     ("run", SAVE),
@@ -448,11 +450,20 @@ const NODE: Parameter = Parameter {
     is_required: true,
 };
 
-/// The most entries of a router's history.
-const HISTORY_LIMIT: Parameter = Parameter {
+/// How many entries of its history a router has room for.
+const ROOM: Parameter = Parameter {
     name: "limit",
-    value: "L",
-    help: "The most entries of the history (1 to 1,000,000), or without --save how many there is room for (2,048 or more)",
+    value: "ENTRIES",
+    help: "How many entries of the history are kept in memory (2,048 to 1,000,000)",
+    kind: ParameterKind::Number,
+    is_required: false,
+};
+
+/// The most messages that may wait for a neighbour of a router.
+const QUEUE: Parameter = Parameter {
+    name: "queue",
+    value: "MESSAGES",
+    help: "Close a link where more messages wait for the neighbour (N or more; 65,536 if left out)",
     kind: ParameterKind::Number,
     is_required: false,
 };
@@ -511,7 +522,25 @@ const LINK: Parameter = Parameter {
     is_required: false,
 };
 
-/// The file in which a router's history is kept.
+/// The folder in which a router's history is kept.
+const SEGMENT_FOLDER: Parameter = Parameter {
+    name: "save",
+    value: "FOLDER",
+    help: "Keep the history in FOLDER, which is made and must not be there yet; see `ncroute replay`",
+    kind: ParameterKind::Text,
+    is_required: false,
+};
+
+/// How many segments of its history a router keeps.
+const SEGMENTS: Parameter = Parameter {
+    name: "segments",
+    value: "COUNT",
+    help: "Keep the last segments of FOLDER alone, so many (1 or more); otherwise all",
+    kind: ParameterKind::Number,
+    is_required: false,
+};
+
+/// The file in which the history of a script's router is kept.
 const SAVE: Parameter = Parameter {
     name: "save",
     value: "FILE",

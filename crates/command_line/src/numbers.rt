@@ -1,4 +1,8 @@
 //! Negative numbers behind options.
+//!
+//! **No option takes a negative number.** By clap's contract the matches of a command line are known exactly where no argument has a setting by
+//! which words are read in another way, as `allow_negative_numbers`. So for clap the word behind `--size -16` is an option that it does not know,
+//! and the program itself tells people what is wrong with the number. A negative number behind `=` is refused by clap.
 
 use crate::commands::all_parameters;
 use crate::options::ParameterKind;

@@ -1,4 +1,7 @@
 //! The options and arguments of the commands, with their help.
+//!
+//! **The options of each command stand twice**: in the table that the help is made of, and, without its texts, in `specs/Parameters.antt`. What the
+//! words of a command line mean is said by the second, so that an option that is lost, or need not be there any more, is refused by a contract.
 ghost use Rattle.std.specs.Prelude.{◌≡◌, false, Some};
 ghost use Rattle.clap.specs.Words.{rule_of};
 ghost use Rattle.command_line.specs.Parameters.{written};

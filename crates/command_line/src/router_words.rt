@@ -17,12 +17,16 @@ pub struct RouterWords {
     pub size: u32,
     /// The node that the router is.
     pub node: u32,
-    /// The most entries of its history.
+    /// How many entries of its history there is room for in memory.
     pub limit: Option<u32>,
+    /// The most messages that may wait for a neighbour.
+    pub queue: Option<u32>,
     /// How long a closed link waits before it is opened again, in seconds.
     pub retry: Option<u32>,
-    /// Where the history is saved.
+    /// The folder in which the history is saved.
     pub save: Option<String>,
+    /// How many segments of it are kept there.
+    pub segments: Option<u32>,
     /// The router goes on where its standard input ends.
     pub stays: bool,
     /// The prefixes of nodes, `V=PREFIX`.
@@ -69,8 +73,10 @@ fn routing_in(
         size: number_given(matches, "size").unwrap_or(0),
         node: number_given(matches, "node").unwrap_or(0),
         limit: number_given(matches, "limit"),
+        queue: number_given(matches, "queue"),
         retry: number_given(matches, "retry"),
         save: text_in(alloc, matches, "save")?,
+        segments: number_given(matches, "segments"),
         stays: is_given(matches, "stay"),
         prefixes: values_of(alloc, matches, "prefix")?,
         filters,

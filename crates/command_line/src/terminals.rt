@@ -1,4 +1,7 @@
 //! Which of the standard streams are terminals.
+//!
+//! **The words of `--explain` are passed to the functions that make the commands**, since clap keeps a reference to them in what a contract sees of
+//! a command: so the definition of the program takes them too, whichever place in memory they have.
 ghost use Rattle.std.specs.Prelude.{◌≡◌, ◌-◌, ◌^◌, ◌&&◌, [], ◌∷◌, min, nat_lt};
 ghost use Rattle.command_line.specs.Readings as spec;
 ghost use Rattle.command_line.specs.Reads.{filter_sources};

@@ -1,4 +1,7 @@
 //! Questions about a domain at rest, and the answers to them.
+//!
+//! **Before any `mark`, `changes` compares with the domain without links**, whose routes are computed then. So a domain that is only set up keeps
+//! no table.
 ghost use Rattle.std.specs.Prelude.{◌≡◌, ◌<◌, ◌&&◌, ◌++◌, ◌∷◌, [], nat_lt, IfOk, IsTrue, OnErr};
 ghost use Rattle.std.specs.Io.{StartsWith};
 ghost use Rattle.std.specs.Option.{option_map};

@@ -1,4 +1,9 @@
 //! The picture that shows where what was done since the last `mark` ends being felt.
+//!
+//! **A node that does not reach the destination is red in the picture of changes.** The law promises nothing of it, also where no link of its part
+//! of the domain came or went.
+//!
+//! **A picture is one line**, so that `grep` finds it among the answers.
 ghost use Rattle.std.specs.Prelude.{◌≡◌, ◌++◌, OnOk, OnErr, false};
 ghost use Rattle.std.specs.Io.{StartsWith};
 ghost use Rattle.domain_cmds.specs.Texts as spec;

@@ -1,4 +1,7 @@
 //! The filters of a domain's script, by their names.
+//!
+//! **A contract sees the filters that have a name as a list of names with filters, in no order**: the value of a type with a model holds no
+//! function.
 ghost use Rattle.std.specs.Prelude.{◌≡◌, [], IfOk, IfSome, OnErr};
 ghost use Rattle.std.specs.Io.{StartsWith};
 ghost use Rattle.std.specs.Option.{option_map};

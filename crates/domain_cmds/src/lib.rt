@@ -1,4 +1,16 @@
 //! The script of a whole domain: its commands, and the answers to them.
+//!
+//! **The script of a domain is the twin of the script of a router**, and takes from `operator_cmds` what is one meaning: its words, numbers, names
+//! and their faults, filters that get names by text or file (`name_source`), the two directions of a filter, the default prefixes, and the lines
+//! `ok`, `refused CODE AT` and `route D ..`. So `cut_word`, `one_word`, `two_words`, `three_words`, `read_small`, `is_name`, `default_prefixes`,
+//! `confirm`, `refuse`, `push_via`, `Nobody`, `FilterSource`, `name_source` and `Direction` are public there. The operator of a running router
+//! takes these too.
+//!
+//! **Questions are answered by the plan, and the routers are there for `settle` alone.** The plan takes N² places and no time; routers take N³
+//! places. What happens is noted, and entered when `settle` is asked for: nothing is received in between, so that is the same.
+//!
+//! **The script of a file is read before its first line is answered**, while standard input is answered as it comes. What a file gives, no contract
+//! says; of bytes in memory a contract can say that they were answered. It takes 16 MiB at most.
 #![tactic(auto)]
 
 mod asking;

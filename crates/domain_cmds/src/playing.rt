@@ -1,4 +1,11 @@
 //! The routers of a domain, which are there once they are to be played.
+//!
+//! **A change that routers cannot enter closes them (D4)**, in place of an invariant over all that was noted. It cannot happen in a script: the
+//! plan refuses what they would.
+//!
+//! **How many rounds and messages `settle` takes is bounded, and not defined.** A definition would be the player again. `Routers::settle` says what
+//! is left of it: routers at rest, after at most as many rounds as nodes, and as one more than the longest route, and as many messages as the
+//! domain weighs.
 ghost use Rattle.std.specs.Prelude.{◌≡◌, ◌≢◌, ◌<◌, ◌≤◌, IfOk, IfSome, IsTrue, length};
 
 use domain_player::{LinkFault, Routers, SettleFault, Settled};

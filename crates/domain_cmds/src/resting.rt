@@ -1,4 +1,7 @@
 //! A plan, and its routes at rest once they are asked for.
+//!
+//! **A route that a column does not have is none**, so the functions that write routes ask nothing of the columns that they are given; the routes
+//! of a plan have all of them.
 ghost use Rattle.std.specs.Prelude.{◌≡◌, ◌≢◌, ◌<◌, IfOk};
 ghost use Rattle.domain_routes.specs.Edits.{linking, with_prefix};
 ghost use Rattle.domain_cmds.specs.Rests.{AreAllRoutes};

@@ -1,4 +1,7 @@
 //! Routes at rest, kept.
+//!
+//! **All routes are kept until the plan changes**, since `table`, `mark` and `changes` come in groups. `mark` and the routes in use share one
+//! table.
 ghost use Rattle.std.specs.Prelude.{◌≡◌, ◌<◌, IfOk};
 ghost use Rattle.domain_routes.specs.Routes as rest;
 ghost use Rattle.domain_routes.specs.Topology.{topology};

@@ -1,4 +1,12 @@
 //! How near to a destination distances stand still while links come and go.
+//!
+//! **What stands still is said for each destination.** One bound for all destinations would be 1 whenever a link without filters is cut, since its
+//! ends are at distance 1 from each other. It is not said from where to where a distance is felt, as nearness to the failed link decides nothing.
+//!
+//! **It is said only where links were made alone, or cut alone, since the `mark`.** Then the routes with all these links and with none of them are
+//! those of the `mark` and those at rest now, and nothing more has to be computed. Where both was done, or a filter was set, the law would ask for
+//! the routes of two further plans; there the answer ends without `still`. So a link that is cut and made again counts as both: it has moved
+//! distances, though none is another.
 ghost use Rattle.std.specs.Prelude.{◌≡◌, min};
 ghost use Rattle.domain_routes.specs.Still as rest;
 ghost use Rattle.domain_cmds.specs.Texts as spec;

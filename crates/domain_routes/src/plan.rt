@@ -1,4 +1,11 @@
 //! The plan of a domain: its nodes' prefixes, the links between the nodes, and the filters on them.
+//!
+//! **A plan has a place for each two nodes**, and not a list of the neighbours of each. A filter stays where there is no link, so the places have
+//! to be kept anyway; a change then needs no memory and cannot fail; and a look at a place is one index. In a domain of 250 nodes that is 1.5 MB.
+//! The routes to a node take a look at each pair, linked or not, and Dijkstra's order compares as many distances to find the nearest nodes.
+//!
+//! **Links and nodes that there are not are conditions of the calls, and no refusals.** The command that changes plans has to tell its user which
+//! of them it was, and has looked before.
 
 ghost use Rattle.std.specs.Prelude.{◌≡◌, ◌≢◌, ◌≤◌, ◌<◌, ℕ, IfOk, false, length, slice_index_or, slice_set, true};
 ghost use Rattle.std.specs.Option.{SomeIff};

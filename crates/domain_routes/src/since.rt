@@ -1,4 +1,6 @@
 //! What was done to a plan since a moment.
+//!
+//! **Whether a plan is one of two by cuts alone is remembered, and not found** by comparing them: what links did in between counts, too.
 ghost use Rattle.std.specs.Prelude.{◌≡◌};
 ghost use Rattle.domain_routes.specs.Still as spec;
 

@@ -1,4 +1,10 @@
 //! The routes of all nodes to one destination.
+//!
+//! **Of the nodes that are not done the nearest is found by looking at each**, and not by a heap. There are at most 250, and a heap would need
+//! memory, and a rule of its own for distances that fall.
+//!
+//! **A node that is done is offered ways too.** None comes before its route, since no filter makes a distance less; that is part of the proof, and
+//! a test for it would save runs of filters only where there are filters.
 
 ghost use Rattle.std.specs.Prelude.{◌≡◌, ◌≢◌, ◌<◌, ◌≤◌, ℕ, IfOk, MatchOption, length, slice_index_or};
 ghost use Rattle.domain_routes.specs.PlanView.{is_linked, stranger};

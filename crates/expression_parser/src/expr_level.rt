@@ -1,3 +1,10 @@
+//! Chains of operators.
+//!
+//! **Operators are read by how strongly they bind**, by one function and not by one for each level. After an operand it looks once at the token
+//! behind it: if no operator follows, as after most operands, it returns at once. Otherwise a loop reads the operators of a level after their first
+//! operand, and then of the levels that bind less strongly. `expr_at` still has a reader for each level, one inside the other; that both read the
+//! same is a lemma (`Levels.antt`). What is called in few cases has a small function of its own, since a call takes memory that is cleared first.
+
 ghost use Rattle.std.specs.Prelude.{◌≡◌, ◌≢◌, ◌∷◌, ◌<◌, ◌≤◌, [], Some, None, IfSome, MatchBool, MatchOption, length};
 ghost use Rattle.expression_parser.specs.Levels as levels;
 ghost use Rattle.expression_parser.specs.Reading as spec;

@@ -1,4 +1,6 @@
 //! Routes and answers as C has them.
+//!
+//! **Words are cut at a byte.** A buffer that is too short may end within a character; the size that they need is told, and a second call has all.
 ghost use Rattle.filter_c.specs.Answers.{AreAnswers, IsAnswer};
 
 use filter_machine::{Verdict, run};

@@ -1,4 +1,16 @@
 //! A verified filter that C holds by a pointer.
+//!
+//! **A handle is a struct of one pointer, and a ghost value says what it owns.** C has it by value or by its address, and no pointer is returned:
+//! an exported function may not return one, nor take a struct with a type parameter, an enum, a `&str`, or a type behind whose `&` memory is
+//! shared, as a `Vec` or a `Box` is. So the box crosses as an address without a type, and five functions, proved by hand over the separation logic
+//! below contracts, take it apart and make it again: `Filter::none`, `of_block` and `into_block`, and `Block::of` and `into_box`.
+//!
+//! **Each thread has a handle of its own.** The box holds one owner of an `Arc`. With one handle for many calls at once `run` would require memory
+//! that the kit's rules for C have a caller treat as what a `&mut` points to; and a handle behind a `&` could not be read, since nothing shares
+//! what it owns. `run` takes the box out and puts it back.
+//!
+//! **A handle that holds no filter is the caller's fault**, and no answer: to compare the pointer with null each run would take a test, and the
+//! proof of it one more walk.
 ghost use Rattle.std.specs.Prelude.{◌≡◌, ◌≢◌, Option, Some, None};
 ghost use Rattle.filter_c.specs.Handles.{handle_owns};
 ghost use Rattle.filter_c.specs.declared.owner.Owner.{Owner};

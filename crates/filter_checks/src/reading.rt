@@ -1,4 +1,7 @@
 //! A line of a test file is read as a test.
+//!
+//! **A line that is no test refuses the whole file**, with O1 and its number, whatever is wrong with it: a test that was left out for a typing
+//! error would never fail. A file without a test is refused as well, at 0.
 ghost use Rattle.std.specs.Prelude.{◌≡◌, ◌<◌, ◌≤◌};
 ghost use Rattle.std.specs.Option.{option_map};
 ghost use Rattle.line_protocol.specs.Words.{words};

@@ -1,4 +1,7 @@
 //! The lines that tell whether tests hold.
+//!
+//! **The output is that of the Test Anything Protocol**, which harnesses read. The plan comes last, since the tests of all files are numbered on,
+//! and how many there are is known at the end.
 ghost use Rattle.std.specs.Prelude.{◌≡◌, ◌+◌, ◌<◌, ◌≤◌, ◌^◌, ◌++◌, IfOk, OnOk, count_by, length};
 ghost use Rattle.prefix_patterns.specs.Spelling.{prefix_text};
 ghost use Rattle.filter_checks.specs.Tap as spec;

@@ -1,4 +1,10 @@
 //! A test file is read: a filter, the size of a domain, and tests.
+//!
+//! **A test file names its filter and the size**, so that it can stand beside the filter and be run without further words. The filter's name is
+//! taken from the folder of the test file, so that a build may run it from anywhere.
+//!
+//! **A test of one route is a test of a pattern** that matches one prefix, with one metric. So there is one search and one promise for both, and a
+//! route that shows why a test does not hold is printed in the form of a test.
 ghost use Rattle.std.specs.Prelude.{◌≡◌, ◌+◌, ◌<◌, ◌≤◌, ◌^◌, ◌++◌, ◌∷◌, [], Ok, OnOk, MatchResult, length, map};
 ghost use Rattle.std.specs.Option.{option_map};
 ghost use Rattle.std.specs.Str.Lines.{lines};

@@ -1,4 +1,8 @@
 //! `ncroute test`: whether a filter says of routes what the tests of a file say.
+//!
+//! **A test that is undecided counts as one that does not hold**: a build is to go on only with what is known.
+//!
+//! **The tests of a file are all run before their lines are written**, so that a refused allocation leaves nothing written of them.
 ghost use Rattle.std.specs.Prelude.{◌≡◌, ◌+◌, ◌<◌, ◌≤◌, ◌^◌, IfErr, IfOk, OnOk, count_by, length, map, vec_len};
 ghost use Rattle.std.specs.Io.KnownBytes.{Appends};
 ghost use Rattle.filter_code.specs.Limits.{largest_size};

@@ -1,3 +1,10 @@
+//! Instructions.
+//!
+//! **One table has a row for each instruction** (`signature` in `specs/Table.antt`): its opcode and what it carries in a code file; which operands
+//! it takes, and of which kinds; what it names, how many values it gives, and where its successors are. It speaks of anything that has a kind: the
+//! machine reads it with values, the verifier with facts about values, and `code_file` spells by it, so their definitions cannot differ. It has no
+//! row for all others: an instruction without a row is refused by the checker.
+
 ghost use Rattle.std.specs.Prelude.{◌≡◌, ◌↔◌, IsTrue, Some};
 ghost use Rattle.filter_code.specs.Names.{instruction_text, name_of};
 ghost use Rattle.filter_code.specs.Table.{opcode};

@@ -1,4 +1,7 @@
 //! Filter code: its instructions, and the machine that runs it on a route and checks each step.
+//!
+//! **`Stack` is public.** The verifier keeps its facts about operands on it. A run keeps its operands in an array, since a `Stack` writes its
+//! length to memory at each operand.
 #![tactic(auto)]
 
 mod code;

@@ -1,3 +1,8 @@
+//! The machine that tests each step.
+//!
+//! **`run_counted` is public besides `run_checked`.** It also counts the steps, which tests compare with those that are expected. `run_checked` is
+//! `run_counted` without the count.
+
 ghost use Rattle.std.specs.Prelude.{◌≡◌, ℕ, ◌+◌, ◌-◌, ◌*◌, ◌/◌, ◌%◌, ◌^◌, ◌<◌, ◌≤◌, true, false, List, ◌∷◌, Some, length, max};
 ghost use Rattle.std.specs.Prelude.{min, nat_le, nat_lt, slice_get, IfOk, MatchResult};
 ghost use Rattle.prefix_patterns.specs.Bits.{address_length, address_of, prefix_bits};

@@ -3,6 +3,10 @@
 //! The upper half says the kind: 0 an int, 1 a bool, 2 an ip, 4 and more a prefix with so many bits more than 4. The lower
 //! half is the number, the truth value (0 or 1) or the address. A run tests a kind by a shift and a comparison, and copies
 //! a value in one move, where it would copy the parts of a `Value` one by one.
+//!
+//! **A run keeps each value in 64 bits** (`Tagged`, which contracts see as a `Value`): the upper half says the kind, and of a prefix its length,
+//! the lower half is the number or the address. The operands are an array, and their number is a variable of its own. So no proof above speaks of
+//! words.
 
 ghost use Rattle.std.specs.Prelude.{◌≡◌, ◌&&◌, true, false, Some, MatchOption};
 ghost use Rattle.filter_code.specs.declared.value.Value.TheVariants as value;

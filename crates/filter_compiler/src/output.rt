@@ -1,4 +1,16 @@
 //! The code that is being written.
+//!
+//! **Code is written once, and each jump gets its distance after the instructions that it skips.** To know their number before, each `if` would be
+//! walked again for each `if` around it.
+//!
+//! **Writing does not fail.** What is past a limit, or would need memory that is refused, is counted and not kept, and `compile` judges it at the
+//! end: G1 and G2 come exactly where they should, also where memory is refused. So no function that writes a part has a `Result`.
+//!
+//! **A contract says what an output holds**: whatever program it held before, it then holds that program with one more part. Parts are joined by
+//! one lemma, which each function cites.
+//!
+//! **The place in the text is kept beside each instruction as it is written**, so that no second walk of the tree has to know how long each form
+//! is. A jump that gets its distance later keeps its place. `compile` drops the places at the end.
 
 ghost use Rattle.std.specs.Prelude.{◌≡◌, [], ◌∷◌, ◌++◌, All, OnOk, slice_set};
 ghost use Rattle.filter_code.specs.CodeView.{HasMask};

@@ -1,4 +1,7 @@
 //! The sets of a filter, in the order of the text.
+//!
+//! **Sets are built when the code is known to fit**, so that refused memory is the only fault that can come then. Until then they are lists of
+//! patterns.
 
 ghost use Rattle.std.specs.Prelude.{◌≡◌, ◌≤◌, [], ◌∷◌, ◌++◌, All, IfOk, OnOk, length, map};
 ghost use Rattle.expression_parser.specs.Syntax.{ExprView, chain_of, of_patterns, pattern_of, range_of, view};

@@ -1,4 +1,9 @@
 //! W1: conditions that come out the same way on every route that comes to them.
+//!
+//! **W8 is said at the MAX of an assignment**, which takes the greater of the value and the metric received. The search marks that the upper int
+//! was greater on some route. It is asked of those MAX alone of which the verifier does not know that the value is at least the metric received: a
+//! search for a route that there is not tries all classes, and `rip_metric + 2` would make the search through a long list a hundred times as long
+//! and more.
 ghost use Rattle.std.specs.Prelude.{◌≡◌, IfOk};
 ghost use Rattle.filter_lint.specs.Conditions as spec;
 

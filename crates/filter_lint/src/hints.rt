@@ -1,4 +1,7 @@
 //! What is said of a filter's code as it stands, without a run of it.
+//!
+//! **W3 and W7 go by the verifier's ranges**, which no condition narrows, so they are hints. To narrow them would be a second analysis, with a
+//! proof.
 ghost use Rattle.std.specs.Prelude.{◌≡◌, ◌++◌, OnOk};
 ghost use Rattle.filter_lint.specs.Hints as spec;
 

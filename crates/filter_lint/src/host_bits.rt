@@ -1,4 +1,11 @@
 //! W5: prefixes that are written with host bits: bits of the address past the length, which are not kept.
+//!
+//! **W5 is found in the tokens**: the tree of a filter keeps no bits past the length of a prefix. So what it says is no warning of the code, and
+//! stands behind those.
+//!
+//! **The tokens outlive the tree**: a token of a prefix keeps whether it was written with host bits, which the lexer sees as it clears them, and
+//! `compile_text_mapped` answers the tokens beside the code. So no text is cut a second time, and where W5 is not asked for it costs nothing but
+//! the memory of the tokens, 32 bytes each, until the source is answered.
 ghost use Rattle.std.specs.Prelude.{◌≡◌, ℕ, List, IfOk};
 ghost use Rattle.filter_tokens.specs.Lexemes.{covered};
 ghost use Rattle.filter_tokens.specs.Tokenization.{IsTokenization};

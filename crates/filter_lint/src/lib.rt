@@ -1,4 +1,9 @@
 //! Warnings of filters that are verified and yet do what nobody means.
+//!
+//! **`check` tells W5 by itself, where it tells words, and the other warnings only where it is asked to.** Such a prefix is most often a typing
+//! error, BIRD refuses the filter for it, and here it matches other routes than were meant. It is found by going through the tokens once, while the
+//! search for the others through all routes may take long. It goes to standard error alone, and the status stays 0: the filter is one of the
+//! language. Where a program reads the report, without words, nothing is told that was not asked for.
 #![tactic(auto)]
 
 mod arithmetic;

@@ -1,4 +1,10 @@
 //! All rules, one after another.
+//!
+//! **Each rule is an exact definition, and what it says is proved beside it.** That nothing true is left out and nothing else is said are two
+//! questions: the definitions in `specs/` answer the first, and `specs/Truths.antt` the second, in terms of runs and not of marks.
+//!
+//! **W1, W2 and W8 are said only where all routes were tried.** A route that was not tried may come to a command, and a warning that is not true is
+//! worse than none.
 ghost use Rattle.std.specs.Prelude.{◌≡◌, ◌≤◌, All, IfOk, true};
 ghost use Rattle.filter_code.specs.Limits.{largest_size};
 ghost use Rattle.filter_diff.specs.Parts.{IsEnough};

@@ -1,4 +1,6 @@
 //! W4: patterns of a set that another pattern of the set covers.
+//!
+//! **W4 compares patterns two by two**, at the code's set, whose patterns are those of the text in its order, so no tree is walked again.
 ghost use Rattle.std.specs.Prelude.{◌≡◌, IfOk, IsTrue, List, Bool, position};
 ghost use Rattle.prefix_patterns.specs.Matching.{Matches};
 ghost use Rattle.filter_lint.specs.Sets as spec;

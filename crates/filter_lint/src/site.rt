@@ -1,4 +1,7 @@
 //! What stands in the text where an instruction comes from that jumps by a condition.
+//!
+//! **What stands at a place is told by its first byte**: an instruction that jumps by a condition comes from an `if`, an `&&`, an `||`, a label or
+//! a `case`, and no two of these begin alike.
 ghost use Rattle.std.specs.Prelude.{◌≡◌, slice_get};
 ghost use Rattle.filter_lint.specs.Sites as spec;
 

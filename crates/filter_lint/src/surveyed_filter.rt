@@ -41,7 +41,7 @@ fn has(places: &[usize], byte: usize) -> bool
 }
 
 impl<'a> SurveyedFilter<'a> {
-    /// That of a text, where the survey is that of its code.
+    /// A view of a filter; `survey` must be the survey of `code`.
     pub(crate) fn new(
         text: &'a [u8],
         code: &'a Code,

@@ -1,4 +1,8 @@
 //! What stands round a place of a text: what is told of a refusal besides its fault.
+//!
+//! **What stands round a fault is found there too**, by the same look: the tokens at its place and before it, and where the names begin that the
+//! text declares, so that the words for people need no second look. The names are an array of 16 places, as many as a filter may have: no refusal
+//! takes memory, and what is told of one can be copied.
 ghost use Rattle.std.specs.Prelude.{◌≡◌};
 ghost use Rattle.filter_parser.specs.Surroundings as spec;
 

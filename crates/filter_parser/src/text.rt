@@ -1,4 +1,7 @@
 //! From a text to its filter.
+//!
+//! **The name before a missing `=` is added to the fault where a text is refused as a whole**, by a look at its tokens. What reads a command knows
+//! only what is left of them, and a text that is not refused pays nothing.
 
 ghost use Rattle.std.specs.Prelude.{◌≡◌, ◌≢◌, ◌<◌, ◌≤◌, List, None, IfOk, IfErr, IfSome, IsErrOf, length};
 ghost use Rattle.filter_tokens.specs.Codes.{fault_place};

@@ -1,4 +1,6 @@
 //! `ncroute check`: a filter's text, or a code file, becomes code, and the code is verified.
+//!
+//! **`check` gathers its lines before it writes any**, so that E1 and E3 leave nothing written.
 ghost use Rattle.std.specs.Prelude.{◌≡◌, IfErr, IfOk, IfSome};
 ghost use Rattle.filter_source.specs.Diagnoses.{TellsOfSource};
 ghost use Rattle.filter_source.specs.Failures.{OnDiagnosis, OnRefusal};

@@ -1,4 +1,22 @@
 //! A refusal in words for people, at its line and column where it has one.
+//!
+//! **`--explain` is `auto`, `always` or `never`, and `auto` unless it is given.** `auto` tells a refusal in words where standard error is a
+//! terminal, so people see words and programs see codes, and of a file that is named. The routes of `filter` and of `eval` come from standard
+//! input, so `auto` tells of a refused line on a terminal alone, whatever file the filter is in. Where standard input is a terminal and is read, a
+//! line on standard error says so. Standard output and the exit status are the same on a terminal and elsewhere.
+//!
+//! **The words of an explanation are made for the line that is shown with them**, so they name what stands there and no byte; a fault's `Display`,
+//! which names its byte, is for callers of the libraries. No contract says what the words are. So `explain` says that there are some words between
+//! name, place and code, as characters that can be shown, and tests show them. All else in an explanation is defined, the range of an int that is
+//! refused too.
+//!
+//! **For a misspelt command, the explanation points at the word.** `acept;` is refused at its `;`, since `acept` could be a variable: that place is
+//! what standard output says. People are shown the last name before it, which the fault carries.
+//!
+//! **What is told of a refusal is made once, by the step that refuses**: a `Diagnosis` has the byte of the text, the range of the int, the tokens
+//! round that byte, and where the names begin that the text declares; whoever tells people has it handed on. Nothing is cut into tokens, parsed,
+//! compiled or verified again to explain a refusal, of a script's line neither. Which known word is nearest to a misspelt one is found where words
+//! are made: it takes memory, and programs do not read it.
 ghost use Rattle.std.specs.Prelude.{◌≡◌, ◌++◌, None, Some, IfOk, OnOk, unwrap_or};
 ghost use Rattle.std.specs.Option.{option_map};
 ghost use Rattle.filter_reports.specs.Explanations.{AreRefusalWords, IsExplanation, IsLineExplanation, blanks_for};

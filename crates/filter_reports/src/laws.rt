@@ -1,4 +1,7 @@
 //! Laws on what is shown and on the code that is printed, each the contract of a function with an empty body.
+//!
+//! **The law that verified code means what its filter means is in `filter_reports`**, `verified_code_says_the_same`: it is what `verified` in a
+//! report comes to, and `diff` and `test` rest on it without a route line.
 ghost use Rattle.std.specs.Prelude.{◌≡◌, ℕ, ◌+◌, ◌*◌, ◌≤◌, List, ◌++◌, All, false, true, length};
 ghost use Rattle.code_file.specs.Spelling.{IsCode, spelling_in};
 ghost use Rattle.code_file.specs.declared.version.Version.{Version};

@@ -1,4 +1,18 @@
 //! What is told of a filter's source: the engines of `check`, `rewrite` and `list`, and a refusal in words, at its line and column.
+//!
+//! **What is told of a filter's source and what answers routes are two crates**, the second above the first. Whoever compares, tests or lints
+//! filters, or tells of a script's line, stands on the first alone: how routes are answered may change, and none of them is proved again.
+//!
+//! **The engines of the commands are libraries.** The program above them reads the words of the command line and calls them. So other crates can
+//! test the engines, and an edit of one does not have the program's use of `clap` proved again.
+//!
+//! **`eval_lines` and `check_text` take the allocator and no runtime.** They neither wait nor read a clock, so they would not use its handle.
+//!
+//! **`check`, `eval`, `rewrite` and `run` are asked for as all else is**, by one enum of the command line, also where a program reads and no words
+//! are wanted: one way through the program to each engine.
+//!
+//! **What a code means stands once**, in `refusal_texts`: `explain` prints it, and `scripts/check_documents.py` compares the documents' tables with
+//! it and runs its examples. No contract says what the texts say.
 #![tactic(auto)]
 
 mod around;

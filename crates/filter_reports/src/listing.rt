@@ -1,4 +1,11 @@
 //! `ncroute list`: code as a listing, with what the verifier knows before each instruction.
+//!
+//! **A listing keeps the line and the column of each 16th byte of its text**, and counts those of an instruction from the mark before it. The bytes
+//! that the instructions come from are in no order: an operator comes behind its operands, and each label of a `case` has its argument again. So a
+//! listing takes time in proportion to its text and its instructions, whatever their order, and whether the text has lines or is one long line.
+//!
+//! **A listing is defined by the verifier's own facts**, those of `verify`'s contract. `survey_code` keeps them as its sweep comes by, and says of
+//! the code what `verify` says, so `list` has one sweep; `verify` keeps none, and does not pay for them.
 ghost use Rattle.std.specs.Prelude.{◌≡◌, ◌≤◌, ◌<◌, ◌++◌, ℕ, List, [], Some, IfOk, IfErr, IfSome, OnOk, length, slice_get};
 ghost use Rattle.std.specs.Io.KnownBytes.{Appends};
 ghost use Rattle.filter_code.specs.Limits.{instruction_limit};

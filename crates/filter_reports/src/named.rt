@@ -1,4 +1,6 @@
 //! `ncroute check` and `ncroute list` of sources that have names: a refusal is told with the name.
+//!
+//! **A file that is checked is read whole before its report is written**, so that what was read has a name in the contract.
 ghost use Rattle.std.specs.Prelude.{◌≡◌, Some, IfErr, IfOk, OnOk};
 ghost use Rattle.std.specs.Io.KnownBytes.{Appends};
 ghost use Rattle.filter_reports.specs.Checking.{AreTokensUnlessRefused};

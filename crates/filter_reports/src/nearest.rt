@@ -1,4 +1,8 @@
 //! The known word that somebody may have meant.
+//!
+//! **A word is near a known one if at most a third of its letters are edited**, by `strsim`, where two letters that changed places are one edit. Of
+//! a name that is no variable's the variables, `net`, `rip_metric` and the truth values are known; at the head of a command the words with which
+//! one begins.
 ghost use Rattle.std.specs.Prelude.{◌≡◌, ◌↔◌, ◌<◌, All, true, map, IfOk, IfSome, MatchOption};
 ghost use Rattle.filter_reports.specs.Spelled.{IsFar, IsNearest};
 

@@ -1,4 +1,10 @@
 //! Text as it is shown on a terminal, which it must not be able to steer.
+//!
+//! **What is shown has no control sequences for a terminal**, whatever the bytes of the file and of its name are. `bstr` reads the characters, and
+//! `unicode_width` says how wide one is. A line is cut by columns of the terminal, so that one of wide characters or of tabs takes no more room
+//! than others. How many columns a tab takes depends on where it stands; eight are counted, the most that it takes.
+//!
+//! **Under a tab the caret's line has a tab**, so that the caret is in its place however wide tabs are shown.
 ghost use Rattle.std.specs.Prelude.{◌≡◌, ◌++◌, IfOk, OnOk, encode_utf8_all, flat_map};
 ghost use Rattle.prefix_patterns.specs.Spelling.{prefix_text};
 ghost use Rattle.filter_reports.specs.Shown.{columns_of, indent_of, is_hidden, shown_character, shown_characters, width_of};

@@ -1,5 +1,8 @@
 //! From a source to code: a filter's text is parsed, checked and compiled, or a code file is read, and the code is verified.
 //! A source that is refused has one `Refusal`, whichever step refused it, and one `Diagnosis`, made by the step that refused it.
+//!
+//! **The pipeline is a crate of its own.** `check`, `filter`, `list` and the scripts take a text or a code file to verified code. The steps, and
+//! the one type `Refusal` that any of them can end with, are there once, below all of them.
 #![tactic(auto)]
 
 mod diagnosis;

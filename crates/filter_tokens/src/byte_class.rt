@@ -1,4 +1,9 @@
 //! Classes of bytes, and how many bytes of a class a text begins with.
+//!
+//! **One look at a byte tells what may begin with it.** A table of 256 flags says whether a byte begins or continues a word, is a digit, or is a
+//! punctuator whatever follows it, and is proved to agree with the definitions at each byte. Most tokens are one of these. Numbers of up to three
+//! digits and prefixes in the usual spelling are read in one pass, by the reader that `eval` uses for its lines; where 20 bytes are left, no end of
+//! the text can come in between, and the compiler leaves its tests out. A longer number is added up while its end is looked for.
 
 ghost use Rattle.std.specs.List.{prefix_len};
 ghost use Rattle.std.specs.Prelude.{◌≡◌, ◌≤◌, length};

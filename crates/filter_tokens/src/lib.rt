@@ -1,4 +1,7 @@
 //! The tokens of a filter's text.
+//!
+//! **The lexer is a crate of its own.** It shares one definition with the parser, how a text is cut into tokens, and each is large enough for one
+//! crate.
 #![tactic(auto)]
 
 mod byte_class;

@@ -1,4 +1,7 @@
 //! To which instructions a run comes.
+//!
+//! **A route is counted at a command at most once**, since jumps only go forward. Counts have 64 bits. They would stay at the greatest number; no
+//! input is long enough for that, and the contract says the number itself.
 ghost use Rattle.std.specs.Prelude.{◌≡◌, ◌<◌, ◌==◌, ℕ, length, slice_index};
 ghost use Rattle.filter_traces.specs.Hits.{comes_to, counted_up};
 

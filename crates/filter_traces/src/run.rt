@@ -1,4 +1,9 @@
 //! A run that is told step by step.
+//!
+//! **What is told of a run is told by the checked machine, one step at a time** (`filter_code::Running`): its values have their kinds, so they can
+//! be spelt. The verified machine has none of this to do, and stays as fast as it is. Both say the same of a route.
+//!
+//! **A set is `[..]`** in what is told: it may be long, and the column leads to it.
 ghost use Rattle.std.specs.Prelude.{◌≡◌, ◌++◌, IfOk, OnOk, MatchOption, slice_get};
 ghost use Rattle.filter_code.specs.Machine.{Ended, Going, outcome_of, step};
 ghost use Rattle.filter_traces.specs.Steps.{all_lines, deciding_place, line_between, line_by};

@@ -1,4 +1,7 @@
 //! Where in a filter's text an instruction comes from, and the word that stands there.
+//!
+//! **A comparison and the NOT of its own operator are told as one**: `a > b` is compiled as `a <= b` and a NOT at the same `>`. The line has the
+//! sign that stands in the text, and whether that is so. A `!` stands elsewhere, and is not told.
 ghost use Rattle.std.specs.Prelude.{◌≡◌, ◌++◌, OnOk, length, take_while};
 ghost use Rattle.filter_traces.specs.Sites.{is_joining_byte, is_word_byte, site_text, word_at, word_length, word_of};
 

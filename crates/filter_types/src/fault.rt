@@ -1,4 +1,8 @@
 //! Why a filter's names and kinds do not fit.
+//!
+//! **Which faults a filter has is a relation, by rules** (`specs/Faults.antt`): a part of the tree has a fault of its own, or one of a part in it.
+//! So the clause of a refusal does not repeat the order in which `check` walks the tree, and says of each code what is wrong where. That the first
+//! fault in the order of the text is answered would be that walk once more; rows test it.
 
 ghost use Rattle.std.specs.Prelude.{◌≡◌};
 ghost use Rattle.filter_types.specs.Codes.{expected_of};

@@ -2,6 +2,10 @@
 //!
 //! All ranges are put in the order of their first numbers once. A sweep over them tells whether the labels up to a number
 //! share none, and that number is found by halving: so labels of many ranges cost little more than the sort.
+//!
+//! **`check` asks for memory only at a `case`**, for a list of the ranges of all its labels. They are put in the order of their first numbers once.
+//! One sweep over them tells whether the labels up to one share a number: each range is compared with the one before it that ends last. The first
+//! label that shares one is found by halving. So labels of thousands of ranges are judged in the time that the sort takes, and a bit more.
 
 ghost use Rattle.std.specs.Prelude.{◌≡◌, ◌+◌, ◌<◌, ◌≤◌, All};
 ghost use Rattle.std.specs.List.Sorted.{IsNonDecreasingBy, IsPermutation};

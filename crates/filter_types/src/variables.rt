@@ -1,4 +1,7 @@
 //! The variables of a filter: their numbers and kinds.
+//!
+//! **A variable's number is looked up by its name**, as the definition of the translation says it. A filter has at most 16 variables, so a list of
+//! the numbers in the order of their uses would save little, and whoever reads it would have to walk the tree in that order.
 
 ghost use Rattle.std.specs.Prelude.{◌≡◌, ◌≤◌, ◌⊎◌, IfErr, None, length, map};
 ghost use Rattle.filter_parser.specs.SyntaxCommands.{view_decl};

@@ -1,4 +1,7 @@
 //! The literals of instructions.
+//!
+//! **Verification reads each literal of the code once more.** That the number of an INT is below 2^32, and that a PREFIX has at most 32 bits, is
+//! known of the values themselves, but a contract sees only the code. A loop that changes nothing tells the proof.
 
 ghost use Rattle.std.specs.Prelude.{All};
 ghost use Rattle.filter_verifier.specs.Safe.{HasLiteral};

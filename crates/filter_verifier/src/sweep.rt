@@ -1,4 +1,14 @@
 //! The sweep over a code: it visits each instruction once, in order, and propagates what is known to the successors.
+//!
+//! **What is known at an instruction is the join of what all its predecessors propagate, at once and in no order.** The verifier joins in pairs, as
+//! it carries frames forward in one sweep. That this gives the same is proved.
+//!
+//! **A sweep moves what it knows on.** What is known before an instruction is taken out when that instruction is visited, changed in place and
+//! handed to the successors, so that most visits ask for no memory and copy nothing; one stack of 32 operands serves the whole sweep. `list`, which
+//! shows what is known before each instruction, keeps copies.
+//!
+//! **The depth comes from the sweep.** The greatest number of operands that any instruction leaves is the depth of the text; a lemma says so. The
+//! budget is counted from the end of the code.
 
 ghost use Rattle.std.specs.Prelude.{◌≡◌, ◌⊎◌, ◌<◌, ◌≤◌, ◌==◌, ◌≢◌, ℕ, true, None, Some, IfErr, IfOk, MatchResult};
 ghost use Rattle.std.specs.Prelude.{length, slice_get, [], if◌then◌else◌};

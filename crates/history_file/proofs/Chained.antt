@@ -24,13 +24,22 @@ use Rattle.history_file.specs.declared.chain.Chain.{Chain}
 use Rattle.history_file.specs.declared.chain.ChainFault.{ChainFault}
 use Rattle.history_file.specs.declared.chain.ChainFault.TheVariants as fault
 
-after_append : (w : World) (es more : List Entry) → world_after w (es ++ more) ≡ world_after (world_after w es) more
+pub after_append : (w : World) (es more : List Entry) → world_after w (es ++ more) ≡ world_after (world_after w es) more
 after_append w [] more = refl
 after_append w (e ∷ es) more = after_append (next w e.event).world es more
 
 legal_both : (w : World) (es more : List Entry) → IsLegalFrom w es → IsLegalFrom (world_after w es) more → IsLegalFrom w (es ++ more)
 legal_both w [] more h g = g
 legal_both w (e ∷ es) more h g = (h.0, legal_both (next w e.event).world es more h.1 g)
+
+-- the first of legal entries are legal, and those behind them from where these end
+pub legal_front : (w : World) (es more : List Entry) → IsLegalFrom w (es ++ more) → IsLegalFrom w es
+legal_front w [] more h = tt
+legal_front w (e ∷ es) more h = (h.0, legal_front (next w e.event).world es more h.1)
+
+pub legal_later : (w : World) (es more : List Entry) → IsLegalFrom w (es ++ more) → IsLegalFrom (world_after w es) more
+legal_later w [] more h = h
+legal_later w (e ∷ es) more h = legal_later (next w e.event).world es more h.1
 
 -- segments in order are legal together
 chained_legal : (w : World) (ss : List SegmentView) → AreChained w ss → IsLegalFrom w (all_entries ss)

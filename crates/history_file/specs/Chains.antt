@@ -138,6 +138,15 @@ pub record Begins (bytes : List ℕ) (new : Chain) : Type 0 where
   pub opening : old.first ≡ 0 → old.tables ≡ opened old.tables.opening
   pub follows : Follows bytes old new
 
+-- Texts, the newest first, are the segments of a chain, which stands here after them: the oldest begins it, and each other one follows those
+-- before it. These are the entries of all of them.
+abbrev pub AreJoined : List (List ℕ) → List Entry → Chain → Type 0
+AreJoined [] es new = ⊥
+AreJoined (bytes ∷ []) es new = (begins : Begins bytes new) × (es ≡ begins.follows.entries)
+AreJoined (bytes ∷ older ∷ texts) es new =
+    (old : Chain) × (before : List Entry) × AreJoined (older ∷ texts) before old
+    × (follows : Follows bytes old new) × (es ≡ before ++ follows.entries)
+
 -- The replies of all entries of a chain are right, from the state that its first segment begins in. Where that is position 0 it is the
 -- state of an opening, so the entries are a whole history.
 pub record IsLegalChain (c : Chain) : Type 0 where

@@ -62,7 +62,7 @@ pub(crate) fn read_entry(alloc: Global, at: u64, line: &[u8]) -> Result<Entry, L
         Err(fault) => return Err(fault),
     };
     let mut again = Vec::with_capacity(alloc, line.len())?;
-    push_entry(alloc, &mut again, at as u64, entry.as_ref())?;
+    push_entry(alloc, &mut again, at, entry.as_ref())?;
     if again.as_slice() != line {
         return Err(LineFault::Form);
     }

@@ -2,6 +2,10 @@
 //! begins with the state that the router was in.
 //!
 //! What is written is read back as the same opening and entries. Each history has one text.
+//!
+//! **A history is text, a line an entry**, and not bytes: it can be looked at and compared with the tools that people have, and a line that was not
+//! written to its end is seen as such. A filter stands there as its code, so a history needs no other file, and with the size that it was verified
+//! for, so that an event that was refused for another size has a text too.
 #![tactic(auto)]
 
 mod chain;

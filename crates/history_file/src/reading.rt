@@ -1,4 +1,10 @@
 //! The lines of a history are read.
+//!
+//! **What is read of a line is spelled again and compared with the line.** So each line has one spelling without a reader that judges zeros, blanks
+//! and letters, and that the line is the entry's follows from the writer's contract alone. It costs a second walk over each line.
+//!
+//! **Reading does not judge replies.** A file's reader says which history the bytes tell, and `replay` whether it is right: the two have nothing in
+//! common.
 ghost use Rattle.std.specs.Prelude.{◌≡◌, ◌≤◌, MatchResult, ⊤};
 ghost use Rattle.filter_source.specs.Sources.{code_in_hexadecimal};
 ghost use Rattle.line_protocol.specs.Words.{words};

@@ -4,7 +4,7 @@ ghost use Rattle.std.specs.Prelude.{◌≤◌, IfErr, IfOk};
 ghost use Rattle.history_file.specs.Chains.{IsStateFault};
 ghost use Rattle.history_file.specs.Fits.{largest_limit};
 
-use crate::chain::{ChainFault, fault_at};
+use crate::chain::{ChainFault, fault_at, is_segment};
 use crate::fault::LineFault;
 use crate::reading::{
     all_messages, first_filter, first_session, first_small, first_word, no_more, opening_parts,
@@ -38,6 +38,9 @@ pub(crate) struct StateParts {
 pub(crate) fn read_mark(alloc: Global, line: &[u8]) -> Result<(Opening, u32), LineFault>
     ensures { IfOk result (λ r. (1 ≤ r.1) × (r.1 ≤ largest_limit)) }
 {
+    if !is_segment(line) {
+        return Err(LineFault::Form);
+    }
     let parts = match opening_parts(alloc, line) {
         Ok(parts) => parts,
         Err(fault) => return Err(fault),

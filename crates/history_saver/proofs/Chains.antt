@@ -12,7 +12,7 @@ use Rattle.history_file.specs.Text.{entries_text}
 use Rattle.history_file.specs.Views.{EntryView, entry_view}
 use Rattle.history_saver.specs.Adding.{between}
 use Rattle.history_saver.specs.Folders.{FolderView, Segment, longer, with_named, with_newest, with_next, with_written}
-use Rattle.history_saver.specs.Segments.{AreComplete, AreSegments, HasSegments, Holds, IsOldest, IsSegment, SegmentsView}
+use Rattle.history_saver.specs.Segments.{AreComplete, AreSegments, BeginsAt, HasSegments, Holds, IsNewest, IsOldest, IsSegment, SegmentsView}
 use Rattle.history_saver.specs.Steps.{IsStateAt}
 use Rattle.history_saver.proofs.Texts.{between_none, entries_text-append, none_misfit}
 use Rattle.route_history.specs.declared.entry.Entry.{Entry}
@@ -99,6 +99,7 @@ module _ (j : JournalView) (es : List Entry) (b : Begins j.entries es) where
     within = let within = h.within in let more = longer_than in omega (arith, within, more);
     each = subst (λ (l : List EntryView). All FitsEntry l) (between_stays s.saved s.read h.within) h.each;
     holds = holds_still s.keep s.saved h.cut s.folder h.holds;
+    begins = h.begins;
   }
 
 -- more bytes of what follows
@@ -125,6 +126,17 @@ module _ (keep : Option ℕ) (j : JournalView) (to : ℕ) (cut bytes : List ℕ)
   holds_longer (Some v) new is h =
       subst (λ (o : Option FolderView). IfSome o (Holds keep j to (cut ++ bytes))) (sym is) (segments_longer v.segments h)
 
+-- and where the newest begins
+newest_longer : (n : ℕ) (bytes : List ℕ) (ss : List Segment) → IsNewest n ss → IsNewest n (longer bytes ss)
+newest_longer n bytes [] h = absurd h
+newest_longer n bytes (s ∷ ss) h = h
+
+begins_longer : (n : ℕ) (bytes : List ℕ) (old new : Option FolderView) → new ≡ option_map (with_written bytes) old → IfSome old (BeginsAt n) →
+    IfSome new (BeginsAt n)
+begins_longer n bytes None new is h = subst (λ (o : Option FolderView). IfSome o (BeginsAt n)) (sym is) tt
+begins_longer n bytes (Some v) new is h =
+    subst (λ (o : Option FolderView). IfSome o (BeginsAt n)) (sym is) (newest_longer n bytes v.segments h)
+
 -- some of what was not written is written
 pub has_written : (s : SegmentsView) (j : JournalView) (bytes rest : List ℕ) (now : Option FolderView) → s.rest ≡ bytes ++ rest →
     now ≡ option_map (with_written bytes) s.folder → HasSegments s j → HasSegments (record s { folder = now; rest = rest }) j
@@ -135,6 +147,7 @@ has_written s j bytes rest now parted is h = record {
   within = h.within;
   each = h.each;
   holds = holds_longer s.keep j s.saved h.cut bytes s.folder now is h.holds;
+  begins = begins_longer s.begun bytes s.folder now is h.begins;
 }
 
 -- all lines of what follows
@@ -177,6 +190,12 @@ empty_segment j n state within is_state = record {
   each = none_misfit j.entries n;
 }
 
+-- a segment that got its name is the newest
+begins_named : (n : ℕ) (state : List ℕ) (old new : Option FolderView) → new ≡ option_map (with_named n) (option_map (with_next state) old) →
+    IfSome new (BeginsAt n)
+begins_named n state None new is = subst (λ (o : Option FolderView). IfSome o (BeginsAt n)) (sym is) tt
+begins_named n state (Some v) new is = subst (λ (o : Option FolderView). IfSome o (BeginsAt n)) (sym is) refl
+
 -- all that was read is written
 module _ (s : SegmentsView) (j : JournalView) (none : s.rest ≡ []) (h : HasSegments s j) where
   all_written : entries_text s.saved (between j.entries s.saved s.read) ≡ h.cut
@@ -186,18 +205,20 @@ module _ (s : SegmentsView) (j : JournalView) (none : s.rest ≡ []) (h : HasSeg
   holds_all = holds_on s.keep j s.saved s.read h.rising h.within h.cut all_written h.each s.folder h.holds
 
   -- with such a folder, and all saved
-  pub has_all_in : (now : Option FolderView) → IfSome now (Holds s.keep j s.read []) → HasSegments (record s { folder = now; saved = s.read }) j
-  has_all_in now holds = record {
+  pub has_all_in : (now : Option FolderView) (begun : ℕ) → IfSome now (Holds s.keep j s.read []) → IfSome now (BeginsAt begun) →
+      HasSegments (record s { folder = now; begun = begun; saved = s.read }) j
+  has_all_in now begun holds begins = record {
     cut = [];
     lines = no_lines j s.read s.rest none;
     rising = omega arith;
     within = h.within;
     each = none_misfit j.entries s.read;
     holds = holds;
+    begins = begins;
   }
 
   pub has_all : HasSegments (record s { saved = s.read }) j
-  has_all = has_all_in s.folder holds_all
+  has_all = has_all_in s.folder s.begun holds_all h.begins
 
   -- a new segment begins
   module _ (state : List ℕ) (is_state : IsStateAt j s.read state) where
@@ -213,14 +234,19 @@ module _ (s : SegmentsView) (j : JournalView) (none : s.rest ≡ []) (h : HasSeg
         (empty_segment j s.read state h.within is_state, segments_named v.segments x)
 
     pub has_named : (now : Option FolderView) → now ≡ option_map (with_named s.read) (option_map (with_next state) s.folder) →
-        HasSegments (record s { folder = now; saved = s.read }) j
-    has_named now is = has_all_in now (holds_named s.folder now is holds_all)
+        HasSegments (record s { folder = now; begun = s.read; saved = s.read }) j
+    has_named now is = has_all_in now s.read (holds_named s.folder now is holds_all) (begins_named s.read state s.folder now is)
 
 -- what has no name is another
 holds_unmade : (keep : Option ℕ) (j : JournalView) (to : ℕ) (cut bytes : List ℕ) (old new : Option FolderView) →
     new ≡ option_map (with_next bytes) old → IfSome old (Holds keep j to cut) → IfSome new (Holds keep j to cut)
 holds_unmade keep j to cut bytes None new is h = subst (λ (o : Option FolderView). IfSome o (Holds keep j to cut)) (sym is) tt
 holds_unmade keep j to cut bytes (Some v) new is h = subst (λ (o : Option FolderView). IfSome o (Holds keep j to cut)) (sym is) h
+
+begins_unmade : (n : ℕ) (bytes : List ℕ) (old new : Option FolderView) → new ≡ option_map (with_next bytes) old → IfSome old (BeginsAt n) →
+    IfSome new (BeginsAt n)
+begins_unmade n bytes None new is h = subst (λ (o : Option FolderView). IfSome o (BeginsAt n)) (sym is) tt
+begins_unmade n bytes (Some v) new is h = subst (λ (o : Option FolderView). IfSome o (BeginsAt n)) (sym is) h
 
 pub has_unmade : (s : SegmentsView) (j : JournalView) (bytes : List ℕ) (now : Option FolderView) → now ≡ option_map (with_next bytes) s.folder →
     HasSegments s j → HasSegments (record s { folder = now }) j
@@ -231,6 +257,7 @@ has_unmade s j bytes now is h = record {
   within = h.within;
   each = h.each;
   holds = holds_unmade s.keep j s.saved h.cut bytes s.folder now is h.holds;
+  begins = begins_unmade s.begun bytes s.folder now is h.begins;
 }
 
 -- the oldest are removed
@@ -252,6 +279,17 @@ module _ (most : ℕ) (j : JournalView) where
   holds_left n to cut (Some v) new some is h =
       subst (λ (o : Option FolderView). IfSome o (Holds (Some most) j to cut)) (sym is) (segments_left n v.segments to cut some h)
 
+  newest_left : (n at : ℕ) (ss : List Segment) → 1 ≤ n → IsNewest at ss → IsNewest at (take n ss)
+  newest_left zero at ss some h = absurd (omega (arith, some))
+  newest_left (suc n) at [] some h = h
+  newest_left (suc n) at (s ∷ ss) some h = h
+
+  begins_left : (n at : ℕ) (old new : Option FolderView) → 1 ≤ n → new ≡ option_map (with_newest n) old → IfSome old (BeginsAt at) →
+      IfSome new (BeginsAt at)
+  begins_left n at None new some is h = subst (λ (o : Option FolderView). IfSome o (BeginsAt at)) (sym is) tt
+  begins_left n at (Some v) new some is h =
+      subst (λ (o : Option FolderView). IfSome o (BeginsAt at)) (sym is) (newest_left n at v.segments some h)
+
   pub has_left : (s : SegmentsView) (n : ℕ) (now : Option FolderView) → s.keep ≡ Some most → 1 ≤ n → now ≡ option_map (with_newest n) s.folder →
       HasSegments s j → HasSegments (record s { folder = now }) j
   has_left s n now keep some is h = record {
@@ -263,6 +301,7 @@ module _ (most : ℕ) (j : JournalView) where
     holds = subst (λ (k : Option ℕ). IfSome now (Holds k j s.saved h.cut)) (sym keep)
         (holds_left n s.saved h.cut s.folder now some is
         (subst (λ (k : Option ℕ). IfSome s.folder (Holds k j s.saved h.cut)) keep h.holds));
+    begins = begins_left n s.begun s.folder now some is h.begins;
   }
 
 -- more is read
@@ -280,6 +319,7 @@ has_read s j to more rest on within is each all h =
       within = within;
       each = each_parted j.entries s.saved s.read to rising on h.within h.each each;
       holds = h.holds;
+      begins = h.begins;
     }
 
 -- the first segment
@@ -294,16 +334,17 @@ holds_first keep j (Some v) now state empty is is_state =
     subst (λ (o : Option FolderView). IfSome o (Holds keep j 0 [])) (sym is)
     (empty_segment j 0 state (omega arith) is_state, subst (λ (ss : List Segment). AreComplete keep j ss 0) (sym empty) (oldest_first keep))
 
-pub has_first : (keep : Option ℕ) (back : ℕ) (j : JournalView) (old now : Option FolderView) (state rest : List ℕ) → rest ≡ [] →
+pub has_first : (every : ℕ) (keep : Option ℕ) (back : ℕ) (j : JournalView) (old now : Option FolderView) (state rest : List ℕ) → rest ≡ [] →
     IfSome old (λ (v : FolderView). v.segments ≡ []) → now ≡ option_map (with_named 0) (option_map (with_next state) old) → IsStateAt j 0 state →
-    HasSegments (record { folder = now; keep = keep; back = back; saved = 0; read = 0; rest = rest }) j
-has_first keep back j old now state rest none empty is is_state = record {
+    HasSegments (record { folder = now; every = every; keep = keep; back = back; begun = 0; saved = 0; read = 0; rest = rest }) j
+has_first every keep back j old now state rest none empty is is_state = record {
   cut = [];
   lines = no_lines j 0 rest none;
   rising = omega arith;
   within = omega arith;
   each = none_misfit j.entries 0;
   holds = holds_first keep j old now state empty is is_state;
+  begins = begins_named 0 state old now is;
 }
 
 -- the state after the whole history is that after as many entries as it has

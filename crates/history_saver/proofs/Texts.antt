@@ -1,20 +1,16 @@
--- The text of a history, in parts.
+-- The lines of entries, in parts.
 use Rattle.std.proofs.Common.{◌≡◌, ◌∙◌, sym, ap, subst, ℕ, suc, ◌+◌, ◌≤◌, ◌<◌, List, [], ◌∷◌, ◌++◌, append_assoc}
-use Rattle.std.proofs.Common.{append-nil, add-one, length, map, take, drop, get_or, Some, arith}
+use Rattle.std.proofs.Common.{append-nil, add-one, length, map, take, drop, get_or, arith}
 use Rattle.std.specs.Prelude.{All}
 use Rattle.std.proofs.Math.Seq.{take-suc}
 use Rattle.std.proofs.Math.ListN.{drop_of_length-le}
 use Rattle.std.proofs.lemmas.List.Elements.{All-nil, All-push}
-use Rattle.std.proofs.lemmas.List.{drop-append-le, length-drop, length-map, length-take, length-take-le}
-use Rattle.std.proofs.lemmas.List.{map-append, take-append-drop, take-append-le, take-take}
+use Rattle.std.proofs.lemmas.List.{drop-append-le, length-drop, length-map, length-take, map-append}
 use Rattle.history_file.specs.Fits.{FitsEntry}
-use Rattle.history_file.specs.Text.{entries_text, entry_line, opening_line}
-use Rattle.history_file.specs.Views.{EntryView, HistoryView, entry_view}
+use Rattle.history_file.specs.Text.{entries_text, entry_line}
+use Rattle.history_file.specs.Views.{EntryView, entry_view}
 use Rattle.route_history.specs.declared.entry.Entry.{Entry}
-use Rattle.route_history.specs.Beginning.{Begins}
-use Rattle.route_history.specs.JournalView.{JournalView}
 use Rattle.history_saver.specs.Adding.{between}
-use Rattle.history_saver.specs.Saved.{first_entries, saved_text}
 
 pub entries_text-append : (at : ℕ) (xs ys : List EntryView) → entries_text at (xs ++ ys) ≡ entries_text at xs ++ entries_text (at + length xs) ys
 entries_text-append at [] ys = ap (λ n. entries_text n ys) (let e : at ≡ at + 0 = omega arith in e)
@@ -24,36 +20,6 @@ entries_text-append at (x ∷ xs) ys =
     ap (λ (l : List ℕ). entry_line at x ++ 10 ∷ l) (entries_text-append (suc at) xs ys)
     ∙ ap (λ n. entry_line at x ++ 10 ∷ (front ++ entries_text n ys)) later
     ∙ sym (append_assoc (entry_line at x) (10 ∷ front) (entries_text (at + suc (length xs)) ys))
-
--- the first entries, and those that follow them up to another position
-pub parted : (es : List Entry) (k n : ℕ) → k ≤ n → map entry_view (take k es) ++ between es k n ≡ map entry_view (take n es)
-parted es k n le =
-    ap (λ (l : List Entry). map entry_view l ++ between es k n) (sym (take-take k n es le))
-    ∙ sym (map-append entry_view (take k (take n es)) (drop k (take n es)))
-    ∙ ap (map entry_view) (take-append-drop k (take n es))
-
-entries_parted : (es : List Entry) (k n : ℕ) → k ≤ n → k ≤ length es →
-    entries_text 0 (map entry_view (take k es)) ++ entries_text k (between es k n) ≡ entries_text 0 (map entry_view (take n es))
-entries_parted es k n le within =
-    let count : k ≡ 0 + length (map entry_view (take k es)) =
-    sym (let zero_first : 0 + length (map entry_view (take k es)) ≡ length (map entry_view (take k es)) = omega arith in zero_first
-    ∙ length-map (take k es) entry_view ∙ length-take-le k es within) in
-    ap (λ m. entries_text 0 (map entry_view (take k es)) ++ entries_text m (between es k n)) count
-    ∙ sym (entries_text-append 0 (map entry_view (take k es)) (between es k n)) ∙ ap (entries_text 0) (parted es k n le)
-
--- what is saved, and the lines that follow it
-pub saved_more : (j : JournalView) (k n : ℕ) → k ≤ n → k ≤ length j.entries →
-    saved_text j (Some k) ++ entries_text k (between j.entries k n) ≡ saved_text j (Some n)
-saved_more j k n le within =
-    append_assoc (opening_line j.opening j.limit) (10 ∷ entries_text 0 (map entry_view (take k j.entries))) (entries_text k (between j.entries k n))
-    ∙ ap (λ (l : List ℕ). opening_line j.opening j.limit ++ 10 ∷ l) (entries_parted j.entries k n le within)
-
--- the first entries of a history are those of one that goes on from it
-pub first_same : (j : JournalView) (es : List Entry) (k : ℕ) → Begins j.entries es → k ≤ length j.entries →
-    first_entries j k ≡ first_entries (record j { entries = es }) k
-first_same j es k b within =
-    ap (λ (l : List Entry). let h : HistoryView = record { opening = j.opening; limit = j.limit; entries = map entry_view l } in h)
-    (sym (ap (take k) b.is ∙ take-append-le k j.entries b.rest within))
 
 -- one entry more
 between_more : (es : List Entry) (k at : ℕ) (e : Entry) → k ≤ at → at < length es → e ≡ get_or es at e →
@@ -98,7 +64,3 @@ none_added old es k = sym (ap (λ (l : List EntryView). old ++ entries_text k l)
 
 pub none_misfit : (es : List Entry) (k : ℕ) → All FitsEntry (between es k k)
 none_misfit es k = subst (λ (l : List EntryView). All FitsEntry l) (sym (between_none es k)) (All-nil FitsEntry)
-
--- the opening, and then entries
-pub history_added : (old line body : List ℕ) → (old ++ line ++ 10 ∷ []) ++ body ≡ old ++ (line ++ 10 ∷ body)
-history_added old line body = append_assoc (old ++ line) (10 ∷ []) body ∙ append_assoc old line (10 ∷ body)

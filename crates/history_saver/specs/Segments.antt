@@ -37,13 +37,23 @@ AreSegments keep j (s ∷ ss) to cut = IsSegment j s.at to cut s.text × AreComp
 abbrev pub Holds : Option ℕ → JournalView → ℕ → List ℕ → FolderView → Type 0
 Holds keep j to cut v = AreSegments keep j v.segments to cut
 
--- A saver of segments: what its folder holds, where that is known; how many segments are kept at least, and all where none is said;
--- how many of the saved entries are not forgotten; how many entries are saved; how many are read; and what is not written yet of the lines
--- of those that are read.
+-- the newest segment of a folder begins here
+abbrev pub IsNewest : ℕ → List Segment → Type 0
+IsNewest n [] = ⊥
+IsNewest n (s ∷ ss) = s.at ≡ n
+
+abbrev pub BeginsAt : ℕ → FolderView → Type 0
+BeginsAt n v = IsNewest n v.segments
+
+-- A saver of segments: what its folder holds, where that is known; after how many entries a new segment is due; how many segments are kept at
+-- least, and all where none is said; how many of the saved entries are not forgotten; where the newest segment begins; how many entries are
+-- saved; how many are read; and what is not written yet of the lines of those that are read.
 pub record SegmentsView : Type 0 where
   pub folder : Option FolderView
+  pub every : ℕ
   pub keep : Option ℕ
   pub back : ℕ
+  pub begun : ℕ
   pub saved : ℕ
   pub read : ℕ
   pub rest : List ℕ
@@ -56,3 +66,4 @@ pub record HasSegments (s : SegmentsView) (j : JournalView) : Type 0 where
   pub within : s.read ≤ length j.entries
   pub each : All FitsEntry (between j.entries s.saved s.read)
   pub holds : IfSome s.folder (Holds s.keep j s.saved cut)
+  pub begins : IfSome s.folder (BeginsAt s.begun)

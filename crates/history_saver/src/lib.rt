@@ -1,20 +1,20 @@
 //! A router's history is saved while it is made: what is new of it is read while nobody can change it, and written as text.
 //!
-//! One file has a front of one text at any time: the line of the opening, and then a line for each entry, each once and in order. A history that
-//! goes on is saved in segments: each is the state after so many entries, and then a line for each entry up to where the next one begins.
+//! It is saved in segments: each is the state after so many entries, and then a line for each entry, once and in order, up to where the next one
+//! begins.
 #![tactic(auto)]
 
 mod fault;
 mod files;
 mod folder;
+mod laws;
 mod portion;
 mod reading;
-mod saver;
 mod segments;
 
 pub use fault::SaveFault;
 pub use files::SegmentFiles;
 pub use folder::SegmentFolder;
+pub use laws::segments_tell_the_history;
 pub use reading::MOST_AT_ONCE;
-pub use saver::Saver;
 pub use segments::{Rotation, SegmentSaver};

@@ -1,7 +1,7 @@
 //! What is not read of a journal that goes on is read.
-ghost use Rattle.std.specs.Prelude.{◌≡◌, ◌≤◌, IfOk, IfSome};
+ghost use Rattle.std.specs.Prelude.{◌≡◌, ◌+◌, ◌≤◌, IfOk, IfSome};
 ghost use Rattle.route_history.specs.Long.{OfHistory};
-ghost use Rattle.history_saver.specs.Portions.{IsEndState, IsPortion};
+ghost use Rattle.history_saver.specs.Portions.{IsEndState, IsLeftOut, IsPortion};
 
 use crate::reading::push_entries;
 use history_file::write_state;
@@ -20,18 +20,32 @@ pub(crate) struct Portion {
     pub(crate) state: Option<Vec<u8>>,
 }
 
+/// When a new segment is due.
+#[derive(Clone, Copy)]
+pub(crate) struct Due {
+    /// Where the newest segment begins.
+    pub(crate) begun: u64,
+    /// How many entries it has then, at least.
+    pub(crate) every: u64,
+}
+
 /// The state of a journal's tables after so many entries, if there are no more and a new segment is due.
 fn read_state(
     alloc: Global,
     journal: &LongJournal,
     to: u64,
-    due: u64,
+    due: Due,
 ) -> Result<Option<Vec<u8>>, AllocError>
     requires none_missed { journal.now.first ≤ to }
-    ensures { IfOk result (λ state. OfHistory journal.now (λ h. IfSome state (λ bytes. IsEndState h to bytes.items))) }
+    ensures ended { IfOk result (λ state. OfHistory journal.now (λ h. IfSome state (λ bytes. IsEndState h to bytes.items))) }
+    ensures due { IfOk result (λ state. IfSome state (λ _. due.begun + due.every ≤ to)) }
+    ensures left_out { IfOk result (λ state. OfHistory journal.now (λ h. IsLeftOut h due.begun due.every to state)) }
 {
     let limit = journal.bounds().limit;
-    if to < due || to - journal.first() != u64::from(journal.kept()) {
+    if to < due.begun || to - due.begun < due.every {
+        return Ok(None);
+    }
+    if to - journal.first() != u64::from(journal.kept()) {
         return Ok(None);
     }
     // No router is opened with another limit.
@@ -48,10 +62,10 @@ fn read_portion(
     alloc: Global,
     journal: &LongJournal,
     read: u64,
-    due: u64,
+    due: Due,
 ) -> Result<Portion, AllocError>
     requires none_missed { journal.now.first ≤ read }
-    ensures { IfOk result (λ p. OfHistory journal.now (λ h. IsPortion h read p)) }
+    ensures { IfOk result (λ p. OfHistory journal.now (λ h. IsPortion h read due.begun due.every p)) }
 {
     let mut lines = Vec::new(alloc);
     let to = push_entries(alloc, &mut lines, journal, read)?;
@@ -65,8 +79,8 @@ pub(crate) struct PortionReader {
     pub(crate) alloc: Global,
     /// How many entries are read.
     pub(crate) read: u64,
-    /// After how many entries a new segment is due.
-    pub(crate) due: u64,
+    /// When a new segment is due.
+    pub(crate) due: Due,
     /// What was read, unless memory was refused.
     pub(crate) portion: Option<Portion>,
 }
@@ -86,7 +100,7 @@ impl Observer for PortionReader {
     ghost use Rattle.history_saver.specs.Portions.{IsPortion};
 
     // Nothing is said where an entry is forgotten that is not read.
-    ghost sees = { λ before first j after. first ≤ before.read → IfSome after.portion (IsPortion j before.read) };
+    ghost sees = { λ before first j after. first ≤ before.read → IfSome after.portion (IsPortion j before.read before.due.begun before.due.every) };
 
     fn see(&mut self, journal: &LongJournal) {
         self.portion = None;

@@ -1,13 +1,13 @@
 //! Who saves a history that goes on, in segments.
-ghost use Rattle.std.specs.Prelude.{◌≡◌, ◌+◌, ◌-◌, ◌<◌, ◌≤◌, IfErr, IfOk, IfSome, IsTrue, OnOk, OnErr, [], length, max, take, true};
+ghost use Rattle.std.specs.Prelude.{◌≡◌, ◌+◌, ◌-◌, ◌<◌, ◌≤◌, IfErr, IfOk, IfSome, IsTrue, OnOk, OnErr, [], length, max, None, take, true};
 ghost use Rattle.std.specs.Option.{option_map};
 ghost use Rattle.netchange_core.specs.Calls.{opened};
 ghost use Rattle.history_file.specs.Fits.{largest_limit};
 ghost use Rattle.history_file.specs.Segments.{IsStateText};
 ghost use Rattle.history_saver.specs.Adding.{next_count};
 ghost use Rattle.history_saver.specs.Folders.{with_named, with_next};
-ghost use Rattle.history_saver.specs.Looking.{Looks};
-ghost use Rattle.history_saver.specs.Saved.{seen_by};
+ghost use Rattle.history_saver.specs.Looking.{Looks, seen_by};
+ghost use Rattle.history_saver.specs.Portions.{IsLeftOut};
 ghost use Rattle.history_saver.specs.Steps as spec;
 ghost use Rattle.history_saver.specs.Segments.{HasSegments};
 ghost use Rattle.route_history.specs.History.{world_of};
@@ -16,7 +16,7 @@ ghost use Rattle.slot_lock.specs.Passes.{IsPassOf};
 
 use crate::fault::SaveFault;
 use crate::folder::SegmentFolder;
-use crate::portion::{Portion, PortionReader};
+use crate::portion::{Due, Portion, PortionReader};
 use crate::reading::MOST_AT_ONCE;
 use history_file::write_state;
 use netchange_core::{Opening, Tables};
@@ -62,8 +62,10 @@ impl<F: SegmentFolder> Model for SegmentSaver<F> {
 
     ghost view = { λ s. record {
       folder = F.holds s.folder;
+      every = s.rotation.every;
       keep = s.rotation.keep;
       back = s.rotation.back;
+      begun = s.begun;
       saved = s.saved;
       read = s.read;
       rest = drop s.written s.lines.items;
@@ -113,7 +115,16 @@ impl<F: SegmentFolder + Drop> SegmentSaver<F> {
         requires limit { (1 ≤ limit) × (limit ≤ largest_limit) }
         requires empty { IfSome (F.holds folder) (λ v. v.segments ≡ []) }
         ensures value { IfOk result (λ s. s ≡
-            record { folder = s.folder; keep = rotation.keep; back = rotation.back; saved = 0; read = 0; rest = [] }) }
+            record {
+              folder = s.folder;
+              every = rotation.every;
+              keep = rotation.keep;
+              back = rotation.back;
+              begun = 0;
+              saved = 0;
+              read = 0;
+              rest = [];
+            }) }
         ensures begun { IfOk result (λ s. (j : JournalView) → j.opening ≡ opening.now → j.limit ≡ limit → HasSegments s j) }
     {
         let mut folder = folder;
@@ -230,12 +241,17 @@ impl<F: SegmentFolder + Drop> SegmentSaver<F> {
         ensures saved { HasSegments self.new (seen_by router.now right.new) }
         ensures count { IfOk result (λ _. self.new.read ≡ next_count self.old.read (length right.new.fragment.seen)) }
         ensures state { IfOk result (λ state. IfSome state (λ bytes. spec.IsStateAt (seen_by router.now right.new) self.new.read bytes.items)) }
+        ensures due { IfOk result (λ state. IfSome state (λ _. self.old.begun + spec.entries_each self.old ≤ self.new.read)) }
+        ensures left_out { IfOk result (λ state. IsLeftOut (seen_by router.now right.new) self.old.begun (spec.entries_each self.old) self.new.read state) }
         ensures err { IfErr result (λ _. self.new ≡ self.old) }
     {
         let mut reader = PortionReader {
             alloc,
             read: self.read,
-            due: self.begun.saturating_add(self.rotation.every.max(1)),
+            due: Due {
+                begun: self.begun,
+                every: self.rotation.every.max(1),
+            },
             portion: None,
         };
         router.observe_with_right(rt, right, &mut reader);
@@ -248,7 +264,9 @@ impl<F: SegmentFolder + Drop> SegmentSaver<F> {
     /// Begins a new segment, with the state after all that is saved.
     fn begin_next(&mut self, state: &[u8]) -> Result<(), SaveFault>
         requires all { spec.IsAllSaved self.old }
-        ensures only { spec.OnlyWrites self.old self.new }
+        ensures only { spec.OnlyBegins self.old self.new }
+        ensures begun { OnOk result (self.new.begun ≡ self.old.saved) }
+        ensures not_begun { OnErr result (self.new.begun ≡ self.old.begun) }
         ensures all { spec.IsAllSaved self.new }
         ensures still { (j : JournalView) → HasSegments self.old j → spec.IsStateAt j self.old.saved state.now → HasSegments self.new j }
     {
@@ -291,7 +309,9 @@ impl<F: SegmentFolder + Drop> SegmentSaver<F> {
     /// Begins a new segment if there is a state for it, and then removes the oldest.
     fn rotate(&mut self, state: &Option<Vec<u8>>) -> Result<(), SaveFault>
         requires all { spec.IsAllSaved self.old }
-        ensures only { spec.OnlyWrites self.old self.new }
+        ensures only { spec.OnlyBegins self.old self.new }
+        ensures begun { OnOk result (IfSome state.now (λ _. self.new.begun ≡ self.old.saved)) }
+        ensures begins { spec.BeginsWith state.now self.old self.new }
         ensures all { spec.IsAllSaved self.new }
         ensures still { (j : JournalView) → HasSegments self.old j → IfSome state.now (λ bytes. spec.IsStateAt j self.old.saved bytes.items)
             → HasSegments self.new j }
@@ -324,6 +344,8 @@ impl<F: SegmentFolder + Drop> SegmentSaver<F> {
         ensures saved { HasSegments self.new (seen_by router.now right.new) }
         ensures kept { right.new.fragment.forgot ≤ self.new.saved }
         ensures asked { right.new.fragment.forgot ≤ max right.old.fragment.forgot (self.new.saved - self.new.back) }
+        ensures begun { spec.BeginsDue self.old self.new }
+        ensures rotated { IfOk result (λ n. n < self.old.saved + 256 → spec.IsRoom router.now.limit → spec.IsRotated self.new) }
         ensures ok { IfOk result (λ n. (n ≡ self.new.saved) × spec.IsAllSaved self.new
             × spec.SavesNext self.old.saved n (length right.old.fragment.seen) (length right.new.fragment.seen)
             × spec.Forgets self.new router.now right.old right.new) }
@@ -365,8 +387,12 @@ impl<F: SegmentFolder + Drop> SegmentSaver<F> {
         // Nothing is forgotten that is not saved, nor of what is saved the last entries.
         ensures kept { right.new.fragment.forgot ≤ self.new.saved }
         ensures asked { right.new.fragment.forgot ≤ max right.old.fragment.forgot (self.new.saved - self.new.back) }
+        // A new segment begins once the newest has so many entries, and not before. No router is opened with another room.
+        ensures begun { spec.BeginsDue self.old self.new }
+        ensures rotated { OnOk result (spec.IsRoom router.now.limit → spec.IsRotated self.new) }
         // All is saved that was seen before, and what need not be in memory is forgotten.
         ensures all { IfOk result (λ n. (n ≡ self.new.saved) × (length right.old.fragment.seen ≤ n)) }
+        ensures whole { OnOk result (spec.IsAllSaved self.new) }
         ensures frees { OnOk result (router.now.endless ≡ true → length right.new.fragment.seen ≤ 9223372036854775808 →
             self.new.saved - self.new.back < right.new.fragment.forgot + 1024) }
     {

@@ -1,4 +1,10 @@
 //! A whole input in memory, up to a limit.
+//!
+//! **A line is kept whole until it ends, even a comment.** The limit of the input bounds it at 16 MiB. To drop long comments earlier would save
+//! memory in a case that does not occur, at the price of a second path through the engine.
+//!
+//! **Line feeds are looked for in the next 32 bytes at once, and from there on by the kit's `memchr`.** Most lines of routes and of scripts end
+//! within those, where one comparison of a vector costs less than the call of a search that is meant for long texts.
 ghost use Rattle.std.specs.Prelude.{◌≡◌, ◌<◌, ◌≤◌, ◌+◌, ◌^◌, vec_len, IfOk, IfErr};
 ghost use Rattle.std.specs.Io.KnownBytes.{Consumes, IsAtEnd};
 ghost use Rattle.line_protocol.specs.Runs.{ConsumesAtMost, IsReadFault};

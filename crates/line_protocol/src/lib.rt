@@ -5,6 +5,10 @@
 //! Lines are numbered from 1. Empty lines and lines that begin with `#` are counted and skipped.
 //! `answer_lines` reads in blocks, has a `Service` answer each other line, and writes the answers.
 //! These rules are this project's own choice.
+//!
+//! **`line_protocol` is a crate of its own.** The rules of lines, words, numbering, limits and block-wise answering are the same for `eval`,
+//! `filter` and the scripts. They are proved once, below all of them. The engine is generic over a *service*, a trait whose ghost member says which
+//! answers a line may get, so it knows nothing of filters.
 #![tactic(auto)]
 
 mod answers;

@@ -1,4 +1,7 @@
 //! Bytes from a reader and to a writer, with each failure as a `StreamFault`.
+//!
+//! **`write_text` is public.** std's `write_all` says nothing about what a writer holds after an error. The engine, and `eval` for its one answer
+//! outside of the engine, need to know that a writer which failed has an initial part of the text.
 ghost use Rattle.std.specs.IoError.{error_kind};
 ghost use Rattle.std.specs.Prelude.{◌≡◌, ◌<◌, ◌≤◌, ◌↔◌, IsTrue, length, take, IfOk, OnOk, IfErr};
 ghost use Rattle.std.specs.Io.KnownBytes.{Appends, Consumes, IsAtEnd, Keeps};

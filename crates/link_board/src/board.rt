@@ -1,4 +1,7 @@
 //! What those who serve links know together.
+//!
+//! **What is noted are numbers of entries.** Answers become known in any order, and each note is a maximum. So the law over them asks only that
+//! each entry is noted, not when. Such a number is one more than a position, of 64 bits, and so has 128.
 ghost use Rattle.std.specs.Prelude.{◌≡◌, ◌==◌, ◌<◌, ◌≤◌, ◌||◌, ◌&&◌, false, true, None, Some, []};
 ghost use Rattle.std.specs.Prelude.{IfOk, IfSome, IfNone, map, position, length, slice_get};
 ghost use Rattle.link_board.specs.Boards as spec;

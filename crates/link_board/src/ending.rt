@@ -1,4 +1,7 @@
 //! Who ended a session.
+//!
+//! **An `Ending` is made by a board alone.** Who ended a session first is known under the lock, where no clause of the caller reaches. What the
+//! board answered is therefore a value with private fields, which the crew of a session hands on.
 ghost use Rattle.std.specs.Prelude.{◌≡◌};
 
 use std::marker::Model;

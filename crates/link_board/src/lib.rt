@@ -1,5 +1,10 @@
 //! What those who serve the links of one router know together: which sessions are there, whether something waits in a queue, and how
 //! long the history is. It is data alone: who shares it among threads keeps it under a lock.
+//!
+//! **The board knows replies and histories.** What is noted there serves one purpose: a writer sleeps only while its neighbour's queue is empty.
+//! That can be said only beside the definitions of a history, so `link_board` stands on `route_history`, and on `route_session` for the number of
+//! messages that a writer asks for. In return a board is handed a reply and takes from it what counts, in functions that have clauses; who shares
+//! the board only locks it.
 #![tactic(auto)]
 
 mod board;

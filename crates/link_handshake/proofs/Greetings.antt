@@ -11,10 +11,10 @@ use Rattle.std.proofs.lemmas.Slice.Eq.{bytes_eq-Decides}
 use Rattle.netchange_core.specs.declared.message.Message.{Message}
 use Rattle.prefix_patterns.proofs.Tokens.{parts_at-joined}
 use Rattle.prefix_patterns.specs.Reading.{◌>>=◌, parts_at}
-use Rattle.link_lines.proofs.Exact.{message_exact}
-use Rattle.link_lines.proofs.Pairs.{bind_some, same_pair}
-use Rattle.link_lines.specs.Lines.{FitsMessage, line_limit, message_text}
-use Rattle.link_lines.specs.Reading.{message_in, pair_in}
+use Rattle.message_streams.proofs.Exact.{message_exact}
+use Rattle.message_streams.proofs.Pairs.{bind_some, same_pair}
+use Rattle.message_streams.specs.Lines.{FitsMessage, line_limit, message_text}
+use Rattle.message_streams.specs.Reading.{message_in, pair_in}
 use Rattle.link_handshake.specs.Lines.{FitsGreeting, greeting_line, greeting_text, mark, spaced}
 use Rattle.link_handshake.specs.Reading.{after_mark, exact_number, first_number, greeting_in, greeting_or_nothing, message_or, said_by}
 use Rattle.link_handshake.specs.declared.greeting.Greeting.{Greeting}

@@ -13,7 +13,7 @@ use Rattle.prefix_patterns.proofs.Numbers.{digits_decide, number_in-found, numbe
 use Rattle.prefix_patterns.proofs.Tokens.{parts_at-found, parts_at-joined}
 use Rattle.prefix_patterns.specs.Number.{decimal_value, IsDigits}
 use Rattle.prefix_patterns.specs.Reading.{number_in, parts_at}
-use Rattle.link_lines.proofs.Pairs.{bind_some, same_pair}
+use Rattle.message_streams.proofs.Pairs.{bind_some, same_pair}
 use Rattle.link_handshake.specs.Lines.{spaced}
 use Rattle.link_handshake.specs.Reading.{exact_number, first_number}
 

@@ -1,6 +1,6 @@
 -- What a line of version 2 says. (This project's own choice.)
 use Rattle.std.specs.Prelude.{ℕ, ◌==◌, if◌then◌else◌, List, [], ◌∷◌, length, take, drop, Option, Some, None, bytes_eq, decimal}
-use Rattle.link_lines.specs.Reading.{message_in}
+use Rattle.message_streams.specs.Reading.{message_in}
 use Rattle.netchange_core.specs.declared.message.Message.{Message}
 use Rattle.prefix_patterns.specs.Reading.{◌>>=◌, number_in, parts_at}
 use Rattle.link_handshake.specs.Lines.{mark}

@@ -1,6 +1,6 @@
 //! What holds of all lines of version 2, and of the clocks of an end.
 ghost use Rattle.std.specs.Prelude.{◌≡◌, ◌≤◌, ◌∷◌, ◌++◌, [], ◌+◌, ◌-◌, ◌*◌, ◌↔◌, ℕ, List, None, Some, false, length};
-ghost use Rattle.link_lines.specs.Lines.{FitsMessage, line_limit, message_text};
+ghost use Rattle.message_streams.specs.Lines.{FitsMessage, line_limit, message_text};
 ghost use Rattle.netchange_core.specs.declared.message.Message.{Message};
 ghost use Rattle.link_handshake.specs.Clocks.{AreRising, IsSilent, after_line, after_looks, last_of};
 ghost use Rattle.link_handshake.specs.Ends.{heard_line};

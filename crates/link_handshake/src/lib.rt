@@ -1,5 +1,5 @@
 //! Two ends of a link that stay in step over any line: the lines of version 2, what an end does at each line that it hears, and how long
-//! it was silent. The router does not use it yet; it talks by version 1 (`link_lines`).
+//! it was silent. The router does not use it yet; it talks by version 1 (`message_streams`).
 //!
 //! # The lines
 //!
@@ -61,6 +61,7 @@ mod clocks;
 mod ends;
 mod greeting;
 mod laws;
+mod post;
 mod runs;
 mod said;
 
@@ -68,6 +69,7 @@ pub use clocks::{Clocks, LOOK_LIMIT};
 pub use ends::{End, Heard, SKIP_LIMIT, Speaker, skip};
 pub use greeting::{Greeting, push_greeting, read_greeting};
 pub use laws::{empty_lines_change_nothing, greetings_are_short, one_line, silence_lasts};
+pub use post::{CameUp, Post, Unheard};
 pub use runs::{
     ends_meet, greetings_do_not_multiply, messages_are_of_the_session, no_message_is_skipped,
     sessions_answer_present_attempts,

@@ -3,7 +3,7 @@ ghost use Rattle.std.specs.Prelude.{◌≡◌};
 ghost use Rattle.link_handshake.specs.Reading as spec;
 
 use crate::greeting::{Greeting, read_greeting};
-use link_lines::read_message;
+use message_streams::read_message;
 use netchange_core::Message;
 
 /// What a line of a link says.

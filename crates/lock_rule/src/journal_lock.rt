@@ -1,5 +1,9 @@
 //! The lock round a router's journal and the seats of its callers, as the crates above see them: they can make the steps of the lock,
 //! and no others.
+//!
+//! **A caller that finds the lock held loads the word some times, and then sleeps for a set time.** Nobody wakes it. Exact wakes need a system call
+//! at each release while one sleeps, and are slower; so is a yield between two tries, since each try takes the word's cache line from the thread
+//! that holds the lock.
 
 ghost use Rattle.std.specs.Prelude.{◌≡◌, ◌≢◌, ◌<◌, IfErr, IfNone, IfOk, IfSome, MatchBool, None, []};
 ghost use Rattle.lock_rule.specs.Closing.{ClosedLong};

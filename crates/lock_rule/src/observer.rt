@@ -1,4 +1,7 @@
 //! Who looks at a journal while nobody else can change it.
+//!
+//! **An observer is shown the journal, and says what it does of each history that the journal may have the end of.** So its clause is one over a
+//! whole history, though it sees the end; how many entries are forgotten it is told beside.
 
 use route_history::LongJournal;
 

@@ -1,4 +1,10 @@
 //! The rule of the lock, what each of its steps tells, and how views are split and merged. No value of a view is made.
+//!
+//! **The word and the slot are those of the kit's `atomic_table`**, whose steps are proved by hand once. This crate has no atomics and no `unsafe`
+//! of its own; its rule and its proofs are about plain lists.
+//!
+//! **The history of the rule is no value.** It is what all passes have seen beginnings of, and it is in proofs alone: so the journal in the slot
+//! may have less of it than the rule speaks of. Nothing that a pass knows changes when entries are forgotten.
 
 use atomic_table::{Join, Play, Seat, Split, Table, TableRule};
 use netchange_core::Opening;

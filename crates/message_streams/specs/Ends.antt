@@ -1,10 +1,10 @@
 -- Why a reader hands out no more, and what it has read by then. (This project's own choice.)
 use Rattle.std.specs.Prelude.{◌≡◌, ◌≢◌, ℕ, ◌<◌, ◌≤◌, ◌==◌, if◌then◌else◌, All, Option, None, List, [], ◌∷◌, ◌++◌, length, ⊤}
 use Rattle.std.specs.Io.KnownBytes.{Consumes, IsAtEnd}
-use Rattle.link_lines.specs.Greetings.{IsGreetingFault}
-use Rattle.link_lines.specs.Lines.{line_limit}
-use Rattle.link_lines.specs.Reading.{message_in}
-use Rattle.link_lines.specs.declared.greeting.Greeting.{Greeting}
+use Rattle.message_streams.specs.Greetings.{IsGreetingFault}
+use Rattle.message_streams.specs.Lines.{line_limit}
+use Rattle.message_streams.specs.Reading.{message_in}
+use Rattle.message_streams.specs.declared.greeting.Greeting.{Greeting}
 use Rattle.message_streams.specs.declared.ends.StreamEnd.{StreamEnd}
 use Rattle.message_streams.specs.declared.ends.StreamEnd.TheVariants as why
 

@@ -1,3 +1,6 @@
 -- what callers cite
+pub mod Lines
+pub mod Reading
+pub mod Greetings
 pub mod Ends
 pub mod Views

@@ -1,7 +1,7 @@
 //! Why a reader hands out no more.
 ghost use Rattle.std.specs.Prelude.{◌≡◌};
 
-use link_lines::GreetingFault;
+use crate::greeting::GreetingFault;
 use thiserror::Error;
 
 /// Why a reader of a link handed out nothing. It hands out nothing from then on.

@@ -4,10 +4,10 @@ ghost use Rattle.std.specs.Io.KnownBytes.{Consumes, IsAtEnd, Keeps};
 ghost use Rattle.message_streams.specs.Ends.{ReadsLine, StopsAtLine};
 ghost use Rattle.message_streams.specs.Ends as spec;
 
+use crate::LINE_LIMIT;
 use crate::ends::StreamEnd;
 use arrayvec::ArrayVec;
 use line_protocol::read_some;
-use link_lines::LINE_LIMIT;
 use std::io::Read;
 
 /// The next byte, or None at the end of the stream.

@@ -1,12 +1,13 @@
 //! A reader of messages.
 ghost use Rattle.std.specs.Prelude.{◌≡◌, ◌+◌, ◌-◌, ◌^◌, min, None, Some, Err, IfErr, IfOk, IfSome, OnOk};
 ghost use Rattle.std.specs.Io.KnownBytes.{Consumes};
-ghost use Rattle.link_lines.specs.Lines.{FitsMessage, greeting_line, message_line};
+ghost use Rattle.message_streams.specs.Lines.{FitsMessage, greeting_line, message_line};
 ghost use Rattle.message_streams.specs.Ends.{StopsAtGreeting, StopsAtMessage};
 
 use crate::ends::StreamEnd;
+use crate::greeting::{Greeting, check_greeting};
 use crate::line::read_line;
-use link_lines::{Greeting, check_greeting, read_message};
+use crate::message_text::read_message;
 use netchange_core::Message;
 use std::io::Read;
 use std::marker::Model;

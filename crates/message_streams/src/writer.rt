@@ -2,11 +2,12 @@
 ghost use Rattle.std.specs.Prelude.{◌≡◌, false, true, IfErr, OnOk};
 ghost use Rattle.std.specs.Io.KnownBytes.{Appends, Keeps};
 ghost use Rattle.line_protocol.specs.Runs.{AppendsFront};
-ghost use Rattle.link_lines.specs.Lines.{greeting_line, message_line};
+ghost use Rattle.message_streams.specs.Lines.{greeting_line, message_line};
 ghost use Rattle.message_streams.specs.Views.{IsUnwritten};
 
+use crate::greeting::{Greeting, push_greeting};
+use crate::message_text::push_message;
 use line_protocol::{StreamFault, write_text};
-use link_lines::{Greeting, push_greeting, push_message};
 use netchange_core::Message;
 use std::alloc::Global;
 use std::io::Write;

@@ -6,6 +6,7 @@ use Rattle.std.specs.Io.KnownBytes.{Appends}
 use Rattle.std.specs.declared.io.Error.{Error}
 use Rattle.filter_reports.specs.Cuts.{IsCut}
 use Rattle.filter_reports.specs.Faults.{stream_fault}
+use Rattle.history_saver.specs.Folders.{FolderView}
 use Rattle.router_daemon.specs.Running.{Fails}
 use Rattle.line_protocol.specs.declared.faults.StreamFault.{StreamFault}
 use Rattle.router_daemon.specs.declared.fault.DaemonFault.{DaemonFault}
@@ -19,12 +20,12 @@ use Rattle.ncroute.specs.declared.routing.SetupFault.{SetupFault}
 use Rattle.ncroute.specs.declared.routing.Untold.{Untold}
 
 -- it was not set up, and the result says what was told of that
-module _ (opens creates : List ℕ → Result (Option (List ℕ)) Error → Type 0) (leaves : List ℕ → Option (List ℕ) → Type 0)
-    (words : RouterWords) where
+module _ (opens : List ℕ → Result (Option (List ℕ)) Error → Type 0) (makes : List ℕ → Result (Option FolderView) Error → Type 0)
+    (keeps : List ℕ → Option FolderView → Type 0) (words : RouterWords) where
   pub stopped : {T : Type 0} (result : Result ℕ T) (before mid after : Streams) (why : SetupFault)
-      → StopsSettingUp creates opens why words before mid
+      → StopsSettingUp makes opens why words before mid
       → IfOk result (λ status. (status ≡ setup_status why) × Appends mid.tells after.tells (setup_line why)) → after.reads ≡ mid.reads
-      → after.holds ≡ mid.holds → IfOk result (ServesRouter opens creates leaves words before after)
+      → after.holds ≡ mid.holds → IfOk result (ServesRouter opens makes keeps words before after)
   unfolding ServesRouter
   stopped (Ok status) before mid after why stops told reads holds = inr (inr (why, mid, stops, told.1, reads, holds, told.0))
   stopped (Err cut) before mid after why stops told reads holds = tt
@@ -36,20 +37,21 @@ untouched operated P Q follows (fault.Stream why) fails = fails
 untouched operated P Q follows (fault.Save why) fails = fails
 untouched operated P Q follows (fault.Call why) fails = follows fails
 untouched operated P Q follows (fault.Lock why) fails = follows fails
+untouched operated P Q follows (fault.NotBegun why) fails = follows fails
 untouched operated P Q follows fault.NotStarted fails = follows fails
 untouched operated P Q follows fault.Memory fails = follows fails
 
 -- a fault ended it, and standard error was told of that: the whole line, or a front of it
-module _ (plan : PlanView) (names : Names) (kept : Option (Option (List ℕ))) (before after : Streams) (why : DaemonFault)
-    (fails : Fails (Operated plan names kept before after) ((after.reads ≡ before.reads) × (after.holds ≡ before.holds)) why) where
-  pub faulted : (leaves : List ℕ → Option (List ℕ) → Type 0) (save : Option (String Global)) (result : Result ℕ Untold)
+module _ (plan : PlanView) (names : Names) (before after : Streams) (why : DaemonFault)
+    (fails : Fails (Operated plan names before after) ((after.reads ≡ before.reads) × (after.holds ≡ before.holds)) why) where
+  pub faulted : (keeps : List ℕ → Option FolderView → Type 0) (save : Option (String Global)) (kept : Option (Option FolderView)) (result : Result ℕ Untold)
       → IfOk result (λ status. (status ≡ 1) × Appends before.tells after.tells (router_line why))
-      → IfOk result (RunsPlan leaves save plan names kept before after)
-  faulted leaves save (Ok status) told = inr (record { why = why; fails = fails; told = told.1 }, told.0)
-  faulted leaves save (Err untold) told = tt
+      → IfOk result (RunsPlan keeps save plan names kept before after)
+  faulted keeps save kept (Ok status) told = inr (record { why = why; fails = fails; told = told.1 }, told.0)
+  faulted keeps save kept (Err untold) told = tt
 
   pub cut_short : (result : Result ℕ Untold)
       → IfErr result (λ untold. (untold.status ≡ 1) × IsCut (stream_fault untold.why) before.tells after.tells (router_line why))
-      → IfErr result (λ untold. CutsPlan (stream_fault untold.why) plan names kept before after untold.status)
+      → IfErr result (λ untold. CutsPlan (stream_fault untold.why) plan names before after untold.status)
   cut_short (Ok status) cut = tt
   cut_short (Err untold) cut = (record { why = why; fails = fails; told = cut.1 }, cut.0)

@@ -18,6 +18,16 @@ node : wrong_line (WrongNumber (number.Node 9 3))
 unfolding digits
 node = refl
 
+queue : wrong_line (WrongNumber (number.Queue 49 50))
+    ≡ codes "error: invalid value '49' for '--queue': 50 messages wait for each neighbour that comes up" ++ 10 ∷ []
+unfolding digits
+queue = refl
+
+unsaved : wrong_line (WrongNumber (number.Unsaved 3))
+    ≡ codes "error: invalid value '3' for '--segments': no --save gives a folder to keep segments in" ++ 10 ∷ []
+unfolding digits
+unsaved = refl
+
 wait : wrong_line (WrongNumber number.Retry)
     ≡ codes "error: invalid value '0' for '--retry': a link is opened again after 1 second or more" ++ 10 ∷ []
 unfolding digits

@@ -94,9 +94,9 @@ StopsSaved fault how filters text kept keeps before after =
     BreaksSaved fault how filters text kept keeps before after ⊎ CutsSaved fault how filters text kept keeps before after
     ⊎ CutsLoss fault how filters text kept keeps before after
 
--- `creates name` says what may come of making a file of this name: what it holds at first, or why there is none.
-module _ (creates : List ℕ → Result (Option (List ℕ)) Error → Type 0) where
-  -- there is no file of this name to save to, for which the reason has these words
+-- `creates name` says what may come of making a file or a folder of this name: what it holds at first, or why there is none.
+module _ {Held : Type 0} (creates : List ℕ → Result (Option Held) Error → Type 0) where
+  -- there is none of this name to save to, for which the reason has these words
   abbrev pub IsUnmade : Option (String Global) → List ℕ → List ℕ → Type 0
   IsUnmade None name words = ⊥
   IsUnmade (Some saved) name words = (name ≡ string_bytes saved) × ((error : Error) × creates name (Err error))

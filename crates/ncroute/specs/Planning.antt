@@ -65,7 +65,14 @@ pub record StopsAdding {A : Type 0} (k : OptionKind) (text_of : A → List ℕ) 
 
 -- the numbers that words say
 abbrev pub numbers_of : RouterWords → Numbers
-numbers_of words = record { size = words.size; me = words.node; limit = words.limit; retry = words.retry }
+numbers_of words = record {
+  size = words.size;
+  me = words.node;
+  limit = words.limit;
+  queue = words.queue;
+  segments = words.segments;
+  retry = words.retry;
+}
 
 -- what an option of these kinds says
 abbrev pub text_of : String Global → List ℕ

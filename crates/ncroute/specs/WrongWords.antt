@@ -56,11 +56,17 @@ option_fault_words k option.UnknownFilter = codes "no --filter gives this name"
 option_fault_words k (option.Twice node) = twice_words k node
 option_fault_words k option.Memory = codes "out of memory"
 
+-- a neighbour that comes up is told so many distances
+abbrev pub queue_words : ℕ → List ℕ
+queue_words least = decimal least ++ codes " messages wait for each neighbour that comes up"
+
 abbrev pub number_fault_words : NumberFault → List ℕ
 number_fault_words (number.Size size) = codes "a domain has 2 to 250 nodes"
 number_fault_words (number.Node node last) = outside_words node last
-number_fault_words (number.Limit limit) = codes "the limit of a history is 1 to 1000000"
-number_fault_words (number.Room limit) = codes "a router without --save has room for 2048 entries or more"
+number_fault_words (number.Limit limit) = codes "a router has room for 2048 to 1000000 entries in memory"
+number_fault_words (number.Queue queue least) = queue_words least
+number_fault_words number.Segments = codes "1 segment is kept or more"
+number_fault_words (number.Unsaved count) = codes "no --save gives a folder to keep segments in"
 number_fault_words number.Retry = codes "a link is opened again after 1 second or more"
 number_fault_words number.Memory = codes "out of memory"
 
@@ -70,7 +76,9 @@ abbrev pub number_name : NumberFault → List ℕ
 number_name (number.Size size) = codes "--size"
 number_name (number.Node node last) = codes "--node"
 number_name (number.Limit limit) = codes "--limit"
-number_name (number.Room limit) = codes "--limit"
+number_name (number.Queue queue least) = codes "--queue"
+number_name number.Segments = codes "--segments"
+number_name (number.Unsaved count) = codes "--segments"
 number_name number.Retry = codes "--retry"
 number_name number.Memory = []
 
@@ -78,7 +86,9 @@ abbrev pub number_value : NumberFault → ℕ
 number_value (number.Size size) = size
 number_value (number.Node node last) = node
 number_value (number.Limit limit) = limit
-number_value (number.Room limit) = limit
+number_value (number.Queue queue least) = queue
+number_value number.Segments = 0
+number_value (number.Unsaved count) = count
 number_value number.Retry = 0
 number_value number.Memory = 0
 

@@ -1,4 +1,7 @@
 //! How filters and code files are checked.
+//!
+//! **A file that is not read is told by its name and the system's reason, and `check` goes on.** In a build one wants to know of each file.
+//! Standard input has no name to look for, so its fault ends the run, as E1.
 ghost use Rattle.std.specs.Prelude.{◌≡◌, ◌||◌, IfErr, IfOk, is_some};
 ghost use Rattle.filter_reports.specs.Checking.{AreTokensUnlessRefused};
 ghost use Rattle.filter_reports.specs.Faults.{stream_fault};

@@ -1,4 +1,8 @@
 //! How the filters of two sources are compared.
+//!
+//! **`diff` ends with 0 only where two filters do the same on all routes, and with 1 only where they differ.** What keeps it from knowing is 3,
+//! also a filter that is refused: after a 1 a script may count on a difference, as after a 1 of `cmp`. OLD is read before NEW, and where OLD cannot
+//! be read, NEW is not.
 ghost use Rattle.std.specs.Prelude.{◌≡◌, IfErr, IfOk};
 ghost use Rattle.filter_reports.specs.Faults.{stream_fault};
 ghost use Rattle.filter_reports.specs.Naming.{named};

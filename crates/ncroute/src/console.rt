@@ -1,4 +1,10 @@
 //! The streams of the program.
+//!
+//! **The streams are one value, the `Console`.** A contract sees it as what is left to read, what was written and what was told, so a clause names
+//! two of these and not six streams. It owns them: of a structure that borrows them each function would have to say that it still holds the same
+//! ones. So the lines of a script that was read from a file do not come in a second `Console`: `Lines` says whether they come from standard input
+//! or from a text, and `answer_lines` alone hands the engine the one reader or the other. Of a text a clause says that standard input is left as it
+//! was.
 ghost use Rattle.std.specs.Prelude.{◌≡◌, ◌<◌, ◌^◌, IfErr, OnOk};
 ghost use Rattle.filter_reports.specs.Faults.{stream_fault};
 ghost use Rattle.ncroute.specs.Ending.{fault_line};

@@ -1,4 +1,7 @@
 //! How a run ends: its exit status, and the line that tells of a fault.
+//!
+//! **A fault ends with status 3 for `diff`, `domain`, `filter`, `lint`, `list`, `replay` and `test`**, so that a script can tell it from bad
+//! policy. For all others it is 1, as for a refusal: of `eval`, `check` and `run` scripts rest on that.
 ghost use Rattle.std.specs.Prelude.{◌≡◌, IfErr, OnOk};
 ghost use Rattle.std.specs.Io.KnownBytes.{Appends};
 ghost use Rattle.line_protocol.specs.Runs.{AppendsFront};

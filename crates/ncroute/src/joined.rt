@@ -1,4 +1,8 @@
 //! The script of a router that several sources are, one after another.
+//!
+//! **Several scripts of `run` are read before the first line is answered**, standard input too, so that a file which is missing is told while
+//! nothing has happened. The script is then bytes in memory, and its contract is that of one script. What is told of a line names its file; the
+//! numbers in answers count the lines of the whole script, as a program that reads answers sent it.
 ghost use Rattle.std.specs.Option.{option_map};
 ghost use Rattle.std.specs.Prelude.{◌≡◌, ◌++◌, [], ◌∷◌, IfErr, IfOk, OnErr, OnOk};
 ghost use Rattle.filter_reports.specs.Faults.{stream_fault};

@@ -1,4 +1,6 @@
 //! The report on a source where each line begins with the source's name, or where only refusals are written.
+//!
+//! **`check --names` and `-q` make the report in memory and write lines of it**, so that the report itself is made in one place.
 ghost use Rattle.std.specs.Prelude.{◌≡◌, ◌++◌, IfErr, IfOk, OnOk, is_some};
 ghost use Rattle.std.specs.Io.KnownBytes.{Appends};
 ghost use Rattle.filter_reports.specs.Checking.{AreTokensUnlessRefused};

@@ -1,4 +1,8 @@
 //! How filters are looked through for what is plainly wrong.
+//!
+//! **`lint` ends with 0 only where nothing is said and all routes were tried.** A warning or a refusal of any file is 1. Where neither is there, a
+//! filter of which not all routes were tried, or a file that was not read, is 3: a build that asks for clean filters learns that this one was not
+//! looked through.
 ghost use Rattle.std.specs.Prelude.{◌≡◌, IfErr, IfOk, OnOk, is_some};
 ghost use Rattle.filter_reports.specs.Checking.{AreTokensUnlessRefused};
 ghost use Rattle.filter_reports.specs.Faults.{stream_fault};

@@ -1,4 +1,9 @@
 //! The filters of a router are read and verified, before any of its links is opened.
+//!
+//! **Files are opened through a trait of the program's own, `Folder`**, whose ghost member says what may come of opening a name. No clause of the
+//! system's files says what they hold; a proof over any `Folder` still cannot read another file than the one that is named, leave one out, or read
+//! it in part. A file that was made is handed back to the `Folder`, which closes it under its name: so the file that holds the text is the one that
+//! was made.
 ghost use Rattle.std.specs.Prelude.{◌≡◌, IfErr, IfOk, MatchOption, MatchResult};
 ghost use Rattle.filter_reports.specs.Faults.{stream_fault};
 ghost use Rattle.ncroute.specs.Loading as spec;

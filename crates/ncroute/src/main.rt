@@ -1,5 +1,9 @@
 //! `ncroute`: checks route filters, takes routes through their code, runs a router or a network of routers, and computes the
 //! routes of a whole domain.
+//!
+//! **`serve` does all that can be promised without streams of the system.** Its `Console` is generic over input, output and standard error, so its
+//! contract says what the program writes and how it ends. It answers a `Result`, so that a fault that could not be reported is seen; `main` then
+//! ends with the status alone.
 #![tactic(auto)]
 
 mod checking;
@@ -7,6 +11,7 @@ mod comparing;
 mod console;
 mod ending;
 mod filters;
+mod folders;
 mod guided;
 mod importing;
 mod including;

@@ -1,4 +1,11 @@
 //! What the words of `router` come to: the plan of a router.
+//!
+//! **`router` refuses a second `--prefix`, `--import`, `--export` or `--link` of one node.** Of two import filters of a neighbour one alone is in
+//! force in the end, and of two prefixes of a node one alone is shown to filters. Which one it is depends on an order that nobody has in mind, who
+//! has typed one line of 40 options twice; so the one that is mistyped is told.
+//!
+//! **`--retry 0` is refused.** A link that is closed is opened again after so many seconds. Where its file is not there, or ends at once, 0 would
+//! keep a processor busy and fill standard error.
 ghost use Rattle.std.specs.Prelude.{◌≡◌, IfErr, IfOk, OnOk, is_some};
 ghost use Rattle.router_options.specs.Plans.{RefusesNumbers};
 ghost use Rattle.ncroute.specs.Planning as spec;
@@ -132,6 +139,8 @@ fn begun_plan(alloc: Global, words: &RouterWords) -> Result<RouterPlan, NumberFa
         size: words.size,
         me: words.node,
         limit: words.limit,
+        queue: words.queue,
+        segments: words.segments,
         retry: words.retry,
     };
     let save = copy(alloc, &words.save)?;

@@ -10,6 +10,7 @@ ghost use Rattle.ncroute.specs.Streaming.{TellsFront};
 
 use crate::console::Console;
 use crate::ending::{FAILED, end_by_fault};
+use crate::folders::HistoryFolders;
 use crate::network::serve_network;
 use crate::requests::{fault_status, serve};
 use crate::routing::serve_router;
@@ -56,7 +57,17 @@ fn status_of_network<R: Threads + Wait + Clock + Sync, I: Read, W: Write, E: Wri
 
 /// Serves `router`, likewise. Where its last line was not told whole, the exit status is the same.
 fn status_of_router<
-    R: Threads + Wait + Clock + Folder + LinkFolder<FI, FO> + Copy + Send + Sync + Drop + 'static,
+    R: Threads
+        + Wait
+        + Clock
+        + Folder
+        + HistoryFolders
+        + LinkFolder<FI, FO>
+        + Copy
+        + Send
+        + Sync
+        + Drop
+        + 'static,
     FI: Read + Send + Drop + 'static,
     FO: Write + Send + Drop + 'static,
     T: Write + Send + Drop + 'static,
@@ -65,9 +76,9 @@ fn status_of_router<
     E: Write,
 >(rt: &R, alloc: Global, words: &RouterWords, console: &mut Console<I, W, E>, voice: T) -> u8
 where
-    R::New: Send + 'static,
-    ensures { ServesRouter (R.opens rt.now) (R.creates rt.now) (R.leaves rt.now) words.now console.old console.new result
-        ⊎ ((cut : StreamFault) × CutsRouter (R.opens rt.now) (R.creates rt.now) (R.leaves rt.now) cut words.now console.old console.new result) }
+    R::Segments: Send + 'static,
+    ensures { ServesRouter (R.opens rt.now) (R.makes rt.now) (R.keeps rt.now) words.now console.old console.new result
+        ⊎ ((cut : StreamFault) × CutsRouter (R.opens rt.now) (R.makes rt.now) (R.keeps rt.now) cut words.now console.old console.new result) }
 {
     match serve_router::<R, FI, FO, T, I, W, E>(rt, alloc, words, console, voice) {
         Ok(status) => status,
@@ -88,7 +99,17 @@ fn status_of_fault<R: Read, W: Write, E: Write>(
 
 /// Does what the words of the command line ask for, and returns the exit status. `voice` is where people are told of a router's links.
 pub fn respond<
-    R: Threads + Wait + Clock + Folder + LinkFolder<FI, FO> + Copy + Send + Sync + Drop + 'static,
+    R: Threads
+        + Wait
+        + Clock
+        + Folder
+        + HistoryFolders
+        + LinkFolder<FI, FO>
+        + Copy
+        + Send
+        + Sync
+        + Drop
+        + 'static,
     FI: Read + Send + Drop + 'static,
     FO: Write + Send + Drop + 'static,
     T: Write + Send + Drop + 'static,
@@ -103,8 +124,8 @@ pub fn respond<
     voice: T,
 ) -> u8
 where
-    R::New: Send + 'static,
-    ensures { Responds (R.opens rt.now) (R.creates rt.now) (R.leaves rt.now) words console.old console.new result }
+    R::Segments: Send + 'static,
+    ensures { Responds (R.opens rt.now) (R.creates rt.now) (R.leaves rt.now) (R.makes rt.now) (R.keeps rt.now) words console.old console.new result }
 {
     match words {
         Ok(Invocation::Asked(request)) => status_of_request(rt, alloc, &request, console),

@@ -1,6 +1,18 @@
 //! The command `router`: from the words to an exit status.
+//!
+//! **`router` makes its plan first, then reads its filters, and makes the folder of its history last.** The plan asks for no file, and a folder
+//! that was made would stay behind a filter that is refused. `run_router` opens the first link, so nothing is opened before all of that is there.
+//!
+//! **`--save` takes a folder that is not there, at each start.** A router reads no history: its neighbours tell it all again. Segments of two
+//! starts in one folder would not be one history, and one that goes on in a folder would first have to see that what is there is whole.
+//!
+//! **`router` ends with 0 where it ran to its end, whatever its operator was refused**, since a router is not worse for a line that was mistyped. A
+//! filter that is refused ends it with 1, as a fault does: in both cases there is no router, and standard error says why.
+//!
+//! **People are told of links by a handle of standard error of their own**, which the threads of links share. So what `serve_router` promises of
+//! the other handle, on which it tells why a router is not there, does not depend on when a link is closed.
 ghost use Rattle.std.specs.Option.{option_map};
-ghost use Rattle.std.specs.Prelude.{◌≡◌, ◌++◌, IfErr, IfOk, MatchOption, OnOk};
+ghost use Rattle.std.specs.Prelude.{◌≡◌, ◌++◌, IfErr, IfOk, IfSome, MatchOption, OnOk};
 ghost use Rattle.std.specs.Io.KnownBytes.{Appends};
 ghost use Rattle.filter_reports.specs.Cuts.{IsCut};
 ghost use Rattle.filter_reports.specs.Faults.{stream_fault};
@@ -9,13 +21,14 @@ ghost use Rattle.ncroute.specs.WrongWords.{wrong_line};
 
 use crate::console::Console;
 use crate::ending::{FAILED, fault_line};
+use crate::folders::HistoryFolders;
 use crate::loading::load_filters;
 use crate::planning::{PlanFault, is_memory, plan_of};
 use crate::texts::{Folder, tell_unmade, write_line};
 use crate::wrong_words::wrong_line;
 use command_line::RouterWords;
 use filter_reports::ProgramFault;
-use history_saver::{SaveFault, Saver};
+use history_saver::{SaveFault, SegmentSaver};
 use line_protocol::StreamFault;
 use route_history::CallFault;
 use router_daemon::{DaemonFault, LinkFolder, Setting, run_router};
@@ -89,6 +102,16 @@ fn end_unset<E: Write>(alloc: Global, errors: &mut E, fault: SetupFault<'_>) -> 
     }
 }
 
+/// The line that tells of a fault of saving.
+fn save_line(fault: SaveFault) -> &'static str
+    ensures { result.now ≡ spec.save_line fault }
+{
+    match fault {
+        SaveFault::Write => fault_line(ProgramFault::Stream(StreamFault::Write)),
+        SaveFault::Memory => fault_line(ProgramFault::MEMORY),
+    }
+}
+
 /// The line that tells of a fault of a router.
 fn router_line(fault: DaemonFault) -> &'static str
     ensures { result.now ≡ spec.router_line fault }
@@ -99,8 +122,7 @@ fn router_line(fault: DaemonFault) -> &'static str
         DaemonFault::Call(CallFault::Memory) => "ncroute: J2\n",
         DaemonFault::Lock(LockFault::Held) => "ncroute: L2\n",
         DaemonFault::Lock(LockFault::Memory) => "ncroute: L3\n",
-        DaemonFault::Save(SaveFault::Write) => fault_line(ProgramFault::Stream(StreamFault::Write)),
-        DaemonFault::Save(SaveFault::Memory) => fault_line(ProgramFault::MEMORY),
+        DaemonFault::NotBegun(fault) | DaemonFault::Save(fault) => save_line(fault),
         DaemonFault::NotStarted => "ncroute: X2\n",
         DaemonFault::Memory => fault_line(ProgramFault::MEMORY),
     }
@@ -115,24 +137,25 @@ fn end_by_fault<E: Write>(errors: &mut E, fault: DaemonFault) -> Result<u8, Unto
     end_by_line(errors, FAILED, router_line(fault).as_bytes())
 }
 
-/// Makes the file in which the history is saved, if one is named. There is none where it is not made, which people are told.
-fn make_save<F: Folder, E: Write>(
+/// Makes the folder in which the history is saved, if one is named. There is none where it is not made, which people are told.
+fn make_save<F: HistoryFolders, E: Write>(
     files: &F,
     alloc: Global,
     save: &Option<String>,
     errors: &mut E,
-) -> Result<Option<Option<F::New>>, ProgramFault>
+) -> Result<Option<Option<F::Segments>>, ProgramFault>
     ensures finished { IfOk result (λ made. MatchOption made
-        (spec.LacksSave (F.creates files.now) save.now (E.contents errors.old) (E.contents errors.new))
-        (λ file. spec.MakesSave (F.creates files.now) save.now (option_map (λ new. F.New.contents new) file)
+        (spec.LacksSave (F.makes files.now) save.now (E.contents errors.old) (E.contents errors.new))
+        (λ folder. spec.MakesSave (F.makes files.now) save.now (option_map (λ segments. F.Segments.holds segments) folder)
         × (E.contents errors.new ≡ E.contents errors.old))) }
-    ensures stopped { IfErr result (λ fault. spec.CutsSave (F.creates files.now) (stream_fault fault) save.now
+    ensures empty { IfOk result (λ made. IfSome made (λ folder. IfSome folder (λ segments. spec.IsEmpty (F.Segments.holds segments)))) }
+    ensures stopped { IfErr result (λ fault. spec.CutsSave (F.makes files.now) (stream_fault fault) save.now
         (E.contents errors.old) (E.contents errors.new)) }
 {
     match save {
         None => Ok(Some(None)),
-        Some(name) => match files.create(name.as_str()) {
-            Ok(file) => Ok(Some(Some(file))),
+        Some(name) => match files.make(alloc, name.as_str()) {
+            Ok(folder) => Ok(Some(Some(folder))),
             Err(why) => match tell_unmade(alloc, errors, name.as_str(), &why) {
                 Ok(()) => Ok(None),
                 Err(fault) => Err(fault),
@@ -148,20 +171,21 @@ fn size_of(plan: &RouterPlan) -> u16
     plan.opening.size()
 }
 
-/// What a router of this plan is run with: its filters are read and verified, and then the file of its history is made. There is none
+/// What a router of this plan is run with: its filters are read and verified, and then the folder of its history is made. There is none
 /// where something is not there, which people are told.
-fn fit_out<F: Folder, R: Read, W: Write, E: Write>(
+fn fit_out<F: Folder + HistoryFolders, R: Read, W: Write, E: Write>(
     files: &F,
     alloc: Global,
     words: &RouterWords,
     plan: RouterPlan,
     console: &mut Console<R, W, E>,
-) -> Result<Option<Setting<F::New>>, ProgramFault>
+) -> Result<Option<Setting<F::Segments>>, ProgramFault>
     ensures finished { IfOk result (λ set. MatchOption set
-        (spec.LacksParts (F.creates files.now) (F.opens files.now) words.now plan console.old console.new)
-        (λ setting. spec.FitsOut (F.creates files.now) (F.opens files.now) words.now plan setting.filters.entries
-        (option_map (λ new. F.New.contents new) setting.save) console.old console.new × (setting.plan ≡ plan))) }
-    ensures stopped { IfErr result (λ fault. spec.StopsParts (F.creates files.now) (F.opens files.now) (stream_fault fault) words.now plan
+        (spec.LacksParts (F.makes files.now) (F.opens files.now) words.now plan console.old console.new)
+        (λ setting. spec.FitsOut (F.makes files.now) (F.opens files.now) words.now plan setting.filters.entries
+        (option_map (λ segments. F.Segments.holds segments) setting.save) console.old console.new × (setting.plan ≡ plan))) }
+    ensures empty { IfOk result (λ set. IfSome set (λ setting. IfSome setting.save (λ segments. spec.IsEmpty (F.Segments.holds segments)))) }
+    ensures stopped { IfErr result (λ fault. spec.StopsParts (F.makes files.now) (F.opens files.now) (stream_fault fault) words.now plan
         console.old console.new) }
 {
     let size = size_of(&plan);
@@ -189,17 +213,18 @@ fn fit_out<F: Folder, R: Read, W: Write, E: Write>(
 }
 
 /// What a router is run with. There is none where something of it is not there, which people were told.
-fn set_up<'a, F: Folder, R: Read, W: Write, E: Write>(
+fn set_up<'a, F: Folder + HistoryFolders, R: Read, W: Write, E: Write>(
     files: &F,
     alloc: Global,
     words: &'a RouterWords,
     console: &mut Console<R, W, E>,
-) -> Result<Option<Setting<F::New>>, SetupFault<'a>>
+) -> Result<Option<Setting<F::Segments>>, SetupFault<'a>>
     ensures finished { IfOk result (λ set. MatchOption set
-        (spec.LacksSetting (F.creates files.now) (F.opens files.now) words.now console.old console.new)
-        (λ setting. spec.SetsUp (F.creates files.now) (F.opens files.now) words.now setting.plan setting.filters.entries
-        (option_map (λ new. F.New.contents new) setting.save) console.old console.new)) }
-    ensures stopped { IfErr result (λ fault. spec.StopsSettingUp (F.creates files.now) (F.opens files.now) fault words.now
+        (spec.LacksSetting (F.makes files.now) (F.opens files.now) words.now console.old console.new)
+        (λ setting. spec.SetsUp (F.makes files.now) (F.opens files.now) words.now setting.plan setting.filters.entries
+        (option_map (λ segments. F.Segments.holds segments) setting.save) console.old console.new)) }
+    ensures empty { IfOk result (λ set. IfSome set (λ setting. IfSome setting.save (λ segments. spec.IsEmpty (F.Segments.holds segments)))) }
+    ensures stopped { IfErr result (λ fault. spec.StopsSettingUp (F.makes files.now) (F.opens files.now) fault words.now
         console.old console.new) }
 {
     match plan_of(alloc, words) {
@@ -213,18 +238,32 @@ fn set_up<'a, F: Folder, R: Read, W: Write, E: Write>(
     }
 }
 
-/// Closes the file of a name in which a history is saved, if one is named and there is one.
-fn close_save<F: Folder>(files: &F, save: &Option<String>, saver: Option<Saver<F::New>>)
-    ensures { spec.LeavesSave (F.leaves files.now) save.now saver }
+/// Leaves the folder of a name in which a history is saved, if one is named and there is one.
+fn leave_save<F: HistoryFolders>(
+    files: &F,
+    save: &Option<String>,
+    saver: Option<SegmentSaver<F::Segments>>,
+)
+    ensures { spec.LeavesSave (F.keeps files.now) save.now saver }
 {
     if let (Some(name), Some(saver)) = (save, saver) {
-        files.close_saver(name.as_str(), saver);
+        files.leave(name.as_str(), saver.into_folder());
     }
 }
 
-/// Runs a router that is set up: the exit status. The file of its history is closed at last.
+/// Runs a router that is set up: the exit status. The folder of its history is left at last.
 fn run_setting<
-    R: Threads + Wait + Clock + Folder + LinkFolder<FI, FO> + Copy + Send + Sync + Drop + 'static,
+    R: Threads
+        + Wait
+        + Clock
+        + Folder
+        + HistoryFolders
+        + LinkFolder<FI, FO>
+        + Copy
+        + Send
+        + Sync
+        + Drop
+        + 'static,
     FI: Read + Send + Drop + 'static,
     FO: Write + Send + Drop + 'static,
     T: Write + Send + Drop + 'static,
@@ -235,18 +274,19 @@ fn run_setting<
     rt: &R,
     alloc: Global,
     save: &Option<String>,
-    setting: Setting<R::New>,
+    setting: Setting<R::Segments>,
     console: &mut Console<I, W, E>,
     voice: T,
 ) -> Result<u8, Untold>
 where
-    R::New: Send + 'static,
-    ensures finished { IfOk result (spec.RunsPlan (R.leaves rt.now) save.now setting.plan setting.filters.entries
-        (option_map (λ file. R.New.contents file) setting.save) console.old console.new) }
+    R::Segments: Send + 'static,
+    requires { IfSome setting.save (λ segments. spec.IsEmpty (R.Segments.holds segments)) }
+    ensures finished { IfOk result (spec.RunsPlan (R.keeps rt.now) save.now setting.plan setting.filters.entries
+        (option_map (λ segments. R.Segments.holds segments) setting.save) console.old console.new) }
     ensures untold { IfErr result (λ untold. spec.CutsPlan (stream_fault untold.why) setting.plan setting.filters.entries
-        (option_map (λ file. R.New.contents file) setting.save) console.old console.new untold.status) }
+        console.old console.new untold.status) }
 {
-    match run_router::<R, FI, FO, R, R::New, T, I, W>(
+    match run_router::<R, FI, FO, R, R::Segments, T, I, W>(
         rt,
         alloc,
         *rt,
@@ -256,18 +296,28 @@ where
         &mut console.writer,
     ) {
         Ok(end) => {
-            close_save(rt, save, end.saved);
+            leave_save(rt, save, end.saved);
             Ok(0)
         }
         Err(fault) => end_by_fault(&mut console.errors, fault),
     }
 }
 
-/// Runs the router that words ask for, and returns the exit status. Its filters are verified, and the file of its history is made,
+/// Runs the router that words ask for, and returns the exit status. Its filters are verified, and the folder of its history is made,
 /// before any link is opened. `voice` is where people are told of links.
 #[tactic(auto, unfolding(crate::specs::Routing::ServesRouter, crate::specs::Routing::CutsRouter))]
 pub fn serve_router<
-    R: Threads + Wait + Clock + Folder + LinkFolder<FI, FO> + Copy + Send + Sync + Drop + 'static,
+    R: Threads
+        + Wait
+        + Clock
+        + Folder
+        + HistoryFolders
+        + LinkFolder<FI, FO>
+        + Copy
+        + Send
+        + Sync
+        + Drop
+        + 'static,
     FI: Read + Send + Drop + 'static,
     FO: Write + Send + Drop + 'static,
     T: Write + Send + Drop + 'static,
@@ -282,9 +332,9 @@ pub fn serve_router<
     voice: T,
 ) -> Result<u8, Untold>
 where
-    R::New: Send + 'static,
-    ensures served { IfOk result (spec.ServesRouter (R.opens rt.now) (R.creates rt.now) (R.leaves rt.now) words.now console.old console.new) }
-    ensures untold { IfErr result (λ untold. spec.CutsRouter (R.opens rt.now) (R.creates rt.now) (R.leaves rt.now) (stream_fault untold.why) words.now
+    R::Segments: Send + 'static,
+    ensures served { IfOk result (spec.ServesRouter (R.opens rt.now) (R.makes rt.now) (R.keeps rt.now) words.now console.old console.new) }
+    ensures untold { IfErr result (λ untold. spec.CutsRouter (R.opens rt.now) (R.makes rt.now) (R.keeps rt.now) (stream_fault untold.why) words.now
         console.old console.new untold.status) }
 {
     match set_up(rt, alloc, words, console) {

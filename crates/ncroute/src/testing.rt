@@ -1,4 +1,8 @@
 //! How test files are run.
+//!
+//! **`test` ends with 0 only where each test holds, and with 1 only where one does not or is undecided.** A test file or a filter that is refused
+//! or not read ends the run with 3 and `Bail out!`, whatever files follow: a harness takes such a stream for failed, and a plan would say that all
+//! is there.
 ghost use Rattle.std.specs.Prelude.{◌≡◌, ◌+◌, ◌<◌, ◌^◌, IfErr, IfOk, OnOk};
 ghost use Rattle.filter_checks.specs.Files.{file_view};
 ghost use Rattle.filter_reports.specs.Faults.{stream_fault};

@@ -10,7 +10,6 @@ ghost use Rattle.ncroute.specs.Reading.{unmade_line, unread_line, unwritten_line
 
 use command_line::Source;
 use filter_reports::{ProgramFault, push_shown};
-use history_saver::Saver;
 use line_protocol::{StreamFault, read_input, write_text};
 use std::alloc::{AllocError, Global};
 use std::fs;
@@ -47,11 +46,6 @@ pub trait Folder {
     /// Closes a new file of this name, which is to stay as it is.
     fn close(&self, name: &str, file: Self::New)
         ensures { leaves self.now name.now (Self.New.contents file) };
-
-    /// Closes a new file of this name, to which a history was saved, and which the saver has. `V` stands for `Self::New`: of a method that
-    /// takes a saver of this type an impl gets no proof yet.
-    fn close_saver<V: Write + Drop>(&self, name: &str, saver: Saver<V>)
-        ensures { leaves self.now name.now saver.held };
 }
 
 impl<F: Files> Folder for F {
@@ -75,8 +69,6 @@ impl<F: Files> Folder for F {
     }
 
     fn close(&self, _name: &str, _file: F::File) {}
-
-    fn close_saver<V: Write + Drop>(&self, _name: &str, _saver: Saver<V>) {}
 }
 
 /// Why a source was not read.

@@ -101,6 +101,14 @@ fn push_option_fault(
     }
 }
 
+/// Adds that a neighbour that comes up has so many messages to be told.
+fn push_queue_fault(line: &mut Vec<u8>, least: u32) -> Result<(), AllocError>
+    ensures { OnOk result (line.new.items ≡ line.old.items ++ spec.queue_words least) }
+{
+    push_decimal(line, u64::from(least))?;
+    line.extend_from_slice(b" messages wait for each neighbour that comes up")
+}
+
 /// Adds why a number is refused.
 fn push_number_fault(line: &mut Vec<u8>, why: NumberFault) -> Result<(), AllocError>
     ensures { OnOk result (line.new.items ≡ line.old.items ++ spec.number_fault_words why) }
@@ -109,10 +117,12 @@ fn push_number_fault(line: &mut Vec<u8>, why: NumberFault) -> Result<(), AllocEr
         NumberFault::Size(_) => line.extend_from_slice(b"a domain has 2 to 250 nodes"),
         NumberFault::Node { node, last } => push_outside(line, node, last),
         NumberFault::Limit(_) => {
-            line.extend_from_slice(b"the limit of a history is 1 to 1000000")
+            line.extend_from_slice(b"a router has room for 2048 to 1000000 entries in memory")
         }
-        NumberFault::Room(_) => {
-            line.extend_from_slice(b"a router without --save has room for 2048 entries or more")
+        NumberFault::Queue { least, .. } => push_queue_fault(line, least),
+        NumberFault::Segments => line.extend_from_slice(b"1 segment is kept or more"),
+        NumberFault::Unsaved(_) => {
+            line.extend_from_slice(b"no --save gives a folder to keep segments in")
         }
         NumberFault::Retry => {
             line.extend_from_slice(b"a link is opened again after 1 second or more")
@@ -128,7 +138,9 @@ fn number_name(why: NumberFault) -> &'static [u8]
     match why {
         NumberFault::Size(_) => b"--size",
         NumberFault::Node { .. } => b"--node",
-        NumberFault::Limit(_) | NumberFault::Room(_) => b"--limit",
+        NumberFault::Limit(_) => b"--limit",
+        NumberFault::Queue { .. } => b"--queue",
+        NumberFault::Segments | NumberFault::Unsaved(_) => b"--segments",
         NumberFault::Retry => b"--retry",
         NumberFault::Memory => b"",
     }
@@ -141,8 +153,10 @@ fn number_value(why: NumberFault) -> u32
     match why {
         NumberFault::Size(size) => size,
         NumberFault::Node { node, .. } => node,
-        NumberFault::Limit(limit) | NumberFault::Room(limit) => limit,
-        NumberFault::Retry | NumberFault::Memory => 0,
+        NumberFault::Limit(limit) => limit,
+        NumberFault::Queue { queue, .. } => queue,
+        NumberFault::Unsaved(count) => count,
+        NumberFault::Segments | NumberFault::Retry | NumberFault::Memory => 0,
     }
 }
 

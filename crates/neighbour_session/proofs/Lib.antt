@@ -3,4 +3,5 @@ mod Gaining
 mod Later
 mod Linking
 mod Reading
+mod Saying
 mod Writing

@@ -7,16 +7,16 @@ use Rattle.std.specs.Option.{option_or}
 use Rattle.line_protocol.specs.Runs.{AppendsFront}
 use Rattle.line_protocol.specs.declared.faults.StreamFault.{StreamFault}
 use Rattle.line_protocol.specs.declared.faults.StreamFault.TheVariants as fault
-use Rattle.link_lines.specs.Lines.{FitsMessage, message_line}
+use Rattle.message_streams.specs.Lines.{FitsMessage, message_line}
 use Rattle.message_streams.specs.Views.{IsUnwritten, ReaderView, WriterView}
 use Rattle.message_streams.specs.declared.ends.StreamEnd.{StreamEnd}
 use Rattle.netchange_core.specs.declared.message.Message.{Message}
 use Rattle.route_session.specs.Links.{Received, Sent}
 use Rattle.route_session.specs.Telling.{known}
 use Rattle.route_session.specs.declared.link.Got.TheVariants as got
-use Rattle.stream_link.proofs.Moves.{gave_more, got_more, got_none, lines_read, lines_written, said_more, written_more}
-use Rattle.stream_link.specs.Views.{said_by}
 use Rattle.neighbour_session.specs.Links.{IsInput, IsOutput, GotLinesOf, ReadsLines, TakesAfter, TearsLine, input_view, output_view}
+use Rattle.neighbour_session.specs.Said.{said_by}
+use Rattle.neighbour_session.proofs.Saying.{gave_more, got_more, got_none, lines_read, lines_written, said_more, written_more}
 
 -- ---- reading
 

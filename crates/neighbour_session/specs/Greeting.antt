@@ -2,8 +2,8 @@
 use Rattle.std.specs.Prelude.{◌≡◌, ℕ, false, Some, None, IfSome}
 use Rattle.std.specs.Io.KnownBytes.{Appends, Consumes}
 use Rattle.line_protocol.specs.declared.faults.StreamFault.{StreamFault}
-use Rattle.link_lines.specs.Lines.{greeting_line}
-use Rattle.link_lines.specs.declared.greeting.Greeting.{Greeting}
+use Rattle.message_streams.specs.Lines.{greeting_line}
+use Rattle.message_streams.specs.declared.greeting.Greeting.{Greeting}
 use Rattle.message_streams.specs.Ends.{StopsAtGreeting}
 use Rattle.message_streams.specs.Views.{IsUnwritten, ReaderView, WriterView}
 use Rattle.message_streams.specs.declared.ends.StreamEnd.{StreamEnd}

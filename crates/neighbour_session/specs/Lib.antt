@@ -4,6 +4,7 @@ pub mod Ending
 pub mod Greeting
 pub mod Links
 pub mod Reading
+pub mod Said
 pub mod Waiting
 pub mod Words
 pub mod Writing

@@ -1,14 +1,15 @@
 -- Links over the streams of one session: one that is read, and one that is written. (This project's own choice.)
-use Rattle.std.specs.Prelude.{◌≡◌, ℕ, Bool, true, List, Option, None, Some}
+use Rattle.std.specs.Prelude.{◌≡◌, ℕ, Bool, true, List, [], Option, None, Some}
 use Rattle.std.specs.Io.KnownBytes.{Appends, Consumes}
 use Rattle.line_protocol.specs.Runs.{AppendsFront}
-use Rattle.link_lines.specs.Lines.{FitsMessage, message_line}
+use Rattle.message_streams.specs.Lines.{FitsMessage, message_line}
 use Rattle.message_streams.specs.Ends.{StopsAtMessage}
 use Rattle.message_streams.specs.Views.{ReaderView, WriterView}
 use Rattle.message_streams.specs.declared.ends.StreamEnd.{StreamEnd}
 use Rattle.netchange_core.specs.declared.message.Message.{Message}
+use Rattle.route_session.specs.Telling.{known}
 use Rattle.route_session.specs.Told.{Told}
-use Rattle.stream_link.specs.Views.{AreLines, GaveLines, GotLines, link_view}
+use Rattle.neighbour_session.specs.Said.{AreLines, GaveLines, GotLines, said_by, said_to}
 
 -- ---- reading
 
@@ -31,7 +32,15 @@ pub record InputView : Type 0 where
 -- of the reader as it was given, as it was after the message that was handed out last, and as it is now
 abbrev pub input_view : ReaderView → ReaderView → ReaderView → Bool → ℕ → Bool → InputView
 input_view first last now has_ended failures is_closed = record {
-  told = (link_view (Some first) (Some last) None None None None 0 has_ended failures is_closed).told;
+  told = record {
+    handed = said_by first.left last.left;
+    given = Some [];
+    first_refused = None;
+    nothings = Some 0;
+    ended = Some has_ended;
+    failures = known failures;
+    closed = is_closed;
+  };
   reader = now;
 }
 
@@ -69,7 +78,15 @@ pub record OutputView : Type 0 where
 -- not taken
 abbrev pub output_view : WriterView → WriterView → WriterView → Option Message → Bool → ℕ → Bool → OutputView
 output_view first last now first_refused has_ended failures is_closed = record {
-  told = (link_view None None (Some first) (Some last) (Some first_refused) None 0 has_ended failures is_closed).told;
+  told = record {
+    handed = Some [];
+    given = said_to first.held last.held;
+    first_refused = Some first_refused;
+    nothings = Some 0;
+    ended = Some has_ended;
+    failures = known failures;
+    closed = is_closed;
+  };
   writer = now;
 }
 

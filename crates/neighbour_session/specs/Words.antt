@@ -1,7 +1,7 @@
 -- Why a session is over, in words. (This project's own choice.)
 use Rattle.std.specs.Prelude.{ℕ, Bool, true, List, ◌++◌, codes, decimal}
-use Rattle.link_lines.specs.declared.greeting.GreetingFault.{GreetingFault}
-use Rattle.link_lines.specs.declared.greeting.GreetingFault.TheVariants as fault
+use Rattle.message_streams.specs.declared.greeting.GreetingFault.{GreetingFault}
+use Rattle.message_streams.specs.declared.greeting.GreetingFault.TheVariants as fault
 use Rattle.message_streams.specs.declared.ends.StreamEnd.{StreamEnd}
 use Rattle.message_streams.specs.declared.ends.StreamEnd.TheVariants as stream
 use Rattle.neighbour_session.specs.declared.ends.SessionEnd.{SessionEnd}

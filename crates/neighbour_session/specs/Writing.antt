@@ -8,9 +8,9 @@ use Rattle.route_session.specs.declared.ends.WriteEnd.{WriteEnd}
 use Rattle.route_session.specs.Told.{Told}
 use Rattle.route_session.specs.Writes.{IsWrittenBy}
 use Rattle.slot_lock.specs.Passes.{PassView, RouterView}
-use Rattle.stream_link.specs.Views.{AreLines}
 use Rattle.neighbour_session.specs.Ending.{Ends}
 use Rattle.neighbour_session.specs.Links.{TearsLine, output_view}
+use Rattle.neighbour_session.specs.Said.{AreLines}
 use Rattle.neighbour_session.specs.Waiting.{IsFullEnd}
 use Rattle.neighbour_session.specs.declared.ends.SessionEnd.{SessionEnd}
 use Rattle.neighbour_session.specs.declared.ends.SessionEnd.TheVariants as end

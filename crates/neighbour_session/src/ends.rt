@@ -4,8 +4,7 @@ ghost use Rattle.std.specs.Io.{StartsWith};
 ghost use Rattle.neighbour_session.specs.Words as spec;
 
 use itoa::Buffer;
-use link_lines::GreetingFault;
-use message_streams::StreamEnd;
+use message_streams::{GreetingFault, StreamEnd};
 use std::alloc::AllocError;
 
 /// Why a session with a neighbour is over, or why none began.

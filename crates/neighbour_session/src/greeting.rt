@@ -3,8 +3,7 @@ ghost use Rattle.std.specs.Prelude.{◌≡◌, IfErr, OnOk};
 ghost use Rattle.neighbour_session.specs.Greeting.{Greets, IsUngreeted};
 
 use crate::ends::SessionEnd;
-use link_lines::Greeting;
-use message_streams::{MessageReader, MessageWriter};
+use message_streams::{Greeting, MessageReader, MessageWriter};
 use std::io::{Read, Write};
 
 /// A router's place in its domain.

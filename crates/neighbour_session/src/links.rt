@@ -1,6 +1,11 @@
 //! Links over the streams of one session: one that is read, and one that is written.
 //!
 //! Each says in its type which stream it was given. So whoever it is lent to hands back a link over this stream, and over no other.
+//!
+//! **A session's links name the stream that they were given in their type.** Over a link of which only its own story is known, a body could serve
+//! another stream: a sink for what is written, an invented text for what is read. So `serve_reader` says what it entered by the lines of the reader
+//! that it was handed, and `serve_writer` hands the writer back, whose stream got the lines of what its Takes brought. Whoever asked for it closes
+//! it.
 ghost use Rattle.std.specs.Option.{option_or};
 ghost use Rattle.std.specs.Prelude.{◌≡◌, ◌<◌, None, Some, false};
 ghost use Rattle.route_session.specs.Telling.{known};

@@ -1,4 +1,9 @@
 //! The best route to a node, by how far each neighbour is from it.
+//!
+//! **A neighbour that is down is at distance N from everything**, so its distances need no rule of their own: the definition takes the nearest of
+//! all nodes. The code looks along the list of the present sessions, and finds the same one; in a large domain with few neighbours a route that got
+//! worse costs no look at the others. That list goes by sessions and not by nodes, so of two neighbours that are as near the one of the lesser
+//! number is taken.
 
 ghost use Rattle.std.specs.Prelude.{◌≡◌, ◌⊎◌, ℕ, ◌+◌, ◌<◌, ◌≤◌, ◌^◌, true, false, List, length, slice_index, slice_set};
 ghost use Rattle.std.specs.List.{HoldsAt};

@@ -1,4 +1,7 @@
 //! Distances under filters.
+//!
+//! **A new import filter of a neighbour that is down is stored, and no route is looked at.** The definition has one rule for both cases, since its
+//! recomputation then changes nothing; the code leaves it out.
 
 ghost use Rattle.std.specs.Prelude.{◌≡◌, ◌<◌, ◌≤◌, Some};
 ghost use Rattle.netchange_core.specs.Kept.{FitsSize, filter_of};

@@ -1,4 +1,7 @@
 //! What routers tell one another.
+//!
+//! **A message names its own type, `Messages`, in a reply**, whose view is the list. Two vectors with the same items are never known to be equal,
+//! and a history compares replies.
 
 ghost use Rattle.std.specs.Prelude.{◌≡◌, ◌↔◌, IsTrue};
 

@@ -1,4 +1,7 @@
 //! A node as a neighbour.
+//!
+//! **A neighbour is a struct with public fields**, seen by `view_of`: a checkpoint reads them through `Tables::neighbour`, and a reader fills them
+//! in. `Tables::restore` judges them, so the struct promises nothing by itself.
 
 ghost use Rattle.std.specs.Prelude.{◌≡◌, IfOk, map, replicate};
 ghost use Rattle.netchange_core.specs.Calls.{newcomer};

@@ -1,4 +1,7 @@
 //! What a router is opened with.
+//!
+//! **`filtered_distance` is public, and an opening can be given another prefix of a node**, so that what a distance becomes under a filter is
+//! computed in one place: `domain_routes` asks for it too.
 
 ghost use Rattle.std.specs.Prelude.{◌≡◌, ◌<◌, IfOk, length, slice_set};
 ghost use Rattle.std.specs.Option.{SomeIff};

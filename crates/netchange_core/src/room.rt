@@ -1,4 +1,8 @@
 //! Room in the queues, made before anything is changed.
+//!
+//! **Down and SetImport make room for N messages in the queue of each up neighbour**, though fewer distances may change. How many change is known
+//! only when the routes are computed, and to count them first would compute each of them twice. A queue keeps the room that it has, so this costs
+//! memory once, and later events find it.
 
 ghost use Rattle.std.specs.Prelude.{◌≡◌, ◌≢◌, ◌+◌, ◌≤◌, OnOk, map};
 ghost use Rattle.std.specs.VecDeque.{deque_len, deque_capacity};

@@ -1,4 +1,9 @@
 //! The sessions of a router.
+//!
+//! **The present sessions are a list in the order of their numbers**, each with its node. Numbers only grow, so Up puts a session at the end, and a
+//! binary search finds it: `queued` takes at most eight comparisons too. A hash map would take one look, and an allocation of its own.
+//!
+//! **The session of a node is an `Option`**, in the code and in the definition, and that a number is 1 or more is a fact of that list.
 
 ghost use Rattle.std.specs.Prelude.{◌≡◌, ◌≢◌, ℕ, ◌<◌, ◌≤◌, ◌^◌, All, IfNone, IfOk, IfSome, List, Option, Some, None, length};
 ghost use Rattle.std.specs.Prelude.{map, position, slice_set};

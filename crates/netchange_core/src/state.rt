@@ -1,4 +1,7 @@
 //! The state of a router, which the events change.
+//!
+//! **The world has rows by neighbour, the tables have columns by destination.** Every event but a look is about one neighbour, so the definition
+//! changes one row by one named function. A message changes how far one node is from one neighbour, so the code writes one entry of one column.
 
 ghost use Rattle.std.specs.Prelude.{◌≡◌, true, IfOk, IfSome, Some, map};
 ghost use Rattle.netchange_core.specs.Kept.{AreNeighbours, AreTables, view_of, views_of, world_of};

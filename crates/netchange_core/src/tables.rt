@@ -1,4 +1,12 @@
 //! The tables of a router.
+//!
+//! **The events are methods of `State`, which has no invariant; `Tables` holds one and adds it.** Within an event the state is not right for a
+//! while: a neighbour has changed, and the distances kept are not yet those that it gives. A method of an event requires that the state is right
+//! (`AreTables`) and ensures one record, `Handles`: the answer of the definition, and that the new state is right.
+//!
+//! **The tables of an opening and restored ones are made alike**: each node's distances from all neighbours, and the best of them, are computed
+//! from what the neighbours told. No message is queued on the way, so the queues are those that were given. A restored list of sessions is made by
+//! inserting each where its number says, which also finds a number that two neighbours have.
 
 ghost use Rattle.std.specs.Prelude.{◌≡◌, ◌<◌, ◌≤◌, IfOk, IfSome, None, OnErr, OnSome, length, map, slice_index};
 ghost use Rattle.std.specs.Option.{SomeIff};

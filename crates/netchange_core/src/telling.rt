@@ -1,4 +1,7 @@
 //! Messages into the queues.
+//!
+//! **Messages are queued along that list**, in the order of the sessions. Each neighbour has a queue of its own, so the definition, which goes by
+//! the numbers of the nodes, says the same; and in a large domain with few neighbours a change costs no look at the others.
 
 ghost use Rattle.std.specs.Prelude.{◌≡◌, ◌≢◌, ℕ, ◌+◌, ◌<◌, ◌≤◌, ◌==◌, not, if◌then◌else◌, [], ◌∷◌, map};
 ghost use Rattle.std.specs.VecDeque.{deque_len, deque_capacity};

@@ -1,4 +1,7 @@
 //! The events of a script's router.
+//!
+//! **An event of a script names session 0 where its node is not up** (`session_number`): an event has a number there, and a session's is 1 or more.
+//! So the line is in the history, refused as N3. The tables have an `Option`, which says so by its type.
 ghost use Rattle.std.specs.Prelude.{◌≡◌, IfOk, OnErr};
 ghost use Rattle.std.specs.Io.{StartsWith};
 ghost use Rattle.operator_cmds.specs.Script.{AnswersIn};

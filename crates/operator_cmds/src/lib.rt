@@ -1,4 +1,7 @@
 //! The operator's commands: how they are read, and what is answered to them.
+//!
+//! **Names are kept in a `BTreeMap` of std**, and looked up as a slice of the line. A `HashMap` of std hashes with a seed that everyone knows, so
+//! whoever chose the names could make each of them take as long as all before it together. In an order, the worst names take the logarithm.
 #![tactic(auto)]
 
 mod command;

@@ -1,4 +1,15 @@
 //! What a script answers to a command that looks at its router.
+//!
+//! **A look is no event** (`routes`, `neighbours`, `told`, `history`), so it can be made of a full history and changes no replay. Before the first
+//! event it is made of a journal that is opened for it and dropped, so that prefixes can still be set.
+//!
+//! **`told` of a node that is not up is O2**, with the line's number: N codes name a place in the history, where a look has none.
+//!
+//! **`told` names all nodes**, since the tables do not keep which of them a neighbour told: a node of which it told nothing has distance N.
+//!
+//! **O10 names the first position that can be shown**, and not the line, as the other O codes do: without it nobody would know where to ask from.
+//!
+//! **FROM has 64 bits in scripts too**, whose histories are shorter: one command has one range.
 ghost use Rattle.std.specs.Prelude.{◌≡◌, ◌++◌, ◌<◌, ◌≤◌, ◌-◌, ◌^◌, true, IfOk, OnOk, OnErr, drop, length, map, take};
 ghost use Rattle.std.specs.Io.{StartsWith};
 ghost use Rattle.history_file.specs.Views.{entry_view};

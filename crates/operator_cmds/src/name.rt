@@ -1,4 +1,7 @@
 //! Names of filters in a script.
+//!
+//! **`load` takes one line.** A filter of several lines is compiled by `ncroute check`, and named by `code`. So the rules of lines are the same for
+//! every command, and a script can be cut and counted without knowing filters.
 ghost use Rattle.std.specs.Prelude.{◌≡◌};
 ghost use Rattle.std.specs.List.{list_all};
 ghost use Rattle.operator_cmds.specs.Names as spec;

@@ -1,4 +1,7 @@
 //! What a script answers to a line.
+//!
+//! **The definition of an answer is a relation**, since two things are left open: which P or Y code a filter that is refused gets, and where memory
+//! is refused. All else is a function of the lines before.
 ghost use Rattle.std.specs.Prelude.{◌≡◌, ◌≤◌, ◌<◌, ◌+◌, ◌/◌, ◌%◌, [], ◌∷◌, ◌++◌, flat_map, IfOk, OnOk, OnErr, codes, decimal};
 ghost use Rattle.std.specs.Io.{StartsWith};
 ghost use Rattle.netchange_core.specs.Whole.{whole_reply};

@@ -1,4 +1,20 @@
 //! The index of a large set: patterns in buckets by their first 8 bits, and a leaf or a tree for each bucket.
+//!
+//! **A set of more than 12 patterns has an index.** It puts the patterns into 256 buckets by their first 8 bits. Up to eight patterns of a bucket
+//! have a leaf, and more of them a tree by the further bits. Those of fewer than 8 bits, if there are some, are in one more bucket with a tree of
+//! its own. A node of a tree has two masks of lengths: those that patterns ending there allow, and those that any pattern below it allows. Where a
+//! part of a tree has up to eight patterns, it is a leaf. For each prefix of up to 8 bits a mark says whether it matches one of the patterns of 8
+//! bits or more. So a match takes at most 32 steps and one leaf in each of two trees, however many patterns there are. A smaller set has the leaves
+//! of all its patterns, which are compared one after another: an index would take longer to build than a filter saves by it.
+//!
+//! **An index is cheap to build**, since `check` builds each set once and asks it nothing. Most buckets are empty or have a few patterns, and those
+//! of a few become a leaf at once, which is filled where it stays. Links between patterns have 16 bits, and marks 8, so that little memory is
+//! cleared. A leaf for each bucket, in the order of the buckets, would spare a match the look at a table, but 20 KB would have to be cleared for
+//! each set.
+//!
+//! **Trees are built from the leaves up**, each from the list of its patterns, and a node is never changed. So what a node stands for, the patterns
+//! that begin with the bits on the way to it, is proved once and stays true while more nodes are added. The list is split by copying it, so while
+//! an index is built, up to 25 copies of a pattern are held: so many only of patterns that share all their bits.
 
 ghost use Rattle.std.specs.Prelude.{◌≡◌, ◌+◌, ◌<◌, ◌≤◌, ◌++◌, ◌||◌, Bool, IsTrue, List, [], IfOk, OnOk, get_or, length};
 ghost use Rattle.prefix_patterns.specs.Matching.{PrefixPattern, matches_any, pattern_limit};

@@ -1,3 +1,11 @@
+//! Numbers in decimal digits.
+//!
+//! **`read_number` says what all numbers are.** Octets, prefix lengths, and the numbers of lines are decimal digits under the same rules (any
+//! number of digits, leading zeros, no sign); only their limits differ. `leading_number` reads the usual spelling, of up to three digits, in one
+//! pass, and gives the same.
+//!
+//! **An octet or a length may have leading zeros** (`010.0.0.0/08`), and is read as decimal. Numbers are read by value everywhere.
+
 ghost use Rattle.std.specs.Char.{IsAsciiDigit};
 ghost use Rattle.std.specs.Option.{SomeIff};
 ghost use Rattle.std.specs.Prelude.{◌≡◌, ◌+◌, ◌-◌, ◌*◌, ◌≤◌};

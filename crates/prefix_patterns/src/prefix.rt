@@ -1,3 +1,8 @@
+//! Prefixes.
+//!
+//! **Contracts see a prefix as the list of its bits**, not as an address and a length. Two prefixes are equal if and only if their bits are, and
+//! "the first n bits" needs no arithmetic.
+
 ghost use Rattle.std.proofs.lemmas.Cmp.{lists_equiv};
 ghost use Rattle.std.specs.Bool.{beq};
 ghost use Rattle.std.specs.Cmp.{bool_eq_equiv, partial_equiv_from_equiv};

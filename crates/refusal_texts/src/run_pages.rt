@@ -125,8 +125,7 @@ Place: the first position whose entry is not
     $ { yes 'show 0' | head -n 2000; sleep 1; echo 'history 0'; } | ncroute router --size 4 --node 0 --limit 2048 2>/dev/null | tail -n 1
     refused O10 1024
 
-A router without `--save` keeps the last entries alone. Ask from that position on; or start the router with `--save FILE`, so that
-`ncroute replay FILE` has them all.
+A router keeps the last entries alone in memory. Ask from that position on; or start the router with `--save FOLDER`, which then has them all.
 ",
     },
     Page {
@@ -148,7 +147,8 @@ E2: the output could not be written
     $ echo 4e4 | ncroute eval 2>&1 >/dev/full
     ncroute: E2
 
-See that the disk has room, and that what reads the pipe still runs. `--save` and `import --out` make new files: a FILE that is there already is E2, too.
+See that the disk has room, and that what reads the pipe still runs. `run --save` and `import --out` make new
+files, and `router --save` a new folder: a name that is there already is E2, too.
 ",
     },
     Page {
@@ -269,8 +269,8 @@ Place: the number of entries
     opened 1
     refused J1 1
 
-Give `network` a higher LIMIT, or `ncroute router` a higher `--limit`, at most 1,000,000; or start the router anew, with a new FILE for `--save`.
-A router without `--save` forgets its first entries, and then takes events again.
+Give `network` a higher LIMIT, at most 1,000,000. `ncroute router` forgets its first entries, once they are saved where they are to be, and then
+takes events again: a higher `--limit` makes J1 rarer, and room on the disk ends one that stays.
 ",
     },
     Page {

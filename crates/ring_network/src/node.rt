@@ -1,4 +1,7 @@
 //! One node of a ring.
+//!
+//! **Each node opens, runs and closes its router on its own thread.** So no fact about a router or a pass has to cross threads: links go in, and a
+//! journal with its node's opening comes out.
 
 ghost use Rattle.std.specs.Prelude.{◌≡◌, ◌+◌, ◌<◌, false, IfOk, vec_len};
 ghost use Rattle.ring_network.specs.Ring.{IsJournalOf, node_prefix, ring_opening};

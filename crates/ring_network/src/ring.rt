@@ -1,4 +1,7 @@
 //! Three nodes in a ring, and the channels between them.
+//!
+//! **A neighbour whose Up is refused would end the network as a thread that is not started does (X2).** It cannot happen, since both neighbours of
+//! a new router are down; but a pass without all shares does not know that nobody else entered something.
 
 ghost use Rattle.std.specs.Prelude.{◌≡◌, IfErr, IfOk, IfSome, Ok};
 ghost use Rattle.ring_network.specs.Ring.{IsFirstFault, IsJournalOf};

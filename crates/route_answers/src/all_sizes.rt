@@ -1,4 +1,12 @@
 //! Code that is verified for domains of all sizes at once.
+//!
+//! **`eval` verifies its code once, for all sizes if that is possible.** The verifier accepts code for one size, and to verify it for each one that
+//! comes would take longer than the routes, where they are few of a size. But a run depends on the size in one place: SETMETRIC sets at most the
+//! size. Where no METRIC stands behind a SETMETRIC, no run reads what it set, since jumps go forward alone, and what is accepted in a small domain
+//! is the metric of the largest one, or the size if that is less: `smaller_domains_clip_the_metric` is the law. So such code is verified for the
+//! largest size, and serves in all. Other code, and code that is refused for the largest size, is verified for that of the first route. What is
+//! written does not depend on this: other sizes, code that the verifier refuses and a lack of memory in the verifier lead to the machine that tests
+//! each step.
 ghost use Rattle.std.specs.Prelude.{◌≡◌, IsTrue, MatchResult};
 ghost use Rattle.filter_code.specs.Limits.{largest_size};
 ghost use Rattle.route_answers.specs.Sizes.{ReadsFirst};

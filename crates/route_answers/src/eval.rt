@@ -1,4 +1,8 @@
 //! `ncroute eval`: routes through a code file.
+//!
+//! **`eval` reads at most one byte past the limit of its input**, so that E4 is answered only if that byte was there.
+//!
+//! **After a refused code line, `eval` is in the state "no code yet".** Nothing after that line is answered, so no third state is needed.
 ghost use Rattle.std.specs.Prelude.{◌≡◌, ◌++◌, ℕ, List, None, Ok, Err, OnOk, IfOk, IfErr, IfSome, MatchResult, OnErr};
 ghost use Rattle.std.specs.Io.{StartsWith};
 ghost use Rattle.std.specs.Io.KnownBytes.{Appends};

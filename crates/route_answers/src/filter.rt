@@ -1,4 +1,8 @@
 //! `ncroute filter`: routes through a filter that is verified first.
+//!
+//! **`filter` defines its answers by the meaning of the filter's text**, not by code. The proof joins the compiler, the verifier and the machine.
+//!
+//! **`filter` reads its filter from a file that the command line names**, since standard input has the routes. Files need no handle.
 ghost use Rattle.std.specs.Prelude.{◌≡◌, ◌++◌, IfErr, IfOk, IfSome, OnErr, OnOk};
 ghost use Rattle.std.specs.Io.{StartsWith};
 ghost use Rattle.filter_machine.specs.Verdicts.{outcome_said};

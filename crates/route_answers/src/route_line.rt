@@ -1,4 +1,10 @@
 //! A route line: `PREFIX METRIC SIZE`, or `PREFIX METRIC` where the size of the domain is given.
+//!
+//! **A route line is read in two ways.** The first reads the usual spelling in one pass: it says that what it returns is the route of the line, and
+//! that it returns one for each line in that spelling. Where it returns none, the second cuts the line into words and judges each. So the meaning
+//! of a line is defined in one place, and the lines of a large input are read at the speed of a scan. `read_route` does both, of `eval`'s lines of
+//! three words and of `filter`'s of two: whether the size is given is known where it is called, and the compiler makes of it one reader for each.
+//! What the usual spelling of numbers and prefixes is, `prefix_patterns` says once for all who read it.
 ghost use Rattle.std.specs.Prelude.{◌≡◌, ◌≤◌, ℕ, [], length, IfSome, IsSome, IsSomeAnd, Ok};
 ghost use Rattle.std.specs.Option.{option_map};
 ghost use Rattle.line_protocol.specs.Limits.{line_limit, number_limit};

@@ -1,4 +1,7 @@
 //! Entries in chunks: those of the first chunks can be forgotten, and their memory is freed.
+//!
+//! **What may be forgotten is kept in chunks of 1,024 entries**, which are dropped whole: so their memory is freed, and no entry is moved. A
+//! journal that may not forget has all entries in one chunk, as a `Journal` has.
 
 ghost use Rattle.std.specs.Prelude.{◌≡◌, ◌+◌, ◌<◌, ◌≤◌, ◌++◌, ◌∷◌, [], false, true, IfNone, IfOk, IfSome, OnErr, OnOk, drop, length, slice_index_or};
 ghost use Rattle.std.specs.VecDeque.{deque_len};

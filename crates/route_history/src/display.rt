@@ -1,4 +1,7 @@
 //! Entries as text, for people: the words of a script's commands and of its answers.
+//!
+//! **An entry shows itself with its session** (`recv 1 7 3: done 1`), where a script names the neighbour, since the same neighbour has other
+//! sessions before and after.
 
 use crate::entry::EntryRef;
 use netchange_core::{Event, Message, ReplyRef, Via};

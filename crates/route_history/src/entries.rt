@@ -1,4 +1,11 @@
 //! The entries of a history, in little memory.
+//!
+//! **The entries of a journal are a type of their own, `Entries`, and not a slice.** All messages of all replies stand in one list, and an entry
+//! keeps where its own begin and how many they are: 24 bytes an entry, and 4 a message, with no block of memory for a reply. As a slice of `Entry`
+//! a history took 48 bytes an entry and a block for each Take that found messages. A contract sees the list of entries all the same, so what it
+//! says of a journal does not speak of this. `entry(at)` shows an entry as an `EntryRef`: the event by reference, and the reply with its messages
+//! as a part of that list. An entry that no journal has, as one that was read from a file, is an `Entry`, with messages of its own; `replay` takes
+//! the entries of a journal, and `replay_list` a slice of such entries. A list of 2^32 messages or more is refused as memory is (J2).
 
 ghost use Rattle.std.specs.Prelude.{◌≡◌, ◌==◌, ◌+◌, ◌<◌, ◌≤◌, ◌^◌, ◌++◌, ◌∷◌, [], IfOk, OnErr, OnOk, length};
 ghost use Rattle.std.specs.Prelude.{option_map, slice_get, slice_index_or, vec_capacity, vec_len};

@@ -1,4 +1,7 @@
 //! The journal of a router.
+//!
+//! **A contract sees a journal as its opening, limit and entries, and not its tables.** The world is a function of the opening and the entries, so
+//! the tables are tied to it by the invariant of the type. What shares a journal needs four clauses of `apply` and no lemma about tables.
 
 ghost use Rattle.std.specs.Prelude.{◌≡◌, ℕ, ◌≤◌, [], IfErr, IfOk, IfSome, None, length};
 ghost use Rattle.netchange_core.specs.Calls.{carried, room_of, session_of};

@@ -1,4 +1,8 @@
 //! A journal that may forget the beginning of its history.
+//!
+//! **A journal that may forget, `LongJournal`, is a type beside `Journal`.** It has the end of a history, and the tables after all of it; that this
+//! is so is a relation between a history and a journal (`IsWindow`), since no journal keeps what it forgot. Scripts, `replay` and the files of
+//! histories have the whole, and stay with `Journal`. Positions are 64 bits wide here, and 32 there.
 
 ghost use Rattle.std.specs.Prelude.{◌≡◌, ◌<◌, ◌≤◌, false, true, [], IfErr, IfNone, IfOk, IfSome, length, slice_index_or};
 ghost use Rattle.netchange_core.specs.Calls.{carried, room_of};

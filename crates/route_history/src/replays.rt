@@ -1,4 +1,9 @@
 //! The replay of a history.
+//!
+//! **What a session was sent is defined event by event** (`queued_by` in `specs/Sent.antt`), not as the difference of two queues. So the law that a
+//! session takes what it was sent, and that nothing is lost between, says something about the queues of the definition itself.
+//!
+//! **`replay` names the first wrong entry by its index as `usize`**, so a slice of any length has an answer.
 
 ghost use Rattle.std.specs.Prelude.{◌≡◌, ◌<◌, IfOk, MatchResult};
 ghost use Rattle.netchange_core.specs.Calls.{opened};

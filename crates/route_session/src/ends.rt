@@ -1,4 +1,6 @@
 //! How a session ends.
+//!
+//! **`unsent` is a `Messages`**, the list of messages that replies have. `into_vec` gives its vector without taking memory.
 
 use netchange_core::{Message, Messages};
 

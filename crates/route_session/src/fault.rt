@@ -1,4 +1,6 @@
 //! Why sessions were not run.
+//!
+//! **X1 can come after all jobs have run**, where the list of results cannot grow. The passes are then gone, as after any X1.
 
 ghost use Rattle.std.specs.Prelude.{◌≡◌};
 

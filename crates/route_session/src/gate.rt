@@ -1,4 +1,7 @@
 //! Gates: when a session may take its next turn.
+//!
+//! **That the turns were used up is said by what the gate answered**, since a contract does not see that a call was made. A gate says which answers
+//! it may give at which turn, and one that says nothing may give any. Sessions are proved for every gate, so they cannot make an answer up.
 
 use slot_lock::Answer;
 use std::rt::Clock;

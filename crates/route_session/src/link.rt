@@ -1,4 +1,8 @@
 //! Links: what connects a router to a neighbour.
+//!
+//! **A link tells what it does by one ghost member, `told`, whose parts may be missing.** So a contract over any link is one sentence, a link over
+//! the system needs no count of what passed, and one in memory can tell everything. What is not told stays untold through a whole session, so that
+//! no fact about it can be lost on the way.
 
 ghost use Rattle.std.specs.Prelude.{◌≡◌};
 

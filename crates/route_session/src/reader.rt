@@ -1,4 +1,6 @@
 //! A reader of a link.
+//!
+//! **`read_session` takes no allocator**, since it takes no memory of its own. `write_session` takes one for the empty list that most ends hold.
 
 ghost use Rattle.std.specs.Prelude.{◌≡◌, ◌↔◌, IsTrue};
 ghost use Rattle.route_session.specs.Calls.{StaysSound, stale};

@@ -1,4 +1,11 @@
 //! Many sessions at the same time.
+//!
+//! **Threads are started by `scope` and its `spawn_with`, and not by `join`.** `join` runs a closure on the caller's thread where no thread can be
+//! made. Jobs that wait for one another would then wait forever, and X2 could not be answered.
+//!
+//! **The lists of the two halves leave the scope apart**, and are joined outside. So the closures' clauses need no lemma about lists.
+//!
+//! **`merge_passes` is public.** Whoever ran sessions wants their passes in one again before the router is closed.
 
 ghost use Rattle.std.specs.Prelude.{◌≡◌, ◌+◌, ◌<◌, ◌≤◌, ◌^◌, IfOk, vec_len};
 ghost use Rattle.std.specs.Thread.{IsSync};

@@ -1,4 +1,7 @@
 //! A writer to a link.
+//!
+//! **A writer's list is sent from its front, and each message leaves it as it is sent.** What is left is `unsent`, so no memory is needed when a
+//! link fails. A list has at most 16 messages.
 
 ghost use Rattle.std.specs.Prelude.{◌≡◌, []};
 ghost use Rattle.netchange_core.specs.Calls.{carried};

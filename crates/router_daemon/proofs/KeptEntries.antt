@@ -1,6 +1,6 @@
 -- What is kept where entries are forgotten.
 use Rattle.std.proofs.Common.{◌≡◌, ◌∙◌, ap, ℕ, ◌+◌, ◌-◌, ◌<◌, ◌≤◌, true, List, length, length-append, inl, inr, arith}
-use Rattle.std.specs.Prelude.{◌⊎◌, min}
+use Rattle.std.specs.Prelude.{◌⊎◌, max, min}
 use Rattle.std.proofs.lemmas.Bool.{cases_lt}
 use Rattle.route_history.specs.Beginning.{Begins}
 use Rattle.route_history.specs.declared.bounds.Bounds.{Bounds}
@@ -22,18 +22,17 @@ no_longer : (xs ys : List Entry) → Begins xs ys → length xs ≤ length ys
 no_longer xs ys b = let long = ap (λ (l : List Entry). length l) b.is ∙ length-append xs b.rest in omega arith
 
 -- `first` entries were forgotten, and now `later` are
-at_least : (first later kept end upto all : ℕ) → upto ≡ end - kept → end ≤ all → first ≤ later → ((later ≡ first → ⊥) → later ≤ upto) →
-    (first < later) ⊎ (later ≤ first) → (later ≡ first) ⊎ (later + kept ≤ all)
-at_least first later kept end upto all is_upto within on asked (inl some) =
-    let most : later ≤ upto = asked (λ same. absurd (omega arith)) in inr (omega arith)
-at_least first later kept end upto all is_upto within on asked (inr none) = inl (omega arith)
+at_most : (first later forgot upto : ℕ) → first ≡ forgot → ((later ≡ first → ⊥) → later ≤ upto) → (first < later) ⊎ (later ≤ first) →
+    later ≤ max forgot upto
+at_most first later forgot upto same asked (inl some) = let most : later ≤ upto = asked (λ is. absurd (omega arith)) in omega arith
+at_most first later forgot upto same asked (inr none) = omega arith
 
 -- Who may forget had seen `old`, looked, and then forgot below a position.
 module _ (r : RouterView) (old mid new : PassView) (kept end upto count : ℕ) (before : Begins old.fragment.seen mid.fragment.seen)
     (exact : mid.fragment.forgot ≡ old.fragment.forgot) (counted : end ≡ min (length mid.fragment.seen) 18446744073709551615)
-    (is_upto : upto ≡ end - kept) (h : Forgot r mid upto count new) where
-  grown : length mid.fragment.seen ≤ length new.fragment.seen
-  grown = no_longer mid.fragment.seen new.fragment.seen h.begins
+    (is_upto : upto ≡ end - kept) (endless : r.endless ≡ true) (h : Forgot r mid upto count new) where
+  grown : (length old.fragment.seen ≤ length mid.fragment.seen) × (length mid.fragment.seen ≤ length new.fragment.seen)
+  grown = (no_longer old.fragment.seen mid.fragment.seen before, no_longer mid.fragment.seen new.fragment.seen h.begins)
 
   all_are : h.journal.first + length h.journal.entries ≡ length new.fragment.seen
   all_are = kept_are r.opening (bounds_of r) new.fragment.seen h.journal h.journal h.window
@@ -41,28 +40,24 @@ module _ (r : RouterView) (old mid new : PassView) (kept end upto count : ℕ) (
   forgot_is : new.fragment.forgot ≡ h.after.first
   forgot_is = h.forgot ∙ h.counted
 
-  keeping : (new.fragment.forgot ≡ old.fragment.forgot) ⊎ (new.fragment.forgot + kept ≤ length mid.fragment.seen)
-  keeping = split (at_least h.journal.first h.after.first kept end upto (length mid.fragment.seen) is_upto (omega arith) h.forgotten.on
-      h.forgotten.asked (cases_lt h.journal.first h.after.first))
-    where
-      split : (h.after.first ≡ h.journal.first) ⊎ (h.after.first + kept ≤ length mid.fragment.seen) →
-          (new.fragment.forgot ≡ old.fragment.forgot) ⊎ (new.fragment.forgot + kept ≤ length mid.fragment.seen)
-      split (inl same) = inl (forgot_is ∙ same ∙ h.exact ∙ exact)
-      split (inr more) = inr (let is = forgot_is in omega arith)
+  keeping : new.fragment.forgot ≤ max old.fragment.forgot (end - kept)
+  keeping =
+      let most = at_most h.journal.first h.after.first old.fragment.forgot upto (h.exact ∙ exact) h.forgotten.asked
+      (cases_lt h.journal.first h.after.first) in
+      let is = forgot_is in omega (arith, most, is, is_upto)
 
-  freeing : r.endless ≡ true → length new.fragment.seen ≤ 9223372036854775808 → length mid.fragment.seen < new.fragment.forgot + kept + 1024
-  freeing endless most =
+  freeing : length new.fragment.seen ≤ 9223372036854775808 → end < new.fragment.forgot + kept + 1024
+  freeing most =
       let its : h.journal.bounds.endless ≡ true = ap (λ (v : LongView). v.bounds.endless) h.window.is ∙ endless in
       let all = all_are in
-      let longer = grown in
+      let longer = grown.1 in
       let below = h.forgotten.frees its (omega arith) (omega arith) in
       let is = forgot_is in omega arith
 
-  pub forgets : Forgets r kept old new
+  pub forgets : Forgets kept end old new
   forgets = record {
-    looked = length mid.fragment.seen;
-    from = no_longer old.fragment.seen mid.fragment.seen before;
-    to = grown;
+    from = λ most. let seen = grown.0 in let longer = grown.1 in omega arith;
+    to = let longer = grown.1 in omega arith;
     keeps = keeping;
     frees = freeing;
   }

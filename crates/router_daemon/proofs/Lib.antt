@@ -4,6 +4,7 @@ pub mod Lines
 pub mod Looking
 pub mod Passes
 pub mod Running
+pub mod SavedWhole
 pub mod Serving
 pub mod Splitting
 pub mod Waiting

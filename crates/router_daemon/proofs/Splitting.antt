@@ -1,8 +1,8 @@
 -- A pass that has seen a legal history is split.
-use Rattle.std.proofs.Common.{◌≡◌, sym, subst, ℕ, false, []}
+use Rattle.std.proofs.Common.{◌≡◌, sym, subst, ℕ, []}
 use Rattle.route_history.specs.History.{IsLegal}
 use Rattle.slot_lock.specs.Passes.{Fragment, IsPassOf, PassView, RouterView}
-use Rattle.router_daemon.specs.Passes.{IsLegalPass, IsWholePass}
+use Rattle.router_daemon.specs.Passes.{IsLegalPass}
 
 -- what is left of it, at a router that is this one
 pub legal_rest : (at r : RouterView) (old new : PassView) (n : ℕ) → at ≡ r → IsLegalPass r old → IsPassOf at new →
@@ -19,9 +19,3 @@ legal_cut at r old new n named h of is = record {
   of = subst (λ (x : RouterView). IsPassOf x new) named of;
   legal = subst (λ (p : Fragment). IsLegal r.opening p.seen) (sym is) h.legal;
 }
-
--- the same at a router that forgets nothing
-pub whole_cut : (at r : RouterView) (old new : PassView) (n : ℕ) → at ≡ r → r.endless ≡ false → IsLegalPass r old → IsPassOf at new →
-    new.fragment ≡ record { seen = old.fragment.seen; mine = []; failed_tries = 0; shares = n; forgot = old.fragment.forgot } → IsWholePass r new
-whole_cut at r old new n named whole h of is =
-    let cut = legal_cut at r old new n named h of is in record { of = cut.of; whole = whole; legal = cut.legal }

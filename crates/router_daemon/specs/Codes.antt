@@ -12,6 +12,7 @@ abbrev pub fault_code : DaemonFault → List ℕ
 fault_code (fault.Stream why) = stream_code why
 fault_code (fault.Call why) = call_code why
 fault_code (fault.Lock why) = lock_code why
+fault_code (fault.NotBegun why) = save_code why
 fault_code (fault.Save why) = save_code why
 fault_code fault.NotStarted = codes "X2"
 fault_code fault.Memory = codes "E3"

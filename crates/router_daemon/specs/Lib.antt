@@ -5,8 +5,8 @@ pub mod Running
 pub mod Forgetting
 pub mod Links
 pub mod Passes
+pub mod Queues
 pub mod Retries
-pub mod Saves
 pub mod Sessions
 pub mod Sets
 pub mod Told

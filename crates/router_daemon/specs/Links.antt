@@ -5,7 +5,7 @@ use Rattle.neighbour_session.specs.Calls.{Closes}
 use Rattle.neighbour_session.specs.Words.{can_be_opened_again}
 use Rattle.neighbour_session.specs.declared.ends.SessionEnd.{SessionEnd}
 use Rattle.neighbour_session.specs.declared.greeting.Domain.{Domain}
-use Rattle.route_history.specs.declared.fault.CallFault.TheVariants as fault
+use Rattle.route_history.specs.declared.fault.CallFault.{CallFault}
 use Rattle.router_options.specs.declared.parts.LinkFiles.{LinkFiles}
 use Rattle.slot_lock.specs.Calls.{Refused}
 use Rattle.slot_lock.specs.Passes.{PassView, RouterView}
@@ -13,13 +13,13 @@ use Rattle.slot_lock.specs.declared.answer.Answer.{Answer}
 use Rattle.router_daemon.specs.Retries.{reopens, wait_before}
 use Rattle.router_daemon.specs.Sessions.{Serves}
 
--- the Down of a session was entered; or the history is full, for good, and takes none any more
+-- the Down of a session was entered
 abbrev pub IsSettled : RouterView → ℕ → PassView → PassView → Type 0
-IsSettled r session old new = ((a : Answer) × Closes r session old a new) ⊎ ((r.endless ≡ false) × Refused fault.Full r old new)
+IsSettled r session old new = (a : Answer) × Closes r session old a new
 
--- or it is owed still: memory was refused, or the history is full, and will not be so for ever
+-- or it is owed still: memory was refused, or the history is full
 abbrev pub IsOwed : RouterView → PassView → PassView → Type 0
-IsOwed r old new = Refused fault.Memory r old new ⊎ ((r.endless ≡ true) × Refused fault.Full r old new)
+IsOwed r old new = (why : CallFault) × Refused why r old new
 
 -- streams that nobody used
 pub record AreFresh (input : ReaderView) (output : WriterView) : Type 0 where
@@ -34,7 +34,7 @@ pub record Opens (r : RouterView) (d : Domain) (neighbour : ℕ) (old : PassView
   pub fresh : AreFresh input output
   pub why : SessionEnd
   pub serves : Serves r d neighbour input output old why new
-  pub again_is : again ≡ can_be_opened_again r.endless why
+  pub again_is : again ≡ can_be_opened_again true why
 
 -- A file was asked for to be read, and is not: it was not opened, or there is no memory to read it. `may_read` says what may be answered
 -- where a file is to be read, `may_write` where it is to be written: whether it is opened.

@@ -5,19 +5,19 @@ use Rattle.std.specs.Prelude.{ℕ, ◌*◌, max, min, Bool, true, false, Option,
 abbrev pub longest_wait : ℕ → ℕ
 longest_wait retry = max retry 60
 
--- How many seconds it waits, by `--retry` and by how long it waited before: as `--retry` says, and then twice as long each time, up to a minute,
--- or to what `--retry` says, if that is longer.
-abbrev pub next_wait : ℕ → Option ℕ → ℕ
-next_wait retry None = retry
-next_wait retry (Some before) = min (before * 2) (longest_wait retry)
+-- how long a wait is that is tried anew, by how long it was before: so long at first, then twice as long each time, up to the longest
+abbrev pub next_wait : ℕ → Option ℕ → ℕ → ℕ
+next_wait first None longest = first
+next_wait first (Some before) longest = min (before * 2) longest
 
 -- after a long session it begins anew
 abbrev pub wait_before : Bool → Option ℕ → Option ℕ
 wait_before true before = None
 wait_before false before = before
 
--- after how many seconds it is opened again: never without `--retry`, nor after a session that says that it cannot be
+-- After how many seconds it is opened again: as `--retry` says, and then twice as long each time, up to a minute, or to what `--retry` says, if that
+-- is longer; never without `--retry`, nor after a session that says that it cannot be.
 abbrev pub reopens : Option ℕ → Bool → Option ℕ → Option ℕ
 reopens None again before = None
 reopens (Some retry) false before = None
-reopens (Some retry) true before = Some (next_wait retry before)
+reopens (Some retry) true before = Some (next_wait retry before (longest_wait retry))

@@ -1,6 +1,9 @@
 -- How a router is run. (This project's own choice.)
-use Rattle.std.specs.Prelude.{◌≡◌, ℕ, Bool, false, List, [], length, map, Option, Some, None, is_none, Result, Ok, Err, ⊤}
-use Rattle.history_saver.specs.Saved.{HasSaved, SaverView, seen_by}
+use Rattle.std.specs.Prelude.{◌≡◌, ℕ, false, true, List, [], length, map, Option, Some, None, Result, Ok, Err, ⊤}
+use Rattle.std.specs.Option.{option_map}
+use Rattle.history_saver.specs.Folders.{FolderView}
+use Rattle.history_saver.specs.Looking.{seen_by}
+use Rattle.history_saver.specs.Segments.{HasSegments, SegmentsView}
 use Rattle.history_saver.specs.declared.fault.SaveFault.{SaveFault}
 use Rattle.line_protocol.specs.declared.faults.StreamFault.{StreamFault}
 use Rattle.route_history.specs.Beginning.{Begins}
@@ -9,7 +12,7 @@ use Rattle.router_operator.specs.OperatorView.{Names, OperatorView}
 use Rattle.router_operator.specs.Running.{IsBrokenOff, IsServed}
 use Rattle.router_options.specs.PlanView.{PlanView}
 use Rattle.slot_lock.specs.Passes.{PassView, RouterView}
-use Rattle.router_daemon.specs.Passes.{IsLegalPass, IsWholePass}
+use Rattle.router_daemon.specs.Passes.{IsLegalPass}
 use Rattle.router_daemon.specs.Uses.{BeginsWithFilters}
 use Rattle.router_daemon.specs.declared.fault.DaemonFault.{DaemonFault}
 use Rattle.router_daemon.specs.declared.fault.DaemonFault.TheVariants as fault
@@ -36,54 +39,58 @@ pub record HasOperator (r : RouterView) (entries : List Entry) (names : Names) (
   pub operates : Operates (operator_of r pass names links) after answered input left held holds
   pub now_is : after.pass ≡ now
 
--- a router was opened as a plan says, and is endless or not
-pub record IsOpened (plan : PlanView) (endless : Bool) (r : RouterView) : Type 0 where
+-- a router was opened as a plan says, and is endless
+pub record IsOpened (plan : PlanView) (r : RouterView) : Type 0 where
   pub opened : r.opening ≡ plan.opening
   pub limited : r.limit ≡ plan.limit
-  pub kind : r.endless ≡ endless
+  pub endless : r.endless ≡ true
 
 -- It was opened as a plan says, the filters that the plan uses were set first, and its operator's lines ended so.
-pub record RunsOperator (plan : PlanView) (endless : Bool) (names : Names) (answered : Result ℕ StreamFault) (input : List ℕ)
+pub record RunsOperator (plan : PlanView) (names : Names) (answered : Result ℕ StreamFault) (input : List ℕ)
     (left held holds : Option (List ℕ)) (r : RouterView) (now : PassView) : Type 0 where
-  pub is_opened : IsOpened plan endless r
+  pub is_opened : IsOpened plan r
   pub first : PassView
   pub sets : BeginsWithFilters r plan names first
   pub operator : HasOperator r first.fragment.seen names (map (λ link. link.node) plan.links) answered input left held holds now
 
 -- there was such a router, and such an operator of it
-abbrev pub Operated : PlanView → Bool → Names → Result ℕ StreamFault → List ℕ → Option (List ℕ) → Option (List ℕ) → Option (List ℕ) → Type 0
-Operated plan endless names answered input left held holds =
-    (r : RouterView) × (now : PassView) × RunsOperator plan endless names answered input left held holds r now
+abbrev pub Operated : PlanView → Names → Result ℕ StreamFault → List ℕ → Option (List ℕ) → Option (List ℕ) → Option (List ℕ) → Type 0
+Operated plan names answered input left held holds =
+    (r : RouterView) × (now : PassView) × RunsOperator plan names answered input left held holds r now
 
--- A file that held `first` got the whole text of what a pass of the router has seen: a legal history, which begins with these entries.
-pub record HasWhole (r : RouterView) (entries : List Entry) (first : Option (List ℕ)) (p : PassView) (s : SaverView) : Type 0 where
-  pub legal : IsWholePass r p
+-- how many segments a saver keeps at least, and all where none is said
+abbrev pub keep_of : SegmentsView → Option ℕ
+keep_of s = s.keep
+
+-- A folder has, in segments, the whole of what a pass of the router has seen, and nothing behind it: a legal history, which begins with these entries.
+pub record HasWhole (r : RouterView) (entries : List Entry) (most : Option ℕ) (p : PassView) (s : SegmentsView) : Type 0 where
+  pub legal : IsLegalPass r p
   pub begins : Begins entries p.fragment.seen
-  pub first_is : s.first ≡ first
-  pub well : s.fault ≡ None
-  pub whole : s.saved ≡ Some (length p.fragment.seen)
-  pub has : HasSaved s (seen_by r p)
+  pub keeps : s.keep ≡ most
+  pub whole : s.saved ≡ length p.fragment.seen
+  pub none_left : s.rest ≡ []
+  pub has : HasSegments s (seen_by r p)
 
--- a router is endless if and only if no file is given for its history
-abbrev pub is_endless : Option (Option (List ℕ)) → Bool
-is_endless first = is_none first
-
--- a history is saved if and only if a file is given
-abbrev pub SavesTo : RouterView → List Entry → Option (Option (List ℕ)) → Option SaverView → Type 0
+-- a history is saved if and only if that is asked for, with so many segments
+abbrev pub SavesTo : RouterView → List Entry → Option (Option ℕ) → Option SegmentsView → Type 0
 SavesTo r entries None None = ⊤
-SavesTo r entries (Some first) (Some s) = (p : PassView) × HasWhole r entries first p s
+SavesTo r entries (Some most) (Some s) = (p : PassView) × HasWhole r entries most p s
 SavesTo r entries _ _ = ⊥
 
+-- a plan asks for so many segments, where there is a folder for them
+abbrev pub asked_for : PlanView → Option (Option FolderView) → Option (Option ℕ)
+asked_for plan given = option_map (λ _. plan.segments) given
+
 -- the history that is saved is of a router that was opened as a plan says
-abbrev pub Saves : PlanView → Option (Option (List ℕ)) → Option SaverView → Type 0
-Saves plan first saved = (r : RouterView) × IsOpened plan (is_endless first) r × SavesTo r [] first saved
+abbrev pub Saves : PlanView → Option (Option FolderView) → Option SegmentsView → Type 0
+Saves plan given saved = (r : RouterView) × IsOpened plan r × SavesTo r [] (asked_for plan given) saved
 
 -- One router ran: its operator's lines were answered to their end, and the history that is saved of it begins with all that the operator
 -- had seen of it, so that each call of theirs stands in it, with the reply that was answered.
-abbrev pub RunsAsOne : PlanView → Names → Option (Option (List ℕ)) → Option SaverView → ℕ → List ℕ → Option (List ℕ) → Option (List ℕ)
+abbrev pub RunsAsOne : PlanView → Names → Option (Option FolderView) → Option SegmentsView → ℕ → List ℕ → Option (List ℕ) → Option (List ℕ)
     → Option (List ℕ) → Type 0
-RunsAsOne plan names first saved refused input left held holds = (r : RouterView) × (now : PassView)
-    × RunsOperator plan (is_endless first) names (Ok refused) input left held holds r now × SavesTo r now.fragment.seen first saved
+RunsAsOne plan names given saved refused input left held holds = (r : RouterView) × (now : PassView)
+    × RunsOperator plan names (Ok refused) input left held holds r now × SavesTo r now.fragment.seen (asked_for plan given) saved
 
 -- Why a router was not run to its end: a fault broke the operator's lines off; or they were answered to their end, and the history is not
 -- saved whole; or no line was read.

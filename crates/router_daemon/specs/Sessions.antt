@@ -25,11 +25,11 @@ part_of p = record { seen = p.fragment.seen; mine = []; failed_tries = 0; shares
 -- A session whose Up was entered is over: it went down with nobody to serve it; or anybody entered what the neighbour said, and its Down.
 abbrev pub IsOver : RouterView → ℕ → ReaderView → PassView → SessionEnd → PassView → Type 0
 IsOver r session input old why new =
-    GoesDown r session end.NotStarted old why new ⊎ Hears r.endless (λ _. ⊤) (λ _. ⊤) r session old input why new
+    GoesDown r session end.NotStarted old why new ⊎ Hears true (λ _. ⊤) (λ _. ⊤) r session old input why new
 
--- until a pass is so, calls were made that a full history had no room for, of a router that is endless; or none was
+-- until a pass is so, calls were made that a full history had no room for; or none was
 abbrev pub HasWaited : RouterView → PassView → PassView → Type 0
-HasWaited r old new = (new ≡ old) ⊎ ((r.endless ≡ true) × Refused fault.Full r old new)
+HasWaited r old new = (new ≡ old) ⊎ Refused fault.Full r old new
 
 -- the Up of a node opened a session, once there was room for it
 pub record OpensLater (r : RouterView) (node : ℕ) (old : PassView) (session : ℕ) (a : Answer) (new : PassView) : Type 0 where
@@ -37,12 +37,12 @@ pub record OpensLater (r : RouterView) (node : ℕ) (old : PassView) (session : 
   pub waited : HasWaited r old mid
   pub opens : Opens r node mid session a new
 
--- or none: a full history is a reason only of a router that is not endless
+-- or none: a full history is no reason
 pub record OpensNever (r : RouterView) (node : ℕ) (old : PassView) (why : SessionEnd) (new : PassView) : Type 0 where
   pub mid : PassView
   pub waited : HasWaited r old mid
   pub unopened : IsUnopened why r node mid new
-  pub passes : r.endless ≡ true → why ≡ end.Full → ⊥
+  pub passes : why ≡ end.Full → ⊥
   pub shares : new.fragment.shares ≡ old.fragment.shares
 
 -- Up was entered, in the answer to which the router opened a session. Then one share of the pass is the writer's, by which nothing was called.

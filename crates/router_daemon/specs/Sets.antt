@@ -23,9 +23,6 @@ RouterView-set = Coded-set router_coded
 table_prop : (a b : TableId) → IsProp (a ≡ b)
 table_prop = Coded-set table_id_coded
 
-pub bool_prop : (a b : Bool) → IsProp (a ≡ b)
-bool_prop = Coded-set coded_bool
-
 about_prop : (a b : Option (OpeningView × Bounds)) → IsProp (a ≡ b)
 about_prop = Coded-set (coded_option (coded× opening_coded bounds_coded))
 

@@ -16,6 +16,10 @@ closed_line node why = codes "link " ++ decimal node ++ codes ": " ++ why ++ cod
 abbrev pub end_line : ℕ → SessionEnd → List ℕ
 end_line node why = closed_line node (end_words why)
 
+-- so many messages wait for its node, more than may
+abbrev pub long_line : ℕ → ℕ → List ℕ
+long_line node waiting = closed_line node (decimal waiting ++ codes " messages wait")
+
 -- the thread of a link was not started
 abbrev pub unstarted_line : ℕ → List ℕ
 unstarted_line node = closed_line node (codes "a thread was not started (X2)")
@@ -24,15 +28,27 @@ unstarted_line node = closed_line node (codes "a thread was not started (X2)")
 abbrev pub unopened_line : ℕ → List ℕ → List ℕ → List ℕ
 unopened_line node name shown = closed_line node (name ++ codes ": " ++ shown)
 
--- why a history is not saved any more
+-- why a history is not saved
 abbrev pub save_words : SaveFault → List ℕ
 save_words fault.Write = codes "the history could not be written"
 save_words fault.Memory = codes "out of memory"
 
-abbrev pub unsaved_line : SaveFault → List ℕ
-unsaved_line why = codes "history: " ++ save_words why ++ codes " (" ++ save_code why ++ codes "): not saved from here on\n"
+abbrev pub save_line : SaveFault → List ℕ → List ℕ
+save_line why what = codes "history: " ++ save_words why ++ codes " (" ++ save_code why ++ codes "): " ++ what ++ codes "\n"
 
--- a router that is endless keeps no more of its history than its last entries
+-- it is not saved for now: that is tried again
+abbrev pub unsaved_line : SaveFault → List ℕ
+unsaved_line why = save_line why (codes "not saved until that works again")
+
+-- its end is not saved
+abbrev pub lost_line : SaveFault → List ℕ
+lost_line why = save_line why (codes "its end is not saved")
+
+-- saving works again
+abbrev pub saved_line : List ℕ
+saved_line = codes "history: saved again\n"
+
+-- a router keeps no more of a history that is not saved than its last entries
 abbrev pub unkept_line : List ℕ
 unkept_line = codes "history: not saved: only its last entries are kept\n"
 

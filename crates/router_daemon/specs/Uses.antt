@@ -10,9 +10,8 @@ use Rattle.router_operator.specs.OperatorView.{Names, filter_of}
 use Rattle.router_options.specs.PlanView.{PlanView}
 use Rattle.router_options.specs.declared.parts.FilterUse.{FilterUse}
 use Rattle.slot_lock.specs.Calls.{Answered}
-use Rattle.slot_lock.specs.Passes.{PassView, RouterView}
+use Rattle.slot_lock.specs.Passes.{IsNew, PassView, RouterView}
 use Rattle.slot_lock.specs.declared.answer.Answer.{Answer}
-use Rattle.router_daemon.specs.Passes.{IsBegun}
 
 -- The filter of a name is set at a neighbour, in a direction, by one call. Where nothing has the name, nothing is called.
 abbrev pub SetsOne : RouterView → Direction → Option VerifiedView → ℕ → PassView → PassView → Type 0
@@ -31,6 +30,6 @@ abbrev pub SetsFilters : RouterView → PlanView → Names → PassView → Pass
 SetsFilters r plan names old new = (mid : PassView)
     × SetsEach r direction.Import names plan.imports old mid × SetsEach r direction.Export names plan.exports mid new
 
--- nothing was called before
+-- nothing was called before, and who does it has all shares but the one that the right to forget has, whose holder enters nothing
 abbrev pub BeginsWithFilters : RouterView → PlanView → Names → PassView → Type 0
-BeginsWithFilters r plan names new = (first : PassView) × IsBegun r first × SetsFilters r plan names first new
+BeginsWithFilters r plan names new = (first : PassView) × IsNew r 65535 first × SetsFilters r plan names first new

@@ -38,10 +38,10 @@ fn end_sessions<R: Wait, J: Naming, E: Write>(rt: &R, shared: &Shared<J, E>, cou
     shared.signals.await_settled(rt);
 }
 
-/// How often the Down of a session is tried, where the history is full and that passes: for a second. Nobody waits for ever until there is room.
+/// How often the Down of a session is tried, where the history is full: for a second. Nobody waits for ever until there is room.
 const TRIES: u32 = 200;
 
-/// Enters the Down of a session, and notes it. Where the router is endless and its history is full, it is tried again for a while.
+/// Enters the Down of a session, and notes it. Where the history is full, it is tried again for a while.
 fn enter_last<R: Wait + Clock, J: Naming, E: Write>(
     rt: &R,
     shared: &Shared<J, E>,
@@ -58,7 +58,7 @@ fn enter_last<R: Wait + Clock, J: Naming, E: Write>(
                 return;
             }
             Err(why) => {
-                if !passes(shared.endless, why) {
+                if !passes(why) {
                     return;
                 }
                 pause(rt);

@@ -20,10 +20,13 @@ pub enum DaemonFault {
     /// L3: the router was not opened.
     #[error("{0}")]
     Lock(LockFault),
+    /// E2 or E3: the first segment of the history was not made.
+    #[error("{0}")]
+    NotBegun(SaveFault),
     /// E2 or E3: the history is not saved whole.
     #[error("{0}")]
     Save(SaveFault),
-    /// X2: the thread that saves the history was not started.
+    /// X2: the thread that saves and forgets the history was not started.
     #[error("a thread was not started")]
     NotStarted,
     /// E3: memory was refused.
@@ -42,6 +45,7 @@ impl DaemonFault {
             DaemonFault::Stream(fault) => fault.code(),
             DaemonFault::Call(fault) => fault.code(),
             DaemonFault::Lock(fault) => fault.code(),
+            DaemonFault::NotBegun(fault) => fault.code(),
             DaemonFault::Save(fault) => fault.code(),
             DaemonFault::NotStarted => "X2",
             DaemonFault::Memory => "E3",

@@ -1,17 +1,32 @@
-//! Who forgets the history of an endless router.
-ghost use Rattle.std.specs.Prelude.{◌≡◌};
-ghost use Rattle.slot_lock.specs.Passes.{IsPassOf};
+//! Who forgets entries of a router's history, and saves them before, if they are saved.
+//!
+//! **Each router forgets its first entries, and with `--save` saves them before.** A router that nobody watches is to go on. So `--limit` is the
+//! room in memory, whether the history is saved or not, and a disk that is full makes the router wait, not forget.
+ghost use Rattle.std.specs.Prelude.{◌≡◌, ◌+◌, ◌-◌, ◌/◌, ◌<◌, ◌≤◌, [], true, IfOk, IfSome, length};
+ghost use Rattle.std.specs.Option.{option_map};
+ghost use Rattle.operator_cmds.specs.Limits.{largest_limit};
+ghost use Rattle.slot_lock.specs.Passes.{IsNew};
 ghost use Rattle.router_daemon.specs.Forgetting as spec;
+ghost use Rattle.router_daemon.specs.Passes.{IsLegalPass};
+ghost use Rattle.router_daemon.specs.Running.{SavesTo, keep_of};
 
-use crate::naming::RightTicket;
+use crate::naming::Ticket;
 use crate::shared::Shared;
-use crate::signals::Closing;
-use route_history::{CHUNK, LongJournal};
+use history_saver::{Rotation, SaveFault, SegmentFolder, SegmentSaver};
+use netchange_core::Opening;
+use route_history::{CHUNK, LongJournal, beginnings_are_legal};
 use router_operator::Naming;
 use slot_lock::{Observer, Right};
+use std::alloc::Global;
 use std::io::Write;
-use std::rt::Clock;
-use std::sync::{Arc, Wait};
+use std::marker::{Model, PhantomData};
+use std::snapshot::Snapshot;
+use std::sync::Wait;
+use std::thread::Promise;
+
+/// A new segment begins after about so many entries, as many as a journal has at most: some tens of megabytes of lines, beside which the state that
+/// comes before them is small.
+const SEGMENT: u64 = 1_000_000;
 
 /// How many entries are always kept of those that there is room for: the last half of them, less half of as many as are forgotten at once.
 fn kept_of(limit: u32) -> u32
@@ -20,16 +35,14 @@ fn kept_of(limit: u32) -> u32
     limit.saturating_sub(CHUNK as u32) / 2
 }
 
-/// At how many entries the first of them are forgotten: as soon as some can be beside those that are kept.
-fn most_of(limit: u32) -> u32
-    ensures { result ≡ spec.most_of limit }
+/// How many entries may be made behind those that were last looked at, before who makes one waits until some are forgotten.
+///
+/// Beside these and those that are kept, fewer than `CHUNK` are in memory, and an eighth of the room is left for those who do not wait.
+pub(crate) fn slack_of(limit: u32) -> u32
+    ensures fits { 2048 ≤ limit → spec.kept_of limit + 1024 + result + limit / 8 ≤ limit }
+    ensures some { 2048 ≤ limit → 2 ≤ result }
 {
-    limit.min(kept_of(limit) + CHUNK as u32)
-}
-
-/// Behind how many entries who makes one waits until some are forgotten: an eighth of the room is left for those who do not wait.
-fn end_of(limit: u32) -> u32 {
-    most_of(limit).max(limit - limit / 8)
+    (limit - limit / 8).saturating_sub(kept_of(limit).saturating_add(CHUNK as u32))
 }
 
 /// How many entries there are is counted.
@@ -48,44 +61,165 @@ impl Observer for Counting {
     }
 }
 
-/// Forgets entries, but for the last ones, of which so many are kept. How many are forgotten in all.
+/// Forgets entries, but for the last ones, of which so many are kept. How many there were.
 fn forget_some<R: Wait, J: Naming, E: Write>(
     rt: &R,
     shared: &Shared<J, E>,
     right: &mut Right,
     kept: u32,
 ) -> u64
-    requires { IsPassOf J.router right.old }
-    ensures of { IsPassOf J.router right.new }
-    ensures forgets { spec.Forgets J.router kept right.old right.new }
-    ensures first { result ≡ right.new.fragment.forgot }
+    requires legal { IsLegalPass J.router right.old }
+    requires endless { J.router.endless ≡ true }
+    ensures legal { IsLegalPass J.router right.new }
+    ensures forgets { spec.Forgets kept result right.old right.new }
 {
     let mut counting = Counting { end: 0 };
     shared.router.observe_with_right(rt, right, &mut counting);
     let upto = counting.end.saturating_sub(u64::from(kept));
-    shared.router.forget(rt, right, upto)
+    shared.router.forget(rt, right, upto);
+    counting.end
 }
 
-/// Forgets entries as others are made, so that the router has room for more. It ends only where the router is being closed, and then nobody
-/// waits for room any more.
-pub(crate) fn forget_history<R: Wait + Clock + Drop, J: Naming, E: Write + Drop>(
-    rt: R,
-    shared: Arc<Shared<J, E>>,
-    ticket: RightTicket<J>,
+/// Who forgets entries of a router's history: nothing that is not saved, where there is a folder to save it in.
+#[derive(Drop)]
+pub(crate) struct Forgetter<F: SegmentFolder, J: Naming> {
+    saver: Option<SegmentSaver<F>>,
+    right: Right,
+    // How many entries, the last ones, are not forgotten.
+    kept: u32,
+    of: PhantomData<J>,
+}
+
+impl<F: SegmentFolder, J: Naming> Model for Forgetter<F, J> {
+    ghost use Rattle.router_daemon.specs.Forgetting.{ForgetterView, IsForgetter};
+
+    ghost Value = { ForgetterView };
+
+    ghost view = { λ f. record { saver = f.saver; right = f.right; kept = f.kept } };
+
+    ghost invariant = { λ f. IsForgetter J.router (record { saver = f.saver; right = f.right; kept = f.kept }) };
+}
+
+/// Makes the first segment of a history in a folder, if there is one.
+fn begin_saving<F: SegmentFolder + Drop>(
+    alloc: Global,
+    save: Option<F>,
+    opening: &Opening,
     limit: u32,
-) -> Closing {
-    let (kept, most) = (kept_of(limit), most_of(limit));
-    let mut right = ticket.right();
-    let mut first = 0u64;
-    for _ in rt.forever() {
-        let end = first.saturating_add(u64::from(end_of(limit)));
-        shared.signals.make_room(&rt, Some(end));
-        let before = first.saturating_add(u64::from(most.saturating_sub(1)));
-        if let Some(closing) = shared.signals.await_entries(&rt, before) {
-            shared.signals.make_room(&rt, None);
-            return closing;
-        }
-        first = forget_some(&rt, &shared, &mut right, kept);
+    rotation: Rotation,
+) -> Result<Option<SegmentSaver<F>>, SaveFault>
+    requires limit { (1 ≤ limit) × (limit ≤ largest_limit) }
+    requires empty { IfSome save (λ folder. IfSome (F.holds folder) (λ v. v.segments ≡ [])) }
+    ensures how { IfOk result (λ saver. option_map keep_of saver ≡ option_map (λ _. rotation.keep) save) }
+    ensures begun { IfOk result (λ saver. IfSome saver (spec.HasBegun opening.now limit rotation.back)) }
+{
+    match save {
+        Some(folder) => match SegmentSaver::begin(alloc, folder, opening, limit, rotation) {
+            Ok(saver) => Ok(Some(saver)),
+            Err(fault) => Err(fault),
+        },
+        None => Ok(None),
     }
-    unreachable!()
+}
+
+impl<F: SegmentFolder + Drop, J: Naming> Forgetter<F, J> {
+    /// Who forgets, with the right of a router that was just opened. So many segments are kept, where there is a folder; without a number all are.
+    pub(crate) fn begin(
+        alloc: Global,
+        save: Option<F>,
+        opening: &Opening,
+        limit: u32,
+        segments: Option<u32>,
+        right: Right,
+    ) -> Result<Forgetter<F, J>, SaveFault>
+        requires new { IsNew J.router 1 right }
+        requires opened { (J.router.opening ≡ opening.now) × (J.router.limit ≡ limit) × (J.router.endless ≡ true) }
+        requires limit { (1 ≤ limit) × (limit ≤ largest_limit) }
+        requires empty { IfSome save (λ folder. IfSome (F.holds folder) (λ v. v.segments ≡ [])) }
+        ensures how { IfOk result (λ f. option_map keep_of f.saver ≡ option_map (λ _. segments) save) }
+        ensures kept { IfOk result (λ f. f.kept ≡ spec.kept_of limit) }
+    {
+        let kept = kept_of(limit);
+        let rotation = Rotation {
+            every: SEGMENT,
+            keep: segments.map(|count| count as usize),
+            back: u64::from(kept),
+        };
+        match begin_saving(alloc, save, opening, limit, rotation) {
+            Ok(saver) => Ok(Forgetter {
+                saver,
+                right,
+                kept,
+                of: PhantomData,
+            }),
+            Err(fault) => Err(fault),
+        }
+    }
+
+    /// Whether the history is saved.
+    pub(crate) fn saves(&self) -> bool {
+        self.saver.is_some()
+    }
+
+    /// Saves what is not saved, if there is a folder, and then forgets entries, but for the last ones: how many there were, all of them saved.
+    /// After a fault nothing is lost.
+    pub(crate) fn turn<R: Wait, E: Write>(
+        &mut self,
+        rt: &R,
+        alloc: Global,
+        shared: &Shared<J, E>,
+    ) -> Result<u64, SaveFault>
+        ensures how { option_map keep_of self.new.saver ≡ option_map keep_of self.old.saver }
+        ensures kept { self.new.kept ≡ self.old.kept }
+        ensures saved { IfOk result (λ n. IfSome self.new.saver (λ s. s.saved ≡ n)) }
+        ensures forgets { IfOk result (λ n. spec.Forgets self.new.kept n self.old.right self.new.right) }
+    {
+        match &mut self.saver {
+            Some(saver) => saver.save(rt, alloc, &shared.router, &mut self.right),
+            None => Ok(forget_some(rt, shared, &mut self.right, self.kept)),
+        }
+    }
+
+    /// Saves the rest of the history, if there is a folder, at least as far as another pass has seen it.
+    pub(crate) fn finish<R: Wait, E: Write>(
+        self,
+        rt: &R,
+        alloc: Global,
+        shared: &Shared<J, E>,
+        other: Ticket<J>,
+    ) -> Result<Option<SegmentSaver<F>>, SaveFault>
+        ensures { IfOk result (SavesTo J.router other.pass.fragment.seen (option_map keep_of self.saver)) }
+    {
+        let Forgetter {
+            saver,
+            mut right,
+            ..
+        } = self;
+        let Some(mut saver) = saver else {
+            return Ok(None);
+        };
+        shared.router.meet_with_right(&mut right, other.pass());
+        // What the other has seen is legal, and no clause of its pass says so: a look does.
+        let mut counting = Counting { end: 0 };
+        shared
+            .router
+            .observe_with_right(rt, &mut right, &mut counting);
+        beginnings_are_legal();
+        match saver.save(rt, alloc, &shared.router, &mut right) {
+            Ok(_) => Ok(Some(saver)),
+            Err(fault) => Err(fault),
+        }
+    }
+}
+
+/// The history is saved as it was begun.
+#[derive(Drop)]
+pub(crate) struct AsBegun<F: SegmentFolder, J: Naming>(pub(crate) Snapshot<Forgetter<F, J>>);
+
+impl<F: SegmentFolder, J: Naming> Promise<Forgetter<F, J>> for AsBegun<F, J> {
+    ghost use Rattle.std.specs.Prelude.{◌≡◌};
+    ghost use Rattle.std.specs.Option.{option_map};
+    ghost use Rattle.router_daemon.specs.Running.{keep_of};
+
+    ghost kept_by = { λ p f. option_map keep_of f.saver ≡ option_map keep_of p.0.value.saver };
 }

@@ -1,5 +1,5 @@
 //! Who keeps a link.
-ghost use Rattle.std.specs.Prelude.{◌≡◌, ◌<◌, ⊤, false, IfErr, IfNone, IfOk};
+ghost use Rattle.std.specs.Prelude.{◌≡◌, ◌<◌, ⊤, false, true, IfErr, IfNone, IfOk};
 ghost use Rattle.slot_lock.specs.Passes.{IsPassOf};
 ghost use Rattle.router_daemon.specs.Links.{AreFresh, IsUnopened, IsUnreadable, KeepsOnce, KeepsTurn, StaysClosed};
 ghost use Rattle.router_daemon.specs.Sessions.{IsOver, OpensLater, OpensNever, Serves, ServesNeighbour};
@@ -159,20 +159,12 @@ fn serve_begun<R: Wait + Clock, I: Read + Drop, O: Write + Drop, J: Naming, E: W
     requires { IsPassOf J.router pass.old }
     ensures of { IsPassOf J.router pass.new }
     ensures shares { pass.new.fragment.shares ≡ pass.old.fragment.shares }
-    ensures hears { Hears J.router.endless (λ _. ⊤) (λ _. ⊤) J.router order.session pass.old input result.0 pass.new }
+    ensures hears { Hears true (λ _. ⊤) (λ _. ⊤) J.router order.session pass.old input result.0 pass.new }
 {
     let (node, session) = (link.files.node, order.session);
     room.put_order(rt, order);
     let crew = LinkCrew::new(&shared.signals, link.index, session);
-    let (why, leaver) = serve_reader(
-        rt,
-        &shared.router,
-        pass,
-        session,
-        input,
-        crew,
-        shared.endless,
-    );
+    let (why, leaver) = serve_reader(rt, &shared.router, pass, session, input, crew, true);
     leaver.note_owed(rt);
     if leaver.ended_it() {
         tell_unless_closed(rt, alloc, shared, node, why);
@@ -236,8 +228,8 @@ fn serve_opened<R: Wait + Clock, I: Read + Drop, O: Write + Drop, J: Naming, E: 
     (why, Ticket::new(ticket.pass()))
 }
 
-/// Enters the Up of a link's neighbour: the session, and the answer. Where the router is endless and its history is full, it is tried again
-/// every few milliseconds, until there is room. Where the router is being closed this never returns, and its thread ends with the process.
+/// Enters the Up of a link's neighbour: the session, and the answer. Where the history is full, it is tried again every few milliseconds, until
+/// there is room. Where the router is being closed this never returns, and its thread ends with the process.
 fn open_session<R: Wait + Clock, J: Naming, E: Write>(
     rt: &R,
     shared: &Shared<J, E>,
@@ -259,7 +251,7 @@ fn open_session<R: Wait + Clock, J: Naming, E: Write>(
             Err(why) => why,
         };
         shared.signals.settle(rt, link.index);
-        if !passes(shared.endless, why) {
+        if !passes(why) {
             return Err(why);
         }
         pause(rt);
@@ -359,7 +351,7 @@ fn keep_once<
     match open_streams::<I, O, D>(folder, alloc, link) {
         Ok(Streams { input, output }) => {
             let why = serve_link(rt, alloc, shared, room, link, input, output, pass, begun);
-            why.can_be_opened_again(shared.endless)
+            why.can_be_opened_again(true)
         }
         Err(unopened) => {
             tell_of_file(rt, alloc, shared, link.files.node, &unopened);

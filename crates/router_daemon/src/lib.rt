@@ -4,6 +4,7 @@
 //! links are not joined, and end with the process.
 #![tactic(auto)]
 
+mod bounding;
 mod closing;
 mod crew;
 mod fault;
@@ -14,10 +15,10 @@ mod keeper;
 mod naming;
 mod opening;
 mod operating;
+mod queues;
 mod retrying;
 mod room;
 mod run;
-mod saving;
 mod setting;
 mod settling;
 mod shared;

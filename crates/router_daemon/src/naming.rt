@@ -1,11 +1,11 @@
 //! Passes of the one router that all threads of a program call.
 ghost use Rattle.std.specs.Prelude.{◌≡◌, ◌≤◌, []};
 ghost use Rattle.slot_lock.specs.Passes.{IsPassOf};
-ghost use Rattle.router_daemon.specs.Passes.{IsLegalPass, IsWholePass};
+ghost use Rattle.router_daemon.specs.Passes.{IsLegalPass};
 ghost use Rattle.router_daemon.specs.Sets.{IsPassOf-prop};
 
 use router_operator::Naming;
-use slot_lock::{Pass, Right};
+use slot_lock::Pass;
 use std::marker::{Model, PhantomData};
 
 /// A pass of the router, as threads hand it on.
@@ -119,75 +119,5 @@ impl<J: Naming> LegalTicket<J> {
     {
         let LegalTicket { pass, .. } = self;
         pass
-    }
-}
-
-/// A pass of the router that has seen a legal history and forgets nothing, as threads hand it on. A contract sees it as its pass.
-#[derive(Drop)]
-pub(crate) struct WholeTicket<J: Naming> {
-    pass: Pass,
-    of: PhantomData<J>,
-}
-
-impl<J: Naming> Model for WholeTicket<J> {
-    ghost use Rattle.slot_lock.specs.Passes.{PassView};
-    ghost use Rattle.router_daemon.specs.Passes.{IsWholePass};
-
-    ghost Value = { PassView };
-
-    ghost view = { λ t. t.pass };
-
-    ghost invariant = { λ t. IsWholePass J.router t.pass };
-}
-
-impl<J: Naming> WholeTicket<J> {
-    /// A pass, to be handed on.
-    pub(crate) fn new(pass: Pass) -> WholeTicket<J>
-        requires { IsWholePass J.router pass }
-        ensures { result ≡ pass }
-    {
-        WholeTicket {
-            pass,
-            of: PhantomData,
-        }
-    }
-
-    /// The pass that was handed on.
-    pub(crate) fn pass(self) -> Pass
-        ensures whole { IsWholePass J.router result }
-        ensures same { result ≡ self }
-    {
-        let WholeTicket { pass, .. } = self;
-        pass
-    }
-}
-
-/// The right to forget entries of the router, as threads hand it on.
-#[derive(Drop)]
-pub(crate) struct RightTicket<J: Naming> {
-    right: Right,
-    of: PhantomData<J>,
-    ghost is_of: { IsPassOf J.router right } by { IsPassOf-prop J.router right },
-}
-
-impl<J: Naming> RightTicket<J> {
-    /// The right, to be handed on.
-    pub(crate) fn new(right: Right) -> RightTicket<J>
-        requires { IsPassOf J.router right }
-        ensures { result.right ≡ right }
-    {
-        RightTicket {
-            right,
-            of: PhantomData,
-        }
-    }
-
-    /// The right that was handed on.
-    pub(crate) fn right(self) -> Right
-        ensures of { IsPassOf J.router result }
-        ensures same { result ≡ self.right }
-    {
-        let RightTicket { right, .. } = self;
-        right
     }
 }

@@ -1,9 +1,9 @@
 //! A router is opened.
-ghost use Rattle.std.specs.Prelude.{◌≡◌, [], false, true, IfErr, IfOk, IfSome};
-ghost use Rattle.router_daemon.specs.Passes.{IsBegun, IsLegalPass};
+ghost use Rattle.std.specs.Prelude.{◌≡◌, [], true, IfErr, IfOk};
+ghost use Rattle.router_daemon.specs.Passes.{IsLegalPass};
 ghost use Rattle.router_daemon.specs.Running.{IsEarly};
 ghost use Rattle.router_daemon.specs.Uses.{BeginsWithFilters};
-ghost use Rattle.slot_lock.specs.Passes.{IsPassOf};
+ghost use Rattle.slot_lock.specs.Passes.{IsNew};
 
 use crate::fault::DaemonFault;
 use crate::filtering::set_filters;
@@ -14,8 +14,8 @@ use slot_lock::{Pass, Right, Router};
 use std::alloc::{AllocError, Global};
 use std::sync::Wait;
 
-/// A router that was opened: it, its first pass, and the right to forget, where it is endless.
-pub(crate) type Opened = (Router, Pass, Option<Right>);
+/// A router that was opened: it, its first pass, and the right to forget.
+pub(crate) type Opened = (Router, Pass, Right);
 
 /// The journal of a plan, without entries.
 fn open_journal(alloc: Global, plan: &RouterPlan) -> Result<Journal, AllocError>
@@ -24,67 +24,36 @@ fn open_journal(alloc: Global, plan: &RouterPlan) -> Result<Journal, AllocError>
     Journal::open(alloc, plan.opening.copy(alloc)?, plan.limit)
 }
 
-/// The router of a plan that forgets nothing, with an empty history.
-fn open_whole(alloc: Global, plan: &RouterPlan) -> Result<Opened, DaemonFault>
-    ensures router { IfOk result (λ r. (r.0.opening ≡ plan.now.opening) × (r.0.limit ≡ plan.now.limit)) }
-    ensures kind { IfOk result (λ r. r.0.endless ≡ false) }
-    ensures begun { IfOk result (λ r. IsBegun r.0 r.1) }
-    ensures right { IfOk result (λ r. IfSome r.2 (λ right. IsPassOf r.0 right)) }
-    ensures early { IfErr result IsEarly }
-{
-    let journal = open_journal(alloc, plan)?;
-    match Router::open(alloc, journal) {
-        Ok((router, pass)) => Ok((router, pass, None)),
-        Err(fault) => Err(DaemonFault::Lock(fault)),
-    }
-}
-
-/// The router of a plan that may forget entries, with an empty history.
-fn open_endless(alloc: Global, plan: &RouterPlan) -> Result<Opened, DaemonFault>
+/// The router of a plan, with an empty history.
+fn open_empty(alloc: Global, plan: &RouterPlan) -> Result<Opened, DaemonFault>
     ensures router { IfOk result (λ r. (r.0.opening ≡ plan.now.opening) × (r.0.limit ≡ plan.now.limit)) }
     ensures kind { IfOk result (λ r. r.0.endless ≡ true) }
-    ensures begun { IfOk result (λ r. IsBegun r.0 r.1) }
-    ensures right { IfOk result (λ r. IfSome r.2 (λ right. IsPassOf r.0 right)) }
+    ensures pass { IfOk result (λ r. IsNew r.0 65535 r.1) }
+    ensures right { IfOk result (λ r. IsNew r.0 1 r.2) }
     ensures early { IfErr result IsEarly }
 {
     let journal = open_journal(alloc, plan)?;
     match Router::open_endless(alloc, journal) {
-        Ok((router, pass, right)) => Ok((router, pass, Some(right))),
+        Ok(opened) => Ok(opened),
         Err(fault) => Err(DaemonFault::Lock(fault)),
     }
 }
 
-/// The router of a plan, endless or not, with an empty history.
-fn open_empty(alloc: Global, plan: &RouterPlan, endless: bool) -> Result<Opened, DaemonFault>
-    ensures router { IfOk result (λ r. (r.0.opening ≡ plan.now.opening) × (r.0.limit ≡ plan.now.limit)) }
-    ensures kind { IfOk result (λ r. r.0.endless ≡ endless) }
-    ensures begun { IfOk result (λ r. IsBegun r.0 r.1) }
-    ensures right { IfOk result (λ r. IfSome r.2 (λ right. IsPassOf r.0 right)) }
-    ensures early { IfErr result IsEarly }
-{
-    if endless {
-        open_endless(alloc, plan)
-    } else {
-        open_whole(alloc, plan)
-    }
-}
-
-/// The router of a plan, endless or not, whose filters are set.
+/// The router of a plan, whose filters are set.
 pub(crate) fn open_router<R: Wait>(
     rt: &R,
     alloc: Global,
     plan: &RouterPlan,
     filters: &Filters,
-    endless: bool,
 ) -> Result<Opened, DaemonFault>
     ensures router { IfOk result (λ r. (r.0.opening ≡ plan.now.opening) × (r.0.limit ≡ plan.now.limit)) }
-    ensures kind { IfOk result (λ r. r.0.endless ≡ endless) }
+    ensures kind { IfOk result (λ r. r.0.endless ≡ true) }
     ensures pass { IfOk result (λ r. IsLegalPass r.0 r.1) }
-    ensures right { IfOk result (λ r. IfSome r.2 (λ right. IsPassOf r.0 right)) }
+    ensures right { IfOk result (λ r. IsNew r.0 1 r.2) }
     ensures set { IfOk result (λ r. BeginsWithFilters r.0 plan.now filters.now.entries r.1) }
     ensures early { IfErr result IsEarly }
 {
-    let (router, mut pass, right) = open_empty(alloc, plan, endless)?;
+    let (router, mut pass, right) = open_empty(alloc, plan)?;
     set_filters(rt, &router, &mut pass, plan, filters)?;
     Ok((router, pass, right))
 }

@@ -1,4 +1,8 @@
 //! When a link that was closed is opened again.
+//!
+//! **A link waits twice as long each time, while its sessions are short.** Each session that comes and goes is told to all neighbours, and costs
+//! every router of the domain entries. A minute is what an operator who mends a link is ready to wait; after a session of a minute the link counts
+//! as mended.
 ghost use Rattle.std.specs.Prelude.{◌≡◌, ◌*◌, ◌≤◌, IfSome};
 ghost use Rattle.std.specs.Duration.{as_nanos};
 ghost use Rattle.router_daemon.specs.Retries as spec;
@@ -9,16 +13,17 @@ use std::time::{Duration, Instant};
 /// Seconds: a link waits no longer, unless `--retry` says so, and a session that lasts so long is a long one.
 const MINUTE: u32 = 60;
 
-/// How many seconds a link waits, by `--retry` and by how long it waited before, if its sessions were short since.
-fn next_wait(retry: u32, before: Option<u32>) -> u32
-    ensures next { result ≡ spec.next_wait retry before }
-    ensures doubles { IfSome before (λ seconds. seconds * 2 ≤ spec.longest_wait retry → result ≡ seconds * 2) }
-    ensures bounded { result ≤ spec.longest_wait retry }
+/// How long to wait before something is tried again, by how long it was waited for before, if it was: so long at first, then twice as long each time,
+/// up to the longest.
+pub(crate) fn next_wait(first: u32, before: Option<u32>, longest: u32) -> u32
+    requires { first ≤ longest }
+    ensures next { result ≡ spec.next_wait first before longest }
+    ensures doubles { IfSome before (λ wait. wait * 2 ≤ longest → result ≡ wait * 2) }
+    ensures bounded { result ≤ longest }
 {
-    let most = retry.max(MINUTE);
     match before {
-        Some(seconds) => (u64::from(seconds) * 2).min(u64::from(most)) as u32,
-        None => retry,
+        Some(wait) => (u64::from(wait) * 2).min(u64::from(longest)) as u32,
+        None => first,
     }
 }
 
@@ -27,7 +32,7 @@ pub(crate) fn reopening(retry: Option<u32>, again: bool, before: Option<u32>) ->
     ensures { result ≡ spec.reopens retry again before }
 {
     match retry {
-        Some(retry) if again => Some(next_wait(retry, before)),
+        Some(retry) if again => Some(next_wait(retry, before, retry.max(MINUTE))),
         _ => None,
     }
 }

@@ -1,26 +1,26 @@
 //! A router is run.
-ghost use Rattle.std.specs.Prelude.{◌≡◌, false, [], IfErr, IfOk, IfSome, IsOkAnd, MatchResult, Ok, OnErr};
+ghost use Rattle.std.specs.Prelude.{◌≡◌, [], IfErr, IfOk, IfSome, IsOkAnd, MatchResult, Ok, OnErr};
 ghost use Rattle.std.specs.Option.{option_map};
 ghost use Rattle.router_daemon.specs.Passes.{IsLegalPass};
 ghost use Rattle.router_daemon.specs.Running as spec;
-ghost use Rattle.router_daemon.specs.Running.{HasOperator, IsEarly, IsOpened, SavesTo, is_endless};
+ghost use Rattle.router_daemon.specs.Running.{HasOperator, IsEarly, IsOpened, SavesTo, keep_of};
 ghost use Rattle.router_daemon.specs.Uses.{BeginsWithFilters};
-ghost use Rattle.slot_lock.specs.Passes.{IsPassOf};
+ghost use Rattle.slot_lock.specs.Passes.{IsNew};
 ghost use Rattle.router_daemon.specs.declared.fault.DaemonFault.TheVariants as fault;
 
+use crate::bounding::MostInMemory;
 use crate::closing::close_links;
 use crate::fault::DaemonFault;
 use crate::folder::LinkFolder;
-use crate::naming::{LegalTicket, RightTicket, Ticket, WholeTicket};
+use crate::forgetting::Forgetter;
+use crate::naming::{LegalTicket, Ticket};
 use crate::opening::open_router;
 use crate::operating::{Figures, OperatorEnd, serve_lines};
-use crate::saving::{IsIn, Saved};
 use crate::setting::{Filters, RouterEnd, Setting};
 use crate::shared::{Shared, shared_of};
-use crate::signals::Closing;
-use crate::starting::{Links, start_forgetter, start_links, start_saver};
-use crate::telling::tell_unkept;
-use history_saver::{SaveFault, Saver};
+use crate::starting::{Bounding, Links, start_bounding, start_links, take_part};
+use crate::telling::{tell_lost, tell_unkept};
+use history_saver::{SaveFault, SegmentFolder, SegmentSaver};
 use line_protocol::StreamFault;
 use neighbour_session::Domain;
 use router_operator::Naming;
@@ -31,100 +31,57 @@ use std::io::{Read, Write};
 use std::marker::Brand;
 use std::rt::Clock;
 use std::sync::{Arc, Wait};
-use std::thread::{JoinHandle, PromisedHandle, Threads};
+use std::thread::Threads;
 
-/// The thread that saves a history.
-type Saving<V, J> = PromisedHandle<Saved<V, J>, IsIn<V>>;
-
-/// The thread that forgets entries of a history.
-type Forgetting = JoinHandle<Closing>;
-
-/// Whether a router is endless: where its history is not saved.
-fn is_unsaved<V: Write>(save: &Option<V>) -> bool
-    ensures { result ≡ is_endless (option_map (λ file. V.contents file) save.now) }
-{
-    save.is_none()
-}
-
-/// Starts the thread that saves the history, if there is a file for it.
-fn begin_saving<
-    R: Threads + Wait + Clock + Copy + Send + Drop + 'static,
-    V: Write + Send + Drop + 'static,
-    J: Naming + Send + Sync + 'static,
-    E: Write + Send + Drop + 'static,
->(
-    rt: &R,
+/// Who saves and forgets the history of a router that was just opened. The first segment is made, if there is a folder.
+fn begin_forgetting<S: SegmentFolder + Drop, J: Naming>(
     alloc: Global,
-    shared: &Arc<Shared<J, E>>,
-    pass: &mut Pass,
-    save: Option<V>,
-) -> Result<Option<Saving<V, J>>, DaemonFault>
-    requires legal { IsLegalPass J.router pass.old }
-    requires whole { IfSome save (λ _. J.router.endless ≡ false) }
-    ensures legal { IsLegalPass J.router pass.new }
-    ensures same { (pass.new.fragment.seen ≡ pass.old.fragment.seen) × (pass.new.fragment.mine ≡ pass.old.fragment.mine) }
-    ensures file { IfOk result (λ saving. option_map (λ thread. V.contents thread.promise.0.value) saving ≡ option_map (λ file. V.contents file) save) }
+    save: Option<S>,
+    plan: &RouterPlan,
+    right: Right,
+) -> Result<Forgetter<S, J>, DaemonFault>
+    requires new { IsNew J.router 1 right }
+    requires is_opened { IsOpened plan.now J.router }
+    requires empty { IfSome save (λ folder. IfSome (S.holds folder) (λ v. v.segments ≡ [])) }
+    ensures how { IfOk result (λ forgetter. option_map keep_of forgetter.saver
+        ≡ spec.asked_for plan.now (option_map (λ folder. S.holds folder) save)) }
     ensures early { IfErr result IsEarly }
 {
-    let Some(file) = save else {
-        return Ok(None);
-    };
-    // Never so: a router is opened with 65,536 shares, far more than are given away. No clause says that here.
-    if pass.shares() < 2 {
-        return Err(DaemonFault::Memory);
+    match Forgetter::begin(alloc, save, &plan.opening, plan.limit, plan.segments, right) {
+        Ok(forgetter) => Ok(forgetter),
+        Err(fault) => Err(DaemonFault::NotBegun(fault)),
     }
-    let ticket = WholeTicket::new(shared.router.split(pass, 1));
-    Ok(Some(start_saver(rt, alloc, shared, file, ticket)?))
 }
 
-/// Waits until the history is saved, if it is, at least as far as a pass has seen it.
-fn end_saving<R: Threads + Wait, V: Write + Drop, J: Naming, E: Write>(
+/// Tells people that the history is not saved, if it is not.
+fn tell_if_unkept<R: Wait, S: SegmentFolder + Drop, J: Naming, E: Write>(
     rt: &R,
     alloc: Global,
     shared: &Shared<J, E>,
-    saving: Option<Saving<V, J>>,
-    ticket: Ticket<J>,
-) -> Result<Option<Saver<V>>, SaveFault>
-    ensures { IfOk result (SavesTo J.router ticket.pass.fragment.seen (option_map (λ thread. V.contents thread.promise.0.value) saving)) }
-{
-    let Some(saving) = saving else {
-        return Ok(None);
-    };
-    match saving.join(rt).finish(rt, alloc, shared, ticket) {
-        Ok(saved) => Ok(Some(saved.saver())),
-        Err(fault) => Err(fault),
+    forgetter: &Forgetter<S, J>,
+) {
+    if !forgetter.saves() {
+        let mut errors = shared.errors.lock(rt);
+        tell_unkept(alloc, &mut *errors);
     }
 }
 
-/// Starts the thread that forgets entries of the history, if it is not saved, and tells people that it is not.
-fn begin_forgetting<
-    R: Threads + Wait + Clock + Copy + Send + Drop + 'static,
-    J: Naming + Send + Sync + 'static,
-    E: Write + Send + Drop + 'static,
->(
+/// Saves the end of the history, if it is saved, at least as far as a pass has seen it. People are told where that fails.
+fn end_saving<R: Wait, S: SegmentFolder + Drop, J: Naming, E: Write>(
     rt: &R,
     alloc: Global,
-    shared: &Arc<Shared<J, E>>,
-    right: Option<Right>,
-    limit: u32,
-) -> Result<Option<Forgetting>, DaemonFault>
-    requires { IfSome right (λ right. IsPassOf J.router right) }
-    ensures { IfErr result IsEarly }
+    shared: &Shared<J, E>,
+    forgetter: Forgetter<S, J>,
+    ticket: Ticket<J>,
+) -> Result<Option<SegmentSaver<S>>, SaveFault>
+    ensures { IfOk result (SavesTo J.router ticket.pass.fragment.seen (option_map keep_of forgetter.saver)) }
 {
-    let Some(right) = right else {
-        return Ok(None);
-    };
-    let mut errors = shared.errors.lock(rt);
-    tell_unkept(alloc, &mut *errors);
-    drop(errors);
-    Ok(Some(start_forgetter(rt, shared, RightTicket::new(right), limit)?))
-}
-
-/// Waits until nothing is forgotten any more: the router is being closed.
-fn end_forgetting<R: Threads + Wait>(rt: &R, forgetting: Option<Forgetting>) {
-    if let Some(forgetting) = forgetting {
-        forgetting.join(rt);
+    let saved = forgetter.finish(rt, alloc, shared, ticket);
+    if let Err(fault) = &saved {
+        let mut errors = shared.errors.lock(rt);
+        tell_lost(alloc, &mut *errors, *fault);
     }
+    saved
 }
 
 /// Serves the links of a router and its operator, until the operator quits or their lines end.
@@ -172,10 +129,10 @@ fn serve_all<
 }
 
 /// What a router came to, by how its operator's lines ended and what became of its history.
-fn end_of<V: Write + Drop>(
+fn end_of<S: SegmentFolder + Drop>(
     answered: Result<u32, StreamFault>,
-    saved: Result<Option<Saver<V>>, SaveFault>,
-) -> Result<RouterEnd<V>, DaemonFault>
+    saved: Result<Option<SegmentSaver<S>>, SaveFault>,
+) -> Result<RouterEnd<S>, DaemonFault>
     ensures ok { IfOk result (λ end. (answered ≡ Ok end.refused) × (saved ≡ Ok end.saved)) }
     ensures err { IfErr result (spec.IsWhy answered) }
     ensures cause { IfErr result (spec.IsOfSaving saved) }
@@ -188,28 +145,24 @@ fn end_of<V: Write + Drop>(
 }
 
 /// What a router came to that ran, once its history is saved.
-fn end_run<R: Threads + Wait, V: Write + Drop, J: Naming, E: Write>(
+fn end_run<R: Threads + Wait, S: SegmentFolder + Drop, J: Naming, E: Write>(
     rt: &R,
     alloc: Global,
     shared: &Shared<J, E>,
-    saving: Option<Saving<V, J>>,
+    bounding: Bounding<S, J>,
     ran: Result<OperatorEnd<J>, AllocError>,
-) -> Result<RouterEnd<V>, DaemonFault>
+) -> Result<RouterEnd<S>, DaemonFault>
     ensures ok { IfOk result (λ end. IsOkAnd ran (λ operated. (operated.answered ≡ Ok end.refused)
-        × SavesTo J.router operated.ticket.pass.fragment.seen (option_map (λ thread. V.contents thread.promise.0.value) saving) end.saved)) }
+        × SavesTo J.router operated.ticket.pass.fragment.seen (option_map keep_of bounding.promise.0.value.saver) end.saved)) }
     ensures err { IfErr result (λ why. MatchResult ran (λ operated. spec.IsWhy operated.answered why) (λ _. why ≡ fault.Memory)) }
 {
+    let forgetter = bounding.join(rt);
     match ran {
         Ok(OperatorEnd { answered, ticket }) => {
-            let saved = end_saving(rt, alloc, shared, saving, ticket);
+            let saved = end_saving(rt, alloc, shared, forgetter, ticket);
             end_of(answered, saved)
         }
-        Err(_) => {
-            if let Some(saving) = saving {
-                saving.join(rt);
-            }
-            Err(DaemonFault::Memory)
-        }
+        Err(_) => Err(DaemonFault::Memory),
     }
 }
 
@@ -220,7 +173,7 @@ fn run_named<
     FI: Read + Send + Drop + 'static,
     FO: Write + Send + Drop + 'static,
     D: LinkFolder<FI, FO> + Send + Sync + Drop + 'static,
-    V: Write + Send + Drop + 'static,
+    S: SegmentFolder + Send + Drop + 'static,
     E: Write + Send + Drop + 'static,
     I: Read,
     W: Write,
@@ -228,26 +181,26 @@ fn run_named<
     rt: &R,
     alloc: Global,
     folder: D,
-    setting: Setting<V>,
+    setting: Setting<S>,
     errors: E,
     reader: &mut I,
     writer: &mut W,
     router: Router,
     mut pass: Pass,
-    right: Option<Right>,
-) -> Result<RouterEnd<V>, DaemonFault>
+    right: Right,
+) -> Result<RouterEnd<S>, DaemonFault>
     requires named { router ≡ J.router }
     requires legal { IsLegalPass J.router pass }
-    requires right { IfSome right (λ right. IsPassOf J.router right) }
-    requires is_opened { IsOpened setting.plan (is_endless (option_map (λ file. V.contents file) setting.save)) J.router }
+    requires right { IsNew J.router 1 right }
+    requires is_opened { IsOpened setting.plan J.router }
     requires set { BeginsWithFilters J.router setting.plan setting.filters.entries pass }
+    requires empty { IfSome setting.save (λ folder. IfSome (S.holds folder) (λ v. v.segments ≡ [])) }
     ensures operated { IfOk result (λ end. IfSome (I.remaining reader.old) (λ input. spec.RunsAsOne setting.plan setting.filters.entries
-        (option_map (λ file. V.contents file) setting.save) end.saved end.refused input (I.remaining reader.new) (W.contents writer.old)
+        (option_map (λ folder. S.holds folder) setting.save) end.saved end.refused input (I.remaining reader.new) (W.contents writer.old)
         (W.contents writer.new))) }
-    ensures saved { IfOk result (λ end. spec.Saves setting.plan (option_map (λ file. V.contents file) setting.save) end.saved) }
+    ensures saved { IfOk result (λ end. spec.Saves setting.plan (option_map (λ folder. S.holds folder) setting.save) end.saved) }
     ensures failed { IfErr result (spec.Fails (λ answered. IfSome (I.remaining reader.old) (λ input. spec.Operated setting.plan
-        (is_endless (option_map (λ file. V.contents file) setting.save)) setting.filters.entries answered input (I.remaining reader.new)
-        (W.contents writer.old) (W.contents writer.new)))
+        setting.filters.entries answered input (I.remaining reader.new) (W.contents writer.old) (W.contents writer.new)))
         ((reader.new ≡ reader.old) × (writer.new ≡ writer.old))) }
 {
     let Setting {
@@ -255,9 +208,11 @@ fn run_named<
         filters,
         save,
     } = setting;
+    let forgetter = begin_forgetting(alloc, save, &plan, right)?;
     let RouterPlan {
         opening,
         limit,
+        queue,
         links,
         retry,
         stays,
@@ -275,28 +230,32 @@ fn run_named<
         },
         retry,
     };
-    let endless = is_unsaved(&save);
     let shared: Arc<Shared<J, E>> = Arc::new(
         alloc,
-        shared_of(alloc, router, endless, links.as_slice(), errors)?,
+        shared_of(alloc, router, links.as_slice(), errors)?,
     )?;
-    let saving = begin_saving(rt, alloc, &shared, &mut pass, save)?;
-    let forgetting = begin_forgetting(rt, alloc, &shared, right, limit)?;
+    tell_if_unkept(rt, alloc, &shared, &forgetter);
+    let ticket = take_part(&shared, &mut pass, 1)?;
+    let most = MostInMemory {
+        entries: limit,
+        messages: queue,
+    };
+    let bounding = start_bounding(rt, alloc, &shared, forgetter, ticket, most)?;
     let ran = serve_all::<R, FI, FO, D, J, E, I, W>(
         rt, alloc, folder, &shared, &mut pass, links, common, figures, filters, reader, writer,
     );
     close_links(rt, &shared, &mut pass);
-    end_forgetting(rt, forgetting);
-    end_run(rt, alloc, &shared, saving, ran)
+    end_run(rt, alloc, &shared, bounding, ran)
 }
 
-/// Runs a router: its links, its operator and its history, until the operator quits or their lines end.
+/// Runs a router: its links, its operator and its history, until the operator quits or their lines end. The folder in which its history is to be
+/// saved has no segments before.
 pub fn run_router<
     R: Threads + Wait + Clock + Copy + Send + Drop + 'static,
     FI: Read + Send + Drop + 'static,
     FO: Write + Send + Drop + 'static,
     D: LinkFolder<FI, FO> + Send + Sync + Drop + 'static,
-    V: Write + Send + Drop + 'static,
+    S: SegmentFolder + Send + Drop + 'static,
     E: Write + Send + Drop + 'static,
     I: Read,
     W: Write,
@@ -304,23 +263,22 @@ pub fn run_router<
     rt: &R,
     alloc: Global,
     folder: D,
-    setting: Setting<V>,
+    setting: Setting<S>,
     errors: E,
     reader: &mut I,
     writer: &mut W,
-) -> Result<RouterEnd<V>, DaemonFault>
+) -> Result<RouterEnd<S>, DaemonFault>
+    requires { IfSome setting.save (λ folder. IfSome (S.holds folder) (λ v. v.segments ≡ [])) }
     ensures operated { IfOk result (λ end. IfSome (I.remaining reader.old) (λ input. spec.RunsAsOne setting.plan setting.filters.entries
-        (option_map (λ file. V.contents file) setting.save) end.saved end.refused input (I.remaining reader.new) (W.contents writer.old)
+        (option_map (λ folder. S.holds folder) setting.save) end.saved end.refused input (I.remaining reader.new) (W.contents writer.old)
         (W.contents writer.new))) }
-    ensures saved { IfOk result (λ end. spec.Saves setting.plan (option_map (λ file. V.contents file) setting.save) end.saved) }
+    ensures saved { IfOk result (λ end. spec.Saves setting.plan (option_map (λ folder. S.holds folder) setting.save) end.saved) }
     ensures failed { IfErr result (spec.Fails (λ answered. IfSome (I.remaining reader.old) (λ input. spec.Operated setting.plan
-        (is_endless (option_map (λ file. V.contents file) setting.save)) setting.filters.entries answered input (I.remaining reader.new)
-        (W.contents writer.old) (W.contents writer.new)))
+        setting.filters.entries answered input (I.remaining reader.new) (W.contents writer.old) (W.contents writer.new)))
         ((reader.new ≡ reader.old) × (writer.new ≡ writer.old))) }
 {
-    let endless = is_unsaved(&setting.save);
-    let (router, pass, right) = open_router(rt, alloc, &setting.plan, &setting.filters, endless)?;
-    run_named::<Brand, R, FI, FO, D, V, E, I, W>(
+    let (router, pass, right) = open_router(rt, alloc, &setting.plan, &setting.filters)?;
+    run_named::<Brand, R, FI, FO, D, S, E, I, W>(
         rt, alloc, folder, setting, errors, reader, writer, router, pass, right,
     )
 }

@@ -1,12 +1,11 @@
 //! What a full history had no room for, and a Down that was refused, are entered later.
-ghost use Rattle.std.specs.Prelude.{◌≡◌, MatchBool, true};
+ghost use Rattle.std.specs.Prelude.{◌≡◌, MatchBool};
 ghost use Rattle.slot_lock.specs.Passes.{IsPassOf};
 ghost use Rattle.router_daemon.specs.Links.{IsOwed, IsSettled};
 
 use crate::shared::Shared;
 use neighbour_session::SessionEnd;
 use netchange_core::Event;
-use route_history::CallFault;
 use router_operator::Naming;
 use slot_lock::Pass;
 use std::io::Write;
@@ -15,13 +14,10 @@ use std::sync::Wait;
 use std::thread;
 use std::time::Duration;
 
-/// Whether a call that was not entered for this reason may be a little later: the history is full, and the router is endless.
-pub(crate) fn passes(endless: bool, why: SessionEnd) -> bool
-    ensures { MatchBool result ((endless ≡ true) × (why ≡ SessionEnd.Full)) (endless ≡ true → why ≡ SessionEnd.Full → ⊥) }
+/// Whether a call that was not entered for this reason may be a little later: the history is full, and it is not so for ever.
+pub(crate) fn passes(why: SessionEnd) -> bool
+    ensures { MatchBool result (why ≡ SessionEnd.Full) (why ≡ SessionEnd.Full → ⊥) }
 {
-    if !endless {
-        return false;
-    }
     match why {
         SessionEnd::Full => true,
         _ => false,
@@ -33,8 +29,7 @@ pub(crate) fn pause<R: Clock>(rt: &R) {
     thread::sleep(rt, Duration::from_millis(5));
 }
 
-/// Enters the Down of a session that is over. False exactly where it is owed still: it is refused memory, or the history is full, if that
-/// passes. A history that is full for good takes no Down any more.
+/// Enters the Down of a session that is over. False exactly where it is owed still: it is refused memory, or the history is full.
 fn enter_again<R: Wait, J: Naming, E: Write>(
     rt: &R,
     shared: &Shared<J, E>,
@@ -50,8 +45,7 @@ fn enter_again<R: Wait, J: Naming, E: Write>(
             shared.signals.note(rt, &answer);
             true
         }
-        Err(CallFault::Full) => !shared.endless,
-        Err(CallFault::Memory) => false,
+        Err(_) => false,
     }
 }
 
@@ -75,8 +69,26 @@ fn enter_owed<R: Wait, J: Naming, E: Write>(
     is_settled
 }
 
-/// Waits until the router has no session of a link any more that is over: each second its Down is tried again. Not where the router is
-/// being closed: who closes it enters the Down.
+/// Tries once to enter the Down of a session of a link that was refused before, if there is one. False where it is owed still. Where the router
+/// is being closed who closes it enters the Down.
+pub(crate) fn settle_once<R: Wait, J: Naming, E: Write>(
+    rt: &R,
+    shared: &Shared<J, E>,
+    pass: &mut Pass,
+    link: usize,
+) -> bool
+    requires { IsPassOf J.router pass.old }
+    ensures { IsPassOf J.router pass.new }
+{
+    if !shared.signals.open(rt, link) {
+        return true;
+    }
+    let is_entered = enter_owed(rt, shared, pass, link);
+    shared.signals.settle(rt, link);
+    is_entered
+}
+
+/// Waits until the router has no session of a link any more that is over: each second its Down is tried again.
 pub(crate) fn settle<R: Wait + Clock, J: Naming, E: Write>(
     rt: &R,
     shared: &Shared<J, E>,
@@ -87,12 +99,7 @@ pub(crate) fn settle<R: Wait + Clock, J: Naming, E: Write>(
     ensures { IsPassOf J.router pass.new }
 {
     for _ in rt.forever() {
-        if !shared.signals.open(rt, link) {
-            return;
-        }
-        let is_entered = enter_owed(rt, shared, pass, link);
-        shared.signals.settle(rt, link);
-        if is_entered {
+        if settle_once(rt, shared, pass, link) {
             return;
         }
         thread::sleep(rt, Duration::from_secs(1));

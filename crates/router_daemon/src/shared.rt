@@ -1,6 +1,6 @@
 //! What all threads of a router share.
 ghost use Rattle.std.specs.Prelude.{◌≡◌, IfOk, map};
-ghost use Rattle.router_daemon.specs.Sets.{RouterView-set, bool_prop};
+ghost use Rattle.router_daemon.specs.Sets.{RouterView-set};
 
 use crate::signals::Signals;
 use router_operator::Naming;
@@ -18,15 +18,12 @@ pub(crate) struct Shared<J: Naming, E: Write> {
     pub(crate) router: Router,
     /// The nodes that have links, in the order of the links.
     pub(crate) nodes: Vec<u16>,
-    /// Whether the router is endless: then a history that is full passes.
-    pub(crate) endless: bool,
     /// How threads wake one another.
     pub(crate) signals: Signals,
     /// Where people are told things, one line after another.
     pub(crate) errors: Mutex<E>,
     of: PhantomData<J>,
     pub(crate) ghost is_named: { router ≡ J.router } by { RouterView-set router J.router },
-    pub(crate) ghost is_endless: { endless ≡ J.router.endless } by { bool_prop endless J.router.endless },
 }
 
 /// The nodes of links.
@@ -44,12 +41,10 @@ fn nodes_of(alloc: Global, links: &[LinkFiles]) -> Result<Vec<u16>, AllocError>
 pub(crate) fn shared_of<J: Naming, E: Write + Drop>(
     alloc: Global,
     router: Router,
-    endless: bool,
     links: &[LinkFiles],
     errors: E,
 ) -> Result<Shared<J, E>, AllocError>
-    requires named { router ≡ J.router }
-    requires flag { endless ≡ J.router.endless }
+    requires { router ≡ J.router }
     ensures { IfOk result (λ shared. shared.nodes.items ≡ map (λ link. link.node) links.now) }
 {
     let nodes = nodes_of(alloc, links)?;
@@ -57,7 +52,6 @@ pub(crate) fn shared_of<J: Naming, E: Write + Drop>(
     Ok(Shared {
         router,
         nodes,
-        endless,
         signals,
         errors: Mutex::new(errors),
         of: PhantomData,

@@ -8,6 +8,7 @@ use slot_lock::Answer;
 use std::alloc::{AllocError, Global};
 use std::rt::Clock;
 use std::sync::{Condvar, Mutex, MutexGuard, Wait};
+use std::time::Duration;
 
 /// The router is being closed. Only `Signals` makes one: who has it was told so.
 #[derive(Drop)]
@@ -22,7 +23,7 @@ pub(crate) struct Signals {
     pub(crate) board: Mutex<Board>,
     /// One for each link: its writer sleeps on it.
     pub(crate) bells: Vec<Condvar>,
-    /// Who saves the history sleeps on it, or who forgets it.
+    /// Who saves the history and forgets it sleeps on it.
     pub(crate) saver_bell: Condvar,
     /// Who closes the router sleeps on it until no Up and no Down of a session is being entered.
     settled: Condvar,
@@ -181,17 +182,31 @@ impl Signals {
         }
     }
 
-    /// Sleeps until the history has more entries than are saved, or is to have before some are forgotten, or the router is being closed: that
-    /// it is, if so. Only one thread does: who saves the history, or who forgets it.
-    pub(crate) fn await_entries<R: Wait>(&self, rt: &R, saved: u64) -> Option<Closing> {
+    /// Sleeps until the history has more than so many entries, or the router is being closed: that it is, if so. Only one thread does, who
+    /// forgets the history.
+    pub(crate) fn await_entries<R: Wait>(&self, rt: &R, count: u64) -> Option<Closing> {
         let mut board = self.board.lock(rt);
         for _ in rt.forever() {
-            if !board.rest_saver(saved) {
+            if !board.rest_saver(count) {
                 return closing_of(&board);
             }
             board = self.saver_bell.wait(rt, board);
         }
         unreachable!()
+    }
+
+    /// The same, but sleeps no longer than this.
+    pub(crate) fn rest<R: Wait + Clock>(
+        &self,
+        rt: &R,
+        count: u64,
+        longest: Duration,
+    ) -> Option<Closing> {
+        let mut board = self.board.lock(rt);
+        if board.rest_saver(count) {
+            board = self.saver_bell.wait_timeout(rt, board, longest).0;
+        }
+        closing_of(&board)
     }
 
     /// Says that entries are to be forgotten before more are made than up to this position; or that none have to.

@@ -1,19 +1,19 @@
 //! The threads of a router are started.
-ghost use Rattle.std.specs.Prelude.{◌≡◌, IfErr, IfOk};
+ghost use Rattle.std.specs.Prelude.{◌≡◌, ◌≤◌, IfErr, IfOk};
 ghost use Rattle.router_daemon.specs.Passes.{IsLegalPass};
 ghost use Rattle.router_daemon.specs.Running.{IsEarly};
 
+use crate::bounding::{MostInMemory, bound_memory};
 use crate::fault::DaemonFault;
 use crate::folder::LinkFolder;
-use crate::forgetting::forget_history;
+use crate::forgetting::{AsBegun, Forgetter};
 use crate::keeper::{Link, keep_link};
-use crate::naming::{RightTicket, Ticket, WholeTicket};
+use crate::naming::Ticket;
 use crate::room::Room;
-use crate::saving::{IsIn, Saved, save_history};
 use crate::shared::Shared;
-use crate::signals::Closing;
 use crate::telling::tell_unstarted;
 use crate::writer::write_link;
+use history_saver::SegmentFolder;
 use neighbour_session::Domain;
 use router_operator::Naming;
 use router_options::LinkFiles;
@@ -24,7 +24,10 @@ use std::rt::Clock;
 use std::snapshot::Snapshot;
 use std::sync::{Arc, Wait};
 use std::thread;
-use std::thread::{JoinHandle, PromisedHandle, Threads};
+use std::thread::{PromisedHandle, Threads};
+
+/// The thread that bounds the memory of a router.
+pub(crate) type Bounding<S, J> = PromisedHandle<Forgetter<S, J>, AsBegun<S, J>>;
 
 /// The shares of a link's pass. It gives one of them to its writer, for a session.
 const SHARES: u32 = 100;
@@ -110,19 +113,22 @@ fn start_link<
     start_keeper::<R, I, O, D, J, E>(rt, alloc, folder, shared, room, link, ticket)
 }
 
-/// Takes a link's part of a pass.
-fn take_part<J: Naming, E: Write>(
+/// Takes a part of a pass, with so many shares.
+pub(crate) fn take_part<J: Naming, E: Write>(
     shared: &Shared<J, E>,
     pass: &mut Pass,
+    shares: u32,
 ) -> Result<Ticket<J>, AllocError>
-    requires { IsLegalPass J.router pass.old }
-    ensures { IsLegalPass J.router pass.new }
+    requires legal { IsLegalPass J.router pass.old }
+    requires some { 1 ≤ shares }
+    ensures legal { IsLegalPass J.router pass.new }
+    ensures same { (pass.new.fragment.seen ≡ pass.old.fragment.seen) × (pass.new.fragment.mine ≡ pass.old.fragment.mine) }
 {
-    // Never so: 65,536 shares are enough for 249 links. No clause says that here.
-    if pass.shares() <= SHARES {
+    // Never so: a router is opened with 65,536 shares, enough for 249 links and the other threads. No clause says that here.
+    if pass.shares() <= shares {
         return Err(AllocError);
     }
-    Ok(Ticket::new(shared.router.split(pass, SHARES)))
+    Ok(Ticket::new(shared.router.split(pass, shares)))
 }
 
 /// Starts the threads of all links. Where one is not started, people are told, and the link stays down.
@@ -153,7 +159,7 @@ pub(crate) fn start_links<
             domain: common.domain,
             retry: common.retry,
         };
-        let ticket = take_part(shared, pass)?;
+        let ticket = take_part(shared, pass, SHARES)?;
         if !start_link::<R, I, O, D, J, E>(rt, alloc, folder, shared, link, ticket)? {
             let mut errors = shared.errors.lock(rt);
             tell_unstarted(alloc, &mut *errors, node);
@@ -162,54 +168,31 @@ pub(crate) fn start_links<
     Ok(())
 }
 
-/// Starts the thread that saves the history, in this file. None where it was not started.
-pub(crate) fn start_saver<
+/// Starts the thread that bounds the memory of a router.
+pub(crate) fn start_bounding<
     R: Threads + Wait + Clock + Copy + Send + Drop + 'static,
-    V: Write + Send + Drop + 'static,
+    S: SegmentFolder + Send + Drop + 'static,
     J: Naming + Send + Sync + 'static,
     E: Write + Send + Drop + 'static,
 >(
     rt: &R,
     alloc: Global,
     shared: &Arc<Shared<J, E>>,
-    file: V,
-    ticket: WholeTicket<J>,
-) -> Result<PromisedHandle<Saved<V, J>, IsIn<V>>, DaemonFault>
-    ensures file { IfOk result (λ saving. saving.promise.0.value ≡ file) }
+    forgetter: Forgetter<S, J>,
+    ticket: Ticket<J>,
+    most: MostInMemory,
+) -> Result<Bounding<S, J>, DaemonFault>
+    ensures begun { IfOk result (λ bounding. bounding.promise.0.value ≡ forgetter) }
     ensures early { IfErr result IsEarly }
 {
     let handle = *rt;
     let shared = Arc::try_clone(shared)?;
-    let promise = IsIn(Snapshot::of(&file));
+    let promise = AsBegun(Snapshot::of(&forgetter));
     let started = thread::spawn_with(rt, promise, move || {
-        save_history::<R, V, J, E>(handle, alloc, shared, file, ticket)
+        bound_memory::<R, S, J, E>(handle, alloc, shared, forgetter, ticket, most)
     });
     match started {
-        Ok(saving) => Ok(saving),
-        Err(_) => Err(DaemonFault::NotStarted),
-    }
-}
-
-/// Starts the thread that forgets entries of the history, of which there is room for so many.
-pub(crate) fn start_forgetter<
-    R: Threads + Wait + Clock + Copy + Send + Drop + 'static,
-    J: Naming + Send + Sync + 'static,
-    E: Write + Send + Drop + 'static,
->(
-    rt: &R,
-    shared: &Arc<Shared<J, E>>,
-    ticket: RightTicket<J>,
-    limit: u32,
-) -> Result<JoinHandle<Closing>, DaemonFault>
-    ensures { IfErr result IsEarly }
-{
-    let handle = *rt;
-    let shared = Arc::try_clone(shared)?;
-    let started = thread::spawn(rt, move || {
-        forget_history::<R, J, E>(handle, shared, ticket, limit)
-    });
-    match started {
-        Ok(forgetting) => Ok(forgetting),
+        Ok(bounding) => Ok(bounding),
         Err(_) => Err(DaemonFault::NotStarted),
     }
 }

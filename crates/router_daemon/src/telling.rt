@@ -45,6 +45,23 @@ fn end_line(alloc: Global, node: u16, why: SessionEnd) -> Result<String, AllocEr
     closed_line(alloc, node, words.as_str())
 }
 
+/// The line that tells that so many messages wait for a node, more than may.
+fn long_line(alloc: Global, node: u16, waiting: usize) -> Result<String, AllocError>
+    ensures { IfOk result (λ line. string_bytes line ≡ spec.long_line node waiting) }
+{
+    let mut digits = Buffer::new();
+    let mut words = String::from_str(alloc, digits.format(waiting))?;
+    words.push_str(" messages wait")?;
+    closed_line(alloc, node, words.as_str())
+}
+
+/// Tells that a link is closed, since so many messages wait for its node.
+pub(crate) fn tell_long<E: Write>(alloc: Global, errors: &mut E, node: u16, waiting: usize)
+    ensures { AppendsFront (E.contents errors.old) (E.contents errors.new) (spec.long_line node waiting) }
+{
+    tell(errors, long_line(alloc, node, waiting));
+}
+
 /// The line that tells that a file was not opened, for a reason.
 fn unopened_line(alloc: Global, node: u16, name: &str, why: &str) -> Result<String, AllocError>
     ensures { IfOk result (λ line. string_bytes line ≡ spec.unopened_line node name.now why.now) }
@@ -55,7 +72,7 @@ fn unopened_line(alloc: Global, node: u16, name: &str, why: &str) -> Result<Stri
     closed_line(alloc, node, words.as_str())
 }
 
-/// Why a history is not saved any more.
+/// Why a history is not saved.
 fn save_words(why: SaveFault) -> &'static str
     ensures { result.now ≡ spec.save_words why }
 {
@@ -65,15 +82,17 @@ fn save_words(why: SaveFault) -> &'static str
     }
 }
 
-/// The line that tells that a history is not saved any more.
-fn unsaved_line(alloc: Global, why: SaveFault) -> Result<String, AllocError>
-    ensures { IfOk result (λ line. string_bytes line ≡ spec.unsaved_line why) }
+/// The line that tells what a fault of saving comes to.
+fn save_line(alloc: Global, why: SaveFault, what: &str) -> Result<String, AllocError>
+    ensures { IfOk result (λ line. string_bytes line ≡ spec.save_line why what.now) }
 {
     let mut line = String::from_str(alloc, "history: ")?;
     line.push_str(save_words(why))?;
     line.push_str(" (")?;
     line.push_str(why.code())?;
-    line.push_str("): not saved from here on\n")?;
+    line.push_str("): ")?;
+    line.push_str(what)?;
+    line.push_str("\n")?;
     Ok(line)
 }
 
@@ -132,11 +151,28 @@ pub(crate) fn tell_unopened<E: Write>(
     tell(errors, unopened_line_of(alloc, node, name, why));
 }
 
-/// Tells that the history is not saved any more.
+/// Tells that the history is not saved for now.
 pub(crate) fn tell_unsaved<E: Write>(alloc: Global, errors: &mut E, why: SaveFault)
     ensures { AppendsFront (E.contents errors.old) (E.contents errors.new) (spec.unsaved_line why) }
 {
-    tell(errors, unsaved_line(alloc, why));
+    tell(
+        errors,
+        save_line(alloc, why, "not saved until that works again"),
+    );
+}
+
+/// Tells that the end of the history is not saved.
+pub(crate) fn tell_lost<E: Write>(alloc: Global, errors: &mut E, why: SaveFault)
+    ensures { AppendsFront (E.contents errors.old) (E.contents errors.new) (spec.lost_line why) }
+{
+    tell(errors, save_line(alloc, why, "its end is not saved"));
+}
+
+/// Tells that the history is saved again.
+pub(crate) fn tell_saved<E: Write>(alloc: Global, errors: &mut E)
+    ensures { AppendsFront (E.contents errors.old) (E.contents errors.new) spec.saved_line }
+{
+    tell(errors, String::from_str(alloc, "history: saved again\n"));
 }
 
 /// Tells that no more of a history is kept than its last entries.

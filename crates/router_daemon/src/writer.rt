@@ -1,6 +1,6 @@
 //! The writer of a link.
 ghost use Rattle.neighbour_session.specs.Writing.{Serves};
-ghost use Rattle.std.specs.Prelude.{⊤};
+ghost use Rattle.std.specs.Prelude.{true, ⊤};
 
 use crate::crew::{LinkCrew, LinkLeaver};
 use crate::keeper::tell_unless_closed;
@@ -32,7 +32,7 @@ fn write_session<'a, R: Wait + Clock, O: Write + Drop, J: Naming, E: Write>(
     crew: LinkCrew<'a>,
     order: Order<O, J>,
 ) -> (Done<'a, J>, MessageWriter<O>)
-    ensures { Serves J.router.endless (λ _. ⊤) (λ _. ⊤) J.router order.session order.ticket order.output result.0.why result.0.ticket.pass result.1 }
+    ensures { Serves true (λ _. ⊤) (λ _. ⊤) J.router order.session order.ticket order.output result.0.why result.0.ticket.pass result.1 }
 {
     let Order {
         session,
@@ -48,7 +48,7 @@ fn write_session<'a, R: Wait + Clock, O: Write + Drop, J: Naming, E: Write>(
         session,
         output,
         crew,
-        shared.endless,
+        true,
     );
     let ticket = Ticket::new(pass);
     let done = Done {

@@ -30,6 +30,7 @@ pub with_link : (plan : PlanView) (text : List ℕ) (link : LinkFiles) → IsPla
     → IsPlan (record plan { links = plan.links ++ link ∷ [] })
 with_link plan text link h may = record {
   limit = h.limit;
+  queue = h.queue;
   members = h.members;
   neighbours = All-push (λ (l : LinkFiles). is_neighbour plan.opening l.node ≡ true) plan.links link h.neighbours may.neighbour;
   imports = h.imports;
@@ -51,6 +52,7 @@ pub with_import : (plan : PlanView) (text : List ℕ) (u : FilterUse) → IsPlan
     → IsPlan (record plan { imports = plan.imports ++ u ∷ [] })
 with_import plan text u h may = record {
   limit = h.limit;
+  queue = h.queue;
   members = h.members;
   neighbours = h.neighbours;
   imports = All-push (IsUsed plan.opening plan.filters) plan.imports u h.imports (used plan plan.imports text u may);
@@ -65,6 +67,7 @@ pub with_export : (plan : PlanView) (text : List ℕ) (u : FilterUse) → IsPlan
     → IsPlan (record plan { exports = plan.exports ++ u ∷ [] })
 with_export plan text u h may = record {
   limit = h.limit;
+  queue = h.queue;
   members = h.members;
   neighbours = h.neighbours;
   imports = h.imports;
@@ -87,6 +90,7 @@ pub with_filter : (plan : PlanView) (filter : String Global) → IsPlan plan →
 with_filter plan filter h =
     let more = λ (u : FilterUse) (k : IsUsed plan.opening plan.filters u). still_used plan.opening plan.filters filter u k in record {
       limit = h.limit;
+      queue = h.queue;
       members = h.members;
       neighbours = h.neighbours;
       imports = All-weaker (IsUsed plan.opening plan.filters) (IsUsed plan.opening (plan.filters ++ filter ∷ [])) more plan.imports h.imports;
@@ -102,6 +106,7 @@ pub with_prefix : (plan : PlanView) (text : List ℕ) (given : NodePrefix) (pref
     → IsPlan (record plan { opening = record plan.opening { prefixes = prefixes }; placed = plan.placed ++ given.node ∷ [] })
 with_prefix plan text given prefixes h may = record {
   limit = h.limit;
+  queue = h.queue;
   members = All-push (λ (node : ℕ). is_member plan.opening node ≡ true) plan.placed given.node h.members may.member;
   neighbours = h.neighbours;
   imports = All-weaker (IsUsed plan.opening plan.filters) (IsUsed (record plan.opening { prefixes = prefixes }) plan.filters)
@@ -188,6 +193,6 @@ unknown_filter old v uses text u given filters name is says near same named has 
     )
 
 -- numbers that fit are those of a domain
-pub fit_network : (a b c : Bool) → (a && b && c) ≡ true → a ≡ true
-fit_network true b c h = refl
-fit_network false b c h = cc
+pub fit_network : (a b c d e : Bool) → ((((a && b) && c) && d) && e) ≡ true → a ≡ true
+fit_network true b c d e h = refl
+fit_network false b c d e h = cc

@@ -8,18 +8,21 @@ use Rattle.operator_cmds.specs.Limits.{largest_limit}
 use Rattle.router_options.specs.declared.parts.FilterUse.{FilterUse}
 use Rattle.router_options.specs.declared.parts.LinkFiles.{LinkFiles}
 
--- the domain, the router's node and the prefixes; the nodes whose prefix was given, in order; the most entries of the history, or how many
--- there is room for where that is not saved; the names of the filters; the import and the export filters; the links; where the history is
--- saved; how long a closed link waits; whether the router goes on where its standard input ends
+-- the domain, the router's node and the prefixes; the nodes whose prefix was given, in order; how many entries of the history there is room for
+-- in memory; the most messages that may wait for a neighbour; the names of the filters; the import and the export filters; the links; the folder
+-- in which the history is saved, and how many segments of it are kept there; how long a closed link waits; whether the router goes on where its
+-- standard input ends
 pub record PlanView : Type 0 where
   pub opening : OpeningView
   pub placed : List ℕ
   pub limit : ℕ
+  pub queue : ℕ
   pub filters : List (String Global)
   pub imports : List FilterUse
   pub exports : List FilterUse
   pub links : List LinkFiles
   pub save : Option (String Global)
+  pub segments : Option ℕ
   pub retry : Option ℕ
   pub stays : Bool
 
@@ -59,10 +62,17 @@ pub record IsUsed (opening : OpeningView) (filters : List (String Global)) (used
   pub neighbour : is_neighbour opening used.node ≡ true
   pub given : has_filter filters (string_bytes used.name) ≡ true
 
--- Each prefix that was given is that of a node of the domain, each link leads to a neighbour, and each use is of a filter that has a name, at
+-- A router forgets the first entries of its history, 1,024 at a time, and has room for 2,048 or more: so many that some can be forgotten while
+-- others are made.
+abbrev pub smallest_room : ℕ
+smallest_room = 2048
+
+-- The room is within its limits. A neighbour that comes up is told one distance for each node of the domain: so many messages may wait. Each
+-- prefix that was given is that of a node of the domain, each link leads to a neighbour, and each use is of a filter that has a name, at
 -- a neighbour. No node has two prefixes that were given, two import filters, two export filters or two links.
 pub record IsPlan (plan : PlanView) : Type 0 where
-  pub limit : (1 ≤ plan.limit) × (plan.limit ≤ largest_limit)
+  pub limit : (smallest_room ≤ plan.limit) × (plan.limit ≤ largest_limit)
+  pub queue : plan.opening.size ≤ plan.queue
   pub members : All (λ node. is_member plan.opening node ≡ true) plan.placed
   pub neighbours : All (λ link. is_neighbour plan.opening link.node ≡ true) plan.links
   pub imports : All (IsUsed plan.opening plan.filters) plan.imports

@@ -1,5 +1,5 @@
 -- What an option adds to what a router is told, or why it is refused. (This project's own choice.)
-use Rattle.std.specs.Prelude.{◌≡◌, ℕ, ◌+◌, ◌&&◌, ◌||◌, Bool, true, false, nat_le, nat_lt, List, []}
+use Rattle.std.specs.Prelude.{◌≡◌, ℕ, ◌+◌, ◌&&◌, Bool, true, false, nat_le, nat_lt, List, []}
 use Rattle.std.specs.Prelude.{◌∷◌, ◌++◌, Option, Some, None, String, slice_set, string_bytes}
 use Rattle.std.specs.declared.alloc.Global.{Global}
 use Rattle.filter_code.specs.Limits.{smallest_size, largest_size}
@@ -8,7 +8,7 @@ use Rattle.operator_cmds.specs.Networks.{is_network}
 use Rattle.operator_cmds.specs.Domain.{default_opening, limit_or}
 use Rattle.operator_cmds.specs.Limits.{largest_limit}
 use Rattle.router_options.specs.Forms.{IsLink, IsPrefix, IsUse, is_link, is_prefix, is_use, node_in, said_in}
-use Rattle.router_options.specs.PlanView.{PlanView, has_filter, has_link, has_prefix, has_use, is_member, is_neighbour}
+use Rattle.router_options.specs.PlanView.{PlanView, has_filter, has_link, has_prefix, has_use, is_member, is_neighbour, smallest_room}
 use Rattle.router_options.specs.declared.fault.NodeFault.{NodeFault}
 use Rattle.router_options.specs.declared.fault.NodeFault.TheVariants.{Outside, Itself}
 use Rattle.router_options.specs.declared.fault.NumberFault.{NumberFault}
@@ -26,43 +26,60 @@ use Rattle.router_options.specs.declared.plan.Numbers.{Numbers}
 abbrev pub is_size : ℕ → Bool
 is_size size = nat_le smallest_size size && nat_le size largest_size
 
--- a history takes 1 to 1,000,000 entries
+-- a router has room for 2,048 to 1,000,000 entries
 abbrev pub is_limit : ℕ → Bool
-is_limit limit = nat_le 1 limit && nat_le limit largest_limit
+is_limit limit = nat_le smallest_room limit && nat_le limit largest_limit
 
--- A router whose history is not saved forgets the first entries, and has room for 2,048 or more: so many that some can be forgotten while others
--- are made. `saves` says whether the history is saved.
-abbrev pub smallest_room : ℕ
-smallest_room = 2048
+-- the most messages that may wait for a neighbour, where it may be left out
+abbrev pub queue_or : Option ℕ → ℕ
+queue_or None = 65536
+queue_or (Some queue) = queue
 
-abbrev pub has_room : ℕ → Bool → Bool
-has_room limit saves = nat_le smallest_room limit || saves
+-- Up queues one message for each node of the domain. A lower bound would end each session that begins; with this one Up alone ends none.
+abbrev pub is_queue : ℕ → ℕ → Bool
+is_queue size queue = nat_le size queue
 
-abbrev pub is_room : ℕ → Bool → Bool
-is_room limit saves = is_limit limit && has_room limit saves
+-- segments are kept of a history that is saved, and the one that grows always is. `saves` says whether the history is saved.
+abbrev pub are_segments : Option ℕ → Bool → Bool
+are_segments None saves = true
+are_segments (Some count) saves = nat_le 1 count && saves
 
 -- a link that is opened again waits a second at least: without a wait, one whose files open at once would be opened over and over
 abbrev pub is_retry : Option ℕ → Bool
 is_retry None = true
 is_retry (Some seconds) = nat_le 1 seconds
 
--- the domain has as many nodes as a domain has, the router is one of them, and the limit and the wait fit
+-- the domain has as many nodes as a domain has, the router is one of them, and there is such room; the bound on what waits fits, too; and then
+-- the number of segments
+abbrev pub has_room : Numbers → Bool
+has_room n = is_network n.size n.me && is_limit (limit_or n.limit)
+
+abbrev pub has_bounds : Numbers → Bool
+has_bounds n = has_room n && is_queue n.size (queue_or n.queue)
+
+abbrev pub can_save : Numbers → Bool → Bool
+can_save n saves = has_bounds n && are_segments n.segments saves
+
+-- all of that, and the wait fit
 abbrev pub are_numbers : Numbers → Bool → Bool
-are_numbers n saves = is_network n.size n.me && is_room (limit_or n.limit) saves && is_retry n.retry
+are_numbers n saves = can_save n saves && is_retry n.retry
 
 -- a node is not below the size of a domain, whose last node is this
 abbrev pub IsBeyond : ℕ → ℕ → ℕ → Type 0
 IsBeyond size node last = (nat_lt node size ≡ false) × (last + 1 ≡ size)
 
--- Why numbers are refused. The first that does not fit is told: the size, the router's node, the limit and then the wait. Memory may be refused.
+-- Why numbers are refused. The first that does not fit is told: the size, the router's node, the room, the bound on what waits, the number of
+-- segments and then the wait. Memory may be refused.
 abbrev pub RefusesNumbers : Numbers → Bool → NumberFault → Type 0
 RefusesNumbers n saves (number.Size size) = (size ≡ n.size) × (is_size n.size ≡ false)
 RefusesNumbers n saves (number.Node node last) = (node ≡ n.me) × (is_size n.size ≡ true) × IsBeyond n.size n.me last
 RefusesNumbers n saves (number.Limit limit) = (n.limit ≡ Some limit) × (is_network n.size n.me ≡ true) × (is_limit limit ≡ false)
-RefusesNumbers n saves (number.Room limit) =
-    (n.limit ≡ Some limit) × (is_network n.size n.me ≡ true) × (is_limit limit ≡ true) × (has_room limit saves ≡ false)
-RefusesNumbers n saves number.Retry =
-    (n.retry ≡ Some 0) × (is_network n.size n.me ≡ true) × (is_room (limit_or n.limit) saves ≡ true)
+RefusesNumbers n saves (number.Queue queue least) =
+    (n.queue ≡ Some queue) × (least ≡ n.size) × (has_room n ≡ true) × (is_queue n.size queue ≡ false)
+RefusesNumbers n saves number.Segments = (n.segments ≡ Some 0) × (has_bounds n ≡ true)
+RefusesNumbers n saves (number.Unsaved count) =
+    (n.segments ≡ Some count) × (has_bounds n ≡ true) × (nat_le 1 count ≡ true) × (saves ≡ false)
+RefusesNumbers n saves number.Retry = (n.retry ≡ Some 0) × (can_save n saves ≡ true)
 RefusesNumbers n saves number.Memory = Unit {0}
 
 -- the plan of these numbers, with the default prefixes, without links and filters
@@ -71,11 +88,13 @@ new_plan n save stays = record {
   opening = default_opening n.size n.me;
   placed = [];
   limit = limit_or n.limit;
+  queue = queue_or n.queue;
   filters = [];
   imports = [];
   exports = [];
   links = [];
   save = save;
+  segments = n.segments;
   retry = n.retry;
   stays = stays;
 }

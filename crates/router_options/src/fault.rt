@@ -16,12 +16,23 @@ pub enum NumberFault {
         /// The last node of the domain.
         last: u32,
     },
-    /// A history has no such limit.
-    #[error("a history's limit is 1 to 1000000, and not {0}")]
+    /// A router has no such room for entries of its history in memory.
+    #[error("a router has room for 2048 to 1000000 entries in memory, and not {0}")]
     Limit(u32),
-    /// A router whose history is not saved has too little room for it in memory.
-    #[error("a router whose history is not saved has room for 2048 entries or more, and not {0}")]
-    Room(u32),
+    /// Fewer messages may wait for a neighbour than wait for each one that comes up.
+    #[error("{least} messages wait for a neighbour that comes up, and not more than {queue} may")]
+    Queue {
+        /// The most messages that may wait.
+        queue: u32,
+        /// The least number of them that may be allowed.
+        least: u32,
+    },
+    /// No segment of the history would be kept.
+    #[error("1 segment is kept or more")]
+    Segments,
+    /// This many segments are to be kept of a history that is not saved.
+    #[error("the history is not saved, so {0} segments of it cannot be kept")]
+    Unsaved(u32),
     /// A link that was closed would be opened again at once, and over and over where its files open without waiting.
     #[error("a link is opened again after 1 second or more")]
     Retry,

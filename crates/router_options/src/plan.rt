@@ -1,4 +1,16 @@
 //! All that a running router is told.
+//!
+//! **`--limit` below 2,048 is refused.** Entries are forgotten 1,024 at a time, so a smaller room would be full over and over. A limit that is
+//! raised in silence would not be the one that was asked for.
+//!
+//! **`--queue` is N or more, and 65,536 where it is left out.** An Up queues N messages: with fewer allowed, each session would end as it begins;
+//! with N the Up alone ends none, since a link is closed only where more wait. A bound that grows with N, as 64 N, is small where N is: with 8
+//! nodes, a neighbour that said 70,000 changes at once had the sessions of those ended who read all the time, ten times of ten.
+//!
+//! **`--segments` asks for `--save`.** Without a folder nothing could be kept, and whoever asks for it has forgotten a word.
+//!
+//! **1,000,000 stays the room where no `--limit` is given.** That is 24 MB at most, and half a second of a flood can be entered while the thread
+//! that forgets does not run.
 ghost use Rattle.std.specs.Prelude.{◌≡◌, IfErr, IfOk, OnErr, OnOk, MatchOption, is_some, true};
 ghost use Rattle.router_options.specs.PlanView as view;
 ghost use Rattle.router_options.specs.Plans as spec;
@@ -13,8 +25,12 @@ use route_history::LARGEST_LIMIT;
 use std::alloc::Global;
 use std::marker::Model;
 
-/// The least number of entries that a router whose history is not saved has room for.
+/// The least number of entries that a router has room for in memory.
 pub const SMALLEST_ROOM: u32 = 2_048;
+
+/// The most messages that may wait for a neighbour, where no other bound is given. It is far above what one failure queues at a time in most
+/// domains, so that a burst of changes ends no session whose neighbour reads; and 249 such queues take 65 MB.
+pub const USUAL_QUEUE: u32 = 65_536;
 
 /// The numbers of a router, as they are given.
 #[derive(Clone, Copy, PartialEq, Eq)]
@@ -23,8 +39,12 @@ pub struct Numbers {
     pub size: u32,
     /// The node that the router is.
     pub me: u32,
-    /// The most entries of its history where that is saved; otherwise how many there is room for in memory, 2,048 or more.
+    /// How many entries of its history there is room for in memory, 2,048 to 1,000,000.
     pub limit: Option<u32>,
+    /// The most messages that may wait for a neighbour, as many at least as the domain has nodes.
+    pub queue: Option<u32>,
+    /// How many segments of its history are kept, 1 at least, where it is saved; all where none is said.
+    pub segments: Option<u32>,
     /// How long a link that is closed waits before it is opened again, in seconds, 1 at least; for ever where none is said.
     pub retry: Option<u32>,
 }
@@ -37,8 +57,10 @@ pub struct RouterPlan {
     pub opening: Opening,
     /// The nodes whose prefix was given.
     pub placed: Vec<u16>,
-    /// The most entries of the history where that is saved; otherwise how many there is room for in memory.
+    /// How many entries of the history there is room for in memory.
     pub limit: u32,
+    /// The most messages that may wait for a neighbour.
+    pub queue: u32,
     /// The names of the filters.
     pub filters: Vec<String>,
     /// The import filters.
@@ -47,8 +69,10 @@ pub struct RouterPlan {
     pub exports: Vec<FilterUse>,
     /// The links.
     pub links: Vec<LinkFiles>,
-    /// Where the history is saved.
+    /// The folder in which the history is saved.
     pub save: Option<String>,
+    /// How many segments of it are kept there; all where none is said.
+    pub segments: Option<u32>,
     /// How long a closed link waits before it is opened again, in seconds.
     pub retry: Option<u32>,
     /// The router goes on where its standard input ends.
@@ -60,9 +84,9 @@ impl Model for RouterPlan {
 
     ghost Value = { PlanView };
 
-    ghost view = { λ p. record { opening = p.opening; placed = p.placed.items; limit = p.limit; filters = p.filters.items; imports = p.imports.items; exports = p.exports.items; links = p.links.items; save = p.save; retry = p.retry; stays = p.stays } };
+    ghost view = { λ p. record { opening = p.opening; placed = p.placed.items; limit = p.limit; queue = p.queue; filters = p.filters.items; imports = p.imports.items; exports = p.exports.items; links = p.links.items; save = p.save; segments = p.segments; retry = p.retry; stays = p.stays } };
 
-    ghost invariant = { λ p. IsPlan (record { opening = p.opening; placed = p.placed.items; limit = p.limit; filters = p.filters.items; imports = p.imports.items; exports = p.exports.items; links = p.links.items; save = p.save; retry = p.retry; stays = p.stays }) };
+    ghost invariant = { λ p. IsPlan (record { opening = p.opening; placed = p.placed.items; limit = p.limit; queue = p.queue; filters = p.filters.items; imports = p.imports.items; exports = p.exports.items; links = p.links.items; save = p.save; segments = p.segments; retry = p.retry; stays = p.stays }) };
 }
 
 /// Whether a domain has so many nodes.
@@ -72,18 +96,11 @@ fn is_size(size: u32) -> bool
     SMALLEST_SIZE <= size && size <= LARGEST_SIZE
 }
 
-/// Whether a history has such a limit.
+/// Whether a router has room for so many entries.
 fn is_limit(limit: u32) -> bool
     ensures { result ≡ spec.is_limit limit }
 {
-    1 <= limit && limit <= LARGEST_LIMIT
-}
-
-/// Whether such a limit is room enough for a router whose history is saved or not.
-fn has_room(limit: u32, saves: bool) -> bool
-    ensures { result ≡ spec.has_room limit saves }
-{
-    SMALLEST_ROOM <= limit || saves
+    SMALLEST_ROOM <= limit && limit <= LARGEST_LIMIT
 }
 
 /// Looks at the numbers of a router whose history is saved or not, in order, up to the first that does not fit.
@@ -103,8 +120,18 @@ fn check_numbers(numbers: Numbers, saves: bool) -> Result<(), NumberFault>
         if !is_limit(limit) {
             return Err(NumberFault::Limit(limit));
         }
-        if !has_room(limit, saves) {
-            return Err(NumberFault::Room(limit));
+    }
+    if let Some(queue) = numbers.queue {
+        if queue < size {
+            return Err(NumberFault::Queue { queue, least: size });
+        }
+    }
+    if numbers.segments == Some(0) {
+        return Err(NumberFault::Segments);
+    }
+    if let Some(count) = numbers.segments {
+        if !saves {
+            return Err(NumberFault::Unsaved(count));
         }
     }
     if numbers.retry == Some(0) {
@@ -205,11 +232,13 @@ impl RouterPlan {
             opening: Opening::new(size, me, prefixes).unwrap(),
             placed: Vec::new(alloc),
             limit: numbers.limit.unwrap_or(LARGEST_LIMIT),
+            queue: numbers.queue.unwrap_or(USUAL_QUEUE),
             filters: Vec::new(alloc),
             imports: Vec::new(alloc),
             exports: Vec::new(alloc),
             links: Vec::new(alloc),
             save,
+            segments: numbers.segments,
             retry: numbers.retry,
             stays,
         })

@@ -1,4 +1,8 @@
 //! The script: its lines, one after another, drive a router.
+//!
+//! **The script keeps its journal itself and takes no lock.** There is one caller, so there is nothing to divide.
+//!
+//! **Faults of a script are those of the lines** (`ScriptFault` is `StreamFault`): a script has no others.
 ghost use Rattle.std.specs.Prelude.{◌≡◌, IfErr, IfOk, IfSome};
 ghost use Rattle.operator_cmds.specs.Running.{IsBrokenOff, IsCarriedOut};
 

@@ -1,4 +1,8 @@
 //! A script that somebody watches: they are shown each line that it refuses.
+//!
+//! **Who watches a script is shown each line that it refuses**, with what the script knows: its size, its filters, and the `Diagnosis` of the
+//! filter that it refused last, which is that of the line where the answer refuses a filter. So the engine, its answers and its contract are the
+//! same whether anybody watches or not, and a standard error that takes no text ends no router.
 ghost use Rattle.std.specs.Prelude.{◌≡◌, IfErr, IfOk, IfSome};
 ghost use Rattle.operator_cmds.specs.Running.{IsBrokenOff, IsCarriedOut};
 

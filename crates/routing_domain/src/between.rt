@@ -1,4 +1,7 @@
 //! Laws of topologies: what there is between the nodes, after a step or an event.
+//!
+//! **What is on its way is a list for each direction**, and Down at the receiver empties it, as a stream that is closed. Up at the sender does too:
+//! a new session has a new stream. What was sent before a failure may still come in, as from the buffers of a system.
 
 ghost use Rattle.std.specs.Prelude.{◌≡◌, ◌≢◌, ℕ, ◌<◌, Some, List, true};
 ghost use Rattle.std.specs.declared.sync.Arc.{Arc};

@@ -1,4 +1,8 @@
 //! What the steps of a domain are as events of its routers.
+//!
+//! **A run may leave messages out**, such as a later one about the same node follows. So all laws of runs and phases hold of links that only hand
+//! over the newest, and there is one family of them. What a phase awaits is a number for each link, from its front: a message that is left out is
+//! not simply one fewer, since what came in about its node may be older than the phase until the later one comes in.
 
 ghost use Rattle.std.specs.Prelude.{◌≡◌, ℕ, ◌+◌, ◌<◌, Some, List, ◌∷◌, take};
 ghost use Rattle.netchange_core.specs.declared.event.Event.{Event};

@@ -1,4 +1,9 @@
 //! Laws of order: a domain is in order from its opening, and stays so, whatever happens in it.
+//!
+//! **A domain in order has links at both ends**, and the laws on rest are about such domains. What happens while the ends of a link differ is
+//! another, weaker definition, `IsOrderly`, of each direction by itself. A direction that lost something says nothing any more until its sender
+//! comes up anew, and its receiver knows nothing of a node that is not up: these two keep it through each event of one end. `IsWhole` leads from
+//! the one to the other. One weaker definition for all would have put its premise on each law of rest.
 
 ghost use Rattle.std.specs.Prelude.{◌≡◌, ℕ, ◌<◌, List, true};
 ghost use Rattle.std.specs.declared.sync.Arc.{Arc};

@@ -1,4 +1,7 @@
 //! Laws of domains at rest.
+//!
+//! **A law speaks of the routers' own next hops**, beside those on distances: `via` is what forwards. That a tie goes to the neighbour of the least
+//! number is in it, so that a plan and the routers choose alike.
 
 ghost use Rattle.std.specs.Prelude.{◌≡◌, ℕ, ◌<◌, ◌≤◌, None, true, []};
 ghost use Rattle.netchange_core.specs.Best.{best, distance};

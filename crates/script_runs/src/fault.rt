@@ -1,4 +1,8 @@
 //! What ends a script whose history is saved.
+//!
+//! **A saver that fails is E2**, as an output that does, and the line whose entry it was gets no answer: what is answered is saved. It is a fault
+//! of its own (`SavingFault::Saver`), so that the file is named where it is the file that failed. Answers end by it as by refused memory, each of
+//! them whole. Where the answers cannot be written either, that is what is told.
 ghost use Rattle.std.specs.Prelude.{◌≡◌};
 
 use line_protocol::StreamFault;

@@ -1,4 +1,16 @@
 //! A script whose history is saved as it is made.
+//!
+//! **A history is saved by a service round the script**, which writes what the text of the history grew by. So the script knows nothing of files,
+//! and its answers are those of `run_script` by its own contract. `one_line_one_entry` says why a line or two are all there is to write.
+//!
+//! **The saver is a writer that is given and given back**, flushed for each entry. So the contract can say what it got, of any writer.
+//!
+//! **The opening is saved at the end of a script without an event**, and not when `network` is answered, since prefixes can still be set then. So a
+//! script that came to its end leaves a history that can be replayed, as `ncroute router` does; without `network` there is none, and the file is
+//! empty.
+//!
+//! **`--save` takes a new file alone.** A history that is there is evidence, and no run is worth writing over one; to go on in it would need its
+//! opening to be this one's. Whoever wants the old file gone removes it.
 ghost use Rattle.std.specs.Prelude.{◌≡◌, ◌++◌, ◌∷◌, [], Ok, IfErr, IfOk, IfSome, MatchResult, OnErr, OnOk};
 ghost use Rattle.std.specs.Io.{StartsWith};
 ghost use Rattle.std.specs.Io.KnownBytes.{Appends};

@@ -1,4 +1,6 @@
 //! Why a call of a router has no answer.
+//!
+//! **The faults of `call` are those of the journal**, `CallFault`; `try_call` has one more. L2 has no test: no call leads to it.
 
 ghost use Rattle.std.specs.Prelude.{◌≡◌};
 

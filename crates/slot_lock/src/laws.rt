@@ -1,4 +1,10 @@
 //! What follows from counts of positions, for callers who gather what several passes did.
+//!
+//! **"Each call once" is a count**, an equation for each position over all passes, and not a permutation. So each step is a sum, and at the close
+//! the count says where each position is.
+//!
+//! **Laws about counts are public** (`counts_add_up`, `each_position_is_there`, `none_is_twice`), so that a caller who gathers several passes cites
+//! a contract and no lemma of this crate.
 
 ghost use Rattle.std.specs.Prelude.{◌≡◌, ℕ, ◌+◌, ◌<◌, ◌++◌, List, length};
 ghost use Rattle.route_history.specs.Positions.{times};

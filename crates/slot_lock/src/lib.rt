@@ -1,4 +1,6 @@
 //! The lock: many threads call one router, and all their answers stand in one history.
+//!
+//! **The journal is worked on in its slot** (`slot_mut`), and is not moved out and back in. So there is no empty slot to rule out.
 #![tactic(auto)]
 
 mod acquire;

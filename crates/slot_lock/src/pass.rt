@@ -1,4 +1,7 @@
 //! A caller's pass.
+//!
+//! **What a pass knows is in proofs only.** A pass takes four bytes at run time, its shares. A history for each pass would cost as much as the
+//! journal.
 
 ghost use Rattle.std.specs.Prelude.{◌≡◌, ◌≤◌};
 ghost use Rattle.slot_lock.specs.Passes.{IsOwn};

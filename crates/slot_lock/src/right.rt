@@ -1,4 +1,8 @@
 //! The right to forget.
+//!
+//! **Who may forget has a right**, a value without a copy that `open_endless` hands out once. It is a pass with one share that forgets and looks,
+//! and its holder alone learns how many entries are forgotten by doing it: so no look of the holder finds more forgotten than the holder knows.
+//! Without a share it could hold the lock while a pass has all of them.
 
 ghost use Rattle.std.specs.Prelude.{◌≡◌};
 

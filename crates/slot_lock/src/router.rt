@@ -1,4 +1,14 @@
 //! A router that many threads call.
+//!
+//! **`join` and `meet` load the word once more.** To join two seats of the table tells nothing about them; the load that follows tells what the
+//! rule knows of both: that one history begins the other, and that no position is in both.
+//!
+//! **`join` leaves an empty pass in the rule**, without shares and calls, since a table never forgets a seat. A pass that is dropped counts as it
+//! is, so nobody has all shares from then on, and the close by another pass tells less.
+//!
+//! **`close` asks for no memory**, since the table is taken apart in place, so L3 comes from `Router::open` and `open_endless` alone.
+//!
+//! **`close` is for routers that are not endless**: a `Journal` has its whole history. `close_long` hands out what is kept, of any router.
 
 ghost use Rattle.std.specs.Prelude.{◌≡◌, ◌≢◌, ◌-◌, ◌<◌, ◌≤◌, [], false, true, IfErr, IfOk, length};
 ghost use Rattle.slot_lock.specs.Calls.{Answered, Closed, ClosedLong, Forgot, Merged, Met, Observed, Refused, TryRefused};
@@ -207,6 +217,18 @@ impl Router {
     {
         let Pass { seat, shares } = other;
         let seat = self.lock.meet(&mut pass.seat, seat);
+        Pass { seat, shares }
+    }
+
+    /// The same by the holder of the right to forget, who so learns all that another pass has seen.
+    pub fn meet_with_right(&self, right: &mut Right, other: Pass) -> Pass
+        requires { IsPassOf self.now right.old × IsPassOf self.now other }
+        ensures of { IsPassOf self.now right.new × IsPassOf self.now result }
+        ensures own { IsOwn right.new.fragment × IsOwn result.fragment }
+        ensures met { Met right.old other right.new result }
+    {
+        let Pass { seat, shares } = other;
+        let seat = self.lock.meet(&mut right.seat, seat);
         Pass { seat, shares }
     }
 

@@ -14,7 +14,7 @@ use std::time::Duration;
 
 /// What is done with one of some links, by its number.
 #[derive(Clone, Copy)]
-pub enum Step {
+enum Step {
     /// It is asked for a message, and answers this.
     Asked(usize, Result<Got, LinkFault>),
     /// It is given a message, which it takes or not.
@@ -24,7 +24,7 @@ pub enum Step {
 }
 
 /// Does with some links what steps say.
-pub fn must_follow<R: RouterHost, L: Link>(rt: &R, links: &mut [L], steps: &[Step]) {
+fn must_follow<R: RouterHost, L: Link>(rt: &R, links: &mut [L], steps: &[Step]) {
     for step in steps {
         let (Step::Asked(at, _) | Step::Given(at, _, _) | Step::Closed(at)) = step;
         let link = some(rt, links.get_mut(*at), "a link");

@@ -1,7 +1,7 @@
 //! A history that goes on is saved in segments, while threads call the router: what was saved is one history.
 
 ghost use Rattle.std.specs.Prelude.{◌≡◌, [], IfSome};
-ghost use Rattle.history_saver.specs.Saved.{seen_by};
+ghost use Rattle.history_saver.specs.Looking.{seen_by};
 ghost use Rattle.history_saver.specs.Segments.{HasSegments};
 ghost use Rattle.slot_lock.specs.Passes.{IsNew};
 
@@ -126,7 +126,7 @@ struct Keeper<'a, F: SegmentFolder> {
 
 impl<'a, F: SegmentFolder> Model for Keeper<'a, F> {
     ghost use Rattle.std.specs.Prelude.{◌≤◌};
-    ghost use Rattle.history_saver.specs.Saved.{seen_by};
+    ghost use Rattle.history_saver.specs.Looking.{seen_by};
     ghost use Rattle.history_saver.specs.Segments.{HasSegments};
     ghost use Rattle.slot_lock.specs.Passes.{IsPassOf, PassView};
 

@@ -1,3 +1,8 @@
+//! The length that a `.mask` keeps.
+//!
+//! **The type of the tree says that a `.mask` keeps at most 32 bits.** A contract sees the number alone, so the proofs of the compiler carry along
+//! that each MASK is within the limit.
+
 ghost use Rattle.std.specs.Prelude.{◌≡◌, ◌≤◌};
 ghost use Rattle.std.specs.Option.{SomeIff};
 

@@ -1,3 +1,8 @@
+//! Names in the tree.
+//!
+//! **A short name stands in the tree itself.** A name that is read or assigned takes a block of memory only where it has more than 14 bytes. A
+//! contract sees the bytes alone, wherever they are.
+
 ghost use Rattle.std.specs.Prelude.{◌≡◌, IfOk};
 
 use std::alloc::{AllocError, Global};

@@ -1,7 +1,7 @@
 use Rattle.std.proofs.Common.{[], ◌∷◌, ◌++◌, ◌∙◌, ap, subst, sym}
 use Rattle.std.specs.Io.KnownBytes.{Consumes}
-use Rattle.link_lines.proofs.Exact.{message_in-found}
-use Rattle.link_lines.specs.Reading.{message_in}
+use Rattle.message_streams.proofs.Exact.{message_in-found}
+use Rattle.message_streams.specs.Reading.{message_in}
 use Rattle.message_streams.proofs.reader.take_message.Goals as goal
 
 pub returns-in-Some-clause-message : goal.returns-in-Some-clause-message

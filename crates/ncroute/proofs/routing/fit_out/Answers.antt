@@ -1,10 +1,13 @@
 -- The filters that are read and verified are those of the words, for the size of the plan.
-use Rattle.std.proofs.Common.{ℕ, List, subst, inl, refl}
+use Rattle.std.proofs.Common.{ℕ, List, Option, subst, inl, inr, refl}
 use Rattle.filter_reports.specs.Faults.{stream_fault}
 use Rattle.command_line.specs.declared.filter_words.NamedFile.{NamedFile}
-use Rattle.ncroute.specs.Loading.{LacksFilters, StopsLoading}
+use Rattle.ncroute.specs.Loading.{LacksFilters, LoadsFilters, StopsLoading}
+use Rattle.ncroute.specs.Routing.{CutsSave}
 use Rattle.ncroute.proofs.routing.fit_out.Goals as goal
 use Rattle.ncroute.proofs.routing.fit_out.Goals.{in-None-1, in-None-2, in-Some-1, in-Some-2}
+use Rattle.ncroute.proofs.routing.fit_out.Goals.{in-Ok-Some-make_save, in-Ok-None-make_save+in-Some-1, in-Ok-None-make_save+in-None-1}
+use Rattle.ncroute.proofs.routing.fit_out.Goals.{in-Err-make_save+in-Some-1, in-Err-make_save+in-None-1}
 
 pub returns-in-Ok-None-clause-finished : goal.returns-in-Ok-None-clause-finished
 returns-in-Ok-None-clause-finished g c =
@@ -37,4 +40,39 @@ returns-in-Err-clause-stopped g c =
     elim c.match-plan-4.branch [
       | in-Some-2 w ↦ rw (w.console-is, ← c.console.view_is) (refl, inl all)
       | in-None-2 w ↦ rw (w.console-is, ← c.console.view_is) (refl, inl all)
+    ]
+
+pub returns-after-make_save-clause-stopped : goal.returns-after-make_save-clause-stopped
+returns-after-make_save-clause-stopped g c =
+    let opens = g.F.Folder.opens c.args.files.now in
+    let known = g.R.Read.remaining c.console.inside.reader in
+    let left = g.R.Read.remaining c.load_filters.new.reader in
+    let tells = g.E.Write.contents c.make_save.new.errors in
+    let names = c.in-Ok-Some.filters.entries in
+    let has = rw c.in-Ok-Some.field-0-is at c.in-Ok-Some.ensures.finished in
+    let loads = subst (λ (files : List NamedFile). LoadsFilters opens files c.args.plan.opening.size names known left)
+    c.as_slice-named.ensures.value
+    (subst (λ (size : ℕ). LoadsFilters opens c.as_slice-named.result.now size names known left) c.size_of-size.ensures has.0) in
+    elim c.match-make_save.branch [
+      | in-Ok-Some-make_save w ↦ rw w.result-is tt
+      | in-Ok-None-make_save+in-Some-1 w ↦ rw w.result-is tt
+      | in-Ok-None-make_save+in-None-1 w ↦ rw w.result-is tt
+      | in-Err-make_save+in-Some-1 w ↦ rw (w.result-is, ← c.console.view_is) (
+        refl,
+        inr (
+          names,
+          loads,
+          subst (λ (told : Option (List ℕ)). CutsSave (g.F.HistoryFolders.makes c.args.files.now) (stream_fault w.in-Err-make_save.fault)
+              c.args.words.now.save told tells) has.1 w.in-Err-make_save.ensures.stopped,
+        ),
+      )
+      | in-Err-make_save+in-None-1 w ↦ rw (w.result-is, ← c.console.view_is) (
+        refl,
+        inr (
+          names,
+          loads,
+          subst (λ (told : Option (List ℕ)). CutsSave (g.F.HistoryFolders.makes c.args.files.now) (stream_fault w.in-Err-make_save.fault)
+              c.args.words.now.save told tells) has.1 w.in-Err-make_save.ensures.stopped,
+        ),
+      )
     ]

@@ -1,4 +1,4 @@
--- The router was run to its end, and the file of its history was closed.
+-- The router was run to its end, and the folder of its history was left.
 use Rattle.std.proofs.Common.{◌≡◌, ap, inl, refl}
 use Rattle.std.specs.Option.{option_map}
 use Rattle.ncroute.specs.Streaming.{Streams}
@@ -13,7 +13,7 @@ returns-in-Ok-clause-finished g c = rw (← c.console.view_is) (inl (
     saver = c.in-Ok.end.saved;
     operated = c.in-Ok.ensures.operated;
     saved = c.in-Ok.ensures.saved;
-    left = c.close_save.ensures;
+    left = c.leave_save.ensures;
     quiet = refl;
   },
   refl,
@@ -31,14 +31,14 @@ returns-in-Err-clause-finished g c =
       holds = g.W.Write.contents c.run_router.new.writer;
       tells = g.E.Write.contents c.end_by_fault.new.errors;
     } in
-    let kept = option_map (λ file. g.R.New.Write.contents file) c.args.setting.save in
-    let fails = untouched (Operated c.args.setting.plan c.args.setting.filters.entries kept before after)
+    let fails = untouched (Operated c.args.setting.plan c.args.setting.filters.entries before after)
     ((c.run_router.new.reader ≡ c.console.inside.reader) × (c.run_router.new.writer ≡ c.console.inside.writer))
     ((after.reads ≡ before.reads) × (after.holds ≡ before.holds))
     (λ same. (ap (λ r. g.I.Read.remaining r) same.0, ap (λ w. g.W.Write.contents w) same.1)) c.in-Err.fault c.in-Err.ensures.failed in
     rw (← c.console.view_is)
-    (faulted c.args.setting.plan c.args.setting.filters.entries kept before after c.in-Err.fault fails
-    (g.R.Folder.leaves c.args.rt.now) c.args.save.now c.end_by_fault.result c.end_by_fault.ensures.told)
+    (faulted c.args.setting.plan c.args.setting.filters.entries before after c.in-Err.fault fails
+    (g.R.HistoryFolders.keeps c.args.rt.now) c.args.save.now
+    (option_map (λ segments. g.R.Segments.SegmentFolder.holds segments) c.args.setting.save) c.end_by_fault.result c.end_by_fault.ensures.told)
 
 pub returns-in-Err-clause-untold : goal.returns-in-Err-clause-untold
 returns-in-Err-clause-untold g c =
@@ -52,11 +52,10 @@ returns-in-Err-clause-untold g c =
       holds = g.W.Write.contents c.run_router.new.writer;
       tells = g.E.Write.contents c.end_by_fault.new.errors;
     } in
-    let kept = option_map (λ file. g.R.New.Write.contents file) c.args.setting.save in
-    let fails = untouched (Operated c.args.setting.plan c.args.setting.filters.entries kept before after)
+    let fails = untouched (Operated c.args.setting.plan c.args.setting.filters.entries before after)
     ((c.run_router.new.reader ≡ c.console.inside.reader) × (c.run_router.new.writer ≡ c.console.inside.writer))
     ((after.reads ≡ before.reads) × (after.holds ≡ before.holds))
     (λ same. (ap (λ r. g.I.Read.remaining r) same.0, ap (λ w. g.W.Write.contents w) same.1)) c.in-Err.fault c.in-Err.ensures.failed in
     rw (← c.console.view_is)
-    (cut_short c.args.setting.plan c.args.setting.filters.entries kept before after c.in-Err.fault fails
+    (cut_short c.args.setting.plan c.args.setting.filters.entries before after c.in-Err.fault fails
     c.end_by_fault.result c.end_by_fault.ensures.cut)

@@ -5,6 +5,6 @@ use Rattle.ncroute.proofs.routing.serve_router.Goals as goal
 
 pub returns-in-Err-clause-served : goal.returns-in-Err-clause-served
 returns-in-Err-clause-served g c =
-    stopped (g.R.Folder.opens c.args.rt.now) (g.R.Folder.creates c.args.rt.now) (g.R.Folder.leaves c.args.rt.now) c.args.words.now
+    stopped (g.R.Folder.opens c.args.rt.now) (g.R.HistoryFolders.makes c.args.rt.now) (g.R.HistoryFolders.keeps c.args.rt.now) c.args.words.now
     c.end_unset.result c.args.console.now _ _ c.in-Err.fault (rw (← c.console.view_is) at c.in-Err.ensures.stopped) c.end_unset.ensures.told
     refl refl

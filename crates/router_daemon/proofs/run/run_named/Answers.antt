@@ -3,13 +3,17 @@ use Rattle.std.proofs.lemmas.Result.{IfErr-weaker, IfOk-weaker}
 use Rattle.std.specs.Option.{option_map}
 use Rattle.router_options.specs.PlanView.{PlanView}
 use Rattle.router_options.specs.declared.parts.LinkFiles.{LinkFiles}
+use Rattle.router_daemon.specs.Forgetting.{ForgetterView}
+use Rattle.router_daemon.specs.Running.{keep_of}
 use Rattle.router_daemon.proofs.Running.{run_fails, run_is_one, run_saves}
 use Rattle.router_daemon.proofs.run.run_named.Goals as goal
 
 pub returns-clause-operated : goal.returns-clause-operated
 returns-clause-operated g c =
     let plan = c.args.setting.plan in
-    let kept = option_map (λ file. g.V.Write.contents file) c.args.setting.save in
+    let given = option_map (λ folder. g.S.SegmentFolder.holds folder) c.args.setting.save in
+    let asked =
+    ap (λ (v : ForgetterView). option_map keep_of v.saver) c.in_ok-bounding.ensures.begun ∙ c.in_ok-forgetter.ensures.how in
     let nodes = c.in_ok-shared.shared.value.nodes.items in
     let sliced : c.as_slice.result.now ≡ plan.links = c.as_slice.ensures.value ∙ ap (λ (p : PlanView). p.links) c.plan.view_is in
     let are : nodes ≡ map (λ link. link.node) plan.links =
@@ -18,15 +22,17 @@ returns-clause-operated g c =
     IfOk-weaker c.end_run.result _ _
     (λ end ok. run_is_one plan c.args.setting.filters.entries g.J.Naming.router c.args.pass nodes (g.I.Read.remaining c.args.reader.now)
     (g.I.Read.remaining c.serve_all-ran.new.reader) (g.W.Write.contents c.args.writer.now) (g.W.Write.contents c.serve_all-ran.new.writer)
-    kept c.requires.is_opened c.requires.set c.begin_saving.new.pass.fragment.seen c.in_ok-saving.ensures.same.0 are
+    given c.requires.is_opened c.requires.set c.take_part.new.pass.fragment.seen c.in_ok-ticket.ensures.same.0 are
     (λ o. o.answered) (λ o. o.ticket.pass)
-    c.serve_all-ran.result end.refused _ end.saved c.in_ok-saving.ensures.file c.serve_all-ran.ensures.operated ok)
+    c.serve_all-ran.result end.refused _ end.saved asked c.serve_all-ran.ensures.operated ok)
     c.end_run.ensures.ok
 
 pub returns-clause-saved : goal.returns-clause-saved
 returns-clause-saved g c =
     let plan = c.args.setting.plan in
-    let kept = option_map (λ file. g.V.Write.contents file) c.args.setting.save in
+    let given = option_map (λ folder. g.S.SegmentFolder.holds folder) c.args.setting.save in
+    let asked =
+    ap (λ (v : ForgetterView). option_map keep_of v.saver) c.in_ok-bounding.ensures.begun ∙ c.in_ok-forgetter.ensures.how in
     let nodes = c.in_ok-shared.shared.value.nodes.items in
     let sliced : c.as_slice.result.now ≡ plan.links = c.as_slice.ensures.value ∙ ap (λ (p : PlanView). p.links) c.plan.view_is in
     let are : nodes ≡ map (λ link. link.node) plan.links =
@@ -35,15 +41,15 @@ returns-clause-saved g c =
     IfOk-weaker c.end_run.result _ _
     (λ end ok. run_saves plan c.args.setting.filters.entries g.J.Naming.router c.args.pass nodes (g.I.Read.remaining c.args.reader.now)
     (g.I.Read.remaining c.serve_all-ran.new.reader) (g.W.Write.contents c.args.writer.now) (g.W.Write.contents c.serve_all-ran.new.writer)
-    kept c.requires.is_opened c.requires.set c.begin_saving.new.pass.fragment.seen c.in_ok-saving.ensures.same.0 are
+    given c.requires.is_opened c.requires.set c.take_part.new.pass.fragment.seen c.in_ok-ticket.ensures.same.0 are
     (λ o. o.answered) (λ o. o.ticket.pass)
-    c.serve_all-ran.result end.refused _ end.saved c.in_ok-saving.ensures.file ok)
+    c.serve_all-ran.result end.refused _ end.saved asked ok)
     c.end_run.ensures.ok
 
 pub returns-clause-failed : goal.returns-clause-failed
 returns-clause-failed g c =
     let plan = c.args.setting.plan in
-    let kept = option_map (λ file. g.V.Write.contents file) c.args.setting.save in
+    let given = option_map (λ folder. g.S.SegmentFolder.holds folder) c.args.setting.save in
     let nodes = c.in_ok-shared.shared.value.nodes.items in
     let sliced : c.as_slice.result.now ≡ plan.links = c.as_slice.ensures.value ∙ ap (λ (p : PlanView). p.links) c.plan.view_is in
     let are : nodes ≡ map (λ link. link.node) plan.links =
@@ -52,7 +58,7 @@ returns-clause-failed g c =
     IfErr-weaker c.end_run.result _ _
     (λ why is. run_fails plan c.args.setting.filters.entries g.J.Naming.router c.args.pass nodes (g.I.Read.remaining c.args.reader.now)
     (g.I.Read.remaining c.serve_all-ran.new.reader) (g.W.Write.contents c.args.writer.now) (g.W.Write.contents c.serve_all-ran.new.writer)
-    kept c.requires.is_opened c.requires.set c.begin_saving.new.pass.fragment.seen c.in_ok-saving.ensures.same.0 are
+    given c.requires.is_opened c.requires.set c.take_part.new.pass.fragment.seen c.in_ok-ticket.ensures.same.0 are
     (λ o. o.answered) (λ o. o.ticket.pass)
     ((c.serve_all-ran.new.reader ≡ c.args.reader.now) × (c.serve_all-ran.new.writer ≡ c.args.writer.now))
     c.serve_all-ran.result why c.serve_all-ran.ensures.operated c.serve_all-ran.ensures.untouched is)

@@ -11,8 +11,10 @@ returns-in-Ok-clause-still g c = λ j h is_state.
     let i = c.self.inside in
     let s : SegmentsView = record {
       folder = g.F.SegmentFolder.holds i.folder;
+      every = i.rotation.every;
       keep = i.rotation.keep;
       back = i.rotation.back;
+      begun = i.begun;
       saved = i.saved;
       read = i.read;
       rest = drop i.written i.lines.items;
@@ -24,6 +26,6 @@ returns-in-Ok-clause-still g c = λ j h is_state.
     let none : s.rest ≡ [] = ap (λ (v : SegmentsView). v.rest) c.self.view_is ∙ c.requires.all.none_left in
     let is : now ≡ option_map (with_named i.read) (option_map (with_next state) s.folder) =
     subst (λ (n : ℕ). now ≡ option_map (with_named n) (option_map (with_next state) s.folder)) all c.in-Ok.ensures.made in
-    subst (λ (n : ℕ). HasSegments (record s { folder = now; saved = n }) j) (sym all)
+    subst (λ (n : ℕ). HasSegments (record s { folder = now; begun = n; saved = n }) j) (sym all)
     (has_named s j none (subst (λ (v : SegmentsView). HasSegments v j) (sym c.self.view_is) h) state
     (subst (λ (n : ℕ). IsStateAt j n state) read_is is_state) now is)

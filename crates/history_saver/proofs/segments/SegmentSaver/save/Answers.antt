@@ -1,5 +1,6 @@
 use Rattle.std.proofs.Common.{◌∙◌, arith}
 use Rattle.history_saver.proofs.Looking.{looks_both}
+use Rattle.history_saver.proofs.Rotating.{due_both}
 use Rattle.history_saver.proofs.segments.SegmentSaver.save.Goals as goal
 
 pub returns-then-saved-saturating_add-clause-right : goal.returns-then-saved-saturating_add-clause-right
@@ -20,11 +21,13 @@ loop-preserved g c =
       finite = tt;
       right = looks_both c.args.router.now c.args.right.now c.loop.right c.save_some.new.right c.loop.invariant.right c.save_some.ensures.right;
       plan = record {
+        every = c.save_some.ensures.plan.every ∙ c.loop.invariant.plan.every;
         keep = c.save_some.ensures.plan.keep ∙ c.loop.invariant.plan.keep;
         back = c.save_some.ensures.plan.back ∙ c.loop.invariant.plan.back;
       };
       saved = c.save_some.ensures.saved;
       all = c.in-Ok.ensures.ok.1;
       kept = c.save_some.ensures.kept;
+      begun = due_both c.args.self.now c.loop.self c.save_some.new.self c.loop.invariant.plan c.loop.invariant.begun c.save_some.ensures.begun;
       asked = omega (arith, asked, before, on, back);
     }

@@ -1,8 +1,7 @@
 use Rattle.std.proofs.Common.{◌-◌, ◌≤◌, max}
-use Rattle.history_saver.specs.Looking.{Looks}
-use Rattle.history_saver.specs.Saved.{seen_by}
+use Rattle.history_saver.specs.Looking.{Looks, seen_by}
 use Rattle.history_saver.specs.Segments.{HasSegments}
-use Rattle.history_saver.specs.Steps.{IsAllSaved, IsAsPlanned}
+use Rattle.history_saver.specs.Steps.{BeginsDue, IsAllSaved, IsAsPlanned}
 use Rattle.history_saver.proofs.segments.SegmentSaver.save.Given as goal
 
 -- all that is read is saved, and nothing else is forgotten
@@ -15,5 +14,6 @@ invariant-loop g l = record {
   saved : HasSegments l.self (seen_by l.router l.right);
   all : IsAllSaved l.self;
   kept : l.right.fragment.forgot ≤ l.self.saved;
+  begun : BeginsDue l.fn.self l.self;
   asked : l.right.fragment.forgot ≤ max l.fn.right.fragment.forgot (l.self.saved - l.self.back);
 }

@@ -1,6 +1,6 @@
 use Rattle.std.proofs.Common.{◌∙◌, ℕ, ap, arith, length, rules, sym}
 use Rattle.history_saver.specs.Adding.{next_count}
-use Rattle.history_saver.specs.Saved.{seen_by}
+use Rattle.history_saver.specs.Looking.{seen_by}
 use Rattle.history_saver.specs.Steps.{IsAllSaved}
 use Rattle.history_saver.proofs.Chains.{longer_than}
 use Rattle.history_saver.proofs.Looking.{looks_both}

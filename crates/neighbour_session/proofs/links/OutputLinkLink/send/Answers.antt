@@ -1,5 +1,5 @@
 use Rattle.std.proofs.Common.{◌≡◌, ℕ, Ok, Bool, false, arith, rules, subst, sym}
-use Rattle.link_lines.specs.Lines.{FitsMessage}
+use Rattle.message_streams.specs.Lines.{FitsMessage}
 use Rattle.message_streams.specs.Views.{WriterView}
 use Rattle.route_session.specs.Links.{Sent}
 use Rattle.neighbour_session.specs.Links.{IsOutput, OutputView, output_view}

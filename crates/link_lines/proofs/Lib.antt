@@ -1,3 +1,0 @@
-pub mod Pairs
-pub mod Exact
-pub mod Rows

@@ -1,5 +1,0 @@
-use Rattle.link_lines.proofs.Exact.{greeting_short, message_short}
-use Rattle.link_lines.proofs.laws.lines_are_short.Goals as goal
-
-pub returns : goal.returns
-returns c = record { message = message_short; greeting = greeting_short }

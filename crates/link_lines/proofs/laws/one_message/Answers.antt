@@ -1,5 +1,0 @@
-use Rattle.link_lines.proofs.Exact.{message_apart, message_exact}
-use Rattle.link_lines.proofs.laws.one_message.Goals as goal
-
-pub returns : goal.returns
-returns c = record { exact = message_exact; apart = message_apart }

@@ -1,4 +1,0 @@
--- what callers cite
-pub mod Lines
-pub mod Reading
-pub mod Greetings

@@ -1,2 +1,0 @@
-mod Links
-pub mod Moves

@@ -1,2 +1,0 @@
--- what callers cite
-pub mod Views
