@@ -7,5 +7,6 @@ pub mod Growing
 pub mod OnTheWay
 pub mod Counting
 pub mod Restoring
+pub mod Unused
 pub mod Failing
 mod FailureRows

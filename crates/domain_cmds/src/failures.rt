@@ -2,6 +2,7 @@
 ghost use Rattle.std.specs.Prelude.{◌≡◌, ◌≢◌, ◌<◌, ◌&&◌, nat_lt, IfOk, IsTrue, OnOk, true};
 ghost use Rattle.domain_routes.specs.PlanView.{is_linked};
 ghost use Rattle.domain_cmds.specs.Failures as spec;
+ghost use Rattle.domain_cmds.specs.Rests.{AreAllRoutes};
 ghost use Rattle.domain_cmds.specs.declared.failure.Failing.TheVariants as failing;
 
 use crate::counts::{changed_routes, lost_routes, moved_nodes, still_near};
@@ -38,10 +39,11 @@ fn link_failure(
     requires w { w < domain.old.size }
     requires apart { u ≢ w }
     requires linked { is_linked domain.old u w ≡ true }
+    requires before { AreAllRoutes domain.old before.now }
     ensures ok { IfOk result (λ failure. spec.IsFailure domain.old before.now (failing.Link u w) failure) }
     ensures same { domain.new ≡ domain.old }
 {
-    let after = domain.routes_without_link(alloc, u, w)?;
+    let after = domain.routes_without_link(alloc, before, u, w)?;
     Ok(failure_of(domain.size(), Failing::Link(u, w), before, after.as_slice()))
 }
 
@@ -67,6 +69,7 @@ fn push_link(
 ) -> Result<(), AllocError>
     requires u { u < domain.old.size }
     requires w { w < domain.old.size }
+    requires before { AreAllRoutes domain.old before.now }
     ensures ok { OnOk result (spec.AddsFailures domain.old before.now (spec.link_at domain.old u w) found.old.items found.new.items) }
     ensures same { domain.new ≡ domain.old }
 {
@@ -87,7 +90,8 @@ fn push_links_of(
     u: u16,
     found: &mut Vec<Failure>,
 ) -> Result<(), AllocError>
-    requires { u < domain.old.size }
+    requires u { u < domain.old.size }
+    requires before { AreAllRoutes domain.old before.now }
     ensures ok { OnOk result (spec.AddsFailures domain.old before.now (spec.links_of domain.old u) found.old.items found.new.items) }
     ensures same { domain.new ≡ domain.old }
 {
@@ -103,6 +107,7 @@ pub(crate) fn link_failures(
     domain: &mut RestingPlan,
     before: &[Column],
 ) -> Result<Vec<Failure>, AllocError>
+    requires { AreAllRoutes domain.old before.now }
     ensures ok { IfOk result (λ all. spec.AreFailures domain.old before.now (spec.all_links domain.old) all.items) }
     ensures same { domain.new ≡ domain.old }
 {

@@ -113,10 +113,11 @@ impl RestingPlan {
         Ok(all)
     }
 
-    /// All routes at rest where the link between two nodes has failed.
+    /// All routes at rest where the link between two nodes has failed, by those before.
     pub(crate) fn routes_without_link(
         &mut self,
         alloc: Global,
+        before: &[Column],
         u: u16,
         w: u16,
     ) -> Result<Vec<Column>, AllocError>
@@ -124,10 +125,11 @@ impl RestingPlan {
         requires w { w < self.old.size }
         requires apart { u ≢ w }
         requires linked { is_linked self.old u w ≡ true }
+        requires before { AreAllRoutes self.old before.now }
         ensures all { IfOk result (λ all. AreAllRoutes (linking false u w self.old) all.items) }
         ensures same { self.new ≡ self.old }
     {
-        routes_without_link(alloc, &mut self.plan, u, w)
+        routes_without_link(alloc, &mut self.plan, before, u, w)
     }
 
     /// All routes at rest where a node has failed.

@@ -135,7 +135,7 @@ fn push_arrow(out: &mut Vec<u8>, u: u16, via: Via) -> Result<(), AllocError>
 }
 
 /// Whether a node is the next hop.
-fn is_hop(via: Via, w: u16) -> bool
+pub(crate) fn is_hop(via: Via, w: u16) -> bool
     ensures { result ≡ spec.is_hop via w }
 {
     match via {

@@ -8,7 +8,7 @@ ghost use Rattle.domain_routes.specs.PlanView.{PlanView, is_linked};
 ghost use Rattle.domain_cmds.specs.Failures.{IsAlone};
 ghost use Rattle.domain_cmds.specs.Rests.{AreAllRoutes};
 
-use crate::routes::{Column, all_columns};
+use crate::routes::{Column, all_columns, columns_after};
 use domain_routes::Plan;
 use std::alloc::{AllocError, Global};
 
@@ -16,6 +16,7 @@ use std::alloc::{AllocError, Global};
 pub(crate) fn routes_without_link(
     alloc: Global,
     plan: &mut Plan,
+    before: &[Column],
     u: u16,
     w: u16,
 ) -> Result<Vec<Column>, AllocError>
@@ -23,13 +24,14 @@ pub(crate) fn routes_without_link(
     requires w { w < plan.old.size }
     requires apart { u ≢ w }
     requires linked { is_linked plan.old u w ≡ true }
+    requires before { AreAllRoutes plan.old before.now }
     ensures all { IfOk result (λ all. AreAllRoutes (linking false u w plan.old) all.items) }
     ensures same { plan.new ≡ plan.old }
 {
     // For the proof alone, which needs what its contract says.
     let _nodes = plan.size();
     plan.cut(u, w);
-    let all = all_columns(alloc, plan);
+    let all = columns_after(alloc, plan, before, u, w);
     plan.link(u, w);
     all
 }

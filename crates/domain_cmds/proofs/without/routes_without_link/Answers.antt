@@ -4,6 +4,17 @@ use Rattle.domain_routes.specs.Edits.{linking}
 use Rattle.domain_cmds.proofs.Restoring.{link_back}
 use Rattle.domain_cmds.proofs.without.routes_without_link.Goals as goal
 
+pub columns_after-all-requires : goal.columns_after-all-requires
+columns_after-all-requires c = record {
+  whole = c.args.plan.now;
+  is = c.cut.ensures;
+  well = c.size-nodes.ensures.limits;
+  from = c.requires.u;
+  to = c.requires.w;
+  apart = c.requires.apart;
+  all = c.requires.before;
+}
+
 pub returns-clause-same : goal.returns-clause-same
 returns-clause-same c =
     c.link.ensures ∙ ap (linking true c.args.u c.args.w) c.cut.ensures
