@@ -75,7 +75,7 @@ rewrite-returns-then-all-gt-WORD_LIMIT-clause-stuck t c =
 pub rewrite-returns-then-is_much-clause-stuck : goal.rewrite-returns-then-is_much-clause-stuck
 rewrite-returns-then-is_much-clause-stuck t c =
     by_work c.args.config.now c.args.depth c.loop-made.invariant.0 c.args.words.items c.loop-made.words.items c.loop-made.invariant.2
-    c.too_long-2.result c.loop-made.made c.as_slice-all.result.now c.too_long-2.ensures c.as_slice-all.ensures.value c.loop-made.invariant.1
+    c.too_long-then-is_much.result c.loop-made.made c.as_slice-all.result.now c.too_long-then-is_much.ensures c.as_slice-all.ensures.value c.loop-made.invariant.1
     (c.is_much.ensures c.if-is_much.true)
 
 pub rewrite-returns-in-Stuck-clause-stuck : goal.rewrite-returns-in-Stuck-clause-stuck
@@ -89,4 +89,4 @@ rewrite-returns-in-Done-clause-drafted t c = (c.loop-made.invariant.0, c.loop-ma
 pub rewrite-returns-clause-stuck : goal.rewrite-returns-clause-stuck
 rewrite-returns-clause-stuck t c =
     by_steps c.args.config.now c.args.depth c.loop-made.invariant.0 c.args.words.items c.loop-made.words.items c.loop-made.invariant.2
-    c.too_long-3.result c.too_long-3.ensures (omega (arith, c.loop-made.invariant.1, c.loop-made-test.false))
+    c.too_long-2.result c.too_long-2.ensures (omega (arith, c.loop-made.invariant.1, c.loop-made-test.false))
