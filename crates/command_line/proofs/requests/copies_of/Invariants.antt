@@ -1,5 +1,5 @@
 use Rattle.std.proofs.Common.{◌≡◌, map, string_bytes, take}
-use Rattle.command_line.proofs.router_words.copies_of.Given as goal
+use Rattle.command_line.proofs.requests.copies_of.Given as goal
 
 -- the texts so far are copied
 abbrev pub invariant-loop-text : goal.invariant-loop-text
