@@ -80,6 +80,7 @@ command_of (Some verb.Draw) args text = drawing_in args (two_of args)
 command_of (Some verb.Reach) args text = alone (Ask question.Reach) args
 command_of (Some verb.Mark) args text = alone Mark args
 command_of (Some verb.Changes) args text = alone (Ask question.Changes) args
+command_of (Some verb.Failures) args text = alone (Ask question.Failures) args
 command_of (Some verb.Settle) args text = alone (Ask question.Settle) args
 
 abbrev pub command_of_words : List (List ℕ) → List ℕ → Read

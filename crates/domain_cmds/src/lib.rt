@@ -15,7 +15,11 @@
 
 mod asking;
 mod command;
+mod counts;
 mod engine;
+mod failure;
+mod failure_text;
+mod failures;
 mod fault;
 mod felt;
 mod filters;
@@ -29,6 +33,7 @@ mod routes;
 mod still;
 mod text;
 mod verb;
+mod without;
 
 pub use command::{Command, DomainSize, Question};
 pub use engine::{run_domain, run_watched_domain};

@@ -143,6 +143,7 @@ fn read_rest(alloc: Global, verb: Verb, rest: &[u8]) -> Result<Command<'_>, Comm
         Verb::Reach => read_alone(Command::Ask(Question::Reach), rest),
         Verb::Mark => read_alone(Command::Mark, rest),
         Verb::Changes => read_alone(Command::Ask(Question::Changes), rest),
+        Verb::Failures => read_alone(Command::Ask(Question::Failures), rest),
         Verb::Settle => read_alone(Command::Ask(Question::Settle), rest),
     }
 }

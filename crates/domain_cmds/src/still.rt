@@ -14,7 +14,7 @@ ghost use Rattle.domain_cmds.specs.Texts as spec;
 use crate::routes::{Column, route_of};
 
 /// The lesser of two distances.
-fn lesser(a: u16, b: u16) -> u16
+pub(crate) fn lesser(a: u16, b: u16) -> u16
     ensures { result ≡ min a b }
 {
     if a < b { a } else { b }
