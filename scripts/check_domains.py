@@ -68,6 +68,8 @@ class Lines:
         words = [str(self.node()) for _ in range({"route": 2, "path": 2, "table": 1, "draw": 1}.get(verb, 0))]
         if verb == "draw" and self.numbers.randrange(2):
             words.append("changes")
+        if verb == "failures" and self.numbers.randrange(2):
+            words.append("nodes")
         return " ".join(["reach\nsettle" if verb == "settle" else verb, *words])
 
     def script(self):

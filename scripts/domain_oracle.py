@@ -201,7 +201,7 @@ class Script:
         domain.links = links
         told = [node for node in range(size) if node != gone]
         pairs = [(before[v][u], after[v][u]) for v in told for u in told]
-        both = [[{old[0], new[0]} for old, new in zip(before[v], after[v])] for v in told]
+        both = [[{before[v][u][0], after[v][u][0]} for u in told] for v in told]
         bounds = [min((min(two) for two in dists if len(two) == 2), default=size) for dists in both]
         numbers = {
             "changed": sum(old != new for old, new in pairs),
@@ -212,8 +212,11 @@ class Script:
         }
         return " ".join([name, *(f"{word} {number}" for word, number in numbers.items())])
 
-    def failures(self):
-        lines = [self.failure(f"link {u} {w}", {(u, w), (w, u)}) for u, w in sorted(self.domain.links) if u < w]
+    def failures(self, *of_nodes):
+        if of_nodes:
+            lines = [self.failure(f"node {x}", {pair for pair in self.domain.links if x in pair}, x) for x in range(self.domain.size)]
+        else:
+            lines = [self.failure(f"link {u} {w}", {(u, w), (w, u)}) for u, w in sorted(self.domain.links) if u < w]
         return "\n".join([f"failures {len(lines)}", *lines])
 
     def settle(self):

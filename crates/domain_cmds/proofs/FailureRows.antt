@@ -52,8 +52,8 @@ link_row : failure_of 3 (Link 1 2) before without_last ≡ failed
 link_row = refl
 
 abbrev gone : Failure
-gone = record { what = Node 1; changed = 2; lost = 2; moved = 2; rounds = 3; still = 1 }
+gone = record { what = Node 1; changed = 2; lost = 2; moved = 2; rounds = 3; still = 2 }
 
--- nodes 0 and 2 lose each other; that they lose node 1 is not counted, nor what it loses
+-- nodes 0 and 2 lose each other, which were at distance 2; that they lose node 1 is not counted, nor what it loses
 node_row : failure_of 3 (Node 1) before without_any ≡ gone
 node_row = refl

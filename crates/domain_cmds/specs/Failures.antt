@@ -3,10 +3,10 @@ use Rattle.std.specs.Prelude.{◌≡◌, ◌≢◌, ℕ, suc, zero, ◌+◌, ◌
 use Rattle.domain_routes.specs.Edits.{linking}
 use Rattle.domain_routes.specs.PlanView.{PlanView, is_linked, peer}
 use Rattle.domain_routes.specs.Reach.{phases_to_rest}
-use Rattle.domain_routes.specs.Still.{least_below}
+use Rattle.domain_routes.specs.Still.{least_below, lesser_of_two}
 use Rattle.domain_routes.specs.declared.best.Best.{Best}
 use Rattle.domain_cmds.specs.Rests.{AreAllRoutes}
-use Rattle.domain_cmds.specs.Texts.{distances, is_same, route_of, still_below}
+use Rattle.domain_cmds.specs.Texts.{distances, is_same, route_of}
 use Rattle.domain_cmds.specs.declared.failure.Failing.{Failing}
 use Rattle.domain_cmds.specs.declared.failure.Failing.TheVariants.{Link, Node}
 use Rattle.domain_cmds.specs.declared.failure.Failure.{Failure}
@@ -90,16 +90,25 @@ lost_of size what before after u = count_below size (is_lost size what before af
 abbrev pub lost_routes : ℕ → Failing → List (List Best) → List (List Best) → ℕ
 lost_routes size what before after = sum_below size (lost_of size what before after)
 
--- some node has another distance to this one: it is named behind `still`
+-- Below this bound all distances to a node are what they were: the lesser of both where they are two, and the size where none is another. For
+-- a link it is the bound behind `still` (`failures_stand_still_as_cuts`).
+abbrev pub told_lesser : ℕ → Failing → List (List Best) → List (List Best) → ℕ → ℕ → ℕ
+told_lesser size what before after v u =
+    if is_told what u then lesser_of_two size (distances size before v u) (distances size after v u) else size
+
+abbrev pub still_told : ℕ → Failing → List (List Best) → List (List Best) → ℕ → ℕ
+still_told size what before after v = least_below size size (told_lesser size what before after v)
+
+-- some node has another distance to this one
 abbrev pub is_moved : ℕ → Failing → List (List Best) → List (List Best) → ℕ → Bool
-is_moved size what before after v = is_told what v && nat_lt (still_below size before after v) size
+is_moved size what before after v = is_told what v && nat_lt (still_told size what before after v) size
 
 abbrev pub moved_nodes : ℕ → Failing → List (List Best) → List (List Best) → ℕ
 moved_nodes size what before after = count_below size (is_moved size what before after)
 
--- the least bound that stands behind `still`: the size where none does
+-- the least of these bounds: the size where no distance is another
 abbrev pub still_to : ℕ → Failing → List (List Best) → List (List Best) → ℕ → ℕ
-still_to size what before after v = if is_told what v then still_below size before after v else size
+still_to size what before after v = if is_told what v then still_told size what before after v else size
 
 abbrev pub still_near : ℕ → Failing → List (List Best) → List (List Best) → ℕ
 still_near size what before after = least_below size size (still_to size what before after)

@@ -21,7 +21,7 @@ use Rattle.domain_routes.specs.declared.since.Since.{Since}
 use Rattle.domain_routes.specs.declared.since.Since.TheVariants as since
 use Rattle.domain_cmds.specs.CommandView.{CommandView, Domain, Prefix, Load, Code, Link, Use, Mark, Ask}
 use Rattle.domain_cmds.specs.Commands.{Read, command_in}
-use Rattle.domain_cmds.specs.Failures.{AreFailures, all_links}
+use Rattle.domain_cmds.specs.Failures.{AreFailures, all_links, all_nodes}
 use Rattle.domain_cmds.specs.FailureTexts.{failures_text}
 use Rattle.domain_cmds.specs.Faults.{state_code}
 use Rattle.domain_cmds.specs.Rests.{AreAllRoutes}
@@ -202,6 +202,7 @@ AnswersQuestion (question.DrawChanges v) plan marked done number answer = IsTold
 AnswersQuestion question.Reach plan marked done number answer = IsToldReach plan answer
 AnswersQuestion question.Changes plan marked done number answer = IsToldChanges plan marked done answer
 AnswersQuestion question.Failures plan marked done number answer = IsToldFailures plan (all_links plan) answer
+AnswersQuestion question.NodeFailures plan marked done number answer = IsToldFailures plan (all_nodes plan) answer
 AnswersQuestion question.Settle plan marked done number answer = IsToldSettled number answer
 
 -- ---- a line

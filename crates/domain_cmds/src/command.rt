@@ -84,6 +84,8 @@ pub enum Question {
     Changes,
     /// `failures`: what the failure of each link changes, by itself.
     Failures,
+    /// `failures nodes`: what the failure of each node changes, by itself.
+    NodeFailures,
     /// `settle`: the routers exchange messages until none is left.
     Settle,
 }

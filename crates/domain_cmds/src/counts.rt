@@ -4,7 +4,7 @@ ghost use Rattle.domain_cmds.specs.Failures as spec;
 
 use crate::failure::Failing;
 use crate::routes::{Column, route_of};
-use crate::still::{lesser, still_below};
+use crate::still::{distance, lesser, lesser_of_two};
 use crate::text::is_same;
 
 /// Whether a node counts: the one that fails does not.
@@ -109,11 +109,44 @@ pub(crate) fn lost_routes(size: u16, what: Failing, before: &[Column], after: &[
     sum
 }
 
+/// The lesser of the two distances from a node that counts to another, where they are two; otherwise the size.
+fn told_lesser(
+    size: u16,
+    what: Failing,
+    before: &[Column],
+    after: &[Column],
+    v: u16,
+    u: u16,
+) -> u16
+    ensures { result ≡ spec.told_lesser size what before.now after.now v u }
+{
+    if is_told(what, u) {
+        lesser_of_two(
+            size,
+            distance(size, before, u, v),
+            distance(size, after, u, v),
+        )
+    } else {
+        size
+    }
+}
+
+/// The bound below which no distance to a node is another than it was.
+fn still_told(size: u16, what: Failing, before: &[Column], after: &[Column], v: u16) -> u16
+    ensures { result ≡ spec.still_told size what before.now after.now v }
+{
+    let mut least = size;
+    for u in 0..size {
+        least = lesser(least, told_lesser(size, what, before, after, v, u));
+    }
+    least
+}
+
 /// Whether some distance to a node is another than it was.
 fn is_moved(size: u16, what: Failing, before: &[Column], after: &[Column], v: u16) -> bool
     ensures { result ≡ spec.is_moved size what before.now after.now v }
 {
-    is_told(what, v) && still_below(size, before, after, v) < size
+    is_told(what, v) && still_told(size, what, before, after, v) < size
 }
 
 /// To how many nodes some distance is another than it was.
@@ -132,7 +165,7 @@ fn still_to(size: u16, what: Failing, before: &[Column], after: &[Column], v: u1
     ensures { result ≡ spec.still_to size what before.now after.now v }
 {
     if is_told(what, v) {
-        still_below(size, before, after, v)
+        still_told(size, what, before, after, v)
     } else {
         size
     }

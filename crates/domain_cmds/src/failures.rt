@@ -117,3 +117,40 @@ pub(crate) fn link_failures(
     }
     Ok(found)
 }
+
+/// What the failure of a node changes.
+fn node_failure(
+    alloc: Global,
+    domain: &mut RestingPlan,
+    before: &[Column],
+    x: u16,
+) -> Result<Failure, AllocError>
+    requires { x < domain.old.size }
+    ensures ok { IfOk result (λ failure. spec.IsFailure domain.old before.now (failing.Node x) failure) }
+    ensures same { domain.new ≡ domain.old }
+{
+    let later = domain.routes_without_node(alloc, x)?;
+    Ok(failure_of(
+        domain.size(),
+        Failing::Node(x),
+        before,
+        later.as_slice(),
+    ))
+}
+
+/// What the failure of each node changes, by itself.
+pub(crate) fn node_failures(
+    alloc: Global,
+    domain: &mut RestingPlan,
+    before: &[Column],
+) -> Result<Vec<Failure>, AllocError>
+    ensures ok { IfOk result (λ all. spec.AreFailures domain.old before.now (spec.all_nodes domain.old) all.items) }
+    ensures same { domain.new ≡ domain.old }
+{
+    let mut found = Vec::new(alloc);
+    for x in 0..domain.size() {
+        let failure = node_failure(alloc, domain, before, x)?;
+        found.push(failure)?;
+    }
+    Ok(found)
+}

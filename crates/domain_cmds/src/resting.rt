@@ -4,12 +4,13 @@
 //! of a plan have all of them.
 ghost use Rattle.std.specs.Prelude.{◌≡◌, ◌≢◌, ◌<◌, IfOk, true, false};
 ghost use Rattle.domain_routes.specs.Edits.{linking, with_prefix};
-ghost use Rattle.domain_routes.specs.PlanView.{is_linked};
+ghost use Rattle.domain_routes.specs.PlanView.{PlanView, is_linked};
+ghost use Rattle.domain_cmds.specs.Failures.{IsAlone};
 ghost use Rattle.domain_cmds.specs.Rests.{AreAllRoutes};
 ghost use Rattle.domain_cmds.specs.Script.{filtering};
 
 use crate::routes::{Column, all_columns};
-use crate::without::routes_without_link;
+use crate::without::{routes_without_link, routes_without_node};
 use domain_routes::Plan;
 use filter_verifier::Verified;
 use operator_cmds::Direction;
@@ -127,5 +128,18 @@ impl RestingPlan {
         ensures same { self.new ≡ self.old }
     {
         routes_without_link(alloc, &mut self.plan, u, w)
+    }
+
+    /// All routes at rest where a node has failed.
+    pub(crate) fn routes_without_node(
+        &mut self,
+        alloc: Global,
+        x: u16,
+    ) -> Result<Vec<Column>, AllocError>
+        requires { x < self.old.size }
+        ensures all { IfOk result (λ all. (later : PlanView) × IsAlone x self.old later × AreAllRoutes later all.items) }
+        ensures same { self.new ≡ self.old }
+    {
+        routes_without_node(alloc, &mut self.plan, x)
     }
 }

@@ -21,7 +21,7 @@ pub(crate) fn lesser(a: u16, b: u16) -> u16
 }
 
 /// The lesser of two distances of a node, where they are two; otherwise the size.
-fn lesser_of_two(size: u16, a: u16, b: u16) -> u16
+pub(crate) fn lesser_of_two(size: u16, a: u16, b: u16) -> u16
     ensures { result ≡ rest.lesser_of_two size a b }
 {
     if a == b { size } else { lesser(a, b) }
