@@ -26,14 +26,7 @@ fn one_if(holds: bool) -> u32
 }
 
 /// Whether a route is another than it was.
-fn is_changed(
-    size: u16,
-    what: Failing,
-    before: &[Column],
-    after: &[Column],
-    u: u16,
-    v: u16,
-) -> bool
+fn is_changed(size: u16, what: Failing, before: &[Column], after: &[Column], u: u16, v: u16) -> bool
     ensures { result ≡ spec.is_changed size what before.now after.now u v }
 {
     is_told(what, u)
@@ -54,12 +47,7 @@ fn changed_of(size: u16, what: Failing, before: &[Column], after: &[Column], u: 
 }
 
 /// How many routes are others than they were.
-pub(crate) fn changed_routes(
-    size: u16,
-    what: Failing,
-    before: &[Column],
-    after: &[Column],
-) -> u32
+pub(crate) fn changed_routes(size: u16, what: Failing, before: &[Column], after: &[Column]) -> u32
     ensures { result ≡ spec.changed_routes size what before.now after.now }
 {
     let mut sum = 0;
@@ -70,14 +58,7 @@ pub(crate) fn changed_routes(
 }
 
 /// Whether one node reached another, and does no longer.
-fn is_lost(
-    size: u16,
-    what: Failing,
-    before: &[Column],
-    after: &[Column],
-    u: u16,
-    v: u16,
-) -> bool
+fn is_lost(size: u16, what: Failing, before: &[Column], after: &[Column], u: u16, v: u16) -> bool
     ensures { result ≡ spec.is_lost size what before.now after.now u v }
 {
     is_told(what, u)
@@ -110,14 +91,7 @@ pub(crate) fn lost_routes(size: u16, what: Failing, before: &[Column], after: &[
 }
 
 /// The lesser of the two distances from a node that counts to another, where they are two; otherwise the size.
-fn told_lesser(
-    size: u16,
-    what: Failing,
-    before: &[Column],
-    after: &[Column],
-    v: u16,
-    u: u16,
-) -> u16
+fn told_lesser(size: u16, what: Failing, before: &[Column], after: &[Column], v: u16, u: u16) -> u16
     ensures { result ≡ spec.told_lesser size what before.now after.now v u }
 {
     if is_told(what, u) {

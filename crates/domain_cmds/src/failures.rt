@@ -42,12 +42,7 @@ fn link_failure(
     ensures same { domain.new ≡ domain.old }
 {
     let after = domain.routes_without_link(alloc, u, w)?;
-    Ok(failure_of(
-        domain.size(),
-        Failing::Link(u, w),
-        before,
-        after.as_slice(),
-    ))
+    Ok(failure_of(domain.size(), Failing::Link(u, w), before, after.as_slice()))
 }
 
 /// Whether there is a link between two nodes, of which the first is the lesser.
@@ -130,12 +125,7 @@ fn node_failure(
     ensures same { domain.new ≡ domain.old }
 {
     let later = domain.routes_without_node(alloc, x)?;
-    Ok(failure_of(
-        domain.size(),
-        Failing::Node(x),
-        before,
-        later.as_slice(),
-    ))
+    Ok(failure_of(domain.size(), Failing::Node(x), before, later.as_slice()))
 }
 
 /// What the failure of each node changes, by itself.

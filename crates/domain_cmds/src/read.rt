@@ -15,8 +15,8 @@ use crate::verb::{Verb, read_verb};
 use filter_code::{LARGEST_SIZE, SMALLEST_SIZE};
 use line_protocol::{LINE_LIMIT, next_word};
 use operator_cmds::{
-    CommandFault, Direction, cut_word, is_name, one_word, read_code, read_load, read_node, read_node_prefix,
-    read_small, three_words, two_words,
+    CommandFault, Direction, cut_word, is_name, one_word, read_code, read_load, read_node,
+    read_node_prefix, read_small, three_words, two_words,
 };
 use std::alloc::Global;
 
