@@ -41,6 +41,15 @@ one_plan p q is_p is_q size prefixes linked imports exports =
     let of_w : w < p.size = omega (arith, short, is_q.places.places u to_u, size) in
     peer_of_parts (peer q u w) (peer p u w) (linked u w of_u of_w) (imports u w) (exports u w))))
 
+-- between two nodes that are linked there is a link
+pub link_of : (p : PlanView) (u w : ℕ) → IsPlan p → u < p.size → w < p.size → is_linked p u w ≡ true → IsLink p u w
+link_of p u w plan from to linked = record {
+  plan = plan;
+  from = from;
+  to = to;
+  apart = λ same. let never : false ≡ true = sym (plan.apart u) ∙ ap (is_linked p u) same ∙ linked in cc;
+}
+
 module _ (p : PlanView) (u w : ℕ) (l : IsLink p u w) where
   abbrev apart : PlanView
   apart = linking false u w p

@@ -16,5 +16,5 @@ loop-x-preserved c =
           (adds_one plan before (Node x) c.in_ok-failure.failure c.loop-x.found.items c.push.new.self.items
           (subst (λ (p : PlanView). IsFailure p before (Node x) c.in_ok-failure.failure) c.loop-x.invariant.same c.in_ok-failure.ensures.ok)
           c.in_ok-push.ensures.items);
-      same = c.node_failure-failure.ensures.same ∙ c.loop-x.invariant.same;
+      same = c.node_failure.ensures.same ∙ c.loop-x.invariant.same;
     }
