@@ -8,9 +8,10 @@ Of `load` only the first word of the answer is compared: the slow program verifi
 than it says phases are a failure. A script that the two answer differently is written to
 standard error with its number, and the exit status is 1.
 
-With NCROUTE=PATH three more things are looked at. What `failures` says of each link is what `changes` and `reach` say once it is cut. Small plans of 2 to 4 nodes: of all distances that there could be, just one choice is a fixed point
-of Bellman's equation, and it is the one that is answered, with the least next hops. And domains whose routers are runs of `ncroute run`: in
-whatever order they send and receive their messages, they come to the routes that `ncroute domain` computes.
+With NCROUTE=PATH three more things are looked at. What `failures` says of each link is what `changes` and `reach` say once it is cut. Small plans of
+2 to 4 nodes: of all distances that there could be, just one choice is a fixed point of Bellman's equation, and it is the one that is answered, with
+the least next hops. And domains whose routers are runs of `ncroute run`: in whatever order they send and receive their messages, they come to the
+routes that `ncroute domain` computes.
 """
 import contextlib
 import itertools

@@ -193,7 +193,7 @@ class Script:
         return said + " still" + "".join(f" {v}:{bound}" for v, bound in bounds if bound < size)
 
     def failure(self, name, cut, gone=None):
-        """The line that tells what changes where these links are cut. A node that is gone counts neither as one that loses nor as one that is lost."""
+        """The line that tells what changes where these links are cut. A node that is gone neither loses others nor is lost."""
         domain, size, links = self.domain, self.domain.size, self.domain.links
         before = domain.all_routes()
         domain.links = links - cut
