@@ -71,6 +71,12 @@ add() {
 }
 
 if [ -n "$is_proved" ]; then
+    # `rt ci` sets aside two or three times the memory that a check takes: with 24 GB processors would stand still beside the longest checks.
+    memory="$(sed -nE 's/^MemAvailable: +([0-9]+) kB$/\1/p' /proc/meminfo 2>/dev/null)"
+    if [ -z "${RT_JOBS:-}" ] && [ "${memory:-0}" -ge "$((5500000 * $(nproc)))" ]; then
+        RT_JOBS="$(nproc)"
+        export RT_JOBS
+    fi
     add rt ci
     # What the gate took so far, by the system's own sum, as bench/GATE.md counts it.
     times >"$output"
