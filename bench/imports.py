@@ -29,7 +29,7 @@ def configuration(count):
 def main():
     if len(sys.argv) != 2:
         sys.exit(__doc__)
-    command = [os.path.abspath(sys.argv[1]), "import"]
+    command = [os.path.abspath(sys.argv[1]), "import", "--size", "16"]
     print("| Filters | MB | M instructions | of a filter |\n|---|---|---|---|")
     with tempfile.TemporaryDirectory() as folder:
         for count in COUNTS:

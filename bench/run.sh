@@ -2,7 +2,7 @@
 # Builds the proved programs and the plain one, checks that they answer the same, and prints their times and ratios:
 # of `ncroute eval`, `run`, `domain` and `check` as a whole, of the machines alone, or of the router alone.
 #
-# usage: bench/run.sh [table|eval|check|machines|instructions|bird|router|endless|callers|script|save|domain|lookup|diff|names|imports|library]     (without a word: eval and machines)
+# usage: bench/run.sh [table|eval|check|machines|instructions|bird|router|endless|callers|script|save|domain|lookup|diff|names|imports|hostile|library]     (without a word: eval and machines)
 #   table prints the first table of README.md: the instructions of eval, check and run on all inputs; with ROUNDS=N their times too.
 #     A second word, eval, check or run, has it print the rows of that command alone
 #   instructions counts instructions of the machines with valgrind, in place of their time
@@ -14,6 +14,7 @@
 #   diff times `ncroute diff` and `ncroute lint` on lists of 290 and 1,024 patterns
 #   names counts instructions of scripts with names that would collide in a table by std's hash, beside other names
 #   imports counts instructions of `ncroute import` for configurations of 100 to 800 filters
+#   hostile times commands on inputs that are made to take long
 #   library times calls of the library for C beside the same runs in Rattle; FILTER_C=PATH names an archive that is built already
 #   NCROUTE=PATH       a proved `ncroute` that is built already: then none is built here
 #   BENCH_PARTS=PATH   the same for `bench_parts`
@@ -23,7 +24,7 @@ set -eu
 bench="$(cd "$(dirname "$0")" && pwd)"
 wanted="${1:-both}"
 case "$wanted" in
-    both | table | eval | check | machines | instructions | bird | router | endless | callers | script | save | domain | lookup | diff | names | imports | library) ;;
+    both | table | eval | check | machines | instructions | bird | router | endless | callers | script | save | domain | lookup | diff | names | imports | hostile | library) ;;
     *)
         sed -n '/^# usage/,/^set /{/^#/s/^# \{0,1\}//p}' "$0" >&2
         exit 2
@@ -161,6 +162,9 @@ elif [ "$wanted" = names ]; then
 elif [ "$wanted" = imports ]; then
     need_ncroute
     "$bench/imports.py" "$NCROUTE"
+elif [ "$wanted" = hostile ]; then
+    need_ncroute
+    "$bench/hostile.py" "$NCROUTE"
 elif [ "$wanted" = library ]; then
     need_ncroute
     need_bench_parts

@@ -8,9 +8,10 @@ Of `load` only the first word of the answer is compared: the slow program verifi
 than it says phases are a failure. A script that the two answer differently is written to
 standard error with its number, and the exit status is 1.
 
-With NCROUTE=PATH two more things are looked at. Small plans of 2 to 4 nodes: of all distances that there could be, just one choice is a fixed point
-of Bellman's equation, and it is the one that is answered, with the least next hops. And domains whose routers are runs of `ncroute run`: in
-whatever order they send and receive their messages, they come to the routes that `ncroute domain` computes.
+With NCROUTE=PATH three more things are looked at. What `failures` says of each link is what `changes` and `reach` say once it is cut. Small plans of
+2 to 4 nodes: of all distances that there could be, just one choice is a fixed point of Bellman's equation, and it is the one that is answered, with
+the least next hops. And domains whose routers are runs of `ncroute run`: in whatever order they send and receive their messages, they come to the
+routes that `ncroute domain` computes.
 """
 import contextlib
 import itertools
@@ -37,7 +38,7 @@ FILTERS = (
     "if rip_metric = 1 then rip_metric = rip_metric + 4; accept;",
 )
 NAMES = ("a", "b", "c")
-QUESTIONS = ("route", "path", "table", "draw", "reach", "mark", "changes", "settle")
+QUESTIONS = ("route", "path", "table", "draw", "reach", "mark", "changes", "failures", "settle")
 
 
 class Lines:
@@ -68,6 +69,8 @@ class Lines:
         words = [str(self.node()) for _ in range({"route": 2, "path": 2, "table": 1, "draw": 1}.get(verb, 0))]
         if verb == "draw" and self.numbers.randrange(2):
             words.append("changes")
+        if verb == "failures" and self.numbers.randrange(2):
+            words.append("nodes")
         return " ".join(["reach\nsettle" if verb == "settle" else verb, *words])
 
     def script(self):
@@ -144,6 +147,41 @@ def small_plans(ncroute):
             said = subprocess.run([ncroute, "domain"], input=given, capture_output=True).stdout.decode().splitlines()
             wanted = plan.answers()
             yield None if wanted is not None and said[-len(wanted):] == wanted else f"plan {size} {number}: {said}, and not {wanted}"
+
+
+# ---- failures, by cutting one link after another
+
+
+def asked_of(ncroute, script):
+    """The answers to the lines of a script, of which just one is `failures`: its lines are one answer."""
+    output = subprocess.run([ncroute, "domain"], input="\n".join(script).encode(), capture_output=True).stdout.decode().split("\n")
+    answers = iter(output)
+    return [[answer, *itertools.islice(answers, int(answer.split()[1]))] if answer.startswith("failures ") else answer for answer in answers]
+
+
+def failures(ncroute, number):
+    """How what `failures` says of the links of a random domain differs from what is said where each of them is cut."""
+    numbers = random.Random(f"failures {number}")
+    size = numbers.randint(2, 9)
+    nodes = range(size)
+    links = [pair for pair in itertools.combinations(nodes, 2) if numbers.randrange(3) == 0]
+    script = [f"domain {size}", *(f"load {name} filter f {{ {numbers.choice(FILTERS)} }}" for name in NAMES), *(f"link {u} {w}" for u, w in links),
+              *(f"{numbers.choice(('import', 'export'))} {u} {w} {numbers.choice(NAMES)}"
+                for u, w in itertools.permutations(nodes, 2) if numbers.randrange(5) == 0), "mark", *(f"table {u}" for u in nodes)]
+    begun = len(script) - size
+    for u, w in links:
+        script += ["mark", f"cut {u} {w}", "changes", "reach", *(f"table {node}" for node in nodes), f"link {u} {w}"]
+    said = asked_of(ncroute, [*script, "failures"])
+    wanted = [f"failures {len(links)}"]
+    for place, (u, w) in enumerate(links):
+        at = begun + size + place * (5 + size)
+        changed, still = (answer.split() for answer in said[at + 2].removeprefix("changes").split(" still"))
+        bounds = [int(word.split(":")[1]) for word in still]
+        reached = [[int(word.split(":")[1]) < size for table in said[first:first + size] for word in table.split()[1:]] for first in (begun, at + 4)]
+        lost = sum(before > after for before, after in zip(*reached))
+        rounds = said[at + 3].split()[2]
+        wanted.append(f"link {u} {w} changed {len(changed)} lost {lost} moved {len(bounds)} rounds {rounds} still {min(bounds, default=size)}")
+    return None if said[len(script)] == wanted else f"failures {number}: {script}: {said[len(script)]}, and not {wanted}"
 
 
 # ---- routers whose messages come in any order
@@ -224,7 +262,8 @@ def main(words):
         is_wrong = answered != slow or late_rounds(output)
         counts.judge(f"script {number}", is_wrong and f"\n{script.decode()}\nanswered\n{answered}\nslowly\n{slow}")
     if ncroute := named():
-        for wrong in itertools.chain(small_plans(ncroute), (any_order(ncroute, number) for number in range(100))):
+        for wrong in itertools.chain(small_plans(ncroute), (failures(ncroute, number) for number in range(1000)),
+                                     (any_order(ncroute, number) for number in range(100))):
             counts.judge("routes", wrong)
     counts.finish()
 

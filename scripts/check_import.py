@@ -177,7 +177,7 @@ def lengths(trial):
     value = functools.reduce(lambda value, _: f"( {value} + {value} )", range(7), "1")
     trial.taken("a chain of definitions", chain(8) + "filter f { rip_metric = d7; accept; }", {"f": f"{{ rip_metric = {value}; accept; }}"})
     trial.left_out("definitions that are too long", chain(17) + "filter f { rip_metric = d16; accept; }", "18:1",
-                   "f: it is longer than 65536 bytes with all definitions in place")
+                   "f: it is longer than 65536 bytes with all definitions in place, or takes too many steps")
     for count in range(1, 33):
         value = " + ".join(["1"] * count)
         written = value if count == 1 else f"( {value} )"

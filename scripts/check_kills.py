@@ -66,7 +66,8 @@ class Folder:
     """The segments that a router left."""
 
     def __init__(self, run):
-        self.program, self.files = run.program, sorted(pathlib.Path(run.history).glob("*.history"))
+        # The router writes the next segment under a name with a dot, and gives it its own once it is whole.
+        self.program, self.files = run.program, sorted(pathlib.Path(run.history).glob("[0-9]*.history"))
         self.texts = [file.read_bytes() for file in self.files]
         # After the last line feed of the last file comes the front of a line, if anything does.
         self.is_cut = bool(self.texts) and self.texts[-1][-1:] != b"\n"

@@ -522,14 +522,36 @@ def on_filters(ncroute, words, texts):
         return output.replace(folder.encode() + b"/", b""), shown.replace(folder.encode() + b"/", b""), status
 
 
+# So many parts come of two filters that add 1 and 2 to the metric of a region, in a domain of 250 nodes: one for each metric that both accept.
+PARTS_OF_A_REGION = 249
+
+
 def compared_filters(ncroute):
-    """`diff` of that filter with itself, and with the same with one pattern less."""
+    """`diff` of that filter with itself, without a search, and with the same with one pattern less."""
     parts = ["0..15: reject | accept 15", *(f"{metric}..{metric}: reject | accept {metric}" for metric in range(16, 251))]
-    lines = [*(f"differ 10.3.255.0/24{{24,24}}, metrics {part}" for part in parts), "same on all other routes"]
-    rows = [(full_filter(), b"same on all routes\n", 0), (full_filter(patterns=1023), written(lines), 1)]
+    domain = "of a domain of 250 nodes"
+    lines = [*(f"differ 10.3.255.0/24{{24,24}}, metrics {part}" for part in parts), f"same on all other routes {domain}"]
+    rows = [(full_filter(), written([f"same on all routes {domain}"]), 0), (full_filter(patterns=1023), written(lines), 1)]
     for other, *wanted in rows:
         if wrong := differs(on_filters(ncroute, "diff --size 250", [full_filter(), other]), wanted):
             return wrong
+    return None
+
+
+def parts_beyond_the_limit(ncroute):
+    """`diff` shows a thousand parts of the routes, and counts the others. Of each of COUNT regions there is one part for each metric."""
+    domain = b"of a domain of 250 nodes"
+    for count in range(3, 7):
+        regions = ", ".join(f"{20 * number + 1}.0.0.0/8" for number in range(count))
+        texts = [f"filter f {{ if net ~ [ {regions} ] then rip_metric = rip_metric + {more}; accept; }}".encode() for more in (1, 2)]
+        output, shown, status = on_filters(ncroute, "diff --size 250", texts)
+        *parts, last = output.splitlines()
+        hidden = b"parts that are not shown: %d" % (count * PARTS_OF_A_REGION - 1000)
+        wanted = [hidden] if count * PARTS_OF_A_REGION > 1000 else []
+        lines = [line for line in parts if not line.startswith(b"differ ")]
+        if (lines, last, shown, status, len(parts) - len(lines)) != (wanted, b"same on all other routes " + domain, b"", 1,
+                                                                     min(count * PARTS_OF_A_REGION, 1000)):
+            return f"{count} regions: wrote {len(parts)} lines to {parts[-1:]}, {last!r}, and ended with {status}"
     return None
 
 
@@ -546,7 +568,7 @@ def variables_of_each_number(ncroute):
 def undecided_filters(ncroute):
     """Two masks that are compared differ on more prefixes than are tried: `diff` and `lint` try as many as they are told to, and say that."""
     masks = b"filter f { if net.ip.mask(24) = net.ip then reject; accept; }"
-    output, shown, status = on_filters(ncroute, "diff --size 250 --limit 50000", [masks, FILTER])
+    output, shown, status = on_filters(ncroute, "diff --size 250 --limit 3000", [masks, FILTER])
     lines = output.splitlines()
     counted = sum(line.startswith(b"undecided ") for line in lines) - 1
     if counted < 1 or (lines[-1], shown, status) != (b"undecided on %d parts" % counted, b"", 1 if lines[0].startswith(b"differ ") else 3):
@@ -572,12 +594,12 @@ def filter_of(instructions, end=b"accept;"):
 
 
 def filters_of_each_length(ncroute):
-    """`diff` of filters of 300 to 350 instructions."""
+    """`diff` of filters of 300 to 350 instructions with one of two, which does the same."""
     for count in range(300, 351):
         output, _, status = run(ncroute, "list", filter_of(count))
         if (output.count(b"\n"), status) != (count, 0):
             return f"{count} instructions: wrote {output[-40:]!r}, and ended with {status}"
-        if said := differs(on_filters(ncroute, "diff", [filter_of(count), filter_of(count)]), (b"same on all routes\n", 0)):
+        if said := differs(on_filters(ncroute, "diff --size 16", [filter_of(count), FILTER]), (b"same on all routes of a domain of 16 nodes\n", 0)):
             return f"{count} instructions: {said}"
     return None
 
@@ -647,8 +669,8 @@ def million_routes(ncroute):
 
 
 # Rows of several runs.
-SEVERAL = (hundred_files, full_filters, variables_of_each_number, compared_filters, undecided_filters, decided_filters, filters_of_each_length,
-           padded_tests, million_routes, long_router, domains_of_each_size)
+SEVERAL = (hundred_files, full_filters, variables_of_each_number, compared_filters, parts_beyond_the_limit, undecided_filters, decided_filters,
+           filters_of_each_length, padded_tests, million_routes, long_router, domains_of_each_size)
 
 
 def judged(ncroute, words, row):

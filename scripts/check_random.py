@@ -67,6 +67,8 @@ NET = 17
 
 # A part that two filters differ on, or that is undecided: a pattern of prefixes, a range of metrics, and what each filter does there.
 PART = re.compile(r"(differ|undecided) ([\d.]+)/(\d+)\{(\d+),(\d+)\}, metrics (\d+)\.\.(\d+)(?:: (\w+(?: \d+)?) \| (\w+(?: \d+)?))?")
+# So many parts have a line at most, and a line behind them says how many have none.
+SHOWN, NOT_SHOWN = 1000, re.compile(r"parts that are not shown: [1-9]\d*")
 CONSTANT = re.compile(rb"(?<![\w.])(\d+\.\d+\.\d+\.\d+)(?:/(\d+))?|(?<![\w./{,-])\d+(?![\w./])")
 
 
@@ -321,18 +323,20 @@ class Laws:
             if status == 3 and not told:
                 return None
             self.pairs += 1
-            parts = [PART.fullmatch(line).groups() for line in told[:-1]]
+            are_all = not (len(told) == SHOWN + 2 and NOT_SHOWN.fullmatch(told[SHOWN]))
+            parts = [PART.fullmatch(line).groups() for line in told[:-1 if are_all else SHOWN]]
             routes = [route_at(numbers, *near, size) for near in places(numbers, parts, old + new, COMPARED_ROUTES)]
             given = "".join(f"{prefix} {metric}\n" for prefix, metric in routes).encode()
             before, after = (self.run(f"filter --size {size} {path}", given)[0] for path in paths)
         if not len(routes) == len(before) == len(after):
             return f"{old!r} and {new!r}: {len(before)} and {len(after)} answers to {len(routes)} routes"
         for (prefix, metric), one, other in zip(routes, before, after):
-            wrong = differs_otherwise(parts, prefix, metric, one, other)
+            wrong = differs_otherwise(parts, are_all, prefix, metric, one, other)
             if wrong:
                 return f"{old!r} and {new!r}, size {size}: {prefix} {metric}: {one} and {other}, but {wrong}"
-        wanted = {True: 1, False: 3 if parts else 0}[any(part[0] == "differ" for part in parts)]
-        return None if status == wanted else f"{old!r} and {new!r}: {told} and {status}"
+        # Where no part that is shown is one on which they differ, one that is not may be.
+        wanted = [1] if any(part[0] == "differ" for part in parts) else [0] if not parts else [3] if are_all else [1, 3]
+        return None if status in wanted else f"{old!r} and {new!r}: {told} and {status}"
 
     # ---- scripts and histories
 
@@ -491,15 +495,15 @@ def route_at(numbers, address, fixed, length, metric, size):
     return f"{dotted(own)}/{length}", min(max(metric, 0), size)
 
 
-def differs_otherwise(parts, prefix, metric, one, other):
-    """What the parts say of a route that is not so, where two filters answer it with these lines."""
+def differs_otherwise(parts, are_all, prefix, metric, one, other):
+    """What the parts say of a route that is not so, where two filters answer it with these lines. If these are not all, others may hold it."""
     address, length = prefix.split("/")
     own = [part for part in parts if matches((number_of(part[1]), int(part[2]), int(part[3]), int(part[4])), address, length)
            and int(part[5]) <= metric <= int(part[6])]
     if any(part[0] == "undecided" for part in own):
         return None
     if not own:
-        return None if one == other else "nothing is told"
+        return None if one == other or not are_all else "nothing is told"
     said = [f"accept {metric}" if verdict == "accept" else verdict for verdict in own[0][7:]]
     return None if said == [one, other] and one != other else f"{own[0]}"
 

@@ -23,8 +23,9 @@ from router_sizes import MAY_WAIT, SizeRows
 
 GIGABYTE = 1 << 30
 
-# What a line without an end may cost: the bytes that are taken of it beyond those that a FIFO holds, and kilobytes of memory.
-MOST_TAKEN, MOST_MEMORY = 1 << 16, 4096
+# What a line without an end may cost: the bytes that are taken of it beyond those that a FIFO holds, which are those that are skipped until a
+# greeting comes and those of a buffer, and kilobytes of memory.
+MOST_TAKEN, MOST_MEMORY = (1 << 16) + (1 << 13), 4096
 
 # The least room for entries, and how many messages may wait for a neighbour that never reads. How often how many changes are told meanwhile.
 LEAST_ROOM, MOST_WAITING, BLOCKS, BLOCK = 2_048, 1_000, 2_000, 500
@@ -81,12 +82,12 @@ class Rows(SizeRows):
 
     def row_no_line_feed(self):
         """Node 1 says a gigabyte without a line feed: it gets rid of what the FIFO holds."""
-        self.say_without_end(2, lambda one: one.greet(), history=r"up 1 opened 1 .*down 1 done")
+        self.say_without_end("line 2 has more than 64 bytes", lambda one: one.greet(), history=r"up 1 opened 1 .*down 1 done")
 
     def row_no_line_feed_in_greeting(self):
-        self.say_without_end(1, lambda one: None, history=r"^(?!.*up 1)")
+        self.say_without_end("the neighbour did not greet", lambda one: None, history=r"^(?!.*up 1)")
 
-    def say_without_end(self, line, begin, history):
+    def say_without_end(self, wanted, begin, history):
         with Run(self.program) as run:
             one = run.neighbours[1]
             one.open()
@@ -96,11 +97,11 @@ class Rows(SizeRows):
             taken = one.say_without_end(GIGABYTE)
             print(f"a gigabyte without a line feed: {taken} bytes were taken", file=sys.stderr)
             self.judge("taken", taken <= most, taken)
-            self.judge_too_long(run, line, before, history)
+            self.judge_too_long(run, wanted, before, history)
 
-    def judge_too_long(self, run, line, before, history):
+    def judge_too_long(self, run, wanted, before, history):
         """The line was too long, and cost no memory."""
-        self.says(run, f"link 1: line {line} has more than 64 bytes: closed\n")
+        self.says(run, f"link 1: {wanted}: closed\n")
         more = run.kilobytes("VmHWM") - before
         print(f"a gigabyte without a line feed: {more} kB more memory", file=sys.stderr)
         self.judge("memory", more <= MOST_MEMORY, more)
@@ -115,12 +116,12 @@ class Rows(SizeRows):
             # The router waits for its output to be opened.
             os.remove(one.there)
             with open(one.there, "wb") as it:
-                it.write(b"netchange 1 8 1\n")
+                it.write(b"netchange 2 8 1 0 7 0\n")
                 it.truncate(GIGABYTE)
             run.ask("routes")
             before = run.kilobytes("VmHWM")
             one.open()
-            self.judge_too_long(run, 2, before, r"up 1 opened 1 .*down 1 done")
+            self.judge_too_long(run, "the neighbour did not greet", before, r"^(?!.*up 1)")
 
     def row_binary(self):
         self.with_one(saying(bytes(range(256))), "link 1: line 2 is no message: closed\n")
@@ -137,18 +138,18 @@ class Rows(SizeRows):
         self.with_one(lambda one: one.greet(node=3), "line 1 is not its greeting: the neighbour is node 3: closed\n", history=r"^(?!.*up 1)")
 
     def row_no_greeting(self):
-        self.with_one(lambda one: one.say(b"1 0\n"), "line 1 is not its greeting: this is no greeting of version 1: closed\n", history=r"^(?!.*up 1)")
+        self.with_one(lambda one: one.say(b"1 0\nnetchange 1 8 1\n"), "", history=r"^(?!.*up 1)")
 
     def row_too_far(self):
         self.with_one(saying(b"3 9\n9 0\n3 1\n"), "", history=r"recv (\d+) 3 9 refused N5 .*recv \1 9 0 refused N4 .*recv \1 3 1 done 1")
 
     def row_closes_at_each_byte(self):
-        text = b"netchange 1 8 1\n1 0\n"
+        text = b"netchange 2 8 1 0 7 0\n1 0\n"
         for count in range(len(text) + 1):
             def behave(one, count=count):
                 one.say(text[:count])
                 one.close()
-            ends = "ended its stream" if count in (0, 16, 20) else "ended within line"
+            ends = "ended its stream" if count in (0, 22, 26) else "ended within line"
             self.name = f"closes at byte {count}"
             # The first line that node 1 is told is the router's greeting. It may have closed its end before that is written.
             with Run(self.program) as run:

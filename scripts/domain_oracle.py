@@ -105,7 +105,7 @@ class Script:
         if verb in ("import", "export") and words[2] not in self.filters:
             return f"refused O6 {number}"
         self.begun = True
-        nodes = [int(word) for word in words[:2] if word != "changes"]
+        nodes = [int(word) for word in words[:2] if word.isdigit()]
         pair = verb in ("link", "cut", "import", "export")
         if any(node >= domain.size for node in nodes) or pair and nodes[0] == nodes[1]:
             return f"refused D1 {number}"
@@ -191,6 +191,33 @@ class Script:
             return said
         bounds = [(v, self.still_below(v)) for v in range(size)]
         return said + " still" + "".join(f" {v}:{bound}" for v, bound in bounds if bound < size)
+
+    def failure(self, name, cut, gone=None):
+        """The line that tells what changes where these links are cut. A node that is gone neither loses others nor is lost."""
+        domain, size, links = self.domain, self.domain.size, self.domain.links
+        before = domain.all_routes()
+        domain.links = links - cut
+        after = domain.all_routes()
+        domain.links = links
+        told = [node for node in range(size) if node != gone]
+        pairs = [(before[v][u], after[v][u]) for v in told for u in told]
+        both = [[{before[v][u][0], after[v][u][0]} for u in told] for v in told]
+        bounds = [min((min(two) for two in dists if len(two) == 2), default=size) for dists in both]
+        numbers = {
+            "changed": sum(old != new for old, new in pairs),
+            "lost": sum(old[0] < size == new[0] for old, new in pairs),
+            "moved": sum(bound < size for bound in bounds),
+            "rounds": min(max(dist for routes in after for dist, _ in routes) + 1, size),
+            "still": min(bounds),
+        }
+        return " ".join([name, *(f"{word} {number}" for word, number in numbers.items())])
+
+    def failures(self, *of_nodes):
+        if of_nodes:
+            lines = [self.failure(f"node {x}", {pair for pair in self.domain.links if x in pair}, x) for x in range(self.domain.size)]
+        else:
+            lines = [self.failure(f"link {u} {w}", {(u, w), (w, u)}) for u, w in sorted(self.domain.links) if u < w]
+        return "\n".join([f"failures {len(lines)}", *lines])
 
     def settle(self):
         rounds = received = 0

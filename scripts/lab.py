@@ -8,7 +8,7 @@ Of a topology the lines `domain`, `prefix`, `load`, `link`, `import` and `export
 direction, so that a link can be cut by ending both. For each topology the lab
 
   1. starts the routers, waits until all is quiet, and compares `routes` of each with `table` of `ncroute domain`;
-  2. looks at the idle routers for 2 seconds, or for as long as `--idle` says: no entry is made, and no processor time is used;
+  2. looks at the idle routers for 2 seconds, or for as long as `--idle` says: no entry is made, and hardly any processor time is used;
   3. cuts a link, and compares again; mends it, and compares again;
   4. replaces the import filter of a node by one that counts one link more, and compares again;
   5. kills a router (SIGKILL), of which all that it answered of its history a second before has to be saved, compares the others, starts it again,
@@ -38,6 +38,9 @@ SETUP = ("domain", "prefix", "load", "link", "import", "export")
 # Seconds: what is quiet makes no entry for so long; how long idle routers are looked at, if no option says otherwise; what was answered so long
 # ago is saved.
 QUIET, IDLE, SAVED = 0.5, 2.0, 1.0
+
+# Seconds of a processor that an idle router may take in a minute, for its empty lines, and in any time, which the system tells in hundredths.
+MOST_IN_A_MINUTE, MOST_AT_ALL = 0.05, 0.02
 
 
 class Topology:
@@ -174,8 +177,9 @@ class Lab:
         after = [(node.saved(), node.router.processor_time()) for node in self.nodes]
         most = max(t - s for (_, s), (_, t) in zip(before, after))
         print(f"{self.name}: idle for {self.idle:g} s: at most {most:.2f} s of processor time", file=sys.stderr)
+        allowed = max(MOST_AT_ALL, MOST_IN_A_MINUTE * self.idle / 60)
         for node, ((a, s), (b, t)) in enumerate(zip(before, after)):
-            self.judge(f"idle: node {node}", a == b and t - s < 0.02, f"{b - a} bytes, {t - s:.2f} s")
+            self.judge(f"idle: node {node}", a == b and t - s < allowed, f"{b - a} bytes, {t - s:.2f} s")
 
     def run(self):
         for link in self.topology.links:

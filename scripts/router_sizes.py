@@ -143,12 +143,27 @@ class SizeRows(RunRows):
                 if not (came and went):
                     break
             self.judge("comes and goes each time", (came, went, times) == (True, True, SESSIONS), (came, went, times))
-            # Node 2 is told of node 1 once in the beginning, and whenever it comes or goes.
-            two = run.neighbours[2]
-            self.judge("2 hears each time", two.listen(lambda: two.told.count(b"\n1 ") == 1 + 2 * SESSIONS), two.told[-100:])
-            self.judge("2 hears at last", two.distances() == {node: {0: 0, 2: 1}.get(node, SIZE) for node in range(SIZE)}, two.distances())
+            wanted = {node: {0: 0, 2: 1}.get(node, SIZE) for node in range(SIZE)}
+            self.judge("2 hears at last", run.neighbours[2].hear_distances(wanted), run.neighbours[2].distances())
             self.end(run)
             self.judge_sessions(run, {1: SESSIONS, 2: 1})
+            self.judge_newest(run, 2)
+
+    def judge_newest(self, run, node):
+        """The neighbour of a router that ended was told what the Takes of its one session brought, of each the newest, in order. Standard error
+        says how many others there were, if there were any: how many."""
+        neighbour, entries = run.neighbours[node], run.saved()
+        neighbour.listen(lambda: False)
+        session = next(up[1] for entry in entries if (up := re.search(rf" up {node} opened (\d+)$", entry)))
+        takes = [re.findall(r"(\d+):(\d+)", entry) for entry in entries if f" take {session} 16 messages" in entry]
+        newest = [pair for take in takes for at, pair in enumerate(take) if pair[0] not in {later for later, _ in take[at + 1:]}]
+        lines = [tuple(line.split()) for line in neighbour.told.decode().splitlines() if line and not line.startswith("netchange ")]
+        self.judge(f"{node} is told the newest of each Take", lines == newest, (len(lines), len(newest)))
+        left_out = sum(map(len, takes)) - len(newest)
+        says = f"link {node}: messages left out, since later ones replaced them: {left_out}\n"
+        said = run.said(says if left_out else "")
+        self.judge("the others are counted", says in said if left_out else "left out" not in said, said)
+        return left_out
 
     def judge_sessions(self, run, wanted):
         """The history that was saved has so many sessions of each node, each of them after the one before, and the Down of each."""
@@ -167,19 +182,19 @@ class SizeRows(RunRows):
         self.judge("sessions", sessions == wanted, sessions)
 
     def row_long_links(self):
-        """Node 1 changes its mind 70,000 times: each line is entered, and node 2 is told of each change."""
+        """Node 1 changes its mind 70,000 times: each line is entered. Node 2 is told the newest of each Take, and the others are counted."""
         with Run(self.program, more=MAY_WAIT) as run:
             self.bring_up(run)
             one, two = run.neighbours.values()
             one.say(b"3 0\n3 1\n" * (LINES // 2) + b"4 0\n")
             self.judge("the last line is entered", run.routes_until(4, "1:1"))
-            # Each node is told of once in the beginning.
-            is_told = two.listen(lambda: two.told.count(b"\n3 ") == 1 + LINES and two.told.endswith(b"\n4 1\n"))
-            self.judge("2 hears each time", is_told, two.told[-100:])
+            # What is told last stands for what was left out before it.
+            self.judge("2 hears the last", two.listen(lambda: two.told.endswith(b"\n4 1\n")), two.told[-100:])
             self.judge("both are up", run.ask("neighbours") == "neighbours 1:1 2:2")
             self.end(run)
             received = sum(" recv 1 3 " in entry for entry in run.saved())
             self.judge("each is saved", received == LINES, received)
+            self.judge("many are left out", self.judge_newest(run, 2) > LINES // 2)
 
     def row_retries(self):
         """A link that was closed is opened again after as many seconds as `--retry` says: not before, and not much later. Without it, it is not."""
@@ -209,7 +224,7 @@ class SizeRows(RunRows):
             one = run.neighbours[1]
             one.open()
             for times, seconds in enumerate((*WAITS, 1), 1):
-                one.greet()
+                one.meet()
                 self.judge("1 is up", one.listen(lambda: one.told.count(b"\n7 8\n") == times), one.told)
                 if times > len(WAITS):
                     # This session is the only one that lasts longer than a minute of the router's.

@@ -24,9 +24,9 @@ class Counts:
         self.skipped += 1
         print(f"{name}: not run: {why}", flush=True)
 
-    def add(self, passed, failed):
+    def add(self, passed, failed, skipped=0):
         """Counts checks that were made elsewhere."""
-        self.passed, self.failed = self.passed + passed, self.failed + failed
+        self.passed, self.failed, self.skipped = self.passed + passed, self.failed + failed, self.skipped + skipped
 
     def finish(self):
         """Ends the script with its count. Where nothing was checked, it has not passed; with CI=true what could not be run has failed."""

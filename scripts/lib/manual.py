@@ -19,7 +19,8 @@ PAGES = {
     "FILTER": ("ncroute-filter", 1), "IMPORT": ("ncroute-import", 1), "LINT": ("ncroute-lint", 1), "LIST": ("ncroute-list", 1),
     "RUNNING": ("ncroute-router", 1), "TESTING": ("ncroute-test", 1),
     "CODE_FILE": ("ncroute-code-file", 5), "HISTORY": ("ncroute-history", 5), "LINKS": ("ncroute-links", 5), "SCRIPT": ("ncroute-script", 5),
-    "KINDS": ("ncroute-kinds", 7), "LANGUAGE": ("ncroute-language", 7), "LINES": ("ncroute-lines", 7), "MACHINE": ("ncroute-machine", 7),
+    "CI": ("ncroute-ci", 7), "KINDS": ("ncroute-kinds", 7), "LANGUAGE": ("ncroute-language", 7), "LINES": ("ncroute-lines", 7),
+    "MACHINE": ("ncroute-machine", 7),
     "OPERATORS": ("ncroute-operators", 7), "ROUTER": ("ncroute-tables", 7), "SESSIONS": ("ncroute-sessions", 7), "VERIFIER": ("ncroute-verifier", 7),
 }
 # Those for people who change the program or build on it.

@@ -19,9 +19,6 @@ from lib.processes import Router, awaited, preloaded
 SIZE = 8
 PATIENCE = 10.0
 
-# Seconds: no row takes so long. An answer that does not come would keep a row for ever.
-LONGEST = 120
-
 # What Linux calls the question how many bytes a FIFO holds: 65,536 where a page has 4,096 bytes, and more where pages are larger.
 F_GETPIPE_SZ = 1032
 
@@ -30,7 +27,9 @@ class Neighbour:
     """The other end of a link."""
 
     def __init__(self, folder, node):
-        self.node, self.told = node, b""
+        self.node, self.told, self.before = node, b"", 0
+        # The number of its greetings, and the number of the router's that it answered last.
+        self.number, self.answered = 1, None
         self.there, self.back = (os.path.join(folder, f"{node}.{end}") for end in ("in", "out"))
         self.writes = self.reads = None
         for path in (self.there, self.back):
@@ -39,6 +38,7 @@ class Neighbour:
     def is_opened(self):
         """Opens both files, each once the router has opened it: whether it has. It has the lower number, so it opens its output first."""
         if self.reads is None:
+            self.before = len(self.told)
             self.reads = os.open(self.back, os.O_RDONLY | os.O_NONBLOCK)
         try:
             # Where nobody has it open, nothing comes.
@@ -66,13 +66,37 @@ class Neighbour:
         """Opens what the router reads before anybody reads it."""
         self.writes = os.open(self.there, os.O_RDWR)
 
-    def greet(self, size=SIZE, node=None):
-        self.say(b"netchange 1 %d %d\n" % (size, self.node if node is None else node))
+    def greetings(self):
+        """Of each greeting that it was told since it opened its files the number of the router's attempt, and the one that the router heard last."""
+        lines = self.told[self.before:].split(b"\n")[:-1]
+        return [tuple(map(int, line.split()[5:])) for line in lines if line.startswith(b"netchange ")]
+
+    def greet(self, size=SIZE, node=None, hold=0):
+        """Answers the greeting that the router wrote last by one of its own: then the router is up."""
+        self.listen(self.greetings)
+        found = self.greetings()
+        if not found:
+            raise BrokenPipeError("the router ended before it greeted")
+        self.answered = found[-1][0]
+        self.say(b"netchange 2 %d %d %d %d %d\n" % (size, self.node if node is None else node, hold, self.number, self.answered))
+
+    def has_met(self, size):
+        """Whether the router's last greeting repeats that of this neighbour. It is answered, if that was not done yet."""
+        found = self.greetings()
+        if found and found[-1][0] != self.answered:
+            self.greet(size)
+        return bool(found) and found[-1][1] == self.number
+
+    def meet(self, size=SIZE):
+        """Greets until both are up. What lies in the FIFO may be of the router's attempt before, which closes its files a moment later."""
+        self.number, self.answered = self.number + 1, None
+        if not self.listen(lambda: self.has_met(size)):
+            raise BrokenPipeError("the router does not answer a greeting")
 
     def come(self, size=SIZE):
         """Opens both files, and greets."""
         self.open()
-        self.greet(size)
+        self.meet(size)
 
     def say(self, text):
         while text:
@@ -112,7 +136,7 @@ class Neighbour:
     def distances(self):
         """The distance to each node that it was told last, behind the greeting."""
         lines = self.told[:self.told.rfind(b"\n") + 1].decode().splitlines()
-        return dict(map(int, line.split()) for line in lines if not line.startswith("netchange "))
+        return dict(map(int, line.split()) for line in lines if line and not line.startswith("netchange "))
 
     def hear_distances(self, wanted, patience=PATIENCE):
         """Reads until it was told these distances: whether it was."""
@@ -161,7 +185,7 @@ class Run(Router):
 
     def told_closed(self, node, times):
         """Waits until standard error has said so many times that the link to a node was closed: then its IN is read no more."""
-        awaited(self.errors.read_text, lambda text: text.count(f"link {node}: ") >= times, PATIENCE)
+        awaited(self.errors.read_text, lambda text: len(re.findall(rf"(?m)^link {node}: .*: closed$", text)) >= times, PATIENCE)
 
     def routes_until(self, node, wanted):
         """Asks for the routes, which makes no entry, until that of a node is the wanted one: whether it is."""
@@ -184,8 +208,15 @@ class RunRows:
     # Rows that mostly wait, and run beside the others.
     WAITING = ()
 
+    # Seconds: no row takes so long. An answer that does not come would keep a row for ever.
+    LONGEST = 120
+
     def __init__(self, program):
         self.program, self.counts, self.name = program, Counts(), ""
+
+    def anew(self):
+        """The same rows, of which none was run."""
+        return type(self)(self.program)
 
     def judge(self, what, holds, told=""):
         self.counts.expect(f"{self.name}: {what}", holds, repr(told))
@@ -216,8 +247,8 @@ class RunRows:
         """Runs a row. One that breaks has failed, and the others run."""
         self.name = name[4:]
         begun = time.monotonic()
-        signal.signal(signal.SIGALRM, take_too_long)
-        signal.alarm(LONGEST)
+        signal.signal(signal.SIGALRM, self.take_too_long)
+        signal.alarm(self.LONGEST)
         try:
             getattr(self, name)()
         except Exception as why:
@@ -227,23 +258,22 @@ class RunRows:
             signal.alarm(0)
         print(f"{name[4:]}: {time.monotonic() - begun:.2f} s", file=sys.stderr)
 
+    def take_too_long(self, *_):
+        """Ends a row that waits for what does not come."""
+        raise TimeoutError(f"not at its end after {self.LONGEST} seconds")
+
     def run(self, chosen):
         names = [name for name in dir(self) if name.startswith("row_") and (not chosen or name[4:] in chosen)]
         with concurrent.futures.ProcessPoolExecutor(len(self.WAITING)) as pool:
-            beside = [pool.submit(counts_of, type(self)(self.program), name) for name in names if name[4:] in self.WAITING]
+            beside = [pool.submit(counts_of, self.anew(), name) for name in names if name[4:] in self.WAITING]
             for name in names:
                 if name[4:] not in self.WAITING:
                     self.run_row(name)
-            for passed, failed in (each.result() for each in beside):
-                self.counts.add(passed, failed)
+            for counts in (each.result() for each in beside):
+                self.counts.add(*counts)
 
 
 def counts_of(rows, name):
-    """Runs a row: how many of its judgements passed, and how many failed."""
+    """Runs a row: how many of its judgements passed, how many failed, and how many could not be made."""
     rows.run_row(name)
-    return rows.counts.passed, rows.counts.failed
-
-
-def take_too_long(*_):
-    """Ends a row that waits for what does not come."""
-    raise TimeoutError(f"not at its end after {LONGEST} seconds")
+    return rows.counts.passed, rows.counts.failed, rows.counts.skipped

@@ -61,7 +61,7 @@ class Churn(threading.Thread):
         """Waits until the router opens the link, which it does later each time, and greets: whether it came."""
         awaited(lambda: self.is_over or self.neighbour.is_opened(), bool, math.inf, 0.001)
         if not self.is_over:
-            self.neighbour.greet(self.size)
+            self.neighbour.meet(self.size)
         return not self.is_over
 
     def run(self):

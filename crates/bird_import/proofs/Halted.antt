@@ -1,5 +1,6 @@
 -- Where the steps from the words of a filter go no further.
-use Rattle.std.proofs.Common.{◌≡◌, ℕ, zero, suc, ◌+◌, ◌<◌, ◌≤◌, ◌⊎◌, List, Option, Some, None, ◌∙◌, length, subst, inl, inr, add-one, refl}
+use Rattle.std.proofs.Common.{◌≡◌, ℕ, zero, suc, ◌+◌, ◌*◌, ◌<◌, ◌≤◌, ◌⊎◌, List, Option, Some, None, ◌∙◌, length, subst, inl, inr, add-one, refl, arith}
+use Rattle.std.proofs.Math.Nat.{mul-le-mul_right}
 use Rattle.std.specs.Prelude.{IfOk, IfSome, Result, Ok, Err, slice_get}
 use Rattle.bird_import.specs.Drafts.{words_of}
 use Rattle.bird_import.specs.Indices.{kind_of_word}
@@ -142,4 +143,13 @@ module _ (config : Config) (depth n : ℕ) (before words : List Word) (steps : R
 
   -- there are too many steps
   pub by_steps : (outcome : Outcome) → why_of outcome ≡ Some TooLong → 65536 ≤ n → IfSome (why_of outcome) (IsStuck config depth before)
-  by_steps outcome is long = rw is (inl (inr (n, words, long, steps)))
+  by_steps outcome is long = rw is (inl (inr (n, words, inl long, steps)))
+
+  -- they go through too many words
+  pub by_work : (outcome : Outcome) (made : ℕ) (slice : List Word) → why_of outcome ≡ Some TooLong → slice ≡ words → made ≤ n
+      → 33554432 < made * length slice → IfSome (why_of outcome) (IsStuck config depth before)
+  by_work outcome made slice is same few long =
+      let many : made * length words ≤ n * length words = mul-le-mul_right (length words) few in
+      let past : 33554432 < made * length words = subst (λ (list : List Word). 33554432 < made * length list) same long in
+      let more : 33554432 < n * length words = omega (arith, many, past) in
+      rw is (inl (inr (n, words, inr more, steps)))

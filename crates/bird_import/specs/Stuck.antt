@@ -1,5 +1,5 @@
 -- Where the steps from the words of a filter go no further, so that it is left out.
-use Rattle.std.specs.Prelude.{◌≡◌, ◌⊎◌, ℕ, zero, suc, ◌+◌, ◌-◌, ◌<◌, ◌≤◌, List, ◌++◌, Some, true, codes, length, max, slice_get}
+use Rattle.std.specs.Prelude.{◌≡◌, ◌⊎◌, ℕ, zero, suc, ◌+◌, ◌-◌, ◌*◌, ◌<◌, ◌≤◌, List, ◌++◌, Some, true, codes, length, max, slice_get}
 use Rattle.filter_tokens.specs.declared.symbol.Symbol.TheVariants as symbol
 use Rattle.bird_import.specs.Drafts.{words_of}
 use Rattle.bird_import.specs.Indices.{IsAt, IsBehind, IsForeignAt, IsNamedAt, kind_at}
@@ -166,10 +166,11 @@ module _ (config : Config) where
   IsTooDeep depth words why.TooLong = (one : Item) × Calls words one × ((depth ≡ 0) ⊎ IsOutside one)
   IsTooDeep depth words other = ⊥
 
-  -- from some words on there are too many steps, or words
+  -- from some words on there are too many steps, or words, or steps that go through too many words
   abbrev pub TakesLong : ℕ → List Word → Why → Type 0
   TakesLong depth before why.TooLong = ((words : List Word) × Becomes config.words.now depth before words × (65536 < length words))
-      ⊎ ((n : ℕ) × (words : List Word) × (65536 ≤ n) × Reaches config.words.now (BecomesWithin config.words.now depth) n before words)
+      ⊎ ((n : ℕ) × (words : List Word) × ((65536 ≤ n) ⊎ (33554432 < n * length words))
+      × Reaches config.words.now (BecomesWithin config.words.now depth) n before words)
   TakesLong depth before other = ⊥
 
   -- the steps from some words take long, or come to words that halt them

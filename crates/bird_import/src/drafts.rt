@@ -1,6 +1,6 @@
 //! The filters of a configuration, word by word.
 ghost use Rattle.std.specs.List.{list_all};
-ghost use Rattle.std.specs.Prelude.{◌≡◌, ◌↔◌, ◌⊎◌, ◌+◌, ◌<◌, ◌≤◌, false, [], ◌∷◌, List, IfErr, IfOk, IfSome, IsTrue, None, OnOk, Some, length, max};
+ghost use Rattle.std.specs.Prelude.{◌≡◌, ◌↔◌, ◌⊎◌, ◌+◌, ◌*◌, ◌<◌, ◌≤◌, false, [], ◌∷◌, List, IfErr, IfOk, IfSome, IsTrue, None, OnOk, Some, length, max};
 ghost use Rattle.bird_import.specs.Drafts.{BeginsAs, IfDrafted, IsCallee, IsNext, kinds_of, words_of};
 ghost use Rattle.bird_import.specs.Functions.{IsCallOf};
 ghost use Rattle.bird_import.specs.Indices.{place_at};
@@ -35,6 +35,12 @@ use std::alloc::{AllocError, Global};
 
 /// The most steps that are made for a filter.
 const STEP_LIMIT: usize = 65_536;
+
+/// The most words that the steps of a filter go through: their number times that of the words that are there.
+const WORK_LIMIT: u64 = 33_554_432;
+
+/// How far behind a parenthesis or a bracket that is not closed the `;` is looked for that shows it.
+const REACH: usize = 1_024;
 
 /// How deep functions call functions at most.
 const CALL_DEPTH: u8 = 16;
@@ -272,6 +278,13 @@ fn next_words<'a>(
     }
 }
 
+/// Whether so many steps that go through so many words are too much.
+fn is_much(made: usize, words: usize) -> bool
+    ensures { IsTrue result → 33554432 < made * words }
+{
+    (made as u64).saturating_mul(words as u64) > WORK_LIMIT
+}
+
 /// Makes all steps for some words.
 #[cycle(rewriting)]
 fn rewrite<'a>(
@@ -295,6 +308,9 @@ fn rewrite<'a>(
     for made in 0..STEP_LIMIT {
         let all = words.as_slice();
         if all.len() > WORD_LIMIT {
+            return Ok(too_long(all));
+        }
+        if is_much(made, all.len()) {
             return Ok(too_long(all));
         }
         match next_words(alloc, config, all, depth)? {
@@ -431,12 +447,19 @@ fn is_left_open(words: &[Word<'_>], at: usize) -> bool
     }
 }
 
-/// The index of the first parenthesis or bracket from an index on that is not closed, if there is one.
+/// Whether a `;` is near behind an index, before what closes the parentheses, brackets or braces that are open there.
+fn has_stop_near(words: &[Word<'_>], at: usize) -> bool {
+    let end = at.saturating_add(REACH).min(words.len());
+    find_outside(&words[..end], at.saturating_add(1), Symbol::Semicolon).is_some()
+}
+
+/// The index of the first parenthesis or bracket from an index on that is not closed, if there is one. It is not found where the `;` that
+/// shows it is far behind it: so each word is passed over but so often.
 fn first_left_open(words: &[Word<'_>], from: usize) -> Option<usize>
     ensures { IfSome result (λ k. (from ≤ k) × (k < length words.now) × IsLeftOpen words.now k) }
 {
     for at in from..words.len() {
-        if is_left_open(words, at) {
+        if has_stop_near(words, at) && is_left_open(words, at) {
             return Some(at);
         }
     }

@@ -340,7 +340,8 @@ impl<'a> Why<'a> {
             Why::NoName => "a name is letters, digits and `_`, with no digit first",
             Why::Ipv6 =>
                 "the routes that it is for are none of IPv4: IPv6 is not supported, nor are VPNs, flows, origins and labels",
-            Why::TooLong => "it is longer than 65536 bytes with all definitions in place",
+            Why::TooLong =>
+                "it is longer than 65536 bytes with all definitions in place, or takes too many steps",
             _ => "its words could not be written",
         }
     }

@@ -8,7 +8,7 @@ use Rattle.clap.specs.declared.error.Error.{Error}
 use Rattle.clap.specs.declared.error.kind.ErrorKind.TheVariants as kind
 use Rattle.clap.specs.declared.parser.matches.ArgMatches.{ArgMatches}
 use Rattle.command_line.specs.Meaning.{FailsBy, IsMeant, Meets, Shows, status_of}
-use Rattle.command_line.specs.Parameters.{AreTellings, all_taken, command_app, program}
+use Rattle.command_line.specs.Parameters.{AreChoices, all_taken, command_app, program}
 use Rattle.command_line.specs.declared.options.Choices.{Choices}
 use Rattle.command_line.specs.declared.terminals.Terminals.{Terminals}
 use Rattle.command_line.specs.declared.words.Invocation.{Invocation}
@@ -25,7 +25,7 @@ program_is_free : (choices : Choices) → is_simple_and_free (program choices) �
 unfolding all_taken command_app
 program_is_free choices = refl
 
-module _ (choices : Choices) (tellings : AreTellings choices) (made : App) (is : made ≡ program choices) (line : List (List ℕ)) where
+module _ (choices : Choices) (are : AreChoices choices) (made : App) (is : made ≡ program choices) (line : List (List ℕ)) where
   simple : is_simple made ≡ true
   simple = ap is_simple is ∙ program_is_simple choices
 
@@ -39,7 +39,7 @@ module _ (choices : Choices) (tellings : AreTellings choices) (made : App) (is :
       → IfOk parsed (λ matches. Meets line (subcommand_rows_of matches))
   meets (Ok matches) has fails = record {
     choices = choices;
-    tellings = tellings;
+    are_choices = are;
     accepted = sym same ∙ fails free;
     is_met = (has simple).1 ∙ ap (λ (a : App). subcommand_of a line) is;
   }
@@ -50,7 +50,7 @@ module _ (choices : Choices) (tellings : AreTellings choices) (made : App) (is :
   shows (Ok matches) fails = tt
   shows (Err error) fails = elim (fails free) [
     | inl none ↦ inl none
-    | inr among ↦ inr (record { choices = choices; tellings = tellings; among = subst (IsAmong (kind_of error)) same among })
+    | inr among ↦ inr (record { choices = choices; are_choices = are; among = subst (IsAmong (kind_of error)) same among })
   ]
 
 -- what is shown in place of matches

@@ -11,7 +11,7 @@ use Rattle.command_line.specs.CommandNames.{command_of}
 use Rattle.command_line.specs.Filters.{HasWrong, NameFirst}
 use Rattle.command_line.specs.Given.{is_set, number_of, word_of, words_of}
 use Rattle.command_line.specs.Pages.{IsPage, explained, page_head}
-use Rattle.command_line.specs.Parameters.{AreTellings, program}
+use Rattle.command_line.specs.Parameters.{AreChoices, program}
 use Rattle.command_line.specs.Readings.{is_file, readings}
 use Rattle.command_line.specs.Reads.{dash, file, filter_sources, names_read, sources_of}
 use Rattle.command_line.specs.Sources.{AreNamed}
@@ -43,10 +43,7 @@ use Rattle.command_line.specs.declared.test_words.Testing.{Testing}
 use Rattle.command_line.specs.declared.words.Invocation.{Invocation}
 use Rattle.command_line.specs.declared.words.Invocation.TheVariants.{Asked, Network, Router, Shown}
 
--- the numbers that are meant where none is said: the nodes of a domain of RIP, and the classes of routes that are tried
-abbrev pub usual_size : ℕ
-usual_size = 16
-
+-- the classes of routes that are tried where no number of them is said
 abbrev pub usual_limit : ℕ
 usual_limit = 1000000
 
@@ -71,21 +68,24 @@ pub record IsChecking (given : List Row) (terminals : Terminals) (has_files : Bo
   pub is_told : how.is_told ≡ (has_files
       || (how.is_explained || (how.has_names || (how.is_quiet || is_some how.warning_limit))))
 
--- how `diff` compares filters, of which one is in a file
-abbrev pub comparing_of : List Row → Terminals → Comparing
-comparing_of given terminals = record {
-  size = unwrap_or (number_of 32 (codes "size") given) usual_size;
+-- the words say this size: none is meant where none is said
+abbrev pub SaysSize : List Row → ℕ → Type 0
+SaysSize given size = number_of 32 (codes "size") given ≡ Some size
+
+-- how `diff` compares filters on the routes of a domain of a size, of which one is in a file
+abbrev pub comparing_of : List Row → Terminals → ℕ → Comparing
+comparing_of given terminals size = record {
+  size = size;
   limit = unwrap_or (number_of 64 (codes "limit") given) usual_limit;
   is_explained = tells given terminals true;
 }
 
 -- how `lint` looks through filters
-abbrev pub linting_of : List Row → Terminals → List Source → Linting
-linting_of given terminals sources = record {
-  size = unwrap_or (number_of 32 (codes "size") given) usual_size;
-  limit = unwrap_or (number_of 64 (codes "limit") given) usual_limit;
-  is_explained = tells given terminals (list_any is_file sources);
-}
+pub record IsLinting (given : List Row) (terminals : Terminals) (sources : List Source) (how : Linting) : Type 0 where
+  pub size : SaysSize given how.size
+  pub limit : how.limit ≡ unwrap_or (number_of 64 (codes "limit") given) usual_limit
+  pub allowed : map (λ copy. string_bytes copy) how.allowed.items ≡ words_of (codes "allow") given
+  pub is_explained : how.is_explained ≡ tells given terminals (list_any is_file sources)
 
 -- how `test` runs test files
 abbrev pub testing_of : List Row → Terminals → List Source → Testing
@@ -115,7 +115,7 @@ names_file given = option_map_or (λ name. not (bytes_eq name dash)) (word_of fi
 
 -- how `import` imports filters
 pub record IsImporting (given : List Row) (how : Importing) : Type 0 where
-  pub size : how.size ≡ unwrap_or (number_of 32 (codes "size") given) usual_size
+  pub size : SaysSize given how.size
   pub folder : option_map (λ copy. string_bytes copy) how.folder ≡ word_of (codes "out") given
 
 -- the filters of `--filter`, in order
@@ -150,6 +150,7 @@ pub record IsRouting (given : List Row) (words : RouterWords) : Type 0 where
   pub limit : words.limit ≡ number_of 32 (codes "limit") given
   pub queue : words.queue ≡ number_of 32 (codes "queue") given
   pub retry : words.retry ≡ number_of 32 (codes "retry") given
+  pub hold : words.hold ≡ number_of 32 (codes "hold") given
   pub save : option_map (λ copy. string_bytes copy) words.save ≡ word_of (codes "save") given
   pub segments : words.segments ≡ number_of 32 (codes "segments") given
   pub stays : words.stays ≡ is_set (codes "stay") given
@@ -162,15 +163,15 @@ pub record IsRouting (given : List Row) (words : RouterWords) : Type 0 where
 -- what the words behind a command set in a request
 abbrev pub Sets : CommandName → List Row → Terminals → Request → Type 0
 Sets command.Check given terminals (request.Check how sources) =
-    (number_of 32 (codes "size") given ≡ Some how.size) × IsChecking given terminals (list_any is_file sources.items) how
-Sets command.Diff given terminals (request.Diff how old new) = how ≡ comparing_of given terminals
+    SaysSize given how.size × IsChecking given terminals (list_any is_file sources.items) how
+Sets command.Diff given terminals (request.Diff how old new) = SaysSize given how.size × (how ≡ comparing_of given terminals how.size)
 Sets command.Domain given terminals (request.Script engine.Domain source is_told) = is_told ≡ tells given terminals (is_file source)
 Sets command.Eval given terminals (request.Eval is_told) = is_told ≡ tells given terminals false
 Sets command.Explain given terminals (request.Explain page) = IsPage (explained given) (string_bytes page)
 Sets command.Filter given terminals (request.Filter how source) =
     IsTrying given terminals how × (names_file given ≡ true) × (asks_twice given ≡ false)
 Sets command.Import given terminals (request.Import how source) = IsImporting given how
-Sets command.Lint given terminals (request.Lint how sources) = how ≡ linting_of given terminals sources.items
+Sets command.Lint given terminals (request.Lint how sources) = IsLinting given terminals sources.items how
 Sets command.List given terminals (request.List size is_code source is_told) = (size ≡ number_of 32 (codes "size") given)
     × (is_code ≡ is_set (codes "code") given) × (is_told ≡ tells given terminals (is_file source))
 Sets command.Replay given terminals (request.Replay sources) = ⊤
@@ -197,9 +198,12 @@ pub record AskForRouter (given : List Row) (words : RouterWords) : Type 0 where
 -- the words behind a command are refused, though the parser of words accepts them
 abbrev pub AreRefused : CommandName → List Row → Type 0
 AreRefused command.Check given = number_of 32 (codes "size") given ≡ None
+AreRefused command.Diff given = number_of 32 (codes "size") given ≡ None
 AreRefused command.Explain given = page_head (explained given) ≡ None
 AreRefused command.Filter given =
     (asks_twice given ≡ true) ⊎ ((number_of 32 (codes "size") given ≡ None) ⊎ (names_file given ≡ false))
+AreRefused command.Import given = number_of 32 (codes "size") given ≡ None
+AreRefused command.Lint given = number_of 32 (codes "size") given ≡ None
 AreRefused command.Router given = HasWrongFilter given
 AreRefused command.Run given = HasWrongFilter given
 AreRefused _ given = ⊥
@@ -230,14 +234,14 @@ status_of _ = 2
 -- The parser of words accepts the words of a command line, of which the first is the program's name, and met this.
 pub record Meets (line : List (List ℕ)) (met : Option (List ℕ × List Row)) : Type 0 where
   pub choices : Choices
-  pub tellings : AreTellings choices
+  pub are_choices : AreChoices choices
   pub accepted : fault_of (program choices) line ≡ []
   pub is_met : met ≡ subcommand_of (program choices) line
 
 -- It does not, and this is one of the kinds of error that the first mistake has.
 pub record Shows (line : List (List ℕ)) (shown : ErrorKind) : Type 0 where
   pub choices : Choices
-  pub tellings : AreTellings choices
+  pub are_choices : AreChoices choices
   pub among : IsAmong shown (fault_of (program choices) line)
 
 -- what the words of a command line come to

@@ -12,7 +12,7 @@ use std::alloc::{AllocError, Global};
 /// The version of the project, and the logic that it is proved in, as `rt version` names it: several kits have it.
 const VERSION: &str = "0.1.0 (Rattle logic dac8208d650f15bf)";
 
-/// The program, with all commands. `--explain` takes one of these words.
+/// The program, with all commands. `--explain` and `--allow` take these words.
 pub fn program<'a>(alloc: Global, choices: Choices<'a>) -> Result<Command<'a>, AllocError>
     ensures { IfOk result (λ program. app_of program ≡ spec.program choices.entry) }
 {
@@ -158,7 +158,7 @@ static COMMANDS: [(&str, &str); 15] = [
 ];
 
 /// The options and arguments of each command, in the order in which its help shows them.
-static PARAMETERS: [(&str, Parameter); 55] = [
+static PARAMETERS: [(&str, Parameter); 57] = [
     ("check", SIZE),
     ("check", CODE),
     ("check", NAMES),
@@ -166,7 +166,7 @@ static PARAMETERS: [(&str, Parameter); 55] = [
     ("check", WARN),
     ("check", EXPLAIN),
     ("check", CHECKED),
-    ("diff", OPTIONAL_SIZE),
+    ("diff", SIZE),
     ("diff", LIMIT),
     ("diff", EXPLAIN),
     ("diff", OLD_FILE),
@@ -177,11 +177,12 @@ static PARAMETERS: [(&str, Parameter); 55] = [
     ("filter", COVERAGE),
     ("filter", EXPLAIN),
     ("filter", TRIED),
-    ("import", OPTIONAL_SIZE),
+    ("import", SIZE),
     ("import", OUT),
     ("import", IMPORTED),
-    ("lint", OPTIONAL_SIZE),
+    ("lint", SIZE),
     ("lint", LIMIT),
+    ("lint", ALLOW),
     ("lint", EXPLAIN),
     ("lint", LINTED),
     ("list", VERIFIED_SIZE),
@@ -201,6 +202,7 @@ static PARAMETERS: [(&str, Parameter); 55] = [
     ("router", ROOM),
     ("router", QUEUE),
     ("router", RETRY),
+    ("router", HOLD),
     ("router", PREFIX),
     ("router", NAMED_FILTER),
     ("router", IMPORT),
@@ -220,7 +222,7 @@ static PARAMETERS: [(&str, Parameter); 55] = [
 const SIZE: Parameter = Parameter {
     name: "size",
     value: "N",
-    help: "The number of nodes of the routing domain (2 to 250)",
+    help: "The number of nodes of the routing domain (2 to 250); without it NCROUTE_SIZE in the environment says it",
     kind: ParameterKind::Number,
     is_required: true,
 };
@@ -231,6 +233,15 @@ const CODE: Parameter = Parameter {
     value: "",
     help: "Read a code file in hexadecimal in place of a filter",
     kind: ParameterKind::Flag,
+    is_required: false,
+};
+
+/// Warnings of a code are not told.
+const ALLOW: Parameter = Parameter {
+    name: "allow",
+    value: "CODE",
+    help: "Say no warning of this code, as W3; may be given many times",
+    kind: ParameterKind::Codes,
     is_required: false,
 };
 
@@ -276,15 +287,6 @@ const CHECKED: Parameter = Parameter {
     value: "FILE",
     help: "A file to check in place of standard input; - is standard input",
     kind: ParameterKind::Arguments,
-    is_required: false,
-};
-
-/// The number of nodes that filters are verified for, which need not be said.
-const OPTIONAL_SIZE: Parameter = Parameter {
-    name: "size",
-    value: "N",
-    help: "Verify the filters for a routing domain of N nodes (2 to 250; 16)",
-    kind: ParameterKind::Number,
     is_required: false,
 };
 
@@ -473,6 +475,15 @@ const RETRY: Parameter = Parameter {
     name: "retry",
     value: "SECONDS",
     help: "Reopen a closed link after this many seconds (1 or more), later each time, up to 60",
+    kind: ParameterKind::Number,
+    is_required: false,
+};
+
+/// How long a router may be silent.
+const HOLD: Parameter = Parameter {
+    name: "hold",
+    value: "SECONDS",
+    help: "Neighbours hold the router for dead after this silence (0 to 3,600; 0: never; 9 if left out)",
     kind: ParameterKind::Number,
     is_required: false,
 };

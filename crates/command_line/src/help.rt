@@ -68,15 +68,20 @@ For each part of the routes on which the filters differ, or may differ, a line i
   undecided PREFIX{LOW,HIGH}, metrics LEAST..MOST
              whether they differ on these was not found out within CLASSES
 BEFORE and AFTER are `reject`, `accept METRIC`, or `accept`, which is with the metric received.
+Of more than 1,000 parts the others are counted by `parts that are not shown: COUNT`.
 The last line is one of these:
-  same on all routes         there is no other line: the filters do the same
-  same on all other routes   they do the same outside of these parts
-  undecided on COUNT parts   this many parts are undecided; outside of the parts they do the same
+  same on all routes of a domain of N nodes
+             there is no other line: the filters do the same
+  same on all other routes of a domain of N nodes
+             they do the same outside of these parts
+  undecided on COUNT parts
+             this many parts are undecided; outside of the parts they do the same
 
 Example:
-  sed 's/> 12/> 10/' examples/backup_link.filter | ncroute diff examples/backup_link.filter -
+  sed 's/> 12/> 10/' examples/backup_link.filter |
+    ncroute diff --size 16 examples/backup_link.filter -
 prints `differ 0.0.0.0/0{0,32}, metrics 8..8: accept 11 | reject`, the same of metric 9 with
-`accept 12`, and `same on all other routes`.
+`accept 12`, and `same on all other routes of a domain of 16 nodes`.
 The exit status is 0 if they are the same on all routes; 1 if they differ; 2 if the command
 line is wrong; 3 if that is undecided, if a filter was refused, if a fault ended the run, or if
 a file could not be read.
@@ -124,7 +129,7 @@ For each filter a line is printed:
                     what stands there is not taken
 
 Example:
-  mkdir filters; ncroute import --out filters examples/edge_router.bird
+  mkdir filters; ncroute import --size 16 --out filters examples/edge_router.bird
 The exit status is 0; 1 if something was left out or a fault ended the run; 2 if the command
 line is wrong.
 ";
@@ -145,9 +150,11 @@ W1, W2 and W8 are told by all routes of the domain, which are searched as by `nc
   W7   a metric that means unreachable, whatever the route
   W8   an assignment that would lower the metric on some route, which no filter can
 Where CLASSES are not enough for W1, W2 and W8, the line `FILE: undecided: ..` says so.
+A warning is left out where --allow names its code, or where the line that it is said of ends
+with a comment as `# lint: allow W3`.
 
 Example:
-  echo 'filter f { if net.len > 32 then reject; accept; }' | ncroute lint
+  echo 'filter f { if net.len > 32 then reject; accept; }' | ncroute lint --size 16
 The exit status is 0 if nothing is said of any filter; 1 if there is a warning, or a filter was
 refused; 2 if the command line is wrong; 3 if nothing is said but a filter is undecided or was
 not read, or a fault ended the run.
@@ -179,7 +186,7 @@ A test file names a filter, the number of nodes of the routing domain, and tests
   PREFIX METRIC -> VERDICT    a route, and the verdict on it
   every PATTERN -> VERDICT    all routes whose prefix matches, with each metric
   every PATTERN metric A..B -> VERDICT    the same with these metrics alone, or with one
-PATTERN is PREFIX, PREFIX+ or PREFIX{LOW,HIGH}; VERDICT is `accept METRIC`, `reject`, or
+PATTERN is PREFIX, PREFIX+, PREFIX- or PREFIX{LOW,HIGH}; VERDICT is `accept METRIC`, `reject`, or
 `accept`, which is with the metric received. Empty lines and lines that begin with # are
 skipped. The filter is verified first.
 
@@ -188,13 +195,15 @@ The output is that of the Test Anything Protocol, version 13, with one plan for 
   not ok N - TEST      it is not on the route that the next line shows, as
                        `# PREFIX METRIC -> VERDICT`; or the next line is `# undecided`:
                        that was not found out within CLASSES
+  not ok N - FILE: not run, since a file was refused or not read
+                       in place of the tests of a file; standard error says why
   1..N                 how many tests there are
-  Bail out!            a file could not be read, or was refused; nothing more is run
 
 Example:
   ncroute test examples/customer_list.test
-The exit status is 0 if each test holds; 1 if one does not or is undecided; 2 if the command
-line is wrong; 3 if a file was refused or not read, or a fault ended the run.
+The exit status is 0 if each test holds; 1 if one does not; 2 if the command line is wrong;
+3 if one is undecided and all others hold, if a file was refused or not read, or if a fault
+ended the run.
 ";
 
 /// Of `eval`.
@@ -314,9 +323,9 @@ command line is wrong; 3 if a fault ended the run or a file could not be read.
 /// Of `router`.
 const ROUTER_HELP: &str = "\
 Of two neighbours the one with the lower number opens its OUT first, the other its IN, so
-that FIFOs meet. Each writes a line, `netchange 1 N ME`, and reads the other's. Then the
-neighbour is up, and each line is a message, `V D`: node V is at distance D. When a stream
-ends or has another line, the neighbour is down, and standard error says why.
+that FIFOs meet. Each greets, `netchange 2 N ME HOLD NUMBER HEARD`, and answers the other's
+greeting. Then the neighbour is up, and each line is a message, `V D`: node V is at distance
+D. When its stream ends, or it is silent for its HOLD, it is down, and standard error says why.
 
 Standard input has the operator's commands, as `ncroute run` answers them, without
 `network`, `prefix`, `recv` and `take`. `up`, and `down` of a node with a link, are refused

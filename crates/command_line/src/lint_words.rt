@@ -1,40 +1,45 @@
 //! The words of `lint`.
 ghost use Rattle.std.specs.Prelude.{IfOk};
 ghost use Rattle.command_line.specs.Given.{given_in};
-ghost use Rattle.command_line.specs.Meaning.{AskFor};
+ghost use Rattle.command_line.specs.Meaning.{AskFor, SaysSize};
 ghost use Rattle.command_line.specs.declared.command_names.CommandName.TheVariants as command;
 
 use crate::diff_words::USUAL_LIMIT;
-use crate::given::{count_given, number_given};
-use crate::requests::{Request, USUAL_SIZE, files_in, has_files, tells_in};
+use crate::given::count_given;
+use crate::requests::{Request, files_in, has_files, tells_in, values_of};
 use crate::terminals::Terminals;
 use clap::ArgMatches;
 use std::alloc::{AllocError, Global};
 
 /// How filters are looked through for what is plainly wrong.
-#[derive(Clone, Copy)]
+#[derive(Drop)]
 pub struct Linting {
     /// The number of nodes of the domain whose routes are meant.
     pub size: u32,
     /// The largest number of classes of routes that are tried for a filter.
     pub limit: u64,
+    /// The codes of warnings that are not told.
+    pub allowed: Vec<String>,
     /// A refusal is told in words too.
     pub is_explained: bool,
 }
 
-/// What the words of `lint` ask for.
+/// What the words of `lint` ask for, with the size that they say.
 pub fn lint_in(
     alloc: Global,
     matches: &ArgMatches<'_>,
+    size: u32,
     terminals: Terminals,
 ) -> Result<Request, AllocError>
+    requires { SaysSize (given_in matches.now) size }
     ensures { IfOk result (AskFor command.Lint (given_in matches.now) terminals) }
 {
     let sources = files_in(alloc, matches)?;
     let has_files = has_files(sources.as_slice());
     let how = Linting {
-        size: number_given(matches, "size").unwrap_or(USUAL_SIZE),
+        size,
         limit: count_given(matches, "limit").unwrap_or(USUAL_LIMIT),
+        allowed: values_of(alloc, matches, "allow")?,
         is_explained: tells_in(matches, terminals, has_files),
     };
     Ok(Request::Lint { how, sources })

@@ -23,6 +23,8 @@ pub enum ParameterKind {
     Texts,
     /// An option that is one of some words.
     When,
+    /// An option with the code of a warning, which may be given many times.
+    Codes,
     /// An option with a number of at most 32 bits.
     Number,
     /// One with a number of at most 64 bits.
@@ -48,14 +50,16 @@ pub struct Parameter {
     pub is_required: bool,
 }
 
-/// The words that an option of the kind `When` may say.
+/// The words that options may say which take one of some.
 #[derive(Clone, Copy)]
 pub struct Choices<'a> {
-    /// They.
+    /// Those of the kind `When`.
     pub words: &'a [&'a str],
+    /// Those of the kind `Codes`.
+    pub codes: &'a [&'a str],
 }
 
-/// A parameter as the parser of words knows it, where `When` takes one of these words.
+/// A parameter as the parser of words knows it, where `When` and `Codes` take these words.
 pub fn arg_of<'a>(alloc: Global, parameter: &Parameter, choices: Choices<'a>) -> Arg<'a>
     ensures rule { rule_of result ≡ record (written choices.entry parameter.now.name.now parameter.now.kind) { required = parameter.now.is_required } }
     ensures local { result.global ≡ false }
@@ -84,6 +88,9 @@ fn written<'a>(alloc: Global, parameter: &Parameter, choices: Choices<'a>) -> Ar
         ParameterKind::When => option(arg, parameter).value_parser(ValueParser::Names(
             choices.words,
         )),
+        ParameterKind::Codes => option(arg, parameter)
+            .value_parser(ValueParser::Names(choices.codes))
+            .action(ArgAction::Append),
         ParameterKind::Number => option(arg, parameter).value_parser(clap::value_parser!(u32)),
         ParameterKind::Count => option(arg, parameter).value_parser(clap::value_parser!(u64)),
     }

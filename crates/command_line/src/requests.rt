@@ -1,8 +1,8 @@
 //! What the program is asked to do, and the words that ask for it. Those of `diff`, `filter`, `lint`, `router`, `run` and `test` stand apart.
 ghost use Rattle.std.specs.Prelude.{◌≡◌, ◌||◌, [], ◌∷◌, IfOk, Some, None, codes, if◌then◌else◌, is_some, map, option_map, string_bytes};
 ghost use Rattle.std.specs.List.{list_any};
-ghost use Rattle.command_line.specs.Given.{given_in, is_set, number_of, word_of, words_of};
-ghost use Rattle.command_line.specs.Meaning.{AskFor, IsChecking, tells, usual_limit};
+ghost use Rattle.command_line.specs.Given.{given_in, is_set, word_of, words_of};
+ghost use Rattle.command_line.specs.Meaning.{AskFor, IsChecking, SaysSize, tells, usual_limit};
 ghost use Rattle.command_line.specs.Readings as spec;
 ghost use Rattle.command_line.specs.Reads.{file, one_name, or_input};
 ghost use Rattle.command_line.specs.Sources.{AreNamed, AreSources, IsNamed};
@@ -17,9 +17,6 @@ use crate::terminals::Terminals;
 use crate::test_words::Testing;
 use clap::ArgMatches;
 use std::alloc::{AllocError, Global};
-
-/// The number of nodes of the domain where none is said: that of RIP.
-pub const USUAL_SIZE: u32 = 16;
 
 /// Where a source comes from.
 #[derive(Drop)]
@@ -359,7 +356,7 @@ pub fn check_in(
     size: u32,
     terminals: Terminals,
 ) -> Result<Request, AllocError>
-    requires { number_of 32 (codes "size") (given_in matches.now) ≡ Some size }
+    requires { SaysSize (given_in matches.now) size }
     ensures { IfOk result (AskFor command.Check (given_in matches.now) terminals) }
 {
     let sources = files_in(alloc, matches)?;
@@ -399,6 +396,28 @@ pub fn text_in(
     }
 }
 
+/// A copy of each of some texts, in order.
+fn copies_of(alloc: Global, texts: &[&str]) -> Result<Vec<String>, AllocError>
+    ensures { IfOk result (λ copies. map (λ copy. string_bytes copy) copies.items ≡ map (λ text. text.now) texts.now) }
+{
+    let mut copies = Vec::with_capacity(alloc, texts.len())?;
+    for text in texts {
+        copies.push(String::from_str(alloc, text)?)?;
+    }
+    Ok(copies)
+}
+
+/// The values of an option, in order.
+pub fn values_of(
+    alloc: Global,
+    matches: &ArgMatches<'_>,
+    name: &str,
+) -> Result<Vec<String>, AllocError>
+    ensures { IfOk result (λ values. map (λ copy. string_bytes copy) values.items ≡ words_of name.now (given_in matches.now)) }
+{
+    copies_of(alloc, words_given(matches, name))
+}
+
 /// What the words of `list` ask for.
 pub fn list_in(
     alloc: Global,
@@ -416,16 +435,18 @@ pub fn list_in(
     })
 }
 
-/// What the words of `import` ask for.
+/// What the words of `import` ask for, with the size that they say.
 pub fn import_in(
     alloc: Global,
     matches: &ArgMatches<'_>,
+    size: u32,
     terminals: Terminals,
 ) -> Result<Request, AllocError>
+    requires { SaysSize (given_in matches.now) size }
     ensures { IfOk result (AskFor command.Import (given_in matches.now) terminals) }
 {
     let how = Importing {
-        size: number_given(matches, "size").unwrap_or(USUAL_SIZE),
+        size,
         folder: text_in(alloc, matches, "out")?,
     };
     Ok(Request::Import {

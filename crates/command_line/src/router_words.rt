@@ -1,12 +1,12 @@
 //! The words of `router`.
-ghost use Rattle.std.specs.Prelude.{◌≡◌, IfErr, IfOk, codes, map, string_bytes};
+ghost use Rattle.std.specs.Prelude.{IfErr, IfOk, codes};
 ghost use Rattle.command_line.specs.Filters.{HasWrong};
 ghost use Rattle.command_line.specs.Given.{given_in, words_of};
 ghost use Rattle.command_line.specs.Meaning.{AreFilters, AskForRouter, IsRouting};
 
 use crate::filter_words::{NamedFile, WrongFilter, filters_given};
-use crate::given::{is_given, number_given, words_given};
-use crate::requests::text_in;
+use crate::given::{is_given, number_given};
+use crate::requests::{text_in, values_of};
 use clap::ArgMatches;
 use std::alloc::{AllocError, Global};
 
@@ -23,6 +23,8 @@ pub struct RouterWords {
     pub queue: Option<u32>,
     /// How long a closed link waits before it is opened again, in seconds.
     pub retry: Option<u32>,
+    /// How many seconds the router may be silent before its neighbours hold it for dead.
+    pub hold: Option<u32>,
     /// The folder in which the history is saved.
     pub save: Option<String>,
     /// How many segments of it are kept there.
@@ -41,24 +43,6 @@ pub struct RouterWords {
     pub links: Vec<String>,
 }
 
-/// A copy of each of some texts, in order.
-fn copies_of(alloc: Global, texts: &[&str]) -> Result<Vec<String>, AllocError>
-    ensures { IfOk result (λ copies. map (λ copy. string_bytes copy) copies.items ≡ map (λ text. text.now) texts.now) }
-{
-    let mut copies = Vec::with_capacity(alloc, texts.len())?;
-    for text in texts {
-        copies.push(String::from_str(alloc, text)?)?;
-    }
-    Ok(copies)
-}
-
-/// The values of an option, in order.
-fn values_of(alloc: Global, matches: &ArgMatches<'_>, name: &str) -> Result<Vec<String>, AllocError>
-    ensures { IfOk result (λ values. map (λ copy. string_bytes copy) values.items ≡ words_of name.now (given_in matches.now)) }
-{
-    copies_of(alloc, words_given(matches, name))
-}
-
 /// What the words of `router` say, which name these filters.
 fn routing_in(
     alloc: Global,
@@ -75,6 +59,7 @@ fn routing_in(
         limit: number_given(matches, "limit"),
         queue: number_given(matches, "queue"),
         retry: number_given(matches, "retry"),
+        hold: number_given(matches, "hold"),
         save: text_in(alloc, matches, "save")?,
         segments: number_given(matches, "segments"),
         stays: is_given(matches, "stay"),

@@ -2,7 +2,7 @@
 ghost use Rattle.std.specs.Prelude.{◌≡◌};
 ghost use Rattle.command_line.specs.Given.{given_in};
 ghost use Rattle.command_line.specs.Meaning.{telling_of};
-ghost use Rattle.command_line.specs.Parameters.{AreTellings};
+ghost use Rattle.command_line.specs.Parameters.{AreChoices};
 ghost use Rattle.command_line.specs.Telling.{is_explained};
 
 use crate::given::word_given;
@@ -36,11 +36,17 @@ impl Telling {
 /// The words of `--explain`.
 static TELLINGS: [&str; 3] = ["auto", "always", "never"];
 
-/// The words of `--explain`, of which a caller is not to know more than what they are.
-pub fn tellings() -> Choices<'static>
-    ensures { AreTellings result }
+/// The words of `--allow`.
+static CODES: [&str; 8] = ["W1", "W2", "W3", "W4", "W5", "W6", "W7", "W8"];
+
+/// The words of both, of which a caller is not to know more than what they are.
+pub fn choices() -> Choices<'static>
+    ensures { AreChoices result }
 {
-    Choices { words: &TELLINGS }
+    Choices {
+        words: &TELLINGS,
+        codes: &CODES,
+    }
 }
 
 /// Whether a refusal is told in words, where standard error is a terminal or not, and sources are files that were named or not.

@@ -11,6 +11,7 @@ use crate::classes::page_of;
 use crate::command_names::{CommandName, command_named};
 use crate::commands::program;
 use crate::diff_words::diff_in;
+use crate::environment::with_size;
 use crate::filter_words::WrongFilter;
 use crate::given::{number_given, word_given};
 use crate::lint_words::lint_in;
@@ -20,7 +21,7 @@ use crate::requests::{
 };
 use crate::router_words::{RouterWords, router_in};
 use crate::run_words::run_in;
-use crate::telling::tellings;
+use crate::telling::choices;
 use crate::terminals::{Terminals, reads_input_again};
 use crate::test_words::test_in;
 use crate::trying_words::{asks_twice, filter_in};
@@ -48,7 +49,7 @@ pub enum Invocation {
     Shown(u8),
 }
 
-/// Reads the words that the program was started with. Help goes to standard output, and what is wrong with the words to
+/// Reads the words that the program was started with, and where they need a size and say none, that of the environment. Help goes to standard output, and what is wrong with the words to
 /// standard error.
 pub fn read<R: Env + AllocGlobal + Print + Eprint>(
     rt: &R,
@@ -62,6 +63,7 @@ pub fn read<R: Env + AllocGlobal + Print + Eprint>(
     // All words are text here, so that want of memory alone keeps them from being read.
     let words = env::args(&(Readable { env: rt }, alloc)).map_err(|_| StreamFault::Memory)?;
     let words: Vec<String> = words.collect(alloc).map_err(|_| StreamFault::Memory)?;
+    let words = with_size(rt, alloc, words).map_err(|_| StreamFault::Memory)?;
     request_of(rt, alloc, words.as_slice(), terminals)
 }
 
@@ -90,7 +92,7 @@ fn matches_of<'a, S: AsStr>(alloc: Global, words: &'a [S]) -> Result<ArgMatches<
     ensures ok { IfOk result (λ matches. Meets (map S.text words.entry.now) (subcommand_rows_of matches)) }
     ensures err { IfErr result (λ error. (kind_of error ≡ ErrorKind.OutOfMemory) ⊎ Shows (map S.text words.entry.now) (kind_of error)) }
 {
-    program(alloc, tellings())?.try_get_matches_from(words)
+    program(alloc, choices())?.try_get_matches_from(words)
 }
 
 /// These words, unless they ask for standard input more than once.
@@ -138,13 +140,13 @@ fn command_words<R: Eprint>(
 {
     match command {
         CommandName::Check => check_words(alloc, words, terminals),
-        CommandName::Diff => asked(diff_in(alloc, words, terminals)),
+        CommandName::Diff => diff_words(alloc, words, terminals),
         CommandName::Domain => asked(domain_in(alloc, words, terminals)),
         CommandName::Eval => Ok(Invocation::Asked(eval_in(words, terminals))),
         CommandName::Explain => explained_in(rt, alloc, words, terminals),
         CommandName::Filter => filter_words(rt, alloc, words, terminals),
-        CommandName::Import => asked(import_in(alloc, words, terminals)),
-        CommandName::Lint => asked(lint_in(alloc, words, terminals)),
+        CommandName::Import => import_words(alloc, words, terminals),
+        CommandName::Lint => lint_words(alloc, words, terminals),
         CommandName::List => asked(list_in(alloc, words, terminals)),
         CommandName::Net => Ok(Invocation::Network),
         CommandName::Replay => asked(replay_in(alloc, words, terminals)),
@@ -215,6 +217,51 @@ fn check_words(
         return Ok(Invocation::Shown(WRONG_WORDS));
     };
     Ok(Invocation::Asked(check_in(alloc, check, size, terminals)?))
+}
+
+/// What the words of `diff` come to.
+fn diff_words(
+    alloc: Global,
+    diff: &ArgMatches<'_>,
+    terminals: Terminals,
+) -> Result<Invocation, AllocError>
+    ensures { IfOk result (ComesTo command.Diff (given_in diff.now) terminals) }
+{
+    // The parser accepts no words without a size.
+    let Some(size) = number_given(diff, "size") else {
+        return Ok(Invocation::Shown(WRONG_WORDS));
+    };
+    Ok(Invocation::Asked(diff_in(alloc, diff, size, terminals)?))
+}
+
+/// What the words of `import` come to.
+fn import_words(
+    alloc: Global,
+    import: &ArgMatches<'_>,
+    terminals: Terminals,
+) -> Result<Invocation, AllocError>
+    ensures { IfOk result (ComesTo command.Import (given_in import.now) terminals) }
+{
+    // The parser accepts no words without a size.
+    let Some(size) = number_given(import, "size") else {
+        return Ok(Invocation::Shown(WRONG_WORDS));
+    };
+    Ok(Invocation::Asked(import_in(alloc, import, size, terminals)?))
+}
+
+/// What the words of `lint` come to.
+fn lint_words(
+    alloc: Global,
+    lint: &ArgMatches<'_>,
+    terminals: Terminals,
+) -> Result<Invocation, AllocError>
+    ensures { IfOk result (ComesTo command.Lint (given_in lint.now) terminals) }
+{
+    // The parser accepts no words without a size.
+    let Some(size) = number_given(lint, "size") else {
+        return Ok(Invocation::Shown(WRONG_WORDS));
+    };
+    Ok(Invocation::Asked(lint_in(alloc, lint, size, terminals)?))
 }
 
 /// What the words of `run` come to.

@@ -65,6 +65,8 @@ module _ (answer : Answer) where
       either (nat_lt v plan.size) _ _ (λ q. like answer _ q.6 refl) (λ q. like answer _ q refl) h
   told question.Reach plan marked done number h = like answer _ h.2 refl
   told question.Changes plan marked done number h = like answer _ h.4 refl
+  told question.Failures plan marked done number h = like answer _ h.4 refl
+  told question.NodeFailures plan marked done number h = like answer _ h.4 refl
   told question.Settle plan marked done number h = settled number h
 
   planned : (p : PlanningView) (number : ℕ) (c : CommandView) (after : PlanningView)

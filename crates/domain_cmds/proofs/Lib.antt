@@ -5,3 +5,7 @@ pub mod Carrying
 pub mod Setting
 pub mod Growing
 pub mod OnTheWay
+pub mod Counting
+pub mod Restoring
+pub mod Failing
+mod FailureRows

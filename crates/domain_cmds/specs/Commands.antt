@@ -62,6 +62,11 @@ drawing_in args None = made (λ v. Ask (question.Draw v)) (node_in (one_of args)
 drawing_in args (Some (node, option)) =
     if bytes_eq option (codes "changes") then made (λ v. Ask (question.DrawChanges v)) (node_in (Some node)) else Err fault.Words
 
+-- all links, or with the word `nodes` alone all nodes
+abbrev pub failures_in : List (List ℕ) → Option (List ℕ) → Read
+failures_in args None = alone (Ask question.Failures) args
+failures_in args (Some what) = if bytes_eq what (codes "nodes") then Ok (Ask question.NodeFailures) else Err fault.Words
+
 -- a command by its verb and the words after it; `text` is what follows the second word of the line, without blanks at its front
 abbrev pub command_of : Option Verb → List (List ℕ) → List ℕ → Read
 command_of None args text = Err fault.Words
@@ -80,6 +85,7 @@ command_of (Some verb.Draw) args text = drawing_in args (two_of args)
 command_of (Some verb.Reach) args text = alone (Ask question.Reach) args
 command_of (Some verb.Mark) args text = alone Mark args
 command_of (Some verb.Changes) args text = alone (Ask question.Changes) args
+command_of (Some verb.Failures) args text = failures_in args (one_of args)
 command_of (Some verb.Settle) args text = alone (Ask question.Settle) args
 
 abbrev pub command_of_words : List (List ℕ) → List ℕ → Read

@@ -7,6 +7,8 @@ pub mod Readings
 pub mod Faults
 pub mod Rests
 pub mod Texts
+pub mod Failures
+pub mod FailureTexts
 pub mod State
 pub mod Script
 pub mod Marks

@@ -21,12 +21,16 @@ use Rattle.domain_routes.specs.declared.since.Since.{Since}
 use Rattle.domain_routes.specs.declared.since.Since.TheVariants as since
 use Rattle.domain_cmds.specs.CommandView.{CommandView, Domain, Prefix, Load, Code, Link, Use, Mark, Ask}
 use Rattle.domain_cmds.specs.Commands.{Read, command_in}
+use Rattle.domain_cmds.specs.Failures.{AreFailures, all_links, all_nodes}
+use Rattle.domain_cmds.specs.FailureTexts.{failures_text}
 use Rattle.domain_cmds.specs.Faults.{state_code}
 use Rattle.domain_cmds.specs.Rests.{AreAllRoutes}
 use Rattle.domain_cmds.specs.State.{PlanningView, filter_named}
 use Rattle.domain_cmds.specs.Texts.{IsPathText, changes_text, draw_text, felt_text, reach_text, route_in, route_text, settled_text, table_text}
 use Rattle.domain_cmds.specs.declared.command.Question.{Question}
 use Rattle.domain_cmds.specs.declared.command.Question.TheVariants as question
+use Rattle.domain_cmds.specs.declared.failure.Failing.{Failing}
+use Rattle.domain_cmds.specs.declared.failure.Failure.{Failure}
 use Rattle.domain_cmds.specs.declared.fault.StateFault.{StateFault}
 use Rattle.domain_cmds.specs.declared.fault.StateFault.TheVariants as fault
 
@@ -149,7 +153,7 @@ IsToldDrawing plan number v answer = MatchBool (nat_lt v plan.size)
 abbrev pub IsToldReach : PlanView → Answer → Type 0
 IsToldReach plan answer = (all : List (List Best)) × AreAllRoutes plan all × (answer ≡ answered (reach_text plan.size all))
 
--- ---- `mark`, `changes` and `settle`
+-- ---- `mark` and `changes`
 
 abbrev pub AnswersMark : PlanningView → Answer → PlanningView → Type 0
 AnswersMark p answer after =
@@ -172,6 +176,16 @@ IsToldFelt plan marked done number v answer = MatchBool (nat_lt v plan.size)
     × (routes : List Best) × AreRoutes (topology plan v) v routes × (answer ≡ answered (felt_text plan done marks all v routes)))
     (answer ≡ refused (codes "D1") number)
 
+-- ---- `failures`
+
+-- what the failure of each of these changes by itself, where all others stay as they are
+abbrev pub IsToldFailures : PlanView → List Failing → Answer → Type 0
+IsToldFailures plan whats answer =
+    (before : List (List Best)) × AreAllRoutes plan before × (all : List Failure) × AreFailures plan before whats all
+    × (answer ≡ answered (failures_text all))
+
+-- ---- `settle`
+
 -- Each round has a message; how many of both it takes is the routers' affair: only tested. They may have no session left.
 abbrev pub IsToldSettled : ℕ → Answer → Type 0
 IsToldSettled number answer =
@@ -187,6 +201,8 @@ AnswersQuestion (question.Draw v) plan marked done number answer = IsToldDrawing
 AnswersQuestion (question.DrawChanges v) plan marked done number answer = IsToldFelt plan marked done number v answer
 AnswersQuestion question.Reach plan marked done number answer = IsToldReach plan answer
 AnswersQuestion question.Changes plan marked done number answer = IsToldChanges plan marked done answer
+AnswersQuestion question.Failures plan marked done number answer = IsToldFailures plan (all_links plan) answer
+AnswersQuestion question.NodeFailures plan marked done number answer = IsToldFailures plan (all_nodes plan) answer
 AnswersQuestion question.Settle plan marked done number answer = IsToldSettled number answer
 
 -- ---- a line

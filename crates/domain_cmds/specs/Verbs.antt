@@ -3,7 +3,7 @@ use Rattle.std.specs.Prelude.{ℕ, Bool, List, [], ◌∷◌, Option, find, code
 use Rattle.std.specs.Str.{bytes_eq}
 use Rattle.domain_cmds.specs.declared.verb.Verb.{Verb}
 use Rattle.domain_cmds.specs.declared.verb.Verb.TheVariants.{Domain, Prefix, Load, Code, Link, Cut, Import, Export}
-use Rattle.domain_cmds.specs.declared.verb.Verb.TheVariants.{Route, Path, Table, Draw, Reach, Mark, Changes, Settle}
+use Rattle.domain_cmds.specs.declared.verb.Verb.TheVariants.{Route, Path, Table, Draw, Reach, Mark, Changes, Failures, Settle}
 
 -- how each is written
 abbrev pub verb_text : Verb → List ℕ
@@ -22,12 +22,13 @@ verb_text Draw = codes "draw"
 verb_text Reach = codes "reach"
 verb_text Mark = codes "mark"
 verb_text Changes = codes "changes"
+verb_text Failures = codes "failures"
 verb_text Settle = codes "settle"
 
 -- all of them
 abbrev pub verbs : List Verb
 verbs =
-    Domain ∷ Prefix ∷ Load ∷ Code ∷ Link ∷ Cut ∷ Import ∷ Export ∷ Route ∷ Path ∷ Table ∷ Draw ∷ Reach ∷ Mark ∷ Changes ∷ Settle ∷ []
+    Domain ∷ Prefix ∷ Load ∷ Code ∷ Link ∷ Cut ∷ Import ∷ Export ∷ Route ∷ Path ∷ Table ∷ Draw ∷ Reach ∷ Mark ∷ Changes ∷ Failures ∷ Settle ∷ []
 
 -- whether a verb is written so
 abbrev pub is_spelled : List ℕ → Verb → Bool

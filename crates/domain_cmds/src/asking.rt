@@ -7,9 +7,12 @@ ghost use Rattle.std.specs.Io.{StartsWith};
 ghost use Rattle.std.specs.Option.{option_map};
 ghost use Rattle.line_protocol.specs.declared.answers.LineReply.TheVariants.{Answered};
 ghost use Rattle.operator_cmds.specs.Replies.{Answers};
+ghost use Rattle.domain_cmds.specs.Failures.{all_links, all_nodes};
 ghost use Rattle.domain_cmds.specs.Script as spec;
 
 use crate::command::Question;
+use crate::failure_text::push_failures;
+use crate::failures::{link_failures, node_failures};
 use crate::fault::StateFault;
 use crate::felt::push_felt;
 use crate::playing::Playing;
@@ -207,6 +210,38 @@ fn answer_felt(
     end_line(out)
 }
 
+/// Answers `failures`: what the failure of each link changes, by itself.
+fn answer_failures(
+    alloc: Global,
+    domain: &mut RestingPlan,
+    out: &mut Vec<u8>,
+) -> Result<LineReply, AllocError>
+    ensures ok { IfOk result (Answers (spec.IsToldFailures domain.old (all_links domain.old)) out.old.items out.new.items) }
+    ensures err { OnErr result (StartsWith out.new.items out.old.items) }
+    ensures same { domain.new ≡ domain.old }
+{
+    let before = domain.all_routes(alloc)?;
+    let found = link_failures(alloc, domain, before.as_slice())?;
+    push_failures(out, found.as_slice())?;
+    end_line(out)
+}
+
+/// Answers `failures nodes`: what the failure of each node changes, by itself.
+fn answer_node_failures(
+    alloc: Global,
+    domain: &mut RestingPlan,
+    out: &mut Vec<u8>,
+) -> Result<LineReply, AllocError>
+    ensures ok { IfOk result (Answers (spec.IsToldFailures domain.old (all_nodes domain.old)) out.old.items out.new.items) }
+    ensures err { OnErr result (StartsWith out.new.items out.old.items) }
+    ensures same { domain.new ≡ domain.old }
+{
+    let before = domain.all_routes(alloc)?;
+    let found = node_failures(alloc, domain, before.as_slice())?;
+    push_failures(out, found.as_slice())?;
+    end_line(out)
+}
+
 /// Answers `settle`: the routers are played until quiet.
 fn answer_settle(
     alloc: Global,
@@ -250,6 +285,8 @@ pub(crate) fn answer_question(
         Question::DrawChanges(v) => answer_felt(alloc, domain, marked, since, number, v, out),
         Question::Reach => answer_reach(alloc, domain, out),
         Question::Changes => answer_changes(alloc, domain, marked, since, out),
+        Question::Failures => answer_failures(alloc, domain, out),
+        Question::NodeFailures => answer_node_failures(alloc, domain, out),
         Question::Settle => answer_settle(alloc, domain.plan(), playing, number, out),
     }
 }

@@ -82,6 +82,10 @@ pub enum Question {
     Reach,
     /// `changes`: the routes that are not what they were at the last `mark`.
     Changes,
+    /// `failures`: what the failure of each link changes, by itself.
+    Failures,
+    /// `failures nodes`: what the failure of each node changes, by itself.
+    NodeFailures,
     /// `settle`: the routers exchange messages until none is left.
     Settle,
 }

@@ -15,7 +15,11 @@
 
 mod asking;
 mod command;
+mod counts;
 mod engine;
+mod failure;
+mod failure_text;
+mod failures;
 mod fault;
 mod felt;
 mod filters;
@@ -29,8 +33,9 @@ mod routes;
 mod still;
 mod text;
 mod verb;
+mod without;
 
 pub use command::{Command, DomainSize, Question};
 pub use engine::{run_domain, run_watched_domain};
-pub use laws::marks_are_of_a_plan;
+pub use laws::{failures_stand_still_as_cuts, marks_are_of_a_plan};
 pub use read::read_command;

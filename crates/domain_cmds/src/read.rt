@@ -15,8 +15,8 @@ use crate::verb::{Verb, read_verb};
 use filter_code::{LARGEST_SIZE, SMALLEST_SIZE};
 use line_protocol::{LINE_LIMIT, next_word};
 use operator_cmds::{
-    CommandFault, Direction, cut_word, is_name, read_code, read_load, read_node, read_node_prefix,
-    read_small, three_words, two_words,
+    CommandFault, Direction, cut_word, is_name, one_word, read_code, read_load, read_node,
+    read_node_prefix, read_small, three_words, two_words,
 };
 use std::alloc::Global;
 
@@ -98,6 +98,19 @@ fn read_drawing<'a>(rest: &[u8]) -> Result<Command<'a>, CommandFault>
     }
 }
 
+/// A `failures` command by the bytes after its first word.
+fn read_failures<'a>(rest: &[u8]) -> Result<Command<'a>, CommandFault>
+    ensures { IsRead result (spec.failures_in (words rest.now) (one_of (words rest.now))) }
+{
+    let Some(what) = one_word(rest) else {
+        return read_alone(Command::Ask(Question::Failures), rest);
+    };
+    if what != b"nodes".as_slice() {
+        return Err(CommandFault::Words);
+    }
+    Ok(Command::Ask(Question::NodeFailures))
+}
+
 /// A command after which nothing follows.
 fn read_alone<'a>(command: Command<'a>, rest: &[u8]) -> Result<Command<'a>, CommandFault>
     ensures { IsRead result (spec.alone (view_of command.entry) (words rest.now)) }
@@ -143,6 +156,7 @@ fn read_rest(alloc: Global, verb: Verb, rest: &[u8]) -> Result<Command<'_>, Comm
         Verb::Reach => read_alone(Command::Ask(Question::Reach), rest),
         Verb::Mark => read_alone(Command::Mark, rest),
         Verb::Changes => read_alone(Command::Ask(Question::Changes), rest),
+        Verb::Failures => read_failures(rest),
         Verb::Settle => read_alone(Command::Ask(Question::Settle), rest),
     }
 }

@@ -2,12 +2,15 @@
 //!
 //! **A route that a column does not have is none**, so the functions that write routes ask nothing of the columns that they are given; the routes
 //! of a plan have all of them.
-ghost use Rattle.std.specs.Prelude.{◌≡◌, ◌≢◌, ◌<◌, IfOk};
+ghost use Rattle.std.specs.Prelude.{◌≡◌, ◌≢◌, ◌<◌, IfOk, true, false};
 ghost use Rattle.domain_routes.specs.Edits.{linking, with_prefix};
+ghost use Rattle.domain_routes.specs.PlanView.{PlanView, is_linked};
+ghost use Rattle.domain_cmds.specs.Failures.{IsAlone};
 ghost use Rattle.domain_cmds.specs.Rests.{AreAllRoutes};
 ghost use Rattle.domain_cmds.specs.Script.{filtering};
 
 use crate::routes::{Column, all_columns};
+use crate::without::{routes_without_link, routes_without_node};
 use domain_routes::Plan;
 use filter_verifier::Verified;
 use operator_cmds::Direction;
@@ -108,5 +111,35 @@ impl RestingPlan {
         let all = Arc::new(alloc, all_columns(alloc, &self.plan)?)?;
         self.rest = Some(Arc::try_clone(&all)?);
         Ok(all)
+    }
+
+    /// All routes at rest where the link between two nodes has failed.
+    pub(crate) fn routes_without_link(
+        &mut self,
+        alloc: Global,
+        u: u16,
+        w: u16,
+    ) -> Result<Vec<Column>, AllocError>
+        requires u { u < self.old.size }
+        requires w { w < self.old.size }
+        requires apart { u ≢ w }
+        requires linked { is_linked self.old u w ≡ true }
+        ensures all { IfOk result (λ all. AreAllRoutes (linking false u w self.old) all.items) }
+        ensures same { self.new ≡ self.old }
+    {
+        routes_without_link(alloc, &mut self.plan, u, w)
+    }
+
+    /// All routes at rest where a node has failed.
+    pub(crate) fn routes_without_node(
+        &mut self,
+        alloc: Global,
+        x: u16,
+    ) -> Result<Vec<Column>, AllocError>
+        requires { x < self.old.size }
+        ensures all { IfOk result (λ all. (later : PlanView) × IsAlone x self.old later × AreAllRoutes later all.items) }
+        ensures same { self.new ≡ self.old }
+    {
+        routes_without_node(alloc, &mut self.plan, x)
     }
 }

@@ -14,14 +14,14 @@ ghost use Rattle.domain_cmds.specs.Texts as spec;
 use crate::routes::{Column, route_of};
 
 /// The lesser of two distances.
-fn lesser(a: u16, b: u16) -> u16
+pub(crate) fn lesser(a: u16, b: u16) -> u16
     ensures { result ≡ min a b }
 {
     if a < b { a } else { b }
 }
 
 /// The lesser of two distances of a node, where they are two; otherwise the size.
-fn lesser_of_two(size: u16, a: u16, b: u16) -> u16
+pub(crate) fn lesser_of_two(size: u16, a: u16, b: u16) -> u16
     ensures { result ≡ rest.lesser_of_two size a b }
 {
     if a == b { size } else { lesser(a, b) }

@@ -280,7 +280,7 @@ pub(crate) fn is_same_via(a: Via, b: Via) -> bool
 }
 
 /// Whether two routes are the same.
-fn is_same(a: Best, b: Best) -> bool
+pub(crate) fn is_same(a: Best, b: Best) -> bool
     ensures { result ≡ spec.is_same a b }
 {
     a.dist == b.dist && is_same_via(a.via, b.via)

@@ -35,12 +35,14 @@ pub enum Verb {
     Mark,
     /// `changes`
     Changes,
+    /// `failures`
+    Failures,
     /// `settle`
     Settle,
 }
 
 /// All of them.
-pub static VERBS: [Verb; 16] = [
+pub static VERBS: [Verb; 17] = [
     Verb::Domain,
     Verb::Prefix,
     Verb::Load,
@@ -56,6 +58,7 @@ pub static VERBS: [Verb; 16] = [
     Verb::Reach,
     Verb::Mark,
     Verb::Changes,
+    Verb::Failures,
     Verb::Settle,
 ];
 
@@ -82,6 +85,7 @@ impl Verb {
             Verb::Reach => "reach",
             Verb::Mark => "mark",
             Verb::Changes => "changes",
+            Verb::Failures => "failures",
             Verb::Settle => "settle",
         }
     }

@@ -22,7 +22,7 @@ use Rattle.filter_checks.specs.declared.comparing.Compared.TheVariants as compar
 
 -- the lines of parts, and lines that are cut
 pub parts_cut : (fault : StreamFault) (old new : CodeView) (size limit : ℕ) (parts : List RoutePart) (text shown : List ℕ)
-    (held holds : Option (List ℕ)) → fault ≡ Write → shown ≡ text → text ≡ parts_text parts → AreParts old new size limit parts
+    (held holds : Option (List ℕ)) → fault ≡ Write → shown ≡ text → text ≡ parts_text size parts → AreParts old new size limit parts
     → AppendsFront held holds shown → IsCutParts fault old new size limit held holds
 parts_cut fault old new size limit parts text shown held holds is same text_is are cut =
     subst (λ (f : StreamFault). IsCutParts f old new size limit held holds) (sym is)

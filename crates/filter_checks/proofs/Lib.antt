@@ -1,4 +1,5 @@
 pub mod Joined
+pub mod EqualCodes
 pub mod Comparisons
 pub mod FirstLine
 pub mod MoreTests

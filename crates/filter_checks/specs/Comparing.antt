@@ -26,12 +26,13 @@ IsJudged size text None = (filter : FilterView) × IsFilterOf text size filter
 IsJudged size text (Some told) = IsDiagnosis size false text told
 
 -- These are parts of the routes outside of which the two codes have the same outcome; each has a route, and on each of its routes holds
--- what is found of it. None is undecided where the limit leaves out no class of routes.
+-- what is found of it. None is undecided where the limit leaves out no class of routes. Equal codes have no parts, whatever the limit is.
 pub record AreParts (old new : CodeView) (size limit : ℕ) (parts : List RoutePart) : Type 0 where
   pub complete : Cover old new size parts
   pub sound : All (IsTrueOf old new size) parts
   pub real : All (IsReal size) parts
   pub decided : IsEnough size limit → All IsDecided parts
+  pub none : old ≡ new → parts ≡ []
 
 -- what the comparison comes to
 abbrev pub compared_as : Answer → Compared
@@ -43,14 +44,14 @@ compared_as answer.Undecided = compared.Undecided
 pub record WritesParts (old new : CodeView) (size limit : ℕ) (held holds : Option (List ℕ)) (end : Compared) : Type 0 where
   pub parts : List RoutePart
   pub are_parts : AreParts old new size limit parts
-  pub written : Appends held holds (parts_text parts)
+  pub written : Appends held holds (parts_text size parts)
   pub comes_to : end ≡ compared_as (answer_of parts)
 
 -- a fault cut them
 abbrev pub IsCutParts : StreamFault → CodeView → CodeView → ℕ → ℕ → Option (List ℕ) → Option (List ℕ) → Type 0
 IsCutParts fault old new size limit held holds =
     ((fault ≡ Memory) × Appends held holds [])
-    ⊎ ((parts : List RoutePart) × AreParts old new size limit parts × IsCut fault held holds (parts_text parts))
+    ⊎ ((parts : List RoutePart) × AreParts old new size limit parts × IsCut fault held holds (parts_text size parts))
 
 -- Standard error got what is told of one text, and then of another. `tells` and `told` are what it held before and holds now.
 pub record TellsBoth (is_explained : Bool) (old new : Named) (before after : Option Diagnosis) (tells told : Option (List ℕ)) : Type 0 where

@@ -1,5 +1,5 @@
 -- The lines that tell of parts of the routes. (This project's own choice.)
-use Rattle.std.specs.Prelude.{ℕ, zero, suc, List, [], ◌∷◌, ◌++◌, codes, count_by, decimal, flat_map}
+use Rattle.std.specs.Prelude.{ℕ, ◌-◌, ◌==◌, zero, suc, List, [], ◌∷◌, ◌++◌, codes, count_by, decimal, flat_map, if◌then◌else◌, length, take}
 use Rattle.filter_code.specs.Outcomes.{fault_code}
 use Rattle.filter_code.specs.declared.outcome.Outcome.{Outcome}
 use Rattle.filter_code.specs.declared.outcome.Outcome.TheVariants as outcome
@@ -50,16 +50,40 @@ undecided_on = codes "undecided on "
 abbrev pub several_words : ℕ → List ℕ
 several_words count = undecided_on ++ decimal count ++ codes " parts"
 
+-- the domain of routes, by the number of its nodes
+unfoldable pub of_a_domain : List ℕ
+of_a_domain = codes " of a domain of "
+
+abbrev pub domain_words : ℕ → List ℕ
+domain_words size = of_a_domain ++ decimal size ++ codes " nodes"
+
+-- what is said of all routes that lie in no part, where none is undecided
+abbrev pub same_routes : List RoutePart → List ℕ
+same_routes [] = codes "same on all routes"
+same_routes (part ∷ parts) = codes "same on all other routes"
+
+abbrev pub same_words : ℕ → List RoutePart → List ℕ
+same_words size parts = same_routes parts ++ domain_words size
+
 -- the last line: on all routes that lie in no part, or how many parts are undecided
-abbrev pub last_words : ℕ → List RoutePart → List ℕ
-last_words zero [] = codes "same on all routes"
-last_words zero (part ∷ parts) = codes "same on all other routes"
-last_words (suc zero) parts = codes "undecided on 1 part"
-last_words (suc (suc more)) parts = several_words (suc (suc more))
+abbrev pub last_words : ℕ → ℕ → List RoutePart → List ℕ
+last_words size zero parts = same_words size parts
+last_words size (suc zero) parts = codes "undecided on 1 part"
+last_words size (suc (suc more)) parts = several_words (suc (suc more))
 
-abbrev pub last_line : List RoutePart → List ℕ
-last_line parts = last_words (count_by undecided parts) parts ++ 10 ∷ []
+abbrev pub last_line : ℕ → List RoutePart → List ℕ
+last_line size parts = last_words size (count_by undecided parts) parts ++ 10 ∷ []
 
--- the lines of all parts, and the last line
-abbrev pub parts_text : List RoutePart → List ℕ
-parts_text parts = flat_map part_line parts ++ last_line parts
+-- so many parts have a line at most, and how many have none is said
+abbrev pub shown_limit : ℕ
+shown_limit = 1000
+
+unfoldable pub not_shown : List ℕ
+not_shown = codes "parts that are not shown: "
+
+abbrev pub hidden_text : ℕ → List ℕ
+hidden_text count = if count == 0 then [] else not_shown ++ decimal count ++ 10 ∷ []
+
+-- the lines of the parts, and the last line
+abbrev pub parts_text : ℕ → List RoutePart → List ℕ
+parts_text size parts = flat_map part_line (take shown_limit parts) ++ hidden_text (length parts - shown_limit) ++ last_line size parts

@@ -129,6 +129,9 @@ first_metrics size ws = do
 abbrev pub plus : ℕ
 plus = 43
 
+abbrev pub minus : ℕ
+minus = 45
+
 abbrev pub comma : ℕ
 comma = 44
 
@@ -160,21 +163,32 @@ all_within first behind = do
   end ← none_of behind
   Some (record { bits = bits; low = length bits; high = address_length })
 
+-- `PREFIX-`: the prefix and all that it lies in
+unfoldable pub all_round : List ℕ → List ℕ → Option PrefixPattern
+all_round first behind = do
+  bits ← prefix_in first
+  end ← none_of behind
+  Some (record { bits = bits; low = 0; high = length bits })
+
 -- `PREFIX`: that prefix alone
 unfoldable pub alone : List ℕ → Option PrefixPattern
 alone text = do
   bits ← prefix_in text
   Some (record { bits = bits; low = length bits; high = length bits })
 
+abbrev pub unsigned_of : List ℕ → Option (List ℕ × List ℕ) → Option PrefixPattern
+unsigned_of text None = alone text
+unsigned_of text (Some (first, behind)) = all_round first behind
+
 abbrev pub unbraced_of : List ℕ → Option (List ℕ × List ℕ) → Option PrefixPattern
-unbraced_of text None = alone text
+unbraced_of text None = unsigned_of text (parts_at minus text)
 unbraced_of text (Some (first, behind)) = all_within first behind
 
 abbrev pub pattern_of : List ℕ → Option (List ℕ × List ℕ) → Option PrefixPattern
 pattern_of text None = unbraced_of text (parts_at plus text)
 pattern_of text (Some (first, behind)) = braced first behind
 
--- a pattern, by its `{` or its `+`
+-- a pattern, by its `{`, its `+` or its `-`
 abbrev pub pattern_in : List ℕ → Option PrefixPattern
 pattern_in text = pattern_of text (parts_at open_brace text)
 

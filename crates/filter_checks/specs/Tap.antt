@@ -8,14 +8,22 @@ use Rattle.filter_checks.specs.PartLines.{outcome_text}
 use Rattle.prefix_patterns.specs.Spelling.{prefix_text}
 use Rattle.filter_checks.specs.declared.testing.Ran.{Ran}
 
--- whether a test does not hold, or that is not decided
+-- whether a test does not hold, and whether that is not decided
 abbrev pub fails : Checked → Bool
 fails checked.Holds = false
 fails (checked.Fails found) = true
-fails checked.Undecided = true
+fails checked.Undecided = false
 
-abbrev pub is_failure : Ran → Bool
-is_failure ran = fails ran.checked
+abbrev pub is_open : Checked → Bool
+is_open checked.Holds = false
+is_open (checked.Fails found) = false
+is_open checked.Undecided = true
+
+abbrev pub is_wrong : Ran → Bool
+is_wrong ran = fails ran.checked
+
+abbrev pub is_undecided : Ran → Bool
+is_undecided ran = is_open ran.checked
 
 -- how the line of a test begins
 abbrev pub result_word : Checked → List ℕ
@@ -59,6 +67,13 @@ told_of name ran = told_by name ran.number ran.checked
 abbrev pub told_of_all : Bool → List ℕ → List Ran → List ℕ
 told_of_all false name all = []
 told_of_all true name all = flat_map (told_of name) all
+
+-- the line in place of the tests of a file that were not run
+unfoldable pub not_run : List ℕ
+not_run = codes ": not run, since a file was refused or not read" ++ 10 ∷ []
+
+abbrev pub skipped : ℕ → List ℕ → List ℕ
+skipped number name = codes "not ok " ++ decimal number ++ codes " - " ++ shown name ++ not_run
 
 -- the last line of the stream: how many tests it has
 abbrev pub plan : ℕ → List ℕ

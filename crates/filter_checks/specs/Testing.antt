@@ -14,7 +14,8 @@ use Rattle.line_protocol.specs.Runs.{AppendsFront}
 use Rattle.line_protocol.specs.declared.faults.StreamFault.{StreamFault}
 use Rattle.line_protocol.specs.declared.faults.StreamFault.TheVariants.{Memory, Write}
 use Rattle.filter_checks.specs.Files.{FileView, TestView}
-use Rattle.filter_checks.specs.Tap.{all_lines, is_failure, told_of_all}
+use Rattle.filter_checks.specs.Tap.{all_lines, is_undecided, is_wrong, told_of_all}
+use Rattle.filter_checks.specs.declared.testing.Failures.{Failures}
 use Rattle.filter_checks.specs.declared.testing.Ran.{Ran}
 use Rattle.filter_checks.specs.declared.testing.Tested.{Tested}
 use Rattle.filter_checks.specs.declared.testing.Tested.TheVariants as tested
@@ -33,20 +34,21 @@ AreRun program size limit (test ∷ tests) (ran ∷ others) = IsRun program size
 AreRun program size limit [] (ran ∷ others) = ⊥
 AreRun program size limit (test ∷ tests) [] = ⊥
 
--- What is found of the tests of a file by the code of the filter, in lines and in words, and how many do not hold. `before` is the number of
--- tests before these in the stream.
-pub record IsReport (program : CodeView) (before limit : ℕ) (is_explained : Bool) (name : List ℕ) (file : FileView) (lines words : List ℕ) (failed : ℕ)
-    : Type 0 where
+-- What is found of the tests of a file by the code of the filter, in lines and in words, and how many do not hold and are not decided. `before` is
+-- the number of tests before these in the stream.
+pub record IsReport (program : CodeView) (before limit : ℕ) (is_explained : Bool) (name : List ℕ) (file : FileView) (lines words : List ℕ)
+    (failed : Failures) : Type 0 where
   pub all : List Ran
   pub are_run : AreRun program file.size limit file.tests all
   pub lines_are : lines ≡ all_lines before all
   pub words_are : words ≡ told_of_all is_explained name all
-  pub counted : failed ≡ count_by is_failure all
+  pub wrong : failed.wrong ≡ count_by is_wrong all
+  pub undecided : failed.undecided ≡ count_by is_undecided all
 
 -- The tests were run, and what is found was written and told. `held` and `holds` are what the writer held before and holds now, `tells` and
 -- `told` the same of standard error.
 pub record RunsTests (program : CodeView) (before limit : ℕ) (is_explained : Bool) (name : List ℕ) (file : FileView)
-    (held holds tells told : Option (List ℕ)) (failed : ℕ) : Type 0 where
+    (held holds tells told : Option (List ℕ)) (failed : Failures) : Type 0 where
   pub lines : List ℕ
   pub words : List ℕ
   pub report : IsReport program before limit is_explained name file lines words failed
@@ -63,7 +65,7 @@ abbrev pub StopsTests : StreamFault → CodeView → ℕ → ℕ → Bool → Li
     → Option (List ℕ) → Type 0
 StopsTests fault program before limit is_explained name file held holds tells told =
     ((fault ≡ Memory) × Keeps held holds × Keeps tells told)
-    ⊎ ((lines : List ℕ) × (words : List ℕ) × (failed : ℕ) × IsReport program before limit is_explained name file lines words failed
+    ⊎ ((lines : List ℕ) × (words : List ℕ) × (failed : Failures) × IsReport program before limit is_explained name file lines words failed
     × (fault ≡ Write) × CutsReport lines words held holds tells told)
 
 -- The filter's text spells a filter, and the tests of its code were run; or it is refused, which was told, and nothing written.

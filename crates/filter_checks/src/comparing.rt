@@ -1,5 +1,6 @@
 //! `ncroute diff`: on which routes two filters differ.
-ghost use Rattle.std.specs.Prelude.{◌≡◌, ◌≤◌, false, IfErr, IfOk, MatchResult};
+ghost use Rattle.std.specs.Prelude.{◌≡◌, ◌≤◌, Decides, false, IfErr, IfOk, MatchResult, OnOk};
+ghost use Rattle.code_file.specs.Spelling.{IsCode, spelling};
 ghost use Rattle.filter_code.specs.Limits.{largest_size};
 ghost use Rattle.filter_reports.specs.Checking.{IsDiagnosis};
 ghost use Rattle.filter_reports.specs.Faults.{stream_fault};
@@ -9,6 +10,7 @@ ghost use Rattle.filter_checks.specs.Comparing as spec;
 ghost use Rattle.filter_checks.specs.declared.comparing.Compared.TheVariants as compared;
 
 use crate::part_lines::parts_text;
+use code_file::write_code;
 use filter_code::Code;
 use filter_diff::{Answer, RoutePart, answer_of, compare, join_all};
 use filter_reports::{NamedText, ProgramFault, tell_refusal, verified_filter};
@@ -42,7 +44,27 @@ fn judge(alloc: Global, text: &[u8], size: u32) -> Result<Result<Verified, Diagn
     }
 }
 
-/// The parts of the routes on which two codes differ or are undecided, joined.
+/// The file of a code.
+fn file_of(alloc: Global, code: &Code) -> Result<Vec<u8>, AllocError>
+    ensures spelled { IfOk result (λ bytes. bytes.items ≡ spelling code.now) }
+    ensures readable { OnOk result (IsCode code.now) }
+{
+    match write_code(alloc, code) {
+        Ok(bytes) => Ok(bytes),
+        Err(_) => Err(AllocError),
+    }
+}
+
+/// Whether two codes are equal. They are if their files are.
+fn are_equal(alloc: Global, old: &Code, new: &Code) -> Result<bool, AllocError>
+    ensures { IfOk result (λ same. Decides same (old.now ≡ new.now)) }
+{
+    let before = file_of(alloc, old)?;
+    let after = file_of(alloc, new)?;
+    Ok(before.as_slice() == after.as_slice())
+}
+
+/// The parts of the routes on which two codes differ or are undecided, joined. Equal codes have none, and nothing is searched.
 fn find_parts(
     alloc: Global,
     old: &Code,
@@ -53,6 +75,10 @@ fn find_parts(
     requires { size ≤ largest_size }
     ensures { IfOk result (λ parts. spec.AreParts old.now new.now size limit parts.items) }
 {
+    let same = are_equal(alloc, old, new)?;
+    if same {
+        return Ok(Vec::new(alloc));
+    }
     let parts = compare(alloc, old, new, size, limit)?;
     join_all(alloc, parts)
 }
@@ -83,7 +109,7 @@ fn write_parts<W: Write>(
         spec.IsCutParts (stream_fault fault) old.now new.now size limit (W.contents writer.old) (W.contents writer.new)) }
 {
     let parts = find_parts(alloc, old, new, size, limit)?;
-    let text = parts_text(alloc, parts.as_slice())?;
+    let text = parts_text(alloc, size, parts.as_slice())?;
     write_text(writer, text.as_slice())?;
     Ok(compared_as(answer_of(parts.as_slice())))
 }

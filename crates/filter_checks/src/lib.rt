@@ -21,6 +21,6 @@ pub use laws::{
 };
 pub use part_lines::{parts_text, push_outcome};
 pub use place::path_beside;
-pub use tap::plan_line;
+pub use tap::{plan_line, skipped_line};
 pub use test_file::{Test, TestFile, TestFileFault, read_tests};
-pub use testing::{Ran, Tested, test_named};
+pub use testing::{Failures, Ran, Tested, test_named};

@@ -1,5 +1,5 @@
 //! The lines that tell of parts of the routes.
-ghost use Rattle.std.specs.Prelude.{◌≡◌, ◌++◌, IfOk, OnOk};
+ghost use Rattle.std.specs.Prelude.{◌≡◌, ◌++◌, IfOk, OnOk, flat_map, take};
 ghost use Rattle.filter_checks.specs.PartLines as spec;
 
 use filter_code::Outcome;
@@ -7,6 +7,9 @@ use filter_diff::{Ending, Finding, RoutePart, count_undecided};
 use filter_reports::push_prefix;
 use line_protocol::push_decimal;
 use std::alloc::{AllocError, Global};
+
+/// So many parts have a line at most.
+const SHOWN_LIMIT: usize = 1_000;
 
 /// Puts the outcome of a run at the end of `out`.
 pub fn push_outcome(out: &mut Vec<u8>, end: Outcome) -> Result<(), AllocError>
@@ -114,20 +117,53 @@ fn push_several_words(out: &mut Vec<u8>, count: usize) -> Result<(), AllocError>
     out.extend_from_slice(b" parts")
 }
 
+/// What stands between routes and the number of nodes of their domain.
+#[tactic(auto, unfolding(crate::specs::PartLines::of_a_domain))]
+fn of_a_domain() -> &'static [u8]
+    ensures { result.now ≡ spec.of_a_domain }
+{
+    b" of a domain of "
+}
+
+/// Puts the domain of routes at the end of `out`, by its size.
+fn push_domain(out: &mut Vec<u8>, size: u32) -> Result<(), AllocError>
+    ensures { OnOk result (out.new.items ≡ out.old.items ++ spec.domain_words size) }
+{
+    out.extend_from_slice(of_a_domain())?;
+    push_decimal(out, u64::from(size))?;
+    out.extend_from_slice(b" nodes")
+}
+
+/// Puts at the end of `out` with which routes the same is done: with all, or with all others where there are parts.
+fn push_same_routes(out: &mut Vec<u8>, parts: &[RoutePart]) -> Result<(), AllocError>
+    ensures { OnOk result (out.new.items ≡ out.old.items ++ spec.same_routes parts.now) }
+{
+    if parts.is_empty() {
+        out.extend_from_slice(b"same on all routes")
+    } else {
+        out.extend_from_slice(b"same on all other routes")
+    }
+}
+
+/// The same, with the size of their domain.
+fn push_same_words(out: &mut Vec<u8>, size: u32, parts: &[RoutePart]) -> Result<(), AllocError>
+    ensures { OnOk result (out.new.items ≡ out.old.items ++ spec.same_words size parts.now) }
+{
+    push_same_routes(out, parts)?;
+    push_domain(out, size)
+}
+
 /// Puts the words of the last line at the end of `out`, where so many of the parts are undecided.
 fn push_last_words(
     out: &mut Vec<u8>,
+    size: u32,
     parts: &[RoutePart],
     undecided: usize,
 ) -> Result<(), AllocError>
-    ensures { OnOk result (out.new.items ≡ out.old.items ++ spec.last_words undecided parts.now) }
+    ensures { OnOk result (out.new.items ≡ out.old.items ++ spec.last_words size undecided parts.now) }
 {
     if undecided == 0 {
-        return if parts.is_empty() {
-            out.extend_from_slice(b"same on all routes")
-        } else {
-            out.extend_from_slice(b"same on all other routes")
-        };
+        return push_same_words(out, size, parts);
     }
     if undecided == 1 {
         return out.extend_from_slice(b"undecided on 1 part");
@@ -135,15 +171,53 @@ fn push_last_words(
     push_several_words(out, undecided)
 }
 
-/// The lines of parts of the routes, and the last line, on all other routes.
-pub fn parts_text(alloc: Global, parts: &[RoutePart]) -> Result<Vec<u8>, AllocError>
-    ensures { IfOk result (λ text. text.items ≡ spec.parts_text parts.now) }
+/// The parts that have a line.
+#[tactic(auto, using(std::proofs::lemmas::List::take_min))]
+fn shown_parts(parts: &[RoutePart]) -> &[RoutePart]
+    ensures { result.now ≡ take spec.shown_limit parts.now }
+{
+    &parts[..SHOWN_LIMIT.min(parts.len())]
+}
+
+/// Puts the lines of parts at the end of `out`.
+fn push_parts(alloc: Global, out: &mut Vec<u8>, parts: &[RoutePart]) -> Result<(), AllocError>
+    ensures { OnOk result (out.new.items ≡ out.old.items ++ flat_map spec.part_line parts.now) }
+{
+    for part in parts {
+        push_part(alloc, out, part)?;
+    }
+    Ok(())
+}
+
+/// What stands before the number of the parts that have none.
+#[tactic(auto, unfolding(crate::specs::PartLines::not_shown))]
+fn not_shown() -> &'static [u8]
+    ensures { result.now ≡ spec.not_shown }
+{
+    b"parts that are not shown: "
+}
+
+/// Puts how many they are at the end of `out`, if there are some.
+fn push_hidden(out: &mut Vec<u8>, count: usize) -> Result<(), AllocError>
+    ensures { OnOk result (out.new.items ≡ out.old.items ++ spec.hidden_text count) }
+{
+    if count == 0 {
+        return Ok(());
+    }
+    out.extend_from_slice(not_shown())?;
+    push_decimal(out, count as u64)?;
+    out.push(b'\n')?;
+    Ok(())
+}
+
+/// The lines of parts of the routes of domains of `size` nodes, as many as are shown, and the last line, on all other routes.
+pub fn parts_text(alloc: Global, size: u32, parts: &[RoutePart]) -> Result<Vec<u8>, AllocError>
+    ensures { IfOk result (λ text. text.items ≡ spec.parts_text size parts.now) }
 {
     let mut out = Vec::new(alloc);
-    for part in parts {
-        push_part(alloc, &mut out, part)?;
-    }
-    push_last_words(&mut out, parts, count_undecided(parts))?;
+    push_parts(alloc, &mut out, shown_parts(parts))?;
+    push_hidden(&mut out, parts.len().saturating_sub(SHOWN_LIMIT))?;
+    push_last_words(&mut out, size, parts, count_undecided(parts))?;
     out.push(b'\n')?;
     Ok(out)
 }

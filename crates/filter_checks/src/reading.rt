@@ -223,6 +223,16 @@ fn all_within(first: &[u8], behind: &[u8]) -> Option<Pattern>
     Pattern::new(prefix, prefix.len(), ADDRESS_LENGTH)
 }
 
+/// The pattern of a prefix and all that it lies in.
+#[tactic(auto, unfolding(crate::specs::Reading::all_round))]
+fn all_round(first: &[u8], behind: &[u8]) -> Option<Pattern>
+    ensures { spec.all_round first.now behind.now ≡ result }
+{
+    let prefix = read_prefix(first)?;
+    none_of(behind)?;
+    Pattern::new(prefix, 0, prefix.len())
+}
+
 /// The pattern of a prefix alone.
 #[tactic(auto, unfolding(crate::specs::Reading::alone))]
 fn alone(text: &[u8]) -> Option<Pattern>
@@ -232,13 +242,23 @@ fn alone(text: &[u8]) -> Option<Pattern>
     Pattern::new(prefix, prefix.len(), prefix.len())
 }
 
+/// A pattern without braces and without a `+`.
+fn unsigned(text: &[u8]) -> Option<Pattern>
+    ensures { spec.unsigned_of text.now (parts_at spec.minus text.now) ≡ result }
+{
+    match cut_at(text, b'-') {
+        Some((first, behind)) => all_round(first, behind),
+        None => alone(text),
+    }
+}
+
 /// A pattern without braces.
 fn unbraced(text: &[u8]) -> Option<Pattern>
     ensures { spec.unbraced_of text.now (parts_at spec.plus text.now) ≡ result }
 {
     match cut_at(text, b'+') {
         Some((first, behind)) => all_within(first, behind),
-        None => alone(text),
+        None => unsigned(text),
     }
 }
 

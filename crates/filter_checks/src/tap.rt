@@ -2,7 +2,7 @@
 //!
 //! **The output is that of the Test Anything Protocol**, which harnesses read. The plan comes last, since the tests of all files are numbered on,
 //! and how many there are is known at the end.
-ghost use Rattle.std.specs.Prelude.{◌≡◌, ◌+◌, ◌<◌, ◌≤◌, ◌^◌, ◌++◌, IfOk, OnOk, count_by, length};
+ghost use Rattle.std.specs.Prelude.{◌≡◌, ◌+◌, ◌<◌, ◌^◌, ◌++◌, IfOk, OnOk, count_by, length};
 ghost use Rattle.prefix_patterns.specs.Spelling.{prefix_text};
 ghost use Rattle.filter_checks.specs.Tap as spec;
 
@@ -125,22 +125,53 @@ pub(crate) fn told_of_all(
     Ok(out)
 }
 
-/// Whether a test does not hold, or that is not decided.
-fn is_failure(ran: &Ran) -> bool
-    ensures { result ≡ spec.is_failure ran.now }
+/// Whether a test does not hold.
+fn is_wrong(ran: &Ran) -> bool
+    ensures { result ≡ spec.is_wrong ran.now }
 {
-    match ran.checked {
-        Checked::Holds => false,
-        Checked::Fails(_) | Checked::Undecided => true,
-    }
+    matches!(ran.checked, Checked::Fails(_))
+}
+
+/// Whether it is not decided that a test holds.
+fn is_undecided(ran: &Ran) -> bool
+    ensures { result ≡ spec.is_undecided ran.now }
+{
+    matches!(ran.checked, Checked::Undecided)
 }
 
 /// How many tests do not hold.
-pub(crate) fn count_failures(all: &[Ran]) -> usize
-    ensures count { result ≡ count_by spec.is_failure all.now }
-    ensures few { result ≤ length all.now }
+pub(crate) fn count_wrong(all: &[Ran]) -> usize
+    ensures { result ≡ count_by spec.is_wrong all.now }
 {
-    all.iter().filter(|ran| is_failure(ran)).count()
+    all.iter().filter(|ran| is_wrong(ran)).count()
+}
+
+/// Of how many it is not decided.
+pub(crate) fn count_undecided(all: &[Ran]) -> usize
+    ensures { result ≡ count_by spec.is_undecided all.now }
+{
+    all.iter().filter(|ran| is_undecided(ran)).count()
+}
+
+/// Why the tests of a file were not run.
+#[tactic(auto, unfolding(crate::specs::Tap::not_run))]
+fn not_run() -> &'static [u8]
+    ensures { result.now ≡ spec.not_run }
+{
+    b": not run, since a file was refused or not read\n"
+}
+
+/// The line in place of the tests of a file of this name that were not run, by its number in the stream.
+pub fn skipped_line(alloc: Global, number: u64, name: &[u8]) -> Result<Vec<u8>, AllocError>
+    ensures { IfOk result (λ out. out.items ≡ spec.skipped number name.now) }
+{
+    let mut out = Vec::new(alloc);
+    out.extend_from_slice(b"not ok ")?;
+    push_decimal(&mut out, number)?;
+    out.extend_from_slice(b" - ")?;
+    push_shown(alloc, &mut out, name)?;
+    out.extend_from_slice(not_run())?;
+    Ok(out)
 }
 
 /// The last line of the stream, by the number of its tests.

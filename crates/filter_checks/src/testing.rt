@@ -1,6 +1,7 @@
 //! `ncroute test`: whether a filter says of routes what the tests of a file say.
 //!
-//! **A test that is undecided counts as one that does not hold**: a build is to go on only with what is known.
+//! **A test that is undecided is `not ok` in the stream, as one that does not hold.** A build is to go on only with what is known. The exit status
+//! tells the two apart.
 //!
 //! **The tests of a file are all run before their lines are written**, so that a refused allocation leaves nothing written of them.
 ghost use Rattle.std.specs.Prelude.{◌≡◌, ◌+◌, ◌<◌, ◌≤◌, ◌^◌, IfErr, IfOk, OnOk, count_by, length, map, vec_len};
@@ -9,11 +10,11 @@ ghost use Rattle.filter_code.specs.Limits.{largest_size};
 ghost use Rattle.filter_reports.specs.Faults.{stream_fault};
 ghost use Rattle.filter_reports.specs.Naming.{named};
 ghost use Rattle.filter_checks.specs.Files.{file_view, test_view};
-ghost use Rattle.filter_checks.specs.Tap.{is_failure, all_lines as lines_of, told_of_all as words_of};
+ghost use Rattle.filter_checks.specs.Tap.{is_undecided, is_wrong, all_lines as lines_of, told_of_all as words_of};
 ghost use Rattle.filter_checks.specs.Testing as spec;
 ghost use Rattle.filter_checks.specs.declared.testing.Tested.TheVariants as tested;
 
-use crate::tap::{all_lines, count_failures, told_of_all};
+use crate::tap::{all_lines, count_undecided, count_wrong, told_of_all};
 use crate::test_file::{Test, TestFile};
 use filter_code::Code;
 use filter_diff::{Checked, check_expectation};
@@ -35,13 +36,22 @@ pub struct Ran {
     pub checked: Checked,
 }
 
+/// How many tests of a file do not hold, or may not.
+#[derive(Clone, Copy)]
+pub struct Failures {
+    /// So many do not hold.
+    pub wrong: usize,
+    /// Of so many it is not decided.
+    pub undecided: usize,
+}
+
 /// What comes of the tests of a file.
 #[derive(Clone, Copy)]
 pub enum Tested {
     /// The filter is refused, and no test was run.
     Refused,
     /// The tests were run, and so many of them do not hold or are not decided.
-    Ran(usize),
+    Ran(Failures),
 }
 
 /// Runs a test.
@@ -90,8 +100,8 @@ struct Report {
     lines: Vec<u8>,
     /// What is told in words.
     words: Vec<u8>,
-    /// How many tests do not hold.
-    failed: usize,
+    /// How many tests do not hold, or may not.
+    failed: Failures,
 }
 
 /// The report on tests that were run, before which the stream has the lines of `before` others.
@@ -105,14 +115,18 @@ fn report_on(
     requires { before + length all.now < 2 ^ 64 }
     ensures lines { IfOk result (λ report. report.lines.items ≡ lines_of before all.now) }
     ensures words { IfOk result (λ report. report.words.items ≡ words_of is_explained name.now all.now) }
-    ensures counted { IfOk result (λ report. report.failed ≡ count_by is_failure all.now) }
+    ensures wrong { IfOk result (λ report. report.failed.wrong ≡ count_by is_wrong all.now) }
+    ensures undecided { IfOk result (λ report. report.failed.undecided ≡ count_by is_undecided all.now) }
 {
     let lines = all_lines(alloc, before, all)?;
     let words = told_of_all(alloc, is_explained, name, all)?;
     Ok(Report {
         lines,
         words,
-        failed: count_failures(all),
+        failed: Failures {
+            wrong: count_wrong(all),
+            undecided: count_undecided(all),
+        },
     })
 }
 
@@ -163,7 +177,7 @@ fn run_tests<W: Write, E: Write>(
     file: &TestFile,
     writer: &mut W,
     errors: &mut E,
-) -> Result<usize, ProgramFault>
+) -> Result<Failures, ProgramFault>
     requires size { code.now.size ≡ file.now.size }
     requires fits { before + length file.now.tests.items < 2 ^ 64 }
     ensures finished { IfOk result (spec.RunsTests code.now.program before limit is_explained name.now (file_view file.now)

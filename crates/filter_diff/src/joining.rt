@@ -10,7 +10,7 @@ use prefix_patterns::Prefix;
 use std::alloc::{AllocError, Global};
 
 /// How far back a part is looked for that joins the next one.
-const LOOK_BACK: usize = 1024;
+const LOOK_BACK: usize = 32;
 
 /// How often all parts are gone over.
 const ROUNDS: usize = 64;

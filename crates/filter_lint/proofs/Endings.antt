@@ -1,6 +1,6 @@
 -- How a run of `lint` ends.
-use Rattle.std.proofs.Common.{◌≡◌, inr, ℕ, ◌+◌, Bool, true, false, List, length, Option, Result, Ok, Err, IfOk, sym, subst}
-use Rattle.std.specs.Prelude.{All}
+use Rattle.std.proofs.Common.{◌≡◌, inr, ℕ, ◌+◌, Bool, true, false, List, [], length, Option, Result, Ok, Err, IfOk, Global, subst}
+use Rattle.std.specs.Prelude.{All, String}
 use Rattle.filter_code.specs.CodeView.{CodeView}
 use Rattle.filter_source.specs.TextPlaces.{ArePlacesOf}
 use Rattle.filter_reports.proofs.VerifiedFilters.{is_filter, keeps_self}
@@ -12,6 +12,7 @@ use Rattle.filter_lint.specs.Linting.{CutsWarnings, IsReport, LintsFilter, Lints
 use Rattle.filter_lint.specs.Linting.{WritesWarnings, linted_as}
 use Rattle.filter_lint.specs.declared.linting.Linted.{Linted}
 use Rattle.filter_diff.specs.Parts.{IsEnough}
+use Rattle.filter_lint.specs.Allowing.{told_host_bits, told_of}
 use Rattle.filter_lint.specs.HostBits.{AreHostBits}
 use Rattle.filter_lint.specs.Rules.{AreFound}
 use Rattle.filter_lint.specs.Truths.{IsTrueOf}
@@ -20,26 +21,30 @@ use Rattle.filter_lint.specs.declared.host_bits.HostBits.{HostBits}
 use Rattle.filter_lint.specs.declared.linting.Linted.TheVariants as linted
 use Rattle.filter_lint.specs.declared.linting.Report.{Report}
 use Rattle.filter_lint.specs.declared.rules.Warnings.{Warnings}
+use Rattle.filter_lint.specs.declared.warning.Warning.{Warning}
 
--- the lines of warnings that are found are a report on them
-pub reported : {E : Type 0} (program : CodeView) (size limit : ℕ) (places others : List ℕ) (source : Named) (all : Warnings)
-    (host_bits bits : List HostBits) (r : Result Report E) → others ≡ places → bits ≡ host_bits
+-- the lines of the warnings that are told are a report on those that are found
+pub reported : {E : Type 0} (program : CodeView) (size limit : ℕ) (allowed : List (String Global)) (places others : List ℕ) (source : Named)
+    (all : Warnings) (host_bits bits : List HostBits) (told : List Warning) (r : Result Report E) → others ≡ places
+    → told ≡ told_of allowed source.text all.found.items → bits ≡ told_host_bits allowed source.text host_bits
     → AreFound program source.text others size all → All (IsTrueOf program size others) all.found.items
     → (IsEnough size limit → all.is_complete ≡ true) → AreHostBits source.text host_bits
-    → IfOk r (λ report. report.lines.items ≡ warnings_text source.name source.text program.sets all.found.items bits all.is_complete)
-    → IfOk r (λ report. report.found ≡ linted_as all.is_complete (length all.found.items + length bits))
-    → IfOk r (λ report. IsReport program size limit places source report.lines.items report.found)
-reported program size limit places others source all host_bits bits (Err why) same alike found true_of decided are lines counted = tt
-reported program size limit places others source all host_bits bits (Ok report) same alike found true_of decided are lines counted = record {
-  all = all;
-  are_found = subst (λ (ps : List ℕ). AreFound program source.text ps size all) same found;
-  are_true = subst (λ (ps : List ℕ). All (IsTrueOf program size ps) all.found.items) same true_of;
-  host_bits = bits;
-  are_host_bits = subst (AreHostBits source.text) (sym alike) are;
-  lines_are = lines;
-  decided = decided;
-  comes_to = counted;
-}
+    → IfOk r (λ report. report.lines.items ≡ warnings_text source.name source.text program.sets told bits all.is_complete)
+    → IfOk r (λ report. report.found ≡ linted_as all.is_complete (length told + length bits))
+    → IfOk r (λ report. IsReport program size limit allowed places source report.lines.items report.found)
+reported program size limit allowed places others source all host_bits bits told (Err why) same alike fewer found true_of decided are lines counted =
+    tt
+reported program size limit allowed places others source all host_bits bits told (Ok report) same alike fewer found true_of decided are lines
+    counted = record {
+      all = all;
+      are_found = subst (λ (ps : List ℕ). AreFound program source.text ps size all) same found;
+      are_true = subst (λ (ps : List ℕ). All (IsTrueOf program size ps) all.found.items) same true_of;
+      host_bits = host_bits;
+      are_host_bits = are;
+      lines_are = rw (← alike, ← fewer) lines;
+      decided = decided;
+      comes_to = rw (← alike, ← fewer) counted;
+    }
 
 -- a filter that is not refused
 not_refused : {A : Type 0} (is_complete : Bool) (count : ℕ) → linted.Refused ≡ linted_as is_complete count → A
@@ -49,7 +54,7 @@ not_refused false count e = let no : ⊥ = cc in absurd no
 -- the filter of a text, whose code was judged for domains of a size
 module _ (size limit : ℕ) (source : Named) (v : VerifiedView) (places : List ℕ) (is : IsVerifiedOf size source.text v)
     (are : ArePlacesOf source.text places) where
-  pub warned_well : (told tells : Option (List ℕ)) (found : Linted) → WritesWarnings v.program v.size limit places source told tells found
+  pub warned_well : (told tells : Option (List ℕ)) (found : Linted) → WritesWarnings v.program v.size limit [] places source told tells found
       → WarnsNamed size limit source told tells
   warned_well told tells found h = inr (
     found,
@@ -57,44 +62,44 @@ module _ (size limit : ℕ) (source : Named) (v : VerifiedView) (places : List �
     is_filter size source.text v is,
     places,
     are,
-    subst (λ (n : ℕ). WritesWarnings v.program n limit places source told tells found) is.size_is h,
+    subst (λ (n : ℕ). WritesWarnings v.program n limit [] places source told tells found) is.size_is h,
   )
 
-  pub warned_off : (told tells : Option (List ℕ)) (fault : StreamFault) → CutsWarnings fault v.program v.size limit places source told tells
+  pub warned_off : (told tells : Option (List ℕ)) (fault : StreamFault) → CutsWarnings fault v.program v.size limit [] places source told tells
       → WarnsNamedOff fault size limit source told tells
   warned_off told tells fault h = inr (
     is.filter,
     is_filter size source.text v is,
     places,
     are,
-    subst (λ (n : ℕ). CutsWarnings fault v.program n limit places source told tells) is.size_is h,
+    subst (λ (n : ℕ). CutsWarnings fault v.program n limit [] places source told tells) is.size_is h,
   )
 
-  module _ (is_explained : Bool) (held holds tells : Option (List ℕ)) where
-    linted_filter : (found : Linted) → WritesWarnings v.program v.size limit places source held holds found
-        → LintsFilter size limit source held holds tells tells found
+  module _ (allowed : List (String Global)) (is_explained : Bool) (held holds tells : Option (List ℕ)) where
+    linted_filter : (found : Linted) → WritesWarnings v.program v.size limit allowed places source held holds found
+        → LintsFilter size limit allowed source held holds tells tells found
     linted_filter found h = (
       is.filter,
       is_filter size source.text v is,
       places,
       are,
-      subst (λ (n : ℕ). WritesWarnings v.program n limit places source held holds found) is.size_is h,
+      subst (λ (n : ℕ). WritesWarnings v.program n limit allowed places source held holds found) is.size_is h,
       keeps_self tells,
     )
 
-    pub linted_well : (found : Linted) → WritesWarnings v.program v.size limit places source held holds found
-        → LintsNamed size limit is_explained source held holds tells tells found
+    pub linted_well : (found : Linted) → WritesWarnings v.program v.size limit allowed places source held holds found
+        → LintsNamed size limit allowed is_explained source held holds tells tells found
     linted_well linted.Refused h = not_refused h.report.all.is_complete _ h.report.comes_to
     linted_well (linted.Warned count) h = linted_filter (linted.Warned count) h
     linted_well (linted.Undecided count) h = linted_filter (linted.Undecided count) h
 
-    pub linted_off : (fault : StreamFault) → CutsWarnings fault v.program v.size limit places source held holds
-        → LintsNamedOff fault size limit is_explained source held holds tells tells
+    pub linted_off : (fault : StreamFault) → CutsWarnings fault v.program v.size limit allowed places source held holds
+        → LintsNamedOff fault size limit allowed is_explained source held holds tells tells
     linted_off fault h = inr (inr (
       is.filter,
       is_filter size source.text v is,
       places,
       are,
-      subst (λ (n : ℕ). CutsWarnings fault v.program n limit places source held holds) is.size_is h,
+      subst (λ (n : ℕ). CutsWarnings fault v.program n limit allowed places source held holds) is.size_is h,
       keeps_self tells,
     ))

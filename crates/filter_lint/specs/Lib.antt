@@ -1,4 +1,5 @@
 -- What callers cite.
+pub mod Allowing
 pub mod Linting
 pub mod SurveyedFilters
 pub mod WarningLines

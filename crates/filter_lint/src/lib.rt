@@ -6,6 +6,7 @@
 //! language. Where a program reads the report, without words, nothing is told that was not asked for.
 #![tactic(auto)]
 
+mod allowing;
 mod arithmetic;
 mod commands;
 mod conditions;

@@ -6,13 +6,16 @@ ghost use Rattle.filter_reports.specs.Naming.{named};
 ghost use Rattle.filter_diff.specs.Parts.{IsEnough};
 ghost use Rattle.filter_tokens.specs.Tokenization.{IsTokenization};
 ghost use Rattle.line_protocol.specs.Runs.{AppendsFront};
+ghost use Rattle.filter_lint.specs.Allowing.{told_host_bits as host_bits_told, told_of as warnings_told};
 ghost use Rattle.filter_lint.specs.Linting as spec;
 ghost use Rattle.filter_lint.specs.Rules.{AreFound};
 ghost use Rattle.filter_lint.specs.Truths.{IsTrueOf};
 ghost use Rattle.filter_lint.specs.WarningLines.{warnings_text as warnings_text_of};
 
+use crate::allowing::{told_host_bits, told_of};
 use crate::host_bits::{HostBits, host_bits_among};
 use crate::rules::{Warnings, find_warnings};
+use crate::warning::Warning;
 use crate::warning_lines::{host_bits_text, warnings_text};
 use filter_reports::{NamedText, PlacedCode, ProgramFault, placed_code, tell_refusal};
 use filter_source::Failure;
@@ -66,43 +69,45 @@ fn warnings_of(
     find_warnings(alloc, verified.code(), text, places, verified.size(), limit)
 }
 
-/// The lines of warnings of a code, and what comes of it.
+/// The lines of those warnings of a code that are told, and what comes of it.
 fn report_on(
     alloc: Global,
     verified: &Verified,
     source: &NamedText<'_>,
     all: &Warnings,
+    told: &[Warning],
     host_bits: &[HostBits],
 ) -> Result<Report, AllocError>
     ensures lines { IfOk result (λ report. report.lines.items
-        ≡ warnings_text_of source.now.name.now source.now.text.now verified.now.program.sets all.now.found.items host_bits.now all.now.is_complete) }
-    ensures comes_to { IfOk result (λ report. report.found ≡ spec.linted_as all.now.is_complete (length all.now.found.items + length host_bits.now)) }
+        ≡ warnings_text_of source.now.name.now source.now.text.now verified.now.program.sets told.now host_bits.now all.now.is_complete) }
+    ensures comes_to { IfOk result (λ report. report.found
+        ≡ spec.linted_as all.now.is_complete (length told.now + length host_bits.now)) }
 {
-    let warnings = all.found.as_slice();
     let lines = warnings_text(
         alloc,
         source.name,
         source.text,
         verified.code().sets(),
-        warnings,
+        told,
         host_bits,
         all.is_complete,
     )?;
     Ok(Report {
         lines,
-        found: linted_as(all.is_complete, warnings.len() + host_bits.len()),
+        found: linted_as(all.is_complete, told.len() + host_bits.len()),
     })
 }
 
-/// The warnings of a filter's verified code and of its text, in lines.
+/// The warnings of a filter's verified code and of its text, in lines, but for those of these codes and those that a comment allows.
 fn report_of(
     alloc: Global,
     placed: &PlacedCode,
     source: &NamedText<'_>,
     limit: u64,
+    allowed: &[String],
 ) -> Result<Report, AllocError>
     requires { IsTokenization placed.now.tokens.items 0 source.now.text.now }
-    ensures { IfOk result (λ report. spec.IsReport placed.now.verified.program placed.now.verified.size limit placed.now.places.items
+    ensures { IfOk result (λ report. spec.IsReport placed.now.verified.program placed.now.verified.size limit allowed.now placed.now.places.items
         (named source.now) report.lines.items report.found) }
 {
     let all = warnings_of(
@@ -113,7 +118,16 @@ fn report_of(
         limit,
     )?;
     let host_bits = host_bits_among(alloc, placed.tokens.as_slice())?;
-    report_on(alloc, &placed.verified, source, &all, host_bits.as_slice())
+    let told = told_of(alloc, allowed, source.text, all.found.as_slice())?;
+    let told_bits = told_host_bits(alloc, allowed, source.text, host_bits.as_slice())?;
+    report_on(
+        alloc,
+        &placed.verified,
+        source,
+        &all,
+        told.as_slice(),
+        told_bits.as_slice(),
+    )
 }
 
 /// Writes the lines of a report.
@@ -132,39 +146,41 @@ fn write_warnings<W: Write>(
     placed: &PlacedCode,
     source: &NamedText<'_>,
     limit: u64,
+    allowed: &[String],
     writer: &mut W,
 ) -> Result<Linted, ProgramFault>
     requires { IsTokenization placed.now.tokens.items 0 source.now.text.now }
-    ensures finished { IfOk result (spec.WritesWarnings placed.now.verified.program placed.now.verified.size limit placed.now.places.items
-        (named source.now) (W.contents writer.old) (W.contents writer.new)) }
+    ensures finished { IfOk result (spec.WritesWarnings placed.now.verified.program placed.now.verified.size limit allowed.now
+        placed.now.places.items (named source.now) (W.contents writer.old) (W.contents writer.new)) }
     ensures broken_off { IfErr result (λ fault. spec.CutsWarnings (stream_fault fault) placed.now.verified.program placed.now.verified.size
-        limit placed.now.places.items (named source.now) (W.contents writer.old) (W.contents writer.new)) }
+        limit allowed.now placed.now.places.items (named source.now) (W.contents writer.old) (W.contents writer.new)) }
 {
-    let report = report_of(alloc, placed, source, limit)?;
+    let report = report_of(alloc, placed, source, limit, allowed)?;
     write_report(&report, writer)?;
     Ok(report.found)
 }
 
-/// Writes the warnings of the filter that a text spells, for domains of `size` nodes, a line for each. At most `limit` classes of
-/// routes are tried; where these are not all, a line says so. A text that is refused is told on `errors` under its name, in words where
-/// `is_explained` says so, and nothing is written.
+/// Writes the warnings of the filter that a text spells, for domains of `size` nodes, a line for each, but for those whose codes are
+/// `allowed` and those that a comment of their line allows. At most `limit` classes of routes are tried; where these are not all, a line says
+/// so. A text that is refused is told on `errors` under its name, in words where `is_explained` says so, and nothing is written.
 pub fn lint_named<W: Write, E: Write>(
     alloc: Global,
     source: &NamedText<'_>,
     size: u32,
     limit: u64,
+    allowed: &[String],
     is_explained: bool,
     writer: &mut W,
     errors: &mut E,
 ) -> Result<Linted, ProgramFault>
-    ensures finished { IfOk result (spec.LintsNamed size limit is_explained (named source.now)
+    ensures finished { IfOk result (spec.LintsNamed size limit allowed.now is_explained (named source.now)
         (W.contents writer.old) (W.contents writer.new) (E.contents errors.old) (E.contents errors.new)) }
-    ensures broken_off { IfErr result (λ fault. spec.LintsNamedOff (stream_fault fault) size limit is_explained (named source.now)
+    ensures broken_off { IfErr result (λ fault. spec.LintsNamedOff (stream_fault fault) size limit allowed.now is_explained (named source.now)
         (W.contents writer.old) (W.contents writer.new) (E.contents errors.old) (E.contents errors.new)) }
 {
     match placed_code(alloc, source.text, size) {
         Ok(placed) => {
-            let found = write_warnings(alloc, &placed, source, limit, writer)?;
+            let found = write_warnings(alloc, &placed, source, limit, allowed, writer)?;
             Ok(found)
         }
         Err(Failure::Refused(told)) => {
@@ -196,7 +212,7 @@ pub fn warn_named<E: Write>(
 {
     match placed_code(alloc, source.text, size) {
         Ok(placed) => {
-            write_warnings(alloc, &placed, source, limit, errors)?;
+            write_warnings(alloc, &placed, source, limit, &[], errors)?;
             Ok(())
         }
         Err(Failure::Refused(_)) => Ok(()),
@@ -214,7 +230,8 @@ fn host_bits_lines(
     ensures { IfOk result (λ lines. spec.AreHostBitsLines (named source.now) lines.items) }
 {
     let host_bits = host_bits_among(alloc, tokens)?;
-    let lines = host_bits_text(alloc, source.name, source.text, host_bits.as_slice())?;
+    let told = told_host_bits(alloc, &[], source.text, host_bits.as_slice())?;
+    let lines = host_bits_text(alloc, source.name, source.text, told.as_slice())?;
     Ok(lines)
 }
 

@@ -1,6 +1,7 @@
 pub mod Joined
 pub mod Numbers
 pub mod Greetings
+mod Posts
 pub mod Silence
 pub mod Each
 pub mod Order

@@ -4,4 +4,5 @@ pub mod Reading
 pub mod Ends
 pub mod Clocks
 pub mod Links
+pub mod Posts
 pub mod Events

@@ -1,12 +1,12 @@
 //! Two ends of a link that stay in step over any line: the lines of version 2, what an end does at each line that it hears, and how long
-//! it was silent. The router does not use it yet; it talks by version 1 (`message_streams`).
+//! it was silent.
 //!
 //! # The lines
 //!
-//! A greeting is `netchange 2 SIZE NODE HOLD NUMBER HEARD`: the number of nodes of the domain and the node that speaks, as in version 1;
+//! A greeting is `netchange 2 SIZE NODE HOLD NUMBER HEARD`: the number of nodes of the domain and the node that speaks;
 //! how many seconds this end may be silent before it is dead, at most 3,600, or 0 for any time; a number of this attempt, chosen at random,
 //! 1 to 4,294,967,295; and the number of the greeting that was heard last from the other end, or 0. Numbers are decimal, with no zero
-//! before them. A message is `V D`, as in version 1. An empty line says that its writer is there. No line has more than 64 bytes.
+//! before them. A message is `V D`: the node V is at the distance D. An empty line says that its writer is there. No line has more than 64 bytes.
 //!
 //! # The protocol
 //!

@@ -1,7 +1,8 @@
 //! An end of a link that several threads serve: who reads it, who writes to it, and who looks at the clock.
-ghost use Rattle.std.specs.Prelude.{◌≡◌, ◌<◌, ◌||◌, ◌&&◌, IfNone, IfSome, IsTrue, false, true, not};
+ghost use Rattle.std.specs.Prelude.{◌≡◌, ◌<◌, ◌||◌, ◌↔◌, IfNone, IfSome, IsTrue, false, true};
 ghost use Rattle.link_handshake.specs.Clocks.{IsSilent, after_line, after_writing, looked};
 ghost use Rattle.link_handshake.specs.Ends.{begun, greeting_of, heard_line};
+ghost use Rattle.link_handshake.specs.Posts as spec;
 ghost use Rattle.link_handshake.specs.declared.said.Said.TheVariants as said;
 
 use crate::clocks::Clocks;
@@ -123,14 +124,21 @@ impl Post {
         self.clocks = self.clocks.hear(Said::Alive);
     }
 
+    /// Whether its greeting is to be written now.
+    fn has_to_greet(&self) -> bool
+        ensures { IsTrue result ↔ spec.HasToGreet self.now }
+    {
+        self.owes_greeting || (!self.end.is_up && self.clocks.is_due())
+    }
+
     /// The greeting that it has to write now, if it has to: it owes one; or it has no session, and wrote nothing for a third of its HOLD. It
     /// counts as written.
     pub fn take_greeting(&mut self) -> Option<Greeting>
-        ensures some { IfSome result (λ g. (g ≡ greeting_of self.old.speaker self.old.end)
+        ensures some { IfSome result (λ g. spec.HasToGreet self.old × (g ≡ greeting_of self.old.speaker self.old.end)
             × (self.new ≡ record self.old { owes_greeting = false; clocks = after_writing self.old.clocks })) }
-        ensures none { IfNone result ((self.new ≡ self.old) × (self.old.owes_greeting ≡ false)) }
+        ensures none { IfNone result ((self.new ≡ self.old) × (spec.HasToGreet self.old → ⊥)) }
     {
-        if !self.owes_greeting && (self.end.is_up || !self.clocks.is_due()) {
+        if !self.has_to_greet() {
             return None;
         }
         self.owes_greeting = false;
@@ -139,7 +147,9 @@ impl Post {
     }
 
     /// Whether it has to write something: a greeting, or an empty line where it wrote nothing for a third of its HOLD.
-    pub fn is_due(&self) -> bool {
+    pub fn is_due(&self) -> bool
+        ensures { IsTrue result ↔ spec.HasToWrite self.now }
+    {
         self.owes_greeting || self.clocks.is_due()
     }
 

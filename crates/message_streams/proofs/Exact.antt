@@ -17,10 +17,8 @@ use Rattle.netchange_core.specs.declared.message.Message.{Message}
 use Rattle.prefix_patterns.proofs.Tokens.{parts_at-joined}
 use Rattle.prefix_patterns.specs.Reading.{◌>>=◌, parts_at}
 use Rattle.message_streams.proofs.Pairs.{bind_some, pair_in-found, pair_in-text, pair_text-open, pair_text-short, same_pair}
-use Rattle.message_streams.specs.Lines.{FitsGreeting, FitsMessage, greeting_line, greeting_text, mark}
-use Rattle.message_streams.specs.Lines.{message_line, message_text, messages_text, pair_text}
-use Rattle.message_streams.specs.Reading.{after_mark, greeting_in, message_in, messages_in, pair_in}
-use Rattle.message_streams.specs.declared.greeting.Greeting.{Greeting}
+use Rattle.message_streams.specs.Lines.{FitsMessage, line_of, lines_text, message_line, message_text, told_in}
+use Rattle.message_streams.specs.Reading.{message_in, messages_in, pair_in}
 
 -- ---- a line
 
@@ -39,51 +37,6 @@ message_in-found line m e =
 
 pub message_exact : (line : List ℕ) (m : Message) → (message_in line ≡ Some m) ↔ (FitsMessage m × (line ≡ message_text m))
 message_exact line m = (message_in-found line m, λ is. ap message_in is.1 ∙ message_in-text m is.0)
-
--- what follows the mark
-after_mark-found : (line rest : List ℕ) → after_mark line ≡ Some rest → line ≡ mark ++ rest
-after_mark-found line rest e =
-    let found = cond_some (bytes_eq (take (length mark) line) mark) (drop (length mark) line) rest e in
-    sym (take-append-drop (length mark) line) ∙ ap (λ l. l ++ drop (length mark) line) ((bytes_eq-Decides (take (length mark) line) mark).0 found.0)
-    ∙ ap (λ l. mark ++ l) found.1
-
-after_mark-joined : (rest : List ℕ) → after_mark (mark ++ rest) ≡ Some rest
-after_mark-joined rest =
-    let front : take (length mark) (mark ++ rest) ≡ mark = take_at mark rest (length mark) refl in
-    let same : bytes_eq (take (length mark) (mark ++ rest)) mark ≡ true = (bytes_eq-Decides (take (length mark) (mark ++ rest)) mark).1 front in
-    cond-true (bytes_eq (take (length mark) (mark ++ rest)) mark) (Some (drop (length mark) (mark ++ rest))) None same
-    ∙ ap (λ l. Some l) (drop_at mark rest (length mark) refl)
-
--- the greeting after the mark
-abbrev greeting_of : ℕ × ℕ → Option Greeting
-greeting_of p = Some (record { size = p.0; node = p.1 })
-
-abbrev greeting_from : Option (List ℕ) → Option Greeting
-greeting_from found = found >>= (λ rest. pair_in rest >>= greeting_of)
-
-pub greeting_in-text : (g : Greeting) → FitsGreeting g → greeting_in (greeting_text g) ≡ Some g
-unfolding greeting_in
-greeting_in-text g fits =
-    ap greeting_from (after_mark-joined (pair_text g.size g.node)) ∙ ap (λ p. p >>= greeting_of) (pair_in-text g.size g.node fits.size fits.node)
-
-pub greeting_in-found : (line : List ℕ) (g : Greeting) → greeting_in line ≡ Some g → FitsGreeting g × (line ≡ greeting_text g)
-unfolding greeting_in
-greeting_in-found line g e =
-    bind_some (after_mark line) _ g e (λ rest at_rest e.
-    bind_some (pair_in rest) _ g e (λ p at_pair e.
-    let pair = pair_in-found rest p.0 p.1 at_pair in
-    let same : (record { size = p.0; node = p.1 }) ≡ g = cc in
-    let is = after_mark-found line rest at_rest ∙ ap (λ l. mark ++ l) pair.is in
-    subst (λ (n : Greeting). FitsGreeting n × (line ≡ greeting_text n)) same (record { size = pair.first; node = pair.second }, is)))
-
--- where nothing is read no greeting is written
-pub greeting_none : (line : List ℕ) → greeting_in line ≡ None → (g : Greeting) → FitsGreeting g → line ≡ greeting_text g → ⊥
-greeting_none line none g fits is =
-    let both : None ≡ Some g = sym none ∙ ap greeting_in is ∙ greeting_in-text g fits in
-    absurd cc
-
-pub greeting_exact : (line : List ℕ) (g : Greeting) → (greeting_in line ≡ Some g) ↔ (FitsGreeting g × (line ≡ greeting_text g))
-greeting_exact line g = (greeting_in-found line g, λ is. ap greeting_in is.1 ∙ greeting_in-text g is.0)
 
 -- ---- lines one after another
 
@@ -104,37 +57,15 @@ message_apart a b x y p q e =
     let same : Some a ≡ Some b = sym (message_in-text a p) ∙ ap message_in cut.0 ∙ message_in-text b q in
     (cc, cut.1)
 
--- bytes that come after the line feed in the order of ASCII
-abbrev are_above : List ℕ → Bool
-are_above [] = true
-are_above (b ∷ bs) = nat_le 11 b && are_above bs
+-- ---- messages, a line each, and empty lines
 
-all_above : (bs : List ℕ) → are_above bs ≡ true → All (λ byte. byte ≢ 10) bs
-all_above [] e = λ k d h. absurd (omega (arith, h))
-all_above (b ∷ bs) e =
-    let parts = and_parts (nat_le 11 b) (are_above bs) e in
-    let above = leb-true 11 b parts.0 in
-    All-cons (λ byte. byte ≢ 10) b bs (λ same. omega (arith, above, same)) (all_above bs parts.1)
+whole_line : (line : Option Message) (rest : List ℕ) → whole_lines (line_of line ++ rest) ≡ line_of line ++ whole_lines rest
+whole_line None rest = whole_lines-append (10 ∷ []) rest (inr ([], refl))
+whole_line (Some m) rest = whole_lines-append (message_line m) rest (inr (message_text m, refl))
 
-open_mark : All (λ byte. byte ≢ 10) mark
-open_mark = all_above mark refl
-
-open_greeting : (g : Greeting) → FitsGreeting g → All (λ byte. byte ≢ 10) (greeting_text g)
-open_greeting g fits = All-append (λ byte. byte ≢ 10) mark (pair_text g.size g.node) open_mark (pair_text-open g.size g.node fits.size fits.node)
-
-pub greeting_apart : (a b : Greeting) (x y : List ℕ) → FitsGreeting a → FitsGreeting b → greeting_line a ++ x ≡ greeting_line b ++ y →
-    (a ≡ b) × (x ≡ y)
-greeting_apart a b x y p q e =
-    let cut = cut_once (greeting_text a) (greeting_text b) x y (open_greeting a p) (open_greeting b q) e in
-    let same : Some a ≡ Some b = sym (greeting_in-text a p) ∙ ap greeting_in cut.0 ∙ greeting_in-text b q in
-    (cc, cut.1)
-
--- ---- messages, a line each
-
-whole_messages : (ms : List Message) → whole_lines (messages_text ms) ≡ messages_text ms
-whole_messages [] = refl
-whole_messages (m ∷ ms) =
-    whole_lines-append (message_line m) (messages_text ms) (inr (message_text m, refl)) ∙ ap (λ l. message_line m ++ l) (whole_messages ms)
+whole_text : (lines : List (Option Message)) → whole_lines (lines_text lines) ≡ lines_text lines
+whole_text [] = refl
+whole_text (line ∷ lines) = whole_line line (lines_text lines) ∙ ap (λ l. line_of line ++ l) (whole_text lines)
 
 -- a first line that has ended is a part of its own
 first_part : (m : Message) (rest : List ℕ) → FitsMessage m →
@@ -144,30 +75,30 @@ first_part m rest fits =
     (open_message m fits) in
     ap (slice_split is_line_feed) (append_assoc (message_text m) (10 ∷ []) rest) ∙ slice_split_at is_line_feed (message_text m) 10 rest feeds refl
 
+empty_part : (rest : List ℕ) → slice_split is_line_feed (10 ∷ rest) ≡ [] ∷ slice_split is_line_feed rest
+empty_part rest = slice_split_at is_line_feed [] 10 rest (λ k d h. absurd (omega (arith, h))) refl
+
 -- an empty line says nothing
 nothing_said : message_in [] ≡ None
 unfolding pair_in parts_at
 nothing_said = refl
 
-said : (ms : List Message) → All FitsMessage ms → filter_map message_in (slice_split is_line_feed (messages_text ms)) ≡ ms
-said [] fits = rw nothing_said refl
-said (m ∷ ms) fits =
-    rw (first_part m (messages_text ms) (All-head FitsMessage m ms fits), message_in-text m (All-head FitsMessage m ms fits))
-    (ap (λ l. m ∷ l) (said ms (All-tail FitsMessage m ms fits)))
+skip_nothing : (parts : List (List ℕ)) → filter_map message_in ([] ∷ parts) ≡ filter_map message_in parts
+skip_nothing parts = rw nothing_said refl
 
-pub messages_in-text : (ms : List Message) → All FitsMessage ms → messages_in (messages_text ms) ≡ ms
-messages_in-text ms fits = rw (whole_messages ms) (said ms fits)
+said : (lines : List (Option Message)) → All FitsMessage (told_in lines) →
+    filter_map message_in (slice_split is_line_feed (lines_text lines)) ≡ told_in lines
+said [] fits = rw nothing_said refl
+said (None ∷ lines) fits =
+    ap (filter_map message_in) (empty_part (lines_text lines)) ∙ skip_nothing (slice_split is_line_feed (lines_text lines)) ∙ said lines fits
+said (Some m ∷ lines) fits =
+    rw (first_part m (lines_text lines) (All-head FitsMessage m (told_in lines) fits), message_in-text m (All-head FitsMessage m (told_in lines) fits))
+    (ap (λ l. m ∷ l) (said lines (All-tail FitsMessage m (told_in lines) fits)))
+
+pub messages_in-lines : (lines : List (Option Message)) → All FitsMessage (told_in lines) → messages_in (lines_text lines) ≡ told_in lines
+messages_in-lines lines fits = rw (whole_text lines) (said lines fits)
 
 -- ---- lengths
 
 pub message_short : (m : Message) → FitsMessage m → length (message_line m) ≤ 64
 message_short m fits = omega (arith, length-append (message_text m) (10 ∷ []), pair_text-short m.dest m.dist fits.dest fits.dist)
-
-pub greeting_short : (g : Greeting) → FitsGreeting g → length (greeting_line g) ≤ 64
-greeting_short g fits =
-    omega (
-      arith,
-      length-append (greeting_text g) (10 ∷ []),
-      length-append mark (pair_text g.size g.node),
-      pair_text-short g.size g.node fits.size fits.node,
-    )

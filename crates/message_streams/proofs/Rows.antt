@@ -4,17 +4,13 @@ use Rattle.std.specs.Fmt.{digits}
 use Rattle.prefix_patterns.specs.Number.{decimal_value}
 use Rattle.prefix_patterns.specs.Reading.{number_in, parts_at}
 use Rattle.message_streams.specs.Ends.{end_within}
-use Rattle.message_streams.specs.Lines.{greeting_line, message_line}
-use Rattle.message_streams.specs.Reading.{exact_number, greeting_in, message_in, messages_in, pair_in}
+use Rattle.message_streams.specs.Lines.{message_line}
+use Rattle.message_streams.specs.Reading.{exact_number, message_in, messages_in, pair_in}
 use Rattle.message_streams.specs.declared.ends.StreamEnd.TheVariants as why
 
 message_written : message_line (record { dest = 7; dist = 65535 }) ≡ codes "7 65535\n"
 unfolding digits
 message_written = refl
-
-greeting_written : greeting_line (record { size = 10; node = 0 }) ≡ codes "netchange 1 10 0\n"
-unfolding digits
-greeting_written = refl
 
 message_read : message_in (codes "7 12") ≡ Some (record { dest = 7; dist = 12 })
 unfolding digits pair_in exact_number number_in parts_at decimal_value
@@ -40,14 +36,6 @@ too_large = refl
 half_a_line : message_in (codes "7 ") ≡ None
 unfolding digits pair_in exact_number number_in parts_at decimal_value
 half_a_line = refl
-
-greeting_read : greeting_in (codes "netchange 1 10 3") ≡ Some (record { size = 10; node = 3 })
-unfolding digits greeting_in pair_in exact_number number_in parts_at decimal_value
-greeting_read = refl
-
-other_version : greeting_in (codes "netchange 2 10 3") ≡ None
-unfolding digits greeting_in pair_in exact_number number_in parts_at decimal_value
-other_version = refl
 
 -- what follows the last line feed says nothing
 said_by_lines : messages_in (codes "1 2\n3 4\n5 6") ≡ record { dest = 1; dist = 2 } ∷ record { dest = 3; dist = 4 } ∷ []

@@ -1,10 +1,7 @@
 -- Why a reader hands out no more, and what it has read by then. (This project's own choice.)
-use Rattle.std.specs.Prelude.{◌≡◌, ◌≢◌, ℕ, ◌<◌, ◌≤◌, ◌==◌, if◌then◌else◌, All, Option, None, List, [], ◌∷◌, ◌++◌, length, ⊤}
+use Rattle.std.specs.Prelude.{◌≡◌, ◌≢◌, ℕ, ◌<◌, ◌≤◌, ◌==◌, if◌then◌else◌, All, Bool, true, false, Option, Some, None, List, [], ◌∷◌, ◌++◌, length, ⊤}
 use Rattle.std.specs.Io.KnownBytes.{Consumes, IsAtEnd}
-use Rattle.message_streams.specs.Greetings.{IsGreetingFault}
 use Rattle.message_streams.specs.Lines.{line_limit}
-use Rattle.message_streams.specs.Reading.{message_in}
-use Rattle.message_streams.specs.declared.greeting.Greeting.{Greeting}
 use Rattle.message_streams.specs.declared.ends.StreamEnd.{StreamEnd}
 use Rattle.message_streams.specs.declared.ends.StreamEnd.TheVariants as why
 
@@ -22,8 +19,6 @@ abbrev pub EndsAfter : StreamEnd → List ℕ → Option (List ℕ) → Type 0
 EndsAfter why.Ended read left = (read ≡ []) × IsAtEnd left
 EndsAfter why.Unfinished read left = (0 < length read) × IsAtEnd left
 EndsAfter why.TooLong read left = length read ≡ line_limit
-EndsAfter why.NoMessage read left = ⊥
-EndsAfter (why.Greeting fault) read left = ⊥
 EndsAfter why.Read read left = ⊤
 
 -- no line was read; what was taken of the stream is no more than a line may have
@@ -40,21 +35,13 @@ pub record ReadsLine (line : List ℕ) (known left : Option (List ℕ)) : Type 0
   pub within : length line < line_limit
   pub consumed : Consumes known left (line ++ 10 ∷ [])
 
--- no message was handed out: there was no line, or the line is none
-abbrev pub StopsAtMessage : StreamEnd → Option (List ℕ) → Option (List ℕ) → Type 0
-StopsAtMessage why.NoMessage known left = (line : List ℕ) × ReadsLine line known left × (message_in line ≡ None)
-StopsAtMessage why.Ended known left = StopsAtLine why.Ended known left
-StopsAtMessage why.Unfinished known left = StopsAtLine why.Unfinished known left
-StopsAtMessage why.TooLong known left = StopsAtLine why.TooLong known left
-StopsAtMessage (why.Greeting fault) known left = ⊥
-StopsAtMessage why.Read known left = StopsAtLine why.Read known left
+-- a reader hands out nothing more, unless it was a line that is too long
+abbrev pub is_lasting : StreamEnd → Bool
+is_lasting why.TooLong = false
+is_lasting why.Ended = true
+is_lasting why.Unfinished = true
+is_lasting why.Read = true
 
--- no greeting was accepted: there was no line, or the line is not the expected greeting
-abbrev pub StopsAtGreeting : Greeting → StreamEnd → Option (List ℕ) → Option (List ℕ) → Type 0
-StopsAtGreeting expected (why.Greeting fault) known left =
-    (line : List ℕ) × ReadsLine line known left × IsGreetingFault line expected fault
-StopsAtGreeting expected why.Ended known left = StopsAtLine why.Ended known left
-StopsAtGreeting expected why.Unfinished known left = StopsAtLine why.Unfinished known left
-StopsAtGreeting expected why.TooLong known left = StopsAtLine why.TooLong known left
-StopsAtGreeting expected why.NoMessage known left = ⊥
-StopsAtGreeting expected why.Read known left = StopsAtLine why.Read known left
+-- why it hands out nothing more, after it handed out no line for this reason
+abbrev pub lasting : StreamEnd → Option StreamEnd
+lasting end = if is_lasting end then Some end else None

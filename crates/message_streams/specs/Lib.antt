@@ -1,6 +1,5 @@
 -- what callers cite
 pub mod Lines
 pub mod Reading
-pub mod Greetings
 pub mod Ends
 pub mod Views

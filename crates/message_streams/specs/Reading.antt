@@ -1,12 +1,10 @@
 -- What a line says, or nothing. (This project's own choice.)
-use Rattle.std.specs.Prelude.{ℕ, if◌then◌else◌, List, length, take, drop, filter_map, Option, Some, None, bytes_eq, decimal}
+use Rattle.std.specs.Prelude.{ℕ, if◌then◌else◌, List, filter_map, Option, Some, None, bytes_eq, decimal}
 use Rattle.std.specs.List.{slice_split}
 use Rattle.std.specs.Option.{option_map}
 use Rattle.line_protocol.specs.Lines.{is_line_feed, whole_lines}
 use Rattle.netchange_core.specs.declared.message.Message.{Message}
 use Rattle.prefix_patterns.specs.Reading.{◌>>=◌, number_in, parts_at}
-use Rattle.message_streams.specs.Lines.{mark}
-use Rattle.message_streams.specs.declared.greeting.Greeting.{Greeting}
 
 -- a number of 16 bits that is written as numbers are: with no zero before it
 unfoldable pub exact_number : List ℕ → Option ℕ
@@ -25,17 +23,6 @@ pair_in text = do
 -- the message that a line says
 abbrev pub message_in : List ℕ → Option Message
 message_in line = option_map (λ p. record { dest = p.0; dist = p.1 }) (pair_in line)
-
--- the bytes after the mark of a greeting
-abbrev pub after_mark : List ℕ → Option (List ℕ)
-after_mark line = if bytes_eq (take (length mark) line) mark then Some (drop (length mark) line) else None
-
--- the greeting that a line says
-unfoldable pub greeting_in : List ℕ → Option Greeting
-greeting_in line = do
-  rest ← after_mark line
-  p ← pair_in rest
-  Some (record { size = p.0; node = p.1 })
 
 -- the messages that the lines of a text say, in order; the bytes after its last line feed say nothing
 abbrev pub messages_in : List ℕ → List Message

@@ -1,47 +1,15 @@
-//! A reader of messages.
-ghost use Rattle.std.specs.Prelude.{◌≡◌, ◌+◌, ◌-◌, ◌^◌, min, None, Some, Err, IfErr, IfOk, IfSome, OnOk};
-ghost use Rattle.std.specs.Io.KnownBytes.{Consumes};
-ghost use Rattle.message_streams.specs.Lines.{FitsMessage, greeting_line, message_line};
-ghost use Rattle.message_streams.specs.Ends.{StopsAtGreeting, StopsAtMessage};
+//! A reader of lines.
+ghost use Rattle.std.specs.Prelude.{◌≡◌, ◌+◌, ◌-◌, ◌^◌, min, None, Err, IfErr, IfOk, IfSome};
+ghost use Rattle.message_streams.specs.Ends.{ReadsLine, StopsAtLine, lasting};
 
+use crate::LINE_LIMIT;
 use crate::ends::StreamEnd;
-use crate::greeting::{Greeting, check_greeting};
 use crate::line::read_line;
-use crate::message_text::read_message;
-use netchange_core::Message;
+use arrayvec::ArrayVec;
 use std::io::Read;
 use std::marker::Model;
 
-/// The next message of a stream.
-fn take_message<R: Read>(input: &mut R) -> Result<Message, StreamEnd>
-    ensures message { IfOk result (λ m. FitsMessage m × Consumes (R.remaining input.old) (R.remaining input.new) (message_line m)) }
-    ensures end { IfErr result (λ why. StopsAtMessage why (R.remaining input.old) (R.remaining input.new)) }
-{
-    match read_line(input) {
-        Ok(line) => match read_message(line.as_slice()) {
-            Some(message) => Ok(message),
-            None => Err(StreamEnd::NoMessage),
-        },
-        Err(why) => Err(why),
-    }
-}
-
-/// The next line of a stream, if it is this greeting.
-fn take_greeting<R: Read>(input: &mut R, expected: Greeting) -> Result<(), StreamEnd>
-    ensures greeting { OnOk result (Consumes (R.remaining input.old) (R.remaining input.new) (greeting_line expected)) }
-    ensures end { IfErr result (λ why. StopsAtGreeting expected why (R.remaining input.old) (R.remaining input.new)) }
-{
-    match read_line(input) {
-        Ok(line) => match check_greeting(line.as_slice(), expected) {
-            Ok(()) => Ok(()),
-            Err(fault) => Err(StreamEnd::Greeting(fault)),
-        },
-        Err(why) => Err(why),
-    }
-}
-
-/// A reader of the lines of a stream. Once it hands out nothing, it hands out nothing from then on, and reads no more. A contract
-/// sees it as a `ReaderView`.
+/// A reader of the lines of a stream. A contract sees it as a `ReaderView`.
 #[derive(Drop)]
 pub struct MessageReader<R: Read> {
     input: R,
@@ -83,45 +51,24 @@ impl<R: Read> MessageReader<R> {
         self.end
     }
 
-    /// Reads a line, which has to be this greeting.
-    pub fn read_greeting(&mut self, expected: Greeting) -> Result<(), StreamEnd>
-        ensures greeting { OnOk result ((self.old.end ≡ None) × (self.new.end ≡ None)
-            × Consumes self.old.left self.new.left (greeting_line expected)) }
-        ensures end { IfErr result (λ why. (self.new.end ≡ Some why)
-            × (self.old.end ≡ None → StopsAtGreeting expected why self.old.left self.new.left)) }
+    /// Hands out the next line, without its line feed. Once it hands out nothing it hands out nothing from then on, unless a line was too
+    /// long.
+    pub fn next_line(&mut self) -> Result<ArrayVec<u8, LINE_LIMIT>, StreamEnd>
+        ensures line { IfOk result (λ text. (self.old.end ≡ None) × (self.new.end ≡ None) × ReadsLine text.items self.old.left self.new.left) }
+        ensures end { IfErr result (λ why. self.old.end ≡ None → (self.new.end ≡ lasting why) × StopsAtLine why self.old.left self.new.left) }
         ensures over { IfSome self.old.end (λ why. (result ≡ Err why) × (self.new ≡ self.old)) }
-        ensures line { self.old.end ≡ None → self.new.line ≡ min (self.old.line + 1) (2 ^ 64 - 1) }
+        ensures count { self.old.end ≡ None → self.new.line ≡ min (self.old.line + 1) (2 ^ 64 - 1) }
     {
         if let Some(why) = self.end {
             return Err(why);
         }
         self.line = self.line.saturating_add(1);
-        match take_greeting(&mut self.input, expected) {
-            Ok(()) => Ok(()),
+        match read_line(&mut self.input) {
+            Ok(line) => Ok(line),
             Err(why) => {
-                self.end = Some(why);
-                Err(why)
-            }
-        }
-    }
-
-    /// Hands out the message that the next line says.
-    pub fn next_message(&mut self) -> Result<Message, StreamEnd>
-        ensures message { IfOk result (λ m. FitsMessage m × (self.old.end ≡ None) × (self.new.end ≡ None)
-            × Consumes self.old.left self.new.left (message_line m)) }
-        ensures end { IfErr result (λ why. (self.new.end ≡ Some why)
-            × (self.old.end ≡ None → StopsAtMessage why self.old.left self.new.left)) }
-        ensures over { IfSome self.old.end (λ why. (result ≡ Err why) × (self.new ≡ self.old)) }
-        ensures line { self.old.end ≡ None → self.new.line ≡ min (self.old.line + 1) (2 ^ 64 - 1) }
-    {
-        if let Some(why) = self.end {
-            return Err(why);
-        }
-        self.line = self.line.saturating_add(1);
-        match take_message(&mut self.input) {
-            Ok(message) => Ok(message),
-            Err(why) => {
-                self.end = Some(why);
+                if why.is_lasting() {
+                    self.end = Some(why);
+                }
                 Err(why)
             }
         }

@@ -1,11 +1,10 @@
-//! A writer of messages.
+//! A writer of lines.
 ghost use Rattle.std.specs.Prelude.{◌≡◌, false, true, IfErr, OnOk};
 ghost use Rattle.std.specs.Io.KnownBytes.{Appends, Keeps};
 ghost use Rattle.line_protocol.specs.Runs.{AppendsFront};
-ghost use Rattle.message_streams.specs.Lines.{greeting_line, message_line};
+ghost use Rattle.message_streams.specs.Lines.{message_line};
 ghost use Rattle.message_streams.specs.Views.{IsUnwritten};
 
-use crate::greeting::{Greeting, push_greeting};
 use crate::message_text::push_message;
 use line_protocol::{StreamFault, write_text};
 use netchange_core::Message;
@@ -61,18 +60,13 @@ impl<W: Write> MessageWriter<W> {
         }
     }
 
-    /// Writes a greeting, and has the stream pass it on.
-    pub fn write_greeting(&mut self, greeting: Greeting) -> Result<(), StreamFault>
-        ensures ok { OnOk result ((self.old.over ≡ false) × (self.new.over ≡ false)
-            × Appends self.old.held self.new.held (greeting_line greeting)) }
-        ensures err { IfErr result (λ fault. IsUnwritten fault self.old self.new (greeting_line greeting)) }
+    /// Writes a text, which is one line or more, and has the stream pass it on.
+    pub fn write_text(&mut self, text: &[u8]) -> Result<(), StreamFault>
+        ensures ok { OnOk result ((self.old.over ≡ false) × (self.new.over ≡ false) × Appends self.old.held self.new.held text.now) }
+        ensures err { IfErr result (λ fault. (fault ≡ StreamFault.Write) × IsUnwritten fault self.old self.new text.now) }
         ensures over { self.old.over ≡ true → (self.new.over ≡ true) × Keeps self.old.held self.new.held }
     {
-        self.text.clear();
-        let Ok(()) = push_greeting(&mut self.text, greeting) else {
-            return Err(StreamFault::Memory);
-        };
-        write_line(&mut self.output, self.text.as_slice(), &mut self.is_over)
+        write_line(&mut self.output, text, &mut self.is_over)
     }
 
     /// Writes a message, and has the stream pass it on.

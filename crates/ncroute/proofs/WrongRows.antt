@@ -33,6 +33,10 @@ wait : wrong_line (WrongNumber number.Retry)
 unfolding digits
 wait = refl
 
+hold : wrong_line (WrongNumber (number.Hold 3601)) ≡ codes "error: invalid value '3601' for '--hold': a HOLD is 3600 seconds or fewer" ++ 10 ∷ []
+unfolding digits
+hold = refl
+
 outside : option_fault_words kind.Link (option.Node 9 (Outside 3)) ≡ codes "node 9 is not in the domain, whose nodes are 0 to 3"
 unfolding digits
 outside = refl

@@ -72,6 +72,7 @@ numbers_of words = record {
   queue = words.queue;
   segments = words.segments;
   retry = words.retry;
+  hold = words.hold;
 }
 
 -- what an option of these kinds says

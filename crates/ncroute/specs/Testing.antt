@@ -1,11 +1,11 @@
 -- What the program does with test files. (This project's own choice; the lines are those of the Test Anything Protocol.)
-use Rattle.std.specs.Prelude.{◌≡◌, ◌≤◌, ◌⊎◌, ◌||◌, ◌+◌, ◌^◌, ℕ, zero, suc, false, if◌then◌else◌, List, [], ◌∷◌, ◌++◌, Option, Some, None, Result, Ok, Err}
+use Rattle.std.specs.Prelude.{◌≡◌, ◌≤◌, ◌⊎◌, ◌||◌, ◌+◌, ◌^◌, ℕ, zero, suc, true, false, if◌then◌else◌, List, [], ◌∷◌, ◌++◌, Option, Some, None, Result, Ok, Err}
 use Rattle.std.specs.Prelude.{IsUtf8, codes, length, nat_lt, slice_get, string_bytes}
 use Rattle.std.specs.declared.io.Error.{Error}
 use Rattle.filter_checks.specs.Faults.{fault_text}
 use Rattle.filter_checks.specs.Files.{FileView, file_in}
 use Rattle.filter_checks.specs.Places.{path_beside}
-use Rattle.filter_checks.specs.Tap.{plan}
+use Rattle.filter_checks.specs.Tap.{plan, skipped}
 use Rattle.filter_checks.specs.Testing.{TestsNamed, TestsNamedOff}
 use Rattle.filter_checks.specs.declared.test_file.TestFileFault.{TestFileFault}
 use Rattle.filter_checks.specs.declared.test_file.TestFileFault.TheVariants.{Name}
@@ -26,27 +26,26 @@ use Rattle.ncroute.specs.declared.testing.Tally.{Tally}
 unfoldable pub version_line : List ℕ
 version_line = codes "TAP version 13" ++ 10 ∷ []
 
--- the last one, where a file was refused or not read
-unfoldable pub bail_line : List ℕ
-bail_line = codes "Bail out!" ++ 10 ∷ []
-
 -- no test was run
 abbrev pub none_run : Tally
-none_run = record { count = 0; has_failed = false }
+none_run = record { count = 0; has_failed = false; has_undecided = false }
 
--- so many more were run, of which some do not hold; or none was, since the filter is refused
+-- so many more were run, of which some do not hold or are not decided; or none was, since the filter is refused
 abbrev pub tally_after : Tally → ℕ → Tested → Option Tally
 tally_after tally more Refused = None
-tally_after tally more (Ran failed) = Some (record { count = tally.count + more; has_failed = tally.has_failed || nat_lt 0 failed })
+tally_after tally more (Ran failed) = Some (record {
+  count = tally.count + more;
+  has_failed = tally.has_failed || nat_lt 0 failed.wrong;
+  has_undecided = tally.has_undecided || nat_lt 0 failed.undecided;
+})
 
--- the last line, and the exit status: where all files were run, and where a file was refused or not read
-abbrev pub last_line : Option Tally → List ℕ
-last_line None = bail_line
-last_line (Some tally) = plan tally.count
+-- those of one file more were not run: in the stream that is one test, which is undecided
+abbrev pub skipped_after : Tally → Tally
+skipped_after tally = record { count = tally.count + 1; has_failed = tally.has_failed; has_undecided = true }
 
-abbrev pub status_of_tests : Option Tally → ℕ
-status_of_tests None = 3
-status_of_tests (Some tally) = if tally.has_failed then 1 else 0
+-- the exit status, by whether a test does not hold or is not decided
+abbrev pub status_of_tests : Tally → ℕ
+status_of_tests tally = if tally.has_failed then 1 else if tally.has_undecided then 3 else 0
 
 -- The tests of a file were run by the filter of a text, or that is refused. `found` is how many tests were run by then.
 pub record RunsBy (how : Testing) (name : List ℕ) (file : FileView) (filter : Named) (tally : Tally) (before after : Streams)
@@ -67,7 +66,7 @@ unfoldable pub StopsBy : StreamFault → Testing → List ℕ → FileView → N
 StopsBy fault how name file filter tally before after =
     ((2 ^ 64 ≤ tally.count + length file.tests) × (fault ≡ TooLong) × (after ≡ before)) ⊎ StopsCounted fault how name file filter tally before after
 
--- Standard error was told why a text is no test file, and nothing more is run.
+-- Standard error was told why a text is no test file.
 pub record TellsFault (how : Testing) (name : List ℕ) (why : TestFileFault) (before after : Streams) (found : Option Tally) : Type 0 where
   pub told : Tells (fault_text how.is_explained name why) before after
   pub none : found ≡ None
@@ -75,6 +74,16 @@ pub record TellsFault (how : Testing) (name : List ℕ) (why : TestFileFault) (b
 -- A fault cut that.
 abbrev pub CutsFault : StreamFault → Testing → List ℕ → TestFileFault → Streams → Streams → Type 0
 CutsFault fault how name why before after = CutsTelling fault (fault_text how.is_explained name why) before after
+
+-- It was written that the tests of a source of this name were not run.
+pub record Skips (name : List ℕ) (tally : Tally) (before after : Streams) (now : Tally) : Type 0 where
+  pub written : Writes (skipped (tally.count + 1) name) before after
+  pub counted : now ≡ skipped_after tally
+
+-- A fault ended that: it could not be counted by a number of 64 bits, or memory was refused, or the line was cut.
+unfoldable pub StopsSkipping : StreamFault → List ℕ → Tally → Streams → Streams → Type 0
+StopsSkipping fault name tally before after = ((2 ^ 64 ≤ tally.count + 1) × (fault ≡ TooLong) × (after ≡ before))
+    ⊎ (((fault ≡ Memory) × (after ≡ before)) ⊎ CutsWriting fault (skipped (tally.count + 1) name) before after)
 
 -- the source is the file of this name
 abbrev pub IsFileAt : List ℕ → Source → Type 0
@@ -113,34 +122,29 @@ module _ (opens : List ℕ → Result (Option (List ℕ)) Error → Type 0) wher
       × RunsText how (name_of source) text tally mid after found)
       ⊎ (SkipsUnread opens source_limit source before after × (found ≡ None))
 
-  -- The tests of the first n of some sources were run, in order.
+  -- The tests of a source were run; or a file was refused or not read, and it was written that they were not run.
+  unfoldable pub RunsOrSkips : Testing → Source → Tally → Streams → Streams → Tally → Type 0
+  RunsOrSkips how source tally before after now = RunsTests how source tally before after (Some now)
+      ⊎ ((mid : Streams) × RunsTests how source tally before mid None × Skips (name_of source) tally mid after now)
+
+  -- The first n of some sources were dealt with so, in order.
   unfoldable pub RunsFirst : Testing → List Source → ℕ → Streams → Streams → Tally → Type 0
   RunsFirst how sources zero before after tally = (after ≡ before) × (tally ≡ none_run)
   RunsFirst how sources (suc n) before after tally = (source : Source) × (mid : Streams) × (earlier : Tally)
-      × (slice_get sources n ≡ Some source) × RunsFirst how sources n before mid earlier × RunsTests how source earlier mid after (Some tally)
+      × (slice_get sources n ≡ Some source) × RunsFirst how sources n before mid earlier × RunsOrSkips how source earlier mid after tally
 
-  -- Those of all were; or those before one that was refused or not read.
-  pub record BailsOut (how : Testing) (sources : List Source) (before after : Streams) : Type 0 where
-    pub n : ℕ
-    pub source : Source
-    pub is_source : slice_get sources n ≡ Some source
-    pub mid : Streams
-    pub tally : Tally
-    pub first : RunsFirst how sources n before mid tally
-    pub refused : RunsTests how source tally mid after None
-
-  abbrev pub RunsAll : Testing → List Source → Streams → Streams → Option Tally → Type 0
-  RunsAll how sources before after None = BailsOut how sources before after
-  RunsAll how sources before after (Some tally) = RunsFirst how sources (length sources) before after tally
+  -- All were.
+  abbrev pub RunsAll : Testing → List Source → Streams → Streams → Tally → Type 0
+  RunsAll how sources before after tally = RunsFirst how sources (length sources) before after tally
 
   -- The same between the first line and the last one, and the exit status says what came of it.
   pub record TestsSources (how : Testing) (sources : List Source) (before after : Streams) (status : ℕ) : Type 0 where
     pub begun : Streams
     pub mid : Streams
-    pub found : Option Tally
+    pub found : Tally
     pub version : Writes version_line before begun
     pub run : RunsAll how sources begun mid found
-    pub last : Writes (last_line found) mid after
+    pub last : Writes (plan found.count) mid after
     pub ends : status ≡ status_of_tests found
 
   -- A fault ended it while the filter of a test file was read, or its tests were run.
@@ -169,6 +173,11 @@ module _ (opens : List ℕ → Result (Option (List ℕ)) Error → Type 0) wher
       ⊎ ((text : List ℕ) × (mid : Streams) × Reads opens source_limit source text before mid
       × StopsText fault how (name_of source) text tally mid after)
 
+  -- Or while it was written that they were not run.
+  unfoldable pub StopsOrSkips : StreamFault → Testing → Source → Tally → Streams → Streams → Type 0
+  StopsOrSkips fault how source tally before after = StopsTests fault how source tally before after
+      ⊎ ((mid : Streams) × RunsTests how source tally before mid None × StopsSkipping fault (name_of source) tally mid after)
+
   -- Behind the first of some sources.
   pub record StopsSome (fault : StreamFault) (how : Testing) (sources : List Source) (before after : Streams) : Type 0 where
     pub n : ℕ
@@ -177,16 +186,16 @@ module _ (opens : List ℕ → Result (Option (List ℕ)) Error → Type 0) wher
     pub mid : Streams
     pub tally : Tally
     pub first : RunsFirst how sources n before mid tally
-    pub stopped : StopsTests fault how source tally mid after
+    pub stopped : StopsOrSkips fault how source tally mid after
 
   -- The last line was cut.
   pub record CutsLast (fault : StreamFault) (how : Testing) (sources : List Source) (before after : Streams) : Type 0 where
     pub begun : Streams
     pub mid : Streams
-    pub found : Option Tally
+    pub found : Tally
     pub version : Writes version_line before begun
     pub run : RunsAll how sources begun mid found
-    pub last : CutsWriting fault (last_line found) mid after
+    pub last : CutsWriting fault (plan found.count) mid after
 
   -- A fault ended it all: the first line was cut, or a test file, or the last line.
   unfoldable pub StopsSources : StreamFault → Testing → List Source → Streams → Streams → Type 0

@@ -68,6 +68,7 @@ number_fault_words (number.Queue queue least) = queue_words least
 number_fault_words number.Segments = codes "1 segment is kept or more"
 number_fault_words (number.Unsaved count) = codes "no --save gives a folder to keep segments in"
 number_fault_words number.Retry = codes "a link is opened again after 1 second or more"
+number_fault_words (number.Hold hold) = codes "a HOLD is 3600 seconds or fewer"
 number_fault_words number.Memory = codes "out of memory"
 
 -- ---- the number that is refused, and the name of its option; refused memory has neither, and is told otherwise
@@ -80,6 +81,7 @@ number_name (number.Queue queue least) = codes "--queue"
 number_name number.Segments = codes "--segments"
 number_name (number.Unsaved count) = codes "--segments"
 number_name number.Retry = codes "--retry"
+number_name (number.Hold hold) = codes "--hold"
 number_name number.Memory = []
 
 abbrev pub number_value : NumberFault → ℕ
@@ -90,6 +92,7 @@ number_value (number.Queue queue least) = queue
 number_value number.Segments = 0
 number_value (number.Unsaved count) = count
 number_value number.Retry = 0
+number_value (number.Hold hold) = hold
 number_value number.Memory = 0
 
 -- ---- the line

@@ -82,18 +82,19 @@ fn status_of_said(found: Said) -> u8
 /// Writes the warnings of a text, and returns what is said of it.
 fn lint_text<R: Read, W: Write, E: Write>(
     alloc: Global,
-    how: Linting,
+    how: &Linting,
     source: &NamedText<'_>,
     console: &mut Console<R, W, E>,
 ) -> Result<Said, ProgramFault>
-    ensures finished { IfOk result (LintsText how (named source.now) console.old console.new) }
-    ensures cut { IfErr result (λ fault. CutsLintText (stream_fault fault) how (named source.now) console.old console.new) }
+    ensures finished { IfOk result (LintsText how.now (named source.now) console.old console.new) }
+    ensures cut { IfErr result (λ fault. CutsLintText (stream_fault fault) how.now (named source.now) console.old console.new) }
 {
     match lint_named(
         alloc,
         source,
         how.size,
         how.limit,
+        how.allowed.as_slice(),
         how.is_explained,
         &mut console.writer,
         &mut console.errors,
@@ -177,12 +178,12 @@ pub fn warn<R: Read, W: Write, E: Write>(
 fn lint_one<F: Folder, R: Read, W: Write, E: Write>(
     files: &F,
     alloc: Global,
-    how: Linting,
+    how: &Linting,
     source: &Source,
     console: &mut Console<R, W, E>,
 ) -> Result<Said, ProgramFault>
-    ensures finished { IfOk result (LintsOne (F.opens files.now) how source.now console.old console.new) }
-    ensures cut { IfErr result (λ fault. CutsLint (F.opens files.now) (stream_fault fault) how source.now console.old console.new) }
+    ensures finished { IfOk result (LintsOne (F.opens files.now) how.now source.now console.old console.new) }
+    ensures cut { IfErr result (λ fault. CutsLint (F.opens files.now) (stream_fault fault) how.now source.now console.old console.new) }
 {
     match console.read(files, alloc, source, SOURCE_LIMIT) {
         Loaded::Text(text) => {
@@ -199,12 +200,12 @@ fn lint_one<F: Folder, R: Read, W: Write, E: Write>(
 pub fn lint_sources<F: Folder, R: Read, W: Write, E: Write>(
     files: &F,
     alloc: Global,
-    how: Linting,
+    how: &Linting,
     sources: &[Source],
     console: &mut Console<R, W, E>,
 ) -> Result<u8, ProgramFault>
-    ensures finished { IfOk result (LintsAll (F.opens files.now) how sources.now console.old console.new) }
-    ensures cut { IfErr result (λ fault. StopsLinting (F.opens files.now) (stream_fault fault) how sources.now console.old console.new) }
+    ensures finished { IfOk result (LintsAll (F.opens files.now) how.now sources.now console.old console.new) }
+    ensures cut { IfErr result (λ fault. StopsLinting (F.opens files.now) (stream_fault fault) how.now sources.now console.old console.new) }
 {
     let mut found = Said::Nothing;
     for source in sources {

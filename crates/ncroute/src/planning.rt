@@ -142,6 +142,7 @@ fn begun_plan(alloc: Global, words: &RouterWords) -> Result<RouterPlan, NumberFa
         queue: words.queue,
         segments: words.segments,
         retry: words.retry,
+        hold: words.hold,
     };
     let save = copy(alloc, &words.save)?;
     RouterPlan::new(alloc, numbers, save, words.stays)

@@ -1,4 +1,7 @@
 //! From what is asked for to an exit status.
+//!
+//! **`diff`, `lint` and `test` mean one thing by each exit status.** It is 0 that all is right, 1 that something is wrong which they show, 2 that the
+//! words are, and 3 that this is undecided, or not known since something was not read. What is wrong counts before what is undecided.
 ghost use Rattle.std.specs.Prelude.{◌≡◌, IfErr, IfOk};
 ghost use Rattle.filter_reports.specs.Faults.{stream_fault};
 ghost use Rattle.ncroute.specs.Requests.{Answers, EvaluatesTold, FailsToReport, ListsSource, ListsText};
@@ -154,7 +157,7 @@ fn answer<F: Folder, R: Read, W: Write, E: Write>(
         Request::Filter { how, source } => try_filter(files, alloc, *how, source, console),
         Request::Import { how, source } => import_source(files, alloc, how, source, console),
         Request::Lint { how, sources } => {
-            lint_sources(files, alloc, *how, sources.as_slice(), console)
+            lint_sources(files, alloc, how, sources.as_slice(), console)
         }
         Request::List {
             size,

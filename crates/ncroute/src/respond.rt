@@ -21,6 +21,7 @@ use line_protocol::StreamFault;
 use router_daemon::LinkFolder;
 use std::alloc::Global;
 use std::io::{Read, Write};
+use std::random::RandomSource;
 use std::rt::Clock;
 use std::sync::Wait;
 use std::thread::Threads;
@@ -60,6 +61,7 @@ fn status_of_router<
     R: Threads
         + Wait
         + Clock
+        + RandomSource
         + Folder
         + HistoryFolders
         + LinkFolder<FI, FO>
@@ -102,6 +104,7 @@ pub fn respond<
     R: Threads
         + Wait
         + Clock
+        + RandomSource
         + Folder
         + HistoryFolders
         + LinkFolder<FI, FO>

@@ -36,6 +36,7 @@ use router_options::RouterPlan;
 use slot_lock::LockFault;
 use std::alloc::Global;
 use std::io::{Read, Write};
+use std::random::RandomSource;
 use std::rt::Clock;
 use std::sync::Wait;
 use std::thread::Threads;
@@ -256,6 +257,7 @@ fn run_setting<
     R: Threads
         + Wait
         + Clock
+        + RandomSource
         + Folder
         + HistoryFolders
         + LinkFolder<FI, FO>
@@ -310,6 +312,7 @@ pub fn serve_router<
     R: Threads
         + Wait
         + Clock
+        + RandomSource
         + Folder
         + HistoryFolders
         + LinkFolder<FI, FO>

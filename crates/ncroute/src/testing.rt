@@ -1,10 +1,13 @@
 //! How test files are run.
 //!
-//! **`test` ends with 0 only where each test holds, and with 1 only where one does not or is undecided.** A test file or a filter that is refused
-//! or not read ends the run with 3 and `Bail out!`, whatever files follow: a harness takes such a stream for failed, and a plan would say that all
-//! is there.
+//! **`test` ends with 0 only where each test holds, and with 1 only where one does not.** Where none is found that does not, but one is undecided,
+//! it is 3.
+//!
+//! **A test file that is refused or not read, or whose filter is, stands in the stream as one test that does not hold.** It has its name, and the
+//! files behind it are run: a harness takes the stream for failed, and one bad file hides no other. Its status is 3, too.
 ghost use Rattle.std.specs.Prelude.{◌≡◌, ◌+◌, ◌<◌, ◌^◌, IfErr, IfOk, OnOk};
 ghost use Rattle.filter_checks.specs.Files.{file_view};
+ghost use Rattle.filter_checks.specs.Tap.{plan};
 ghost use Rattle.filter_reports.specs.Faults.{stream_fault};
 ghost use Rattle.filter_reports.specs.Naming.{named};
 ghost use Rattle.ncroute.specs.Streaming.{CutsWriting, Writes};
@@ -15,7 +18,8 @@ use crate::ending::{FAILED, FAULT};
 use crate::texts::{Folder, name_of};
 use command_line::{Source, Testing};
 use filter_checks::{
-    TestFile, TestFileFault, Tested, fault_text, path_beside, plan_line, read_tests, test_named,
+    TestFile, TestFileFault, Tested, fault_text, path_beside, plan_line, read_tests, skipped_line,
+    test_named,
 };
 use filter_reports::{NamedText, ProgramFault};
 use filter_source::SOURCE_LIMIT;
@@ -28,8 +32,10 @@ use std::io::{Read, Write};
 pub struct Tally {
     /// How many were run.
     pub count: u64,
-    /// One of them does not hold, or is not decided.
+    /// One of them does not hold.
     pub has_failed: bool,
+    /// Of one of them it is not decided.
+    pub has_undecided: bool,
 }
 
 /// The tally after so many tests more.
@@ -41,12 +47,13 @@ fn tally_after(tally: Tally, more: usize, tested: Tested) -> Option<Tally>
         Tested::Refused => None,
         Tested::Ran(failed) => Some(Tally {
             count: tally.count + more as u64,
-            has_failed: tally.has_failed || failed > 0,
+            has_failed: tally.has_failed || failed.wrong > 0,
+            has_undecided: tally.has_undecided || failed.undecided > 0,
         }),
     }
 }
 
-/// Tells why the text of a file of this name is no test file. Nothing more is run then.
+/// Tells why the text of a file of this name is no test file.
 fn tell_fault<R: Read, W: Write, E: Write>(
     alloc: Global,
     how: Testing,
@@ -237,28 +244,76 @@ fn run_source<F: Folder, R: Read, W: Write, E: Write>(
     }
 }
 
-/// Runs the tests of sources, in order, up to the first that is refused or not read.
+/// Writes that the tests of a source of this name were not run. In the stream that is one test that does not hold, and it is undecided.
+#[tactic(auto, unfolding(crate::specs::Testing::StopsSkipping))]
+fn skip_source<R: Read, W: Write, E: Write>(
+    alloc: Global,
+    name: &[u8],
+    tally: Tally,
+    console: &mut Console<R, W, E>,
+) -> Result<Tally, ProgramFault>
+    ensures finished { IfOk result (spec.Skips name.now tally console.old console.new) }
+    ensures stopped { IfErr result (λ fault. spec.StopsSkipping (stream_fault fault) name.now tally console.old console.new) }
+{
+    if tally.count == u64::MAX {
+        return Err(ProgramFault::Stream(StreamFault::TooLong));
+    }
+    let count = tally.count + 1;
+    match skipped_line(alloc, count, name) {
+        Ok(line) => match console.write(line.as_slice()) {
+            Ok(()) => Ok(Tally {
+                count,
+                has_failed: tally.has_failed,
+                has_undecided: true,
+            }),
+            Err(fault) => Err(fault),
+        },
+        Err(_) => Err(ProgramFault::MEMORY),
+    }
+}
+
+/// Runs the tests of a source, or writes that they were not run.
+#[tactic(auto, unfolding(crate::specs::Testing::RunsOrSkips, crate::specs::Testing::StopsOrSkips))]
+fn run_or_skip<F: Folder, R: Read, W: Write, E: Write>(
+    files: &F,
+    alloc: Global,
+    how: Testing,
+    source: &Source,
+    tally: Tally,
+    console: &mut Console<R, W, E>,
+) -> Result<Tally, ProgramFault>
+    ensures finished { IfOk result (spec.RunsOrSkips (F.opens files.now) how source.now tally console.old console.new) }
+    ensures stopped { IfErr result (λ fault. spec.StopsOrSkips (F.opens files.now) (stream_fault fault) how source.now tally
+        console.old console.new) }
+{
+    match run_source(files, alloc, how, source, tally, console) {
+        Ok(Some(after)) => Ok(after),
+        Ok(None) => skip_source(alloc, name_of(source), tally, console),
+        Err(fault) => Err(fault),
+    }
+}
+
+/// Runs the tests of sources, in order. Where those of one are not run, those of the others are.
 fn run_all<F: Folder, R: Read, W: Write, E: Write>(
     files: &F,
     alloc: Global,
     how: Testing,
     sources: &[Source],
     console: &mut Console<R, W, E>,
-) -> Result<Option<Tally>, ProgramFault>
+) -> Result<Tally, ProgramFault>
     ensures finished { IfOk result (spec.RunsAll (F.opens files.now) how sources.now console.old console.new) }
     ensures stopped { IfErr result (λ fault. spec.StopsSome (F.opens files.now) (stream_fault fault) how sources.now console.old console.new) }
 {
     let mut tally = Tally {
         count: 0,
         has_failed: false,
+        has_undecided: false,
     };
     for source in sources {
-        match run_source(files, alloc, how, source, tally, console)? {
-            Some(after) => tally = after,
-            None => return Ok(None),
-        }
+        let after = run_or_skip(files, alloc, how, source, tally, console)?;
+        tally = after;
     }
-    Ok(Some(tally))
+    Ok(tally)
 }
 
 /// The first line of the output.
@@ -269,47 +324,31 @@ fn version_line() -> &'static [u8]
     b"TAP version 13\n"
 }
 
-/// The last line where a file was refused or not read.
-#[tactic(auto, unfolding(crate::specs::Testing::bail_line))]
-fn bail_line() -> &'static [u8]
-    ensures { result.now ≡ spec.bail_line }
-{
-    b"Bail out!\n"
-}
-
-/// The last line.
-fn last_line(alloc: Global, found: Option<Tally>) -> Result<Vec<u8>, AllocError>
-    ensures { IfOk result (λ line. line.items ≡ spec.last_line found) }
-{
-    match found {
-        Some(tally) => plan_line(alloc, tally.count),
-        None => Vec::from_slice(alloc, bail_line()),
-    }
-}
-
 /// Writes the last line.
 fn write_last<R: Read, W: Write, E: Write>(
     alloc: Global,
-    found: Option<Tally>,
+    tally: Tally,
     console: &mut Console<R, W, E>,
 ) -> Result<(), ProgramFault>
-    ensures ok { OnOk result (Writes (spec.last_line found) console.old console.new) }
-    ensures err { IfErr result (λ fault. CutsWriting (stream_fault fault) (spec.last_line found) console.old console.new) }
+    ensures ok { OnOk result (Writes (plan tally.count) console.old console.new) }
+    ensures err { IfErr result (λ fault. CutsWriting (stream_fault fault) (plan tally.count) console.old console.new) }
 {
-    match last_line(alloc, found) {
+    match plan_line(alloc, tally.count) {
         Ok(line) => console.write(line.as_slice()),
         Err(_) => Err(ProgramFault::MEMORY),
     }
 }
 
 /// The exit status.
-fn status_of(found: Option<Tally>) -> u8
-    ensures { result ≡ spec.status_of_tests found }
+fn status_of(tally: Tally) -> u8
+    ensures { result ≡ spec.status_of_tests tally }
 {
-    match found {
-        Some(tally) if tally.has_failed => FAILED,
-        Some(_) => 0,
-        None => FAULT,
+    if tally.has_failed {
+        FAILED
+    } else if tally.has_undecided {
+        FAULT
+    } else {
+        0
     }
 }
 

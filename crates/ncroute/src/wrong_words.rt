@@ -127,6 +127,7 @@ fn push_number_fault(line: &mut Vec<u8>, why: NumberFault) -> Result<(), AllocEr
         NumberFault::Retry => {
             line.extend_from_slice(b"a link is opened again after 1 second or more")
         }
+        NumberFault::Hold(_) => line.extend_from_slice(b"a HOLD is 3600 seconds or fewer"),
         NumberFault::Memory => line.extend_from_slice(b"out of memory"),
     }
 }
@@ -142,6 +143,7 @@ fn number_name(why: NumberFault) -> &'static [u8]
         NumberFault::Queue { .. } => b"--queue",
         NumberFault::Segments | NumberFault::Unsaved(_) => b"--segments",
         NumberFault::Retry => b"--retry",
+        NumberFault::Hold(_) => b"--hold",
         NumberFault::Memory => b"",
     }
 }
@@ -156,6 +158,7 @@ fn number_value(why: NumberFault) -> u32
         NumberFault::Limit(limit) => limit,
         NumberFault::Queue { queue, .. } => queue,
         NumberFault::Unsaved(count) => count,
+        NumberFault::Hold(hold) => hold,
         NumberFault::Segments | NumberFault::Retry | NumberFault::Memory => 0,
     }
 }

@@ -1,6 +1,6 @@
 -- A reader that has turns again and again.
 use Rattle.std.proofs.Common.{◌≡◌, ◌∙◌, sym, ap, subst, refl, ℕ, List, [], ◌++◌, append_assoc, append-nil, length}
-use Rattle.std.specs.Prelude.{All, Bool, true, false}
+use Rattle.std.specs.Prelude.{All, Bool, Option, true, false}
 use Rattle.std.proofs.lemmas.List.Elements.{All-nil}
 use Rattle.std.specs.List.{AllZip}
 use Rattle.netchange_core.specs.declared.message.Message.{Message}
@@ -97,46 +97,46 @@ reads_on r session old t mid m last new u h turns k =
     (read_last r session old t mid m last new u h k)
 
 -- a reader that ended by itself, or because the session is not there
-stopped_over : (waits : Bool) (may : Bool → Type 0) (c : Cause) (left : ReaderView) (why : SessionEnd) → IsReaderStopped waits c left why →
-    (waits ≡ true → c ≡ cause.Full → may false) → IsReaderOver waits may c left why
-stopped_over waits may cause.Turns left why h absent = absurd h
-stopped_over waits may cause.LinkEnded left why h absent = h
-stopped_over waits may cause.LinkFault left why h absent = h
-stopped_over waits may cause.Stale left why h absent = h
-stopped_over waits may cause.Full left why h absent = (h, λ w. absent w refl)
-stopped_over waits may cause.Memory left why h absent = h
+stopped_over : (waits : Bool) (may : Bool → Type 0) (c : Cause) (over : Option SessionEnd) (why : SessionEnd) → IsReaderStopped waits c over why →
+    (waits ≡ true → c ≡ cause.Full → may false) → IsReaderOver waits may c over why
+stopped_over waits may cause.Turns over why h absent = absurd h
+stopped_over waits may cause.LinkEnded over why h absent = h
+stopped_over waits may cause.LinkFault over why h absent = h
+stopped_over waits may cause.Stale over why h absent = h
+stopped_over waits may cause.Full over why h absent = (h, λ w. absent w refl)
+stopped_over waits may cause.Memory over why h absent = h
 
 stopped : (waits : Bool) (may : Bool → Type 0) (r : RouterView) (session : ℕ) (old : PassView) (input : ReaderView) (mid : PassView) (m : Told)
-    (last : ReadEnd) (why : SessionEnd) (new : PassView) (u : Told) (left : ReaderView) →
+    (last : ReadEnd) (why : SessionEnd) (new : PassView) (u : Told) (over : Option SessionEnd) (left : ReaderView) →
     HasRead session old.fragment (told_by input) mid.fragment m →
-    IsReadBy r session mid.fragment m last new.fragment u → ReadsLines input u.handed left → IsReaderStopped waits last.cause left why →
-    (waits ≡ true → last.cause ≡ cause.Full → may false) → ReadsOut waits may r session old input why new
-stopped waits may r session old input mid m last why new u left h k lines over absent = record {
+    IsReadBy r session mid.fragment m last new.fragment u → ReadsLines input u.handed over left → IsReaderStopped waits last.cause over why →
+    (waits ≡ true → last.cause ≡ cause.Full → may false) → ReadsOut waits may r session old input why new left
+stopped waits may r session old input mid m last why new u over left h k lines stops absent = record {
   end = record { cause = last.cause; entered = length (h.calls ++ k.calls); lost = last.lost };
   last = u;
   read = read_last r session old.fragment (told_by input) mid.fragment m last new.fragment u h k;
-  left = left;
+  over = over;
   lines = lines;
-  because = stopped_over waits may last.cause left why over absent;
+  because = stopped_over waits may last.cause over why stops absent;
 }
 
 pub reads_stopped : (waits : Bool) (may : Bool → Type 0) (r : RouterView) (session : ℕ) (old : PassView) (input : ReaderView) (mid : PassView)
-    (m : Told) (c : Cause) (why : SessionEnd) (new : PassView) (u : Told) (left : ReaderView) →
+    (m : Told) (c : Cause) (why : SessionEnd) (new : PassView) (u : Told) (over : Option SessionEnd) (left : ReaderView) →
     HasRead session old.fragment (told_by input) mid.fragment m → ReadsFor c r session mid.fragment m new.fragment u →
-    ReadsLines input u.handed left → IsReaderStopped waits c left why → (waits ≡ true → c ≡ cause.Full → may false) →
-    ReadsOut waits may r session old input why new
-reads_stopped waits may r session old input mid m c why new u left h k lines over absent =
-    stopped waits may r session old input mid m (record { cause = c; entered = k.0; lost = k.1 }) why new u left h k.2 lines over absent
+    ReadsLines input u.handed over left → IsReaderStopped waits c over why → (waits ≡ true → c ≡ cause.Full → may false) →
+    ReadsOut waits may r session old input why new left
+reads_stopped waits may r session old input mid m c why new u over left h k lines stops absent =
+    stopped waits may r session old input mid m (record { cause = c; entered = k.0; lost = k.1 }) why new u over left h k.2 lines stops absent
 
 pub reads_absent : (waits : Bool) (may : Bool → Type 0) (r : RouterView) (session : ℕ) (old : PassView) (input : ReaderView) (mid : PassView)
-    (m : Told) (c : Cause) (new : PassView) (u : Told) (left : ReaderView) → HasRead session old.fragment (told_by input) mid.fragment m →
-    ReadsFor c r session mid.fragment m new.fragment u → ReadsLines input u.handed left → c ≡ cause.Turns → may false →
-    ReadsOut waits may r session old input end.Closed new
-reads_absent waits may r session old input mid m c new u left h k lines turns absent = record {
+    (m : Told) (c : Cause) (new : PassView) (u : Told) (over : Option SessionEnd) (left : ReaderView) → HasRead session old.fragment (told_by input) mid.fragment m →
+    ReadsFor c r session mid.fragment m new.fragment u → ReadsLines input u.handed over left → c ≡ cause.Turns → may false →
+    ReadsOut waits may r session old input end.Closed new left
+reads_absent waits may r session old input mid m c new u over left h k lines turns absent = record {
   end = record { cause = c; entered = length (h.calls ++ k.2.calls); lost = k.1 };
   last = u;
   read = read_last r session old.fragment (told_by input) mid.fragment m (record { cause = c; entered = k.0; lost = k.1 }) new.fragment u h k.2;
-  left = left;
+  over = over;
   lines = lines;
-  because = subst (λ x. IsReaderOver waits may x left end.Closed) (sym turns) (refl, absent);
+  because = subst (λ x. IsReaderOver waits may x over end.Closed) (sym turns) (refl, absent);
 }

@@ -1,49 +1,71 @@
--- A router greets a neighbour. (This project's own choice.)
-use Rattle.std.specs.Prelude.{◌≡◌, ℕ, false, Some, None, IfSome}
-use Rattle.std.specs.Io.KnownBytes.{Appends, Consumes}
-use Rattle.line_protocol.specs.declared.faults.StreamFault.{StreamFault}
-use Rattle.message_streams.specs.Lines.{greeting_line}
-use Rattle.message_streams.specs.declared.greeting.Greeting.{Greeting}
-use Rattle.message_streams.specs.Ends.{StopsAtGreeting}
-use Rattle.message_streams.specs.Views.{IsUnwritten, ReaderView, WriterView}
+-- Two neighbours greet one another. (This project's own choice.)
+use Rattle.std.specs.Prelude.{◌≡◌, ◌⊎◌, ℕ, List, ◌++◌, Option, Some, None}
+use Rattle.std.specs.Io.KnownBytes.{Consumes}
+use Rattle.link_handshake.specs.Reading.{said_by}
+use Rattle.link_handshake.specs.declared.greeting.Greeting.{Greeting}
+use Rattle.link_handshake.specs.declared.post.CameUp.{CameUp}
+use Rattle.link_handshake.specs.declared.said.Said.{Said}
+use Rattle.link_handshake.specs.declared.said.Said.TheVariants as said
+use Rattle.message_streams.specs.Ends.{ReadsLine, StopsAtLine}
+use Rattle.message_streams.specs.Views.{ReaderView}
 use Rattle.message_streams.specs.declared.ends.StreamEnd.{StreamEnd}
+use Rattle.message_streams.specs.declared.ends.StreamEnd.TheVariants as stream
+use Rattle.neighbour_session.specs.declared.ends.GreetingFault.{GreetingFault}
+use Rattle.neighbour_session.specs.declared.ends.GreetingFault.TheVariants as fault
 use Rattle.neighbour_session.specs.declared.ends.SessionEnd.{SessionEnd}
 use Rattle.neighbour_session.specs.declared.ends.SessionEnd.TheVariants as end
 use Rattle.neighbour_session.specs.declared.greeting.Domain.{Domain}
 
--- the greeting of a node of the router's domain
-abbrev pub greeting_of : Domain → ℕ → Greeting
-greeting_of d node = record { size = d.size; node = node }
+-- the greeting is that of this node of the router's domain
+pub record IsOf (d : Domain) (neighbour : ℕ) (g : Greeting) : Type 0 where
+  pub size : g.size ≡ d.size
+  pub node : g.node ≡ neighbour
 
--- the whole line of the router's own greeting was written, and nothing else
-pub record Writes (d : Domain) (output o : WriterView) : Type 0 where
-  pub writable_before : output.over ≡ false
-  pub writable : o.over ≡ false
-  pub wrote : Appends output.held o.held (greeting_line (greeting_of d d.me))
+-- or it is one from a domain of another size; or from one of this size, by another node
+abbrev pub IsOfOther : Domain → ℕ → Greeting → GreetingFault → Type 0
+IsOfOther d neighbour g (fault.OtherSize size) = (size ≡ g.size) × (g.size ≡ d.size → ⊥)
+IsOfOther d neighbour g (fault.OtherNode node) = (node ≡ g.node) × (g.size ≡ d.size) × (g.node ≡ neighbour → ⊥)
 
--- They greeted one another: besides, the line that was read, and no byte more, is the greeting of this neighbour.
-pub record Greets (d : Domain) (neighbour : ℕ) (input i : ReaderView) (output o : WriterView) : Type 0 where
-  pub writes : Writes d output o
-  pub readable_before : input.end ≡ None
-  pub readable : i.end ≡ None
-  pub read : Consumes input.left i.left (greeting_line (greeting_of d neighbour))
+-- a line was heard that says this; or 64 bytes without a line feed, which say nothing
+pub record HearsLine (heard : Said) (input i : ReaderView) : Type 0 where
+  pub readable : input.end ≡ None
+  pub readable_on : i.end ≡ None
+  pub line : ((text : List ℕ) × ReadsLine text input.left i.left × (said_by text ≡ heard))
+      ⊎ (StopsAtLine stream.TooLong input.left i.left × (heard ≡ said.Nothing))
 
--- the line was not written whole, and nothing was read
-pub record WritesNot (d : Domain) (input i : ReaderView) (output o : WriterView) : Type 0 where
-  pub fault : StreamFault
-  pub unwritten : IsUnwritten fault output o (greeting_line (greeting_of d d.me))
-  pub unread : i ≡ input
+-- this was heard: it is what was heard before, and nothing was read; or else a line says it
+abbrev pub TakesSaid : Option Said → Said → ReaderView → ReaderView → Type 0
+TakesSaid before heard input i = ((before ≡ Some heard) × (i ≡ input)) ⊎ HearsLine heard input i
 
--- the line was written, and what was read is not the greeting of this neighbour, for this reason
-pub record GreetsNot (d : Domain) (neighbour : ℕ) (why : StreamEnd) (line : ℕ) (input i : ReaderView) (output o : WriterView) : Type 0 where
-  pub writes : Writes d output o
-  pub ended : i.end ≡ Some why
-  pub at_line : line ≡ i.line
-  pub stops : input.end ≡ None → StopsAtGreeting (greeting_of d neighbour) why input.left i.left
-  pub before : IfSome input.end (λ earlier. (why ≡ earlier) × (i ≡ input))
+-- no greeting but that of this node of the router's domain
+abbrev pub IsWelcome : Domain → ℕ → Said → Type 0
+IsWelcome d neighbour (said.Greeting g) = IsOf d neighbour g
+IsWelcome d neighbour _ = Unit {0}
 
--- why they did not greet one another
-abbrev pub IsUngreeted : SessionEnd → Domain → ℕ → ReaderView → ReaderView → WriterView → WriterView → Type 0
-IsUngreeted end.Unwritten d neighbour input i output o = WritesNot d input i output o
-IsUngreeted (end.Read why line) d neighbour input i output o = GreetsNot d neighbour why line input i output o
-IsUngreeted _ d neighbour input i output o = ⊥
+-- no line was read, for this reason, at a line of this number
+abbrev pub read_end : StreamEnd → ℕ → SessionEnd
+read_end why line = end.Read why line
+
+-- no line was heard any more
+abbrev pub IsUnheard : SessionEnd → ReaderView → ReaderView → Type 0
+IsUnheard (end.Read why line) input i = (i.end ≡ Some why) × (line ≡ i.line)
+IsUnheard _ input i = ⊥
+
+-- a greeting came from a stream, behind these bytes; or it is the line that was heard before
+abbrev pub Comes : Option Said → ReaderView → Greeting → ReaderView → Type 0
+Comes first input g i = (first ≡ Some (said.Greeting g)) ⊎ ((before : List ℕ) × (mid : Option (List ℕ)) × (line : List ℕ)
+    × Consumes input.left mid before × ReadsLine line mid i.left × (said_by line ≡ said.Greeting g))
+
+-- The end of the link came up, on a greeting that came last: it is this neighbour's, and repeats the number of this end's present attempt.
+pub record Meets (d : Domain) (neighbour : ℕ) (first : Option Said) (input : ReaderView) (m : CameUp) (i : ReaderView) : Type 0 where
+  pub of : IsOf d neighbour m.greeting
+  pub answers : m.greeting.heard ≡ m.number
+  pub comes : Comes first input m.greeting i
+
+-- why it did not: no line was heard any more; a greeting is another's; the neighbour said too much besides greetings; or the link is closed
+abbrev pub IsUnmet : SessionEnd → Domain → ℕ → ReaderView → Type 0
+IsUnmet (end.Read why line) d neighbour i = (i.end ≡ Some why) × (line ≡ i.line)
+IsUnmet (end.Mistaken why line) d neighbour i = (line ≡ i.line) × ((g : Greeting) × IsOfOther d neighbour g why)
+IsUnmet end.Ungreeted d neighbour i = Unit {0}
+IsUnmet end.Closed d neighbour i = Unit {0}
+IsUnmet _ d neighbour i = ⊥

@@ -1,7 +1,7 @@
 -- What the lines say that a stream gave, or got, between two states of it. (This project's own choice.)
-use Rattle.std.specs.Prelude.{ℕ, ◌-◌, All, List, length, take, drop, Option, Some, None}
+use Rattle.std.specs.Prelude.{◌≡◌, ℕ, ◌-◌, All, List, length, take, drop, Option, Some, None}
 use Rattle.std.specs.Io.KnownBytes.{Appends, Consumes}
-use Rattle.message_streams.specs.Lines.{FitsMessage, messages_text}
+use Rattle.message_streams.specs.Lines.{FitsMessage, lines_text, told_in}
 use Rattle.message_streams.specs.Reading.{messages_in}
 use Rattle.netchange_core.specs.declared.message.Message.{Message}
 
@@ -17,18 +17,24 @@ said_to None now = None
 said_to (Some before) None = None
 said_to (Some before) (Some all) = Some (messages_in (drop (length before) all))
 
--- the stream gave the lines of these messages, or got them
+-- the stream gave lines of messages, and empty ones, or got them
 pub record GaveLines (first last : Option (List ℕ)) : Type 0 where
-  pub messages : List Message
-  pub fits : All FitsMessage messages
-  pub moved : Consumes first last (messages_text messages)
+  pub lines : List (Option Message)
+  pub fits : All FitsMessage (told_in lines)
+  pub moved : Consumes first last (lines_text lines)
 
 pub record GotLines (first last : Option (List ℕ)) : Type 0 where
-  pub messages : List Message
-  pub fits : All FitsMessage messages
-  pub moved : Appends first last (messages_text messages)
+  pub lines : List (Option Message)
+  pub fits : All FitsMessage (told_in lines)
+  pub moved : Appends first last (lines_text lines)
 
--- the messages that a link tells, if it does, are those of the lines by which a stream moved, each in its turn
+-- the messages that a link tells, if it does, are those of the lines by which a stream moved, each in its turn; the other lines are empty
+pub record AreThese (moves : List ℕ → Type 0) (messages : List Message) : Type 0 where
+  pub lines : List (Option Message)
+  pub told : told_in lines ≡ messages
+  pub fits : All FitsMessage messages
+  pub moved : moves (lines_text lines)
+
 abbrev pub AreLines : (List ℕ → Type 0) → Option (List Message) → Type 0
-AreLines moved None = Unit {0}
-AreLines moved (Some messages) = All FitsMessage messages × moved (messages_text messages)
+AreLines moves None = Unit {0}
+AreLines moves (Some messages) = AreThese moves messages

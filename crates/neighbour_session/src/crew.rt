@@ -46,6 +46,9 @@ pub trait Crew: Gate {
     fn is_present<R: Wait + Clock>(&self, rt: &R) -> bool
         ensures { may_be_present self.now result };
 
+    /// Whether the writer owes the neighbour an empty line, since it wrote nothing for a while. It counts as written then.
+    fn owes_line<R: Wait + Clock>(&self, rt: &R) -> bool;
+
     /// The session is over. True for the first who says so, who enters Down. Nobody says so twice, nor serves the session after it.
     fn end<R: Wait + Clock>(self, rt: &R) -> (bool, Self::Leaver)
         ensures { may_be_first self result.0 };

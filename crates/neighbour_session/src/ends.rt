@@ -4,19 +4,44 @@ ghost use Rattle.std.specs.Io.{StartsWith};
 ghost use Rattle.neighbour_session.specs.Words as spec;
 
 use itoa::Buffer;
-use message_streams::{GreetingFault, StreamEnd};
+use link_handshake::{Greeting, Said};
+use message_streams::StreamEnd;
 use std::alloc::AllocError;
+
+/// Why a greeting is not that of the neighbour that is expected.
+#[derive(Clone, Copy, Debug, PartialEq, Eq)]
+pub enum GreetingFault {
+    /// It is from a domain of this other size.
+    OtherSize(u16),
+    /// It is from this other node.
+    OtherNode(u16),
+}
 
 /// Why a session with a neighbour is over, or why none began.
 #[derive(Clone, Copy, PartialEq, Eq)]
 pub enum SessionEnd {
-    /// The neighbour's stream ended, or has a line that no neighbour says here, or could not be read.
+    /// The neighbour's stream ended, or has a line that is too long, or could not be read.
     Read {
         /// What it was.
         why: StreamEnd,
         /// The number of the line at which it was.
         line: u64,
     },
+    /// The neighbour began anew, by this greeting.
+    Greeted(Greeting),
+    /// The line of this number is no message.
+    NoMessage(u64),
+    /// A greeting is not that of the neighbour.
+    Mistaken {
+        /// What is wrong with it.
+        fault: GreetingFault,
+        /// The number of its line.
+        line: u64,
+    },
+    /// The neighbour said a lot, and did not greet.
+    Ungreeted,
+    /// Nothing was heard of the neighbour for so many seconds, which is its HOLD.
+    Silent(u16),
     /// A line could not be written.
     Unwritten,
     /// Nobody could be started to write to the neighbour.
@@ -61,7 +86,6 @@ fn push_greeting_fault(text: &mut String, fault: GreetingFault) -> Result<(), Al
     ensures err { OnErr result (StartsWith (string_bytes text.new) (string_bytes text.old)) }
 {
     match fault {
-        GreetingFault::NoGreeting => text.push_str("this is no greeting of version 1"),
         GreetingFault::OtherSize(size) => {
             push_numbered(
                 text,
@@ -85,16 +109,47 @@ fn push_stream_end(text: &mut String, why: StreamEnd, line: u64) -> Result<(), A
         StreamEnd::Ended => text.push_str("the neighbour ended its stream"),
         StreamEnd::Unfinished => push_with_number(text, "the stream ended within line ", line),
         StreamEnd::TooLong => push_numbered(text, "line ", line, " has more than 64 bytes"),
-        StreamEnd::NoMessage => push_numbered(text, "line ", line, " is no message"),
-        StreamEnd::Greeting(fault) => {
-            push_numbered(text, "line ", line, " is not its greeting: ")?;
-            push_greeting_fault(text, fault)
-        }
         StreamEnd::Read => push_numbered(text, "line ", line, " could not be read"),
     }
 }
 
+/// Adds that a line is not the greeting that is expected, and why.
+fn push_mistake(text: &mut String, fault: GreetingFault, line: u64) -> Result<(), AllocError>
+    ensures ok { OnOk result (string_bytes text.new ≡ string_bytes text.old ++ spec.mistake_words fault line) }
+    ensures err { OnErr result (StartsWith (string_bytes text.new) (string_bytes text.old)) }
+{
+    push_numbered(text, "line ", line, " is not its greeting: ")?;
+    push_greeting_fault(text, fault)
+}
+
 impl SessionEnd {
+    /// What the line says by which the neighbour ended a session, if it did: it is the first line that is heard for the next one.
+    pub fn last_line(self) -> Option<Said>
+        ensures { result ≡ spec.last_line self }
+    {
+        match self {
+            SessionEnd::Greeted(greeting) => Some(Said::Greeting(greeting)),
+            SessionEnd::NoMessage(_) => Some(Said::Nothing),
+            SessionEnd::Read {
+                why: StreamEnd::TooLong,
+                ..
+            } => Some(Said::Nothing),
+            _ => None,
+        }
+    }
+
+    /// Whether the next session is had over the same streams: where they go on.
+    pub fn goes_on(self) -> bool
+        ensures { result ≡ spec.goes_on self }
+    {
+        match self {
+            SessionEnd::Greeted(_) | SessionEnd::NoMessage(_) | SessionEnd::Closed => true,
+            SessionEnd::Silent(_) => true,
+            SessionEnd::Read { why, .. } => !why.is_lasting(),
+            _ => false,
+        }
+    }
+
     /// Adds why the session is over, in words.
     pub fn push_words(self, text: &mut String) -> Result<(), AllocError>
         ensures ok { OnOk result (string_bytes text.new ≡ string_bytes text.old ++ spec.end_words self) }
@@ -102,6 +157,13 @@ impl SessionEnd {
     {
         match self {
             SessionEnd::Read { why, line } => push_stream_end(text, why, line),
+            SessionEnd::Greeted(_) => text.push_str("the neighbour began anew"),
+            SessionEnd::NoMessage(line) => push_numbered(text, "line ", line, " is no message"),
+            SessionEnd::Mistaken { fault, line } => push_mistake(text, fault, line),
+            SessionEnd::Ungreeted => text.push_str("the neighbour did not greet"),
+            SessionEnd::Silent(hold) => {
+                push_numbered(text, "nothing heard for ", u64::from(hold), " s")
+            }
             SessionEnd::Unwritten => text.push_str("a line could not be written"),
             SessionEnd::NotStarted => text.push_str("a thread was not started (X2)"),
             SessionEnd::Closed => text.push_str("the session was ended"),

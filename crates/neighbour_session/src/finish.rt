@@ -13,7 +13,7 @@ use std::sync::Wait;
 
 /// Ends a session for a reason: enters Down, if nobody ended it before, and tells who served it of the answer. Why it is over, and what is
 /// left of who served it.
-pub(crate) fn end_session<R: Wait + Clock, C: Crew>(
+pub fn end_session<R: Wait + Clock, C: Crew>(
     rt: &R,
     router: &Router,
     pass: &mut Pass,

@@ -1,10 +1,15 @@
-//! The greeting.
-ghost use Rattle.std.specs.Prelude.{◌≡◌, IfErr, OnOk};
-ghost use Rattle.neighbour_session.specs.Greeting.{Greets, IsUngreeted};
+//! Two neighbours greet one another.
+ghost use Rattle.std.specs.Prelude.{◌≡◌, false, true, IfErr, IfOk, None, OnOk};
+ghost use Rattle.link_handshake.specs.declared.said.Said.TheVariants as said;
+ghost use Rattle.message_streams.specs.Ends.{is_lasting};
+ghost use Rattle.neighbour_session.specs.Greeting as spec;
 
-use crate::ends::SessionEnd;
-use message_streams::{Greeting, MessageReader, MessageWriter};
-use std::io::{Read, Write};
+use crate::ends::{GreetingFault, SessionEnd};
+use link_handshake::{CameUp, Greeting, Said, read_line, skip};
+use message_streams::{MessageReader, StreamEnd};
+use std::io::Read;
+use std::random::RandomSource;
+use std::sync::Wait;
 
 /// A router's place in its domain.
 #[derive(Clone, Copy, PartialEq, Eq)]
@@ -15,32 +20,135 @@ pub struct Domain {
     pub me: u16,
 }
 
-/// Greets a neighbour: writes one line, and reads one. `Ok` only if that is the greeting of this node, of a domain of this size.
-pub fn greet<I: Read, O: Write>(
-    input: &mut MessageReader<I>,
-    output: &mut MessageWriter<O>,
-    domain: Domain,
-    neighbour: u16,
-) -> Result<(), SessionEnd>
-    ensures greeted { OnOk result (Greets domain neighbour input.old input.new output.old output.new) }
-    ensures refused { IfErr result (λ why. IsUngreeted why domain neighbour input.old input.new output.old output.new) }
+/// Who hears what a neighbour says while there is no session.
+pub trait Ears {
+    ghost use Rattle.std.specs.Prelude.{◌≡◌, IfSome};
+    ghost use Rattle.link_handshake.specs.declared.said.Said.TheVariants.{Greeting as greets};
+
+    /// Hears a line. What the end of the link came up on, if it did.
+    fn hear<R: Wait + RandomSource>(&self, rt: &R, line: Said) -> Option<CameUp>
+        ensures { IfSome result (λ m. (line ≡ greets m.greeting) × (m.greeting.heard ≡ m.number)) };
+
+    /// Whether the link is open still, so that what is heard can be answered.
+    fn is_open<R: Wait>(&self, rt: &R) -> bool;
+}
+
+/// Whether a greeting is that of a node of a domain of this size.
+fn check_greeting(greeting: Greeting, domain: Domain, neighbour: u16) -> Result<(), GreetingFault>
+    ensures ok { OnOk result (spec.IsOf domain neighbour greeting) }
+    ensures err { IfErr result (spec.IsOfOther domain neighbour greeting) }
 {
-    let mine = Greeting {
-        size: domain.size,
-        node: domain.me,
-    };
-    let theirs = Greeting {
-        size: domain.size,
-        node: neighbour,
-    };
-    if output.write_greeting(mine).is_err() {
-        return Err(SessionEnd::Unwritten);
+    if greeting.size != domain.size {
+        return Err(GreetingFault::OtherSize(greeting.size));
     }
-    match input.read_greeting(theirs) {
-        Ok(()) => Ok(()),
-        Err(why) => Err(SessionEnd::Read {
+    if greeting.node != neighbour {
+        return Err(GreetingFault::OtherNode(greeting.node));
+    }
+    Ok(())
+}
+
+/// What a line says that was not read whole, for this reason, at a line of this number. One that is too long says nothing; with any other no
+/// line is heard any more.
+fn said_without_line(why: StreamEnd, line: u64) -> Result<(Said, u32), SessionEnd>
+    ensures said { IfOk result (λ r. (r.0 ≡ said.Nothing) × (is_lasting why ≡ false)) }
+    ensures end { IfErr result (λ end. (end ≡ spec.read_end why line) × (is_lasting why ≡ true)) }
+{
+    if !why.is_lasting() {
+        return Ok((Said::Nothing, 64));
+    }
+    Err(SessionEnd::Read { why, line })
+}
+
+/// What the next line of a stream says that has not ended, and of how many bytes it is. A line that is too long says nothing, and neither does
+/// what is left of it.
+fn hear_next<I: Read>(input: &mut MessageReader<I>) -> Result<(Said, u32), SessionEnd>
+    requires { input.old.end ≡ None }
+    ensures said { IfOk result (λ r. spec.HearsLine r.0 input.old input.new) }
+    ensures end { IfErr result (λ why. spec.IsUnheard why input.old input.new) }
+{
+    match input.next_line() {
+        Ok(text) => Ok((read_line(text.as_slice()), text.len() as u32 + 1)),
+        Err(why) => said_without_line(why, input.line()),
+    }
+}
+
+/// The same of any stream: where it has ended, no line is heard any more.
+fn next_said<I: Read>(input: &mut MessageReader<I>) -> Result<(Said, u32), SessionEnd>
+    ensures said { IfOk result (λ r. spec.HearsLine r.0 input.old input.new) }
+    ensures end { IfErr result (λ why. spec.IsUnheard why input.old input.new) }
+{
+    match input.end() {
+        Some(why) => Err(SessionEnd::Read {
             why,
             line: input.line(),
         }),
+        None => hear_next(input),
     }
+}
+
+/// What the line says that was heard before, if there is one, which is taken, or else the next line of a stream; and how many bytes were read.
+fn take_said<I: Read>(
+    before: &mut Option<Said>,
+    input: &mut MessageReader<I>,
+) -> Result<(Said, u32), SessionEnd>
+    ensures said { IfOk result (λ r. spec.TakesSaid before.old r.0 input.old input.new) }
+    ensures taken { before.new ≡ None }
+    ensures end { IfErr result (λ why. spec.IsUnheard why input.old input.new) }
+{
+    match before.take() {
+        Some(said) => Ok((said, 0)),
+        None => next_said(input),
+    }
+}
+
+/// How many bytes were skipped since the last greeting, after a line of so many. A greeting has to be the neighbour's.
+fn count_skipped<I: Read>(
+    said: Said,
+    skipped: u32,
+    bytes: u32,
+    input: &MessageReader<I>,
+    domain: Domain,
+    neighbour: u16,
+) -> Result<u32, SessionEnd>
+    ensures ok { OnOk result (spec.IsWelcome domain neighbour said) }
+    ensures err { IfErr result (λ why. spec.IsUnmet why domain neighbour input.now) }
+{
+    let Said::Greeting(greeting) = said else {
+        return skip(skipped, bytes).ok_or(SessionEnd::Ungreeted);
+    };
+    match check_greeting(greeting, domain, neighbour) {
+        Ok(()) => Ok(0),
+        Err(fault) => Err(SessionEnd::Mistaken {
+            fault,
+            line: input.line(),
+        }),
+    }
+}
+
+/// Waits until a neighbour answers the present attempt of this end of the link: what the end came up on. Whatever else the neighbour says
+/// is skipped, up to 65,536 bytes between two of its greetings. A line that was heard before, and ended a session, may be the first.
+pub fn meet<R: Wait + RandomSource, I: Read, E: Ears>(
+    rt: &R,
+    input: &mut MessageReader<I>,
+    ears: &E,
+    domain: Domain,
+    neighbour: u16,
+    first: Option<Said>,
+) -> Result<CameUp, SessionEnd>
+    ensures met { IfOk result (λ m. spec.Meets domain neighbour first input.old m input.new) }
+    ensures unmet { IfErr result (λ why. spec.IsUnmet why domain neighbour input.new) }
+{
+    let mut before = first;
+    let mut skipped = 0;
+    for _ in rt.forever() {
+        let (said, bytes) = take_said(&mut before, input)?;
+        skipped = count_skipped(said, skipped, bytes, input, domain, neighbour)?;
+        if let Some(meeting) = ears.hear(rt, said) {
+            return Ok(meeting);
+        }
+        if !ears.is_open(rt) {
+            return Err(SessionEnd::Closed);
+        }
+    }
+    unreachable!()
 }

@@ -13,7 +13,8 @@ mod write;
 
 pub use calls::{enter_down, enter_up};
 pub use crew::{Crew, Leaver, READER};
-pub use ends::SessionEnd;
-pub use greeting::{Domain, greet};
+pub use ends::{GreetingFault, SessionEnd};
+pub use finish::end_session;
+pub use greeting::{Domain, Ears, meet};
 pub use read::serve_reader;
 pub use write::serve_writer;

@@ -7,10 +7,13 @@
 //! that it was handed, and `serve_writer` hands the writer back, whose stream got the lines of what its Takes brought. Whoever asked for it closes
 //! it.
 ghost use Rattle.std.specs.Option.{option_or};
-ghost use Rattle.std.specs.Prelude.{◌≡◌, ◌<◌, None, Some, false};
+ghost use Rattle.std.specs.Prelude.{◌≡◌, ◌<◌, None, Some, false, true, IfErr, IfOk, OnErr};
+ghost use Rattle.neighbour_session.specs.Links as spec;
 ghost use Rattle.route_session.specs.Telling.{known};
 ghost use Rattle.route_session.specs.Told.{Rose};
 
+use crate::ends::SessionEnd;
+use link_handshake::{Said, read_line};
 use message_streams::{MessageReader, MessageWriter, StreamEnd};
 use netchange_core::Message;
 use route_session::{Got, Link, LinkFault};
@@ -38,6 +41,58 @@ fn refuse(message: Message, first_refused: &mut Option<Message>, failures: &mut 
     fail(failures)
 }
 
+/// What a link answers to a message, or to an empty line.
+fn got_of(told: Option<Message>) -> Got
+    ensures { result ≡ spec.got_of told }
+{
+    match told {
+        Some(message) => Got::Message(message),
+        None => Got::Nothing,
+    }
+}
+
+/// What a line of this number means in session: a message, or that its writer is there. Any other ends the session.
+fn in_session(said: Said, line: u64) -> Result<Option<Message>, SessionEnd>
+    ensures { result ≡ spec.in_session said line }
+{
+    match said {
+        Said::Message(message) => Ok(Some(message)),
+        Said::Alive => Ok(None),
+        Said::Greeting(greeting) => Err(SessionEnd::Greeted(greeting)),
+        Said::Nothing => Err(SessionEnd::NoMessage(line)),
+    }
+}
+
+/// The message that the next line says, or nothing at an empty one; or why the session is over.
+fn hear_line<I: Read>(input: &mut MessageReader<I>) -> Result<Option<Message>, SessionEnd>
+    ensures told { IfOk result (λ told. (input.new.end ≡ None) × spec.ReadsTold told input.old.left input.new.left) }
+    ensures over { IfErr result (λ why. input.old.end ≡ None → spec.TakesAfter (Some why) input.old.left input.new) }
+{
+    match input.next_line() {
+        Ok(text) => in_session(read_line(text.as_slice()), input.line()),
+        Err(why) => Err(SessionEnd::Read {
+            why,
+            line: input.line(),
+        }),
+    }
+}
+
+/// What a link answers whose session is over for this reason: that it has ended, where the stream ended after a whole line, and else a failure.
+fn answer_of(why: SessionEnd, has_ended: &mut bool, failures: &mut u64) -> Result<Got, LinkFault>
+    ensures ended { IfOk result (λ got. (got ≡ Got.Ended) × (has_ended.new ≡ true) × (failures.new ≡ failures.old)) }
+    ensures failed { OnErr result ((has_ended.new ≡ has_ended.old) × Rose (known failures.old) (known failures.new)) }
+{
+    if let SessionEnd::Read {
+        why: StreamEnd::Ended,
+        ..
+    } = why
+    {
+        *has_ended = true;
+        return Ok(Got::Ended);
+    }
+    Err(fail(failures))
+}
+
 /// The reader that a link was given.
 pub(crate) trait GivenReader {
     ghost use Rattle.message_streams.specs.Views.{ReaderView};
@@ -53,13 +108,14 @@ impl GivenReader for Brand {
 
 /// A link over the stream that a neighbour is read from. A contract sees it as an `InputView`.
 ///
-/// It waits for a line. It has ended where the stream ended after a whole line; any other end of the reader is a failure. It takes no
-/// messages.
+/// It waits for a line, and answers that no message is there at an empty one. It has ended where the stream ended after a whole line; any
+/// other line that is no message, and any other end of the stream, is a failure. It takes no messages.
 #[derive(Drop)]
 pub(crate) struct InputLink<I: Read, S: GivenReader> {
     input: MessageReader<I>,
-    // The reader as it was after the message that was handed out last.
+    // The reader as it was after the last line that is a message or empty.
     last: Snapshot<MessageReader<I>>,
+    over: Option<SessionEnd>,
     has_ended: bool,
     failures: u64,
     is_closed: bool,
@@ -71,22 +127,23 @@ impl<I: Read, S: GivenReader> Model for InputLink<I, S> {
 
     ghost Value = { InputView };
 
-    ghost view = { λ l. input_view S.reader l.last.value l.input l.has_ended l.failures l.is_closed };
+    ghost view = { λ l. input_view S.reader l.last.value l.input l.over l.has_ended l.failures l.is_closed };
 
-    ghost invariant = { λ l. IsInput S.reader l.last.value l.input };
+    ghost invariant = { λ l. IsInput S.reader l.last.value l.input l.over };
 }
 
-impl<I: Read, S: GivenReader> InputLink<I, S> {
+impl<I: Read + Drop, S: GivenReader> InputLink<I, S> {
     ghost use Rattle.neighbour_session.specs.Links.{ReadsLines, input_view};
 
     /// A link over this reader.
     pub(crate) fn new(input: MessageReader<I>) -> InputLink<I, S>
         requires { input ≡ S.reader }
-        ensures { result ≡ input_view input input input false 0 false }
+        ensures { result ≡ input_view input input input None false 0 false }
     {
         InputLink {
             last: Snapshot::of(&input),
             input,
+            over: None,
             has_ended: false,
             failures: 0,
             is_closed: false,
@@ -94,25 +151,19 @@ impl<I: Read, S: GivenReader> InputLink<I, S> {
         }
     }
 
-    /// Why the reader ended, once it has.
-    pub(crate) fn end(&self) -> Option<StreamEnd>
-        ensures { result ≡ self.now.reader.end }
+    /// Why the link hands out no more, once it does not.
+    pub(crate) fn over(&self) -> Option<SessionEnd>
+        ensures { result ≡ self.now.over }
     {
-        self.input.end()
+        self.over
     }
 
-    /// The number of the line that was read last, or at which the reader ended.
-    pub(crate) fn line(&self) -> u64
-        ensures { result ≡ self.now.reader.line }
+    /// The reader. What the link handed out is what the lines of its stream say.
+    pub(crate) fn into_reader(self) -> MessageReader<I>
+        ensures { ReadsLines S.reader self.told.handed self.over result }
     {
-        self.input.line()
-    }
-
-    /// What the link handed out is what the lines of its stream say.
-    pub(crate) fn lines_are_told(&self)
-        ensures { ReadsLines S.reader self.now.told.handed self.now.reader }
-    {
-        let _ = &self.is_closed;
+        let InputLink { input, .. } = self;
+        input
     }
 }
 
@@ -124,16 +175,18 @@ impl<I: Read, S: GivenReader> Link for InputLink<I, S> {
             self.has_ended = true;
             return Ok(Got::Ended);
         }
-        match self.input.next_message() {
-            Ok(message) => {
+        if self.over.is_some() {
+            return Err(fail(&mut self.failures));
+        }
+        match hear_line(&mut self.input) {
+            Ok(told) => {
                 self.last = Snapshot::of(&self.input);
-                Ok(Got::Message(message))
+                Ok(got_of(told))
             }
-            Err(StreamEnd::Ended) => {
-                self.has_ended = true;
-                Ok(Got::Ended)
+            Err(why) => {
+                self.over = Some(why);
+                answer_of(why, &mut self.has_ended, &mut self.failures)
             }
-            Err(_) => Err(fail(&mut self.failures)),
         }
     }
 
@@ -203,9 +256,21 @@ impl<O: Write + Drop, T: Target> OutputLink<O, T> {
         }
     }
 
+    /// Writes an empty line. False where it was not written.
+    pub(crate) fn write_empty(&mut self) -> bool
+        requires { self.old.told.failures ≡ known 0 }
+        ensures told { self.new.told ≡ self.old.told }
+        ensures unwritten { result ≡ false → self.new.writer.over ≡ true }
+    {
+        let is_written = self.output.write_text(b"\n").is_ok();
+        self.last = Snapshot::of(&self.output);
+        is_written
+    }
+
     /// The writer. What its stream got is what the link was given.
     pub(crate) fn into_writer(self) -> MessageWriter<O>
-        ensures { GotLinesOf T.writer self.told result }
+        ensures lines { GotLinesOf T.writer self.told result }
+        ensures writer { result ≡ self.writer }
     {
         let OutputLink { output, .. } = self;
         output

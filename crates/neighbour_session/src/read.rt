@@ -24,25 +24,19 @@ use std::sync::Wait;
 const TURNS: u32 = 1_000;
 
 /// Why a link hands out no more.
-fn end_of_link<I: Read, S: GivenReader>(link: &InputLink<I, S>) -> SessionEnd
-    ensures { result ≡ spec.link_end link.now.reader.end link.now.reader.line }
+fn end_of_link<I: Read + Drop, S: GivenReader>(link: &InputLink<I, S>) -> SessionEnd
+    ensures { result ≡ spec.link_end link.now.over }
 {
-    match link.end() {
-        Some(why) => SessionEnd::Read {
-            why,
-            line: link.line(),
-        },
-        None => SessionEnd::Closed,
-    }
+    link.over().unwrap_or(SessionEnd::Closed)
 }
 
 /// Why a reader's session is over; None where it is not.
-fn end_of_reader<I: Read, S: GivenReader>(
+fn end_of_reader<I: Read + Drop, S: GivenReader>(
     cause: Cause,
     link: &InputLink<I, S>,
     waits: bool,
 ) -> Option<SessionEnd>
-    ensures over { IfSome result (λ why. spec.IsReaderStopped waits cause link.now.reader why) }
+    ensures over { IfSome result (λ why. spec.IsReaderStopped waits cause link.now.over why) }
     ensures goes_on { IfNone result (cause ≡ Cause.Turns) }
 {
     match cause {
@@ -98,28 +92,29 @@ fn read_all<S: GivenReader, R: Wait + Clock, I: Read + Drop, C: Crew>(
     input: MessageReader<I>,
     crew: &C,
     waits: bool,
-) -> SessionEnd
+) -> (SessionEnd, MessageReader<I>)
     requires of { IsPassOf router.now pass.old }
     requires named { input ≡ S.reader }
     ensures pass { StaysSound router.now pass.old pass.new }
     ensures shares { pass.new.fragment.shares ≡ pass.old.fragment.shares }
-    ensures reads { spec.ReadsOut waits (C.may_be_present crew.now) router.now session pass.old input result pass.new }
+    ensures reads { spec.ReadsOut waits (C.may_be_present crew.now) router.now session pass.old input result.0 pass.new result.1 }
 {
     let mut link: InputLink<I, S> = InputLink::new(input);
     for _ in rt.forever() {
         let cause = read_turns(rt, router, pass, session, &mut link, crew, waits);
-        link.lines_are_told();
         if let Some(why) = end_of_reader(cause, &link, waits) {
-            return why;
+            return (why, link.into_reader());
         }
         if !crew.is_present(rt) {
-            return SessionEnd::Closed;
+            return (SessionEnd::Closed, link.into_reader());
         }
     }
     unreachable!()
 }
 
-/// Reads a session until it is over, and enters Down if nobody ended it before. Why it is over, and what is left of who read it.
+/// Reads a session until it is over, and enters Down if nobody ended it before. Says why it is over, and hands back the stream, and what is
+/// left of who read it. An empty line changes nothing. A line that is no message ends the session: a greeting, because the neighbour began
+/// anew, and any other one.
 ///
 /// A full history (J1) ends the session; where `waits`, it does not: the message that the history had no room for is kept, and entered once
 /// there is room, before what comes after it.
@@ -131,12 +126,13 @@ pub fn serve_reader<R: Wait + Clock, I: Read + Drop, C: Crew>(
     input: MessageReader<I>,
     crew: C,
     waits: bool,
-) -> (SessionEnd, C::Leaver)
+) -> (SessionEnd, MessageReader<I>, C::Leaver)
     requires { IsPassOf router.now pass.old }
     ensures pass { StaysSound router.now pass.old pass.new }
     ensures shares { pass.new.fragment.shares ≡ pass.old.fragment.shares }
-    ensures hears { spec.Hears waits (C.may_be_present crew) (C.may_be_first crew) router.now session pass.old input result.0 pass.new }
+    ensures hears { spec.Hears waits (C.may_be_present crew) (C.may_be_first crew) router.now session pass.old input result.0 pass.new result.1 }
 {
-    let why = read_all::<Brand, R, I, C>(rt, router, pass, session, input, &crew, waits);
-    end_session(rt, router, pass, session, crew, why)
+    let (why, read) = read_all::<Brand, R, I, C>(rt, router, pass, session, input, &crew, waits);
+    let (why, leaver) = end_session(rt, router, pass, session, crew, why);
+    (why, read, leaver)
 }

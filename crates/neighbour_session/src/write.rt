@@ -1,5 +1,6 @@
 //! Who writes to a neighbour.
-ghost use Rattle.std.specs.Prelude.{◌≡◌, ◌≢◌, Bool, IfNone, IfSome};
+ghost use Rattle.std.specs.Prelude.{◌≡◌, false, true, IfNone, IfSome};
+ghost use Rattle.route_session.specs.Telling.{known};
 ghost use Rattle.neighbour_session.specs.Writing as spec;
 ghost use Rattle.route_session.specs.Calls.{StaysSound};
 ghost use Rattle.slot_lock.specs.Passes.{IsPassOf};
@@ -10,7 +11,7 @@ use crate::finish::end_session;
 use crate::links::{OutputLink, Target};
 use crate::waiting::pause;
 use message_streams::MessageWriter;
-use route_session::{Cause, write_session};
+use route_session::{Cause, write_newest};
 use slot_lock::{Pass, Router};
 use std::alloc::Global;
 use std::io::Write;
@@ -42,7 +43,24 @@ fn pause_if_full<R: Clock>(rt: &R, cause: Cause) {
     }
 }
 
-/// Gives a neighbour what the router queued for it, until the session is over: why it is, and the stream.
+/// Writes an empty line, where the crew says that one is owed. False where it was not written.
+fn write_owed<T: Target, R: Wait + Clock, O: Write + Drop, C: Crew>(
+    rt: &R,
+    link: &mut OutputLink<O, T>,
+    crew: &C,
+) -> bool
+    requires { link.old.told.failures ≡ known 0 }
+    ensures told { link.new.told ≡ link.old.told }
+    ensures unwritten { result ≡ false → link.new.writer.over ≡ true }
+{
+    if !crew.owes_line(rt) {
+        return true;
+    }
+    link.write_empty()
+}
+
+/// Gives a neighbour what the router queued for it, until the session is over, and an empty line between two messages where the crew says that
+/// one is owed: why the session is over, the stream, and how many messages were left out.
 fn write_all<T: Target, R: Wait + Clock, O: Write + Drop, C: Crew>(
     rt: &R,
     alloc: Global,
@@ -52,24 +70,29 @@ fn write_all<T: Target, R: Wait + Clock, O: Write + Drop, C: Crew>(
     output: MessageWriter<O>,
     crew: &C,
     waits: bool,
-) -> (SessionEnd, MessageWriter<O>)
+) -> (SessionEnd, MessageWriter<O>, u64)
     requires of { IsPassOf router.now pass.old }
     requires named { output ≡ T.writer }
     ensures pass { StaysSound router.now pass.old pass.new }
     ensures shares { pass.new.fragment.shares ≡ pass.old.fragment.shares }
-    ensures writes { spec.WritesOut waits (C.may_be_present crew.now) router.now session pass.old output result.0 pass.new result.1 }
+    ensures writes { spec.WritesOut waits (C.may_be_present crew.now) router.now session pass.old output result.0 pass.new result.1 result.2 }
 {
     let mut link: OutputLink<O, T> = OutputLink::new(output);
+    let mut left_out: u64 = 0;
     for _ in rt.forever() {
-        let end = write_session(
+        let (end, more) = write_newest(
             rt, alloc, router, pass, session, &mut link, crew, WRITER, TURNS,
         );
+        left_out = left_out.saturating_add(more);
         if let Some(why) = end_of_writer(end.cause, waits) {
-            return (why, link.into_writer());
+            return (why, link.into_writer(), left_out);
         }
         pause_if_full(rt, end.cause);
         if !crew.is_present(rt) {
-            return (SessionEnd::Closed, link.into_writer());
+            return (SessionEnd::Closed, link.into_writer(), left_out);
+        }
+        if !write_owed(rt, &mut link, crew) {
+            return (SessionEnd::Unwritten, link.into_writer(), left_out);
         }
     }
     unreachable!()
@@ -77,6 +100,9 @@ fn write_all<T: Target, R: Wait + Clock, O: Write + Drop, C: Crew>(
 
 /// Gives a neighbour what the router queued for it, until the session is over, and enters Down if nobody ended it before. Says why it
 /// is over, and hands back the stream, which is closed by letting it go, and what is left of who wrote.
+///
+/// Of the messages that one Take brings each is left out that a later one of them about the same node follows: a neighbour that reads slowly
+/// is told the newest, and not every step. How many were left out is said last.
 ///
 /// A full history (J1) ends the session; where `waits`, it does not: the call is made again, until there is room.
 pub fn serve_writer<R: Wait + Clock, O: Write + Drop, C: Crew>(
@@ -88,15 +114,16 @@ pub fn serve_writer<R: Wait + Clock, O: Write + Drop, C: Crew>(
     output: MessageWriter<O>,
     crew: C,
     waits: bool,
-) -> (SessionEnd, MessageWriter<O>, C::Leaver)
+) -> (SessionEnd, MessageWriter<O>, C::Leaver, u64)
     requires { IsPassOf router.now pass.old }
     ensures pass { StaysSound router.now pass.old pass.new }
     ensures shares { pass.new.fragment.shares ≡ pass.old.fragment.shares }
-    ensures serves { spec.Serves waits (C.may_be_present crew) (C.may_be_first crew) router.now session pass.old output result.0 pass.new result.1 }
+    ensures serves { spec.Serves waits (C.may_be_present crew) (C.may_be_first crew) router.now session pass.old output result.0 pass.new result.1
+        result.3 }
 {
-    let (why, written) = write_all::<Brand, R, O, C>(
+    let (why, written, left_out) = write_all::<Brand, R, O, C>(
         rt, alloc, router, pass, session, output, &crew, waits,
     );
     let (why, leaver) = end_session(rt, router, pass, session, crew, why);
-    (why, written, leaver)
+    (why, written, leaver, left_out)
 }

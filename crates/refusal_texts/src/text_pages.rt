@@ -26,6 +26,17 @@ Place: its first byte
 
 Most often a `;` is missing before the place, or the word before it is misspelt: `acept;` is refused at
 the `;`, since `acept` could be a variable. `--explain always` says what was expected, and shows the word.
+
+Words of other languages, and what stands for them here:
+
+    net in [ .. ]              net ~ [ .. ]
+    net ~ 10.0.0.0/8+          net ~ [ 10.0.0.0/8+ ]: a pattern stands in a set
+    [ 10.0.0.0/8 le 24 ]       [ 10.0.0.0/8{8,24} ]
+    default: reject;           else: reject;
+    rip_metric += 1;           rip_metric = rip_metric + 1;
+    net.len => 24              net.len >= 24
+    then a; b; else c;         then { a; b; } else c;
+    filter cust-a { .. }       filter cust_a { .. }
 ",
     },
     Page {
@@ -151,6 +162,7 @@ Place: its first byte
     refused Y1 11
 
 Declare the variable before the first command, or correct the name. The attributes are `net` and `rip_metric`.
+A name that BIRD has from a `define` is put in its place by `ncroute import`.
 ",
     },
     Page {
@@ -245,7 +257,7 @@ Place: none, shown as 0
     refused G2 0
 
 Join sets, or cover several prefixes by one pattern, as `10.0.0.0/8{16,24}`, and several numbers by one range, as
-`8..24`.
+`8..24`. A list of more patterns can be two sets: `net ~ [ .. ] || net ~ [ .. ]`.
 ",
     },
     Page {

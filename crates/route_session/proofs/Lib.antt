@@ -2,6 +2,7 @@ mod Back
 mod Gaining
 mod Gathering
 mod Halves
+mod Leaving
 mod Planning
 mod Reading
 mod Rows

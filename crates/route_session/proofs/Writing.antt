@@ -1,7 +1,7 @@
 -- A writer on its way, and where it ends.
 use Rattle.std.proofs.Common.{◌≡◌, ◌∙◌, sym, ap, subst, refl, ℕ, ◌+◌, ◌-◌, ◌≤◌, Option, List, [], ◌∷◌, ◌++◌}
 use Rattle.std.proofs.Common.{append_assoc, append-nil, length, length-append, Ok, Err, ◌<◌, arith}
-use Rattle.std.specs.Prelude.{All, Some, drop, flat_map, slice_get, slice_index_or}
+use Rattle.std.specs.Prelude.{All, Bool, Some, drop, false, flat_map, slice_get, slice_index_or, true}
 use Rattle.std.proofs.lemmas.Grind.{flat_map-append}
 use Rattle.std.proofs.lemmas.List.{get_or_push}
 use Rattle.std.proofs.lemmas.List.Elements.{All-nil, All-cons, All-append}
@@ -21,26 +21,32 @@ use Rattle.route_session.specs.Calls.{IsFresh, StaysSound, stale, take}
 use Rattle.route_session.specs.declared.link.LinkFault.{LinkFault}
 use Rattle.route_session.specs.Links.{Sent}
 use Rattle.route_session.specs.Told.{Rose, Told, grown, refuse, refuse_first}
-use Rattle.route_session.specs.Writes.{Hands, IsWrittenBy, Takes, Writes, carried_by}
+use Rattle.route_session.specs.Writes.{Hands, LeavesOut, Takes, Writes, carried_by, told_by, told_of}
 use Rattle.route_session.proofs.Gaining.{IsCalled, fresh_more, gained_none, gained_one, gained_refused, sound_one}
 use Rattle.route_session.proofs.Told.{grown_none, grown_more}
 use Rattle.slot_lock.specs.declared.answer.Answer.{Answer}
 use Rattle.slot_lock.specs.Calls.{Answered, Refused}
 use Rattle.slot_lock.specs.Passes.{IsPassOf, PassView, RouterView}
 
--- so many messages were accepted so far, and none is left
-pub record IsWriting (r : RouterView) (session : ℕ) (old : PassView) (t : Told) (n : ℕ) (new : PassView) (u : Told) : Type 0 where
+-- of nothing nothing is told
+told_none : (b : Bool) → told_of b [] ≡ []
+told_none false = refl
+told_none true = refl
+
+-- so many messages were accepted so far, so many were left out, and none is left
+pub record IsWriting (b : Bool) (r : RouterView) (session : ℕ) (old : PassView) (t : Told) (n k : ℕ) (new : PassView) (u : Told) : Type 0 where
   pub calls : List Entry
   pub accepted : List Message
-  pub writes : Writes session old.fragment t calls accepted [] new.fragment u
+  pub writes : Writes b session old.fragment t calls accepted [] new.fragment u
   pub sent : length accepted ≡ n
+  pub counted : k + n ≡ length (flat_map carried_by calls)
   pub fresh : All IsFresh calls
   pub ended : u.ended ≡ t.ended
   pub failures : u.failures ≡ t.failures
   pub sound : StaysSound r old new
 
-pub begins_writing : (r : RouterView) (session : ℕ) (p : PassView) (t : Told) → IsPassOf r p → IsWriting r session p t 0 p t
-begins_writing r session p t of = record {
+pub begins_writing : (b : Bool) (r : RouterView) (session : ℕ) (p : PassView) (t : Told) → IsPassOf r p → IsWriting b r session p t 0 0 p t
+begins_writing b r session p t of = record {
   calls = [];
   accepted = [];
   writes = record {
@@ -53,6 +59,7 @@ begins_writing r session p t of = record {
     is_closed = refl;
   };
   sent = refl;
+  counted = refl;
   fresh = All-nil IsFresh;
   ended = refl;
   failures = refl;
@@ -60,23 +67,35 @@ begins_writing r session p t of = record {
 }
 
 -- what was taken with one reply more
-taken_more : (calls : List Entry) (e : Entry) (accepted : List Message) → flat_map carried_by calls ≡ accepted ++ [] →
-    flat_map carried_by (calls ++ e ∷ []) ≡ accepted ++ carried_by e
-taken_more calls e accepted h =
-    flat_map-append carried_by calls (e ∷ [])
-    ∙ ap (λ (l : List Message). flat_map carried_by calls ++ l) (append-nil (carried_by e))
-    ∙ ap (λ (l : List Message). l ++ carried_by e) (h ∙ append-nil accepted)
+taken_more : (b : Bool) (calls : List Entry) (e : Entry) (accepted : List Message) → flat_map (told_by b) calls ≡ accepted ++ [] →
+    flat_map (told_by b) (calls ++ e ∷ []) ≡ accepted ++ told_by b e
+taken_more b calls e accepted h =
+    flat_map-append (told_by b) calls (e ∷ [])
+    ∙ ap (λ (l : List Message). flat_map (told_by b) calls ++ l) (append-nil (told_by b e))
+    ∙ ap (λ (l : List Message). l ++ told_by b e) (h ∙ append-nil accepted)
+
+-- and how many messages that is: so many of the reply were left out, and so many told, of which so many are left unsent
+count_more : (calls : List Entry) (e : Entry) (k n dropped told unsent : ℕ) → k + n ≡ length (flat_map carried_by calls) →
+    dropped + told ≡ length (carried_by e) → unsent ≤ told →
+    k + dropped + (n + (told - unsent) + unsent) ≡ length (flat_map carried_by (calls ++ e ∷ []))
+count_more calls e k n dropped told unsent before now within =
+    let all : length (flat_map carried_by (calls ++ e ∷ [])) ≡ length (flat_map carried_by calls) + length (carried_by e) =
+    ap length (flat_map-append carried_by calls (e ∷ [])
+    ∙ ap (λ (l : List Message). flat_map carried_by calls ++ l) (append-nil (carried_by e)))
+    ∙ length-append (flat_map carried_by calls) (carried_by e) in
+    omega (arith, before, now, within, all)
 
 -- messages were taken, and given to the link as far as it accepted them
-taken_one : (r : RouterView) (session : ℕ) (old : PassView) (t : Told) (n : ℕ) (p q : PassView) (u v : Told) (a : Answer)
+taken_one : (b : Bool) (r : RouterView) (session : ℕ) (old : PassView) (t : Told) (n k : ℕ) (p q : PassView) (u v : Told) (a : Answer)
     (unsent : List Message)
-    (i : IsWriting r session old t n p u) → Answered r p (take session) a q → IsCalled r p q → (h : Hands u (carried a.reply) unsent v) →
-    Writes session old.fragment t (i.calls ++ entry (take session) a.reply ∷ []) (i.accepted ++ h.accepted) unsent q.fragment v
-taken_one r session old t n p q u v a unsent i answered k h = record {
-  gained = gained_one r old.fragment i.calls p q (take session) a i.writes.gained answered k;
+    (i : IsWriting b r session old t n k p u) → Answered r p (take session) a q → IsCalled r p q →
+    (h : Hands u (told_of b (carried a.reply)) unsent v) →
+    Writes b session old.fragment t (i.calls ++ entry (take session) a.reply ∷ []) (i.accepted ++ h.accepted) unsent q.fragment v
+taken_one b r session old t n k p q u v a unsent i answered is_called h = record {
+  gained = gained_one r old.fragment i.calls p q (take session) a i.writes.gained answered is_called;
   takes = All-append (Takes session) i.calls (entry (take session) a.reply ∷ []) i.writes.takes
       (All-cons (Takes session) (entry (take session) a.reply) [] refl (All-nil (Takes session)));
-  taken = taken_more i.calls (entry (take session) a.reply) i.accepted i.writes.taken
+  taken = taken_more b i.calls (entry (take session) a.reply) i.accepted i.writes.taken
       ∙ ap (λ (l : List Message). i.accepted ++ l) h.in_order ∙ sym (append_assoc i.accepted h.accepted unsent);
   given = h.given ∙ ap (λ (o : Option (List Message)). grown o h.accepted) i.writes.given ∙ grown_more t.given i.accepted h.accepted;
   refused = h.refused ∙ ap (λ (o : Option (Option Message)). refuse_first o unsent) i.writes.refused;
@@ -91,54 +110,80 @@ counted accepted more messages unsent n h e =
     let lengths : length messages ≡ length more + length unsent = ap length e ∙ length-append more unsent in
     omega (arith, length-append accepted more)
 
-pub writes_on : (r : RouterView) (session : ℕ) (old : PassView) (t : Told) (n : ℕ) (p q : PassView) (u v : Told) (a : Answer)
-    (unsent : List Message) →
-    IsWriting r session old t n p u → Answered r p (take session) a q → IsCalled r p q → (a.reply ≡ stale → ⊥) →
-    Hands u (carried a.reply) unsent v → unsent ≡ [] →
-    IsWriting r session old t (n + (length (carried a.reply) - length unsent)) q v
-writes_on r session old t n p q u v a unsent i answered k fresh h none = record {
-  calls = i.calls ++ entry (take session) a.reply ∷ [];
-  accepted = i.accepted ++ h.accepted;
-  writes = subst
-      (λ (l : List Message). Writes session old.fragment t (i.calls ++ entry (take session) a.reply ∷ [])
-      (i.accepted ++ h.accepted) l q.fragment v) none
-      (taken_one r session old t n p q u v a unsent i answered k h);
-  sent = counted i.accepted h.accepted (carried a.reply) unsent n i.sent h.in_order;
-  fresh = fresh_more i.calls (entry (take session) a.reply) i.fresh fresh;
-  ended = h.ended ∙ i.ended;
-  failures = h.sent_all none ∙ i.failures;
-  sound = sound_one r old p q (take session) a answered k;
-}
+-- what is left is no more than there was
+left_within : (u v : Told) (messages unsent : List Message) → Hands u messages unsent v → length unsent ≤ length messages
+left_within u v messages unsent h =
+    let lengths : length messages ≡ length h.accepted + length unsent = ap length h.in_order ∙ length-append h.accepted unsent in
+    omega (arith, lengths)
+
+pub writes_on : (b : Bool) (r : RouterView) (session : ℕ) (old : PassView) (t : Told) (n k : ℕ) (p q : PassView) (u v : Told) (a : Answer)
+    (unsent : List Message) (dropped : ℕ) →
+    IsWriting b r session old t n k p u → Answered r p (take session) a q → IsCalled r p q → (a.reply ≡ stale → ⊥) →
+    dropped + length (told_of b (carried a.reply)) ≡ length (carried a.reply) →
+    Hands u (told_of b (carried a.reply)) unsent v → unsent ≡ [] →
+    IsWriting b r session old t (n + (length (told_of b (carried a.reply)) - length unsent)) (k + dropped) q v
+writes_on b r session old t n k p q u v a unsent dropped i answered is_called fresh split h none =
+    let nothing : length unsent ≡ 0 = ap length none in
+    let all = count_more i.calls (entry (take session) a.reply) k n dropped (length (told_of b (carried a.reply))) (length unsent) i.counted
+    split (left_within u v (told_of b (carried a.reply)) unsent h) in
+    record {
+      calls = i.calls ++ entry (take session) a.reply ∷ [];
+      accepted = i.accepted ++ h.accepted;
+      writes = subst
+          (λ (l : List Message). Writes b session old.fragment t (i.calls ++ entry (take session) a.reply ∷ [])
+          (i.accepted ++ h.accepted) l q.fragment v) none
+          (taken_one b r session old t n k p q u v a unsent i answered is_called h);
+      sent = counted i.accepted h.accepted (told_of b (carried a.reply)) unsent n i.sent h.in_order;
+      counted = omega (arith, all, nothing);
+      fresh = fresh_more i.calls (entry (take session) a.reply) i.fresh fresh;
+      ended = h.ended ∙ i.ended;
+      failures = h.sent_all none ∙ i.failures;
+      sound = sound_one r old p q (take session) a answered is_called;
+    }
 
 -- the ends
 abbrev pub write_end : Cause → ℕ → List Message → WriteEnd
 write_end why n unsent = record { cause = why; sent = n; unsent = unsent }
 
-pub ends_by_turns : (r : RouterView) (session : ℕ) (old : PassView) (t : Told) (n : ℕ) (p : PassView) (u : Told) →
-    IsWriting r session old t n p u → IsWrittenBy r session old.fragment t (write_end cause.Turns n []) p.fragment u
-ends_by_turns r session old t n p u i = record {
-  calls = i.calls;
-  accepted = i.accepted;
-  writes = i.writes;
-  sent = i.sent;
-  leaves = refl;
-  in_history = i.fresh;
-  at_link = (i.ended, i.failures);
+-- nothing is left unsent
+none_unsent : (b : Bool) (r : RouterView) (session : ℕ) (old : PassView) (t : Told) (n k : ℕ) (p : PassView) (u : Told)
+    (i : IsWriting b r session old t n k p u) → k + (n + 0) ≡ length (flat_map carried_by i.calls)
+none_unsent b r session old t n k p u i = omega (arith, i.counted)
+
+pub ends_by_turns : (b : Bool) (r : RouterView) (session : ℕ) (old : PassView) (t : Told) (n k : ℕ) (p : PassView) (u : Told) →
+    IsWriting b r session old t n k p u → LeavesOut b r session old.fragment t (write_end cause.Turns n []) k p.fragment u
+ends_by_turns b r session old t n k p u i = record {
+  written = record {
+    calls = i.calls;
+    accepted = i.accepted;
+    writes = i.writes;
+    sent = i.sent;
+    leaves = refl;
+    in_history = i.fresh;
+    at_link = (i.ended, i.failures);
+  };
+  counted = none_unsent b r session old t n k p u i;
 }
 
-pub ends_by_failure : (r : RouterView) (session : ℕ) (old : PassView) (t : Told) (n : ℕ) (p q : PassView) (u v : Told) (a : Answer)
-    (unsent : List Message) →
-    IsWriting r session old t n p u → Answered r p (take session) a q → IsCalled r p q → (a.reply ≡ stale → ⊥) →
-    Hands u (carried a.reply) unsent v → (unsent ≡ [] → ⊥) →
-    IsWrittenBy r session old.fragment t (write_end cause.LinkFault (n + (length (carried a.reply) - length unsent)) unsent) q.fragment v
-ends_by_failure r session old t n p q u v a unsent i answered k fresh h some = record {
-  calls = i.calls ++ entry (take session) a.reply ∷ [];
-  accepted = i.accepted ++ h.accepted;
-  writes = taken_one r session old t n p q u v a unsent i answered k h;
-  sent = counted i.accepted h.accepted (carried a.reply) unsent n i.sent h.in_order;
-  leaves = some;
-  in_history = fresh_more i.calls (entry (take session) a.reply) i.fresh fresh;
-  at_link = (h.ended ∙ i.ended, subst (λ (before : Option ℕ). Rose before v.failures) i.failures (h.failed some));
+pub ends_by_failure : (b : Bool) (r : RouterView) (session : ℕ) (old : PassView) (t : Told) (n k : ℕ) (p q : PassView) (u v : Told) (a : Answer)
+    (unsent : List Message) (dropped : ℕ) →
+    IsWriting b r session old t n k p u → Answered r p (take session) a q → IsCalled r p q → (a.reply ≡ stale → ⊥) →
+    dropped + length (told_of b (carried a.reply)) ≡ length (carried a.reply) →
+    Hands u (told_of b (carried a.reply)) unsent v → (unsent ≡ [] → ⊥) →
+    LeavesOut b r session old.fragment t (write_end cause.LinkFault (n + (length (told_of b (carried a.reply)) - length unsent)) unsent) (k + dropped)
+    q.fragment v
+ends_by_failure b r session old t n k p q u v a unsent dropped i answered is_called fresh split h some = record {
+  written = record {
+    calls = i.calls ++ entry (take session) a.reply ∷ [];
+    accepted = i.accepted ++ h.accepted;
+    writes = taken_one b r session old t n k p q u v a unsent i answered is_called h;
+    sent = counted i.accepted h.accepted (told_of b (carried a.reply)) unsent n i.sent h.in_order;
+    leaves = some;
+    in_history = fresh_more i.calls (entry (take session) a.reply) i.fresh fresh;
+    at_link = (h.ended ∙ i.ended, subst (λ (before : Option ℕ). Rose before v.failures) i.failures (h.failed some));
+  };
+  counted = count_more i.calls (entry (take session) a.reply) k n dropped (length (told_of b (carried a.reply))) (length unsent) i.counted
+      split (left_within u v (told_of b (carried a.reply)) unsent h);
 }
 
 -- nothing is given to the link
@@ -155,31 +200,39 @@ hands_none u messages none = record {
   failed = λ some. absurd (some refl);
 }
 
-pub ends_stale : (r : RouterView) (session : ℕ) (old : PassView) (t : Told) (n : ℕ) (p q : PassView) (u : Told) (a : Answer) →
-    IsWriting r session old t n p u → Answered r p (take session) a q → IsCalled r p q → a.reply ≡ stale →
-    IsWrittenBy r session old.fragment t (write_end cause.Stale n []) q.fragment u
+pub ends_stale : (b : Bool) (r : RouterView) (session : ℕ) (old : PassView) (t : Told) (n k : ℕ) (p q : PassView) (u : Told) (a : Answer) →
+    IsWriting b r session old t n k p u → Answered r p (take session) a q → IsCalled r p q → a.reply ≡ stale →
+    LeavesOut b r session old.fragment t (write_end cause.Stale n []) k q.fragment u
 unfolding hands_none
-ends_stale r session old t n p q u a i answered k is_stale = record {
-  calls = i.calls ++ entry (take session) a.reply ∷ [];
-  accepted = i.accepted ++ [];
-  writes = taken_one r session old t n p q u u a [] i answered k (hands_none u (carried a.reply) (ap carried is_stale));
-  sent = ap length (append-nil i.accepted) ∙ i.sent;
-  leaves = refl;
-  in_history = record {
-    before = i.calls;
-    last = entry (take session) a.reply;
-    calls_are = refl;
-    stale_at_last = is_stale;
-    fresh_before = i.fresh;
-  };
-  at_link = (i.ended, i.failures);
-}
+ends_stale b r session old t n k p q u a i answered is_called is_stale =
+    let nothing : carried a.reply ≡ [] = ap carried is_stale in
+    let told : told_of b (carried a.reply) ≡ [] = ap (told_of b) nothing ∙ told_none b in
+    let all = count_more i.calls (entry (take session) a.reply) k n 0 0 0 i.counted (sym (ap length nothing)) (omega arith) in
+    record {
+      written = record {
+        calls = i.calls ++ entry (take session) a.reply ∷ [];
+        accepted = i.accepted ++ [];
+        writes = taken_one b r session old t n k p q u u a [] i answered is_called (hands_none u (told_of b (carried a.reply)) told);
+        sent = ap length (append-nil i.accepted) ∙ i.sent;
+        leaves = refl;
+        in_history = record {
+          before = i.calls;
+          last = entry (take session) a.reply;
+          calls_are = refl;
+          stale_at_last = is_stale;
+          fresh_before = i.fresh;
+        };
+        at_link = (i.ended, i.failures);
+      };
+      counted = omega (arith, all);
+    }
 
 -- a call was refused, which gains nothing
-refused_one : (r : RouterView) (session : ℕ) (old : PassView) (t : Told) (n : ℕ) (p q : PassView) (u : Told) (f : CallFault)
-    (i : IsWriting r session old t n p u) → Refused f r p q → IsCalled r p q → Writes session old.fragment t i.calls i.accepted [] q.fragment u
-refused_one r session old t n p q u f i h k = record {
-  gained = gained_refused r old.fragment i.calls p q f i.writes.gained h k;
+refused_one : (b : Bool) (r : RouterView) (session : ℕ) (old : PassView) (t : Told) (n k : ℕ) (p q : PassView) (u : Told) (f : CallFault)
+    (i : IsWriting b r session old t n k p u) → Refused f r p q → IsCalled r p q →
+    Writes b session old.fragment t i.calls i.accepted [] q.fragment u
+refused_one b r session old t n k p q u f i h is_called = record {
+  gained = gained_refused r old.fragment i.calls p q f i.writes.gained h is_called;
   takes = i.writes.takes;
   taken = i.writes.taken;
   given = i.writes.given;
@@ -188,30 +241,36 @@ refused_one r session old t n p q u f i h k = record {
   is_closed = i.writes.is_closed;
 }
 
-pub ends_full : (r : RouterView) (session : ℕ) (old : PassView) (t : Told) (n : ℕ) (p q : PassView) (u : Told) →
-    IsWriting r session old t n p u → Refused fault.Full r p q → IsCalled r p q →
-    IsWrittenBy r session old.fragment t (write_end cause.Full n []) q.fragment u
-ends_full r session old t n p q u i h k = record {
-  calls = i.calls;
-  accepted = i.accepted;
-  writes = refused_one r session old t n p q u fault.Full i h k;
-  sent = i.sent;
-  leaves = refl;
-  in_history = (i.fresh, h.full, h.whole);
-  at_link = (i.ended, i.failures);
+pub ends_full : (b : Bool) (r : RouterView) (session : ℕ) (old : PassView) (t : Told) (n k : ℕ) (p q : PassView) (u : Told) →
+    IsWriting b r session old t n k p u → Refused fault.Full r p q → IsCalled r p q →
+    LeavesOut b r session old.fragment t (write_end cause.Full n []) k q.fragment u
+ends_full b r session old t n k p q u i h is_called = record {
+  written = record {
+    calls = i.calls;
+    accepted = i.accepted;
+    writes = refused_one b r session old t n k p q u fault.Full i h is_called;
+    sent = i.sent;
+    leaves = refl;
+    in_history = (i.fresh, h.full, h.whole);
+    at_link = (i.ended, i.failures);
+  };
+  counted = none_unsent b r session old t n k p u i;
 }
 
-pub ends_without_memory : (r : RouterView) (session : ℕ) (old : PassView) (t : Told) (n : ℕ) (p q : PassView) (u : Told) →
-    IsWriting r session old t n p u → Refused fault.Memory r p q → IsCalled r p q →
-    IsWrittenBy r session old.fragment t (write_end cause.Memory n []) q.fragment u
-ends_without_memory r session old t n p q u i h k = record {
-  calls = i.calls;
-  accepted = i.accepted;
-  writes = refused_one r session old t n p q u fault.Memory i h k;
-  sent = i.sent;
-  leaves = refl;
-  in_history = i.fresh;
-  at_link = (i.ended, i.failures);
+pub ends_without_memory : (b : Bool) (r : RouterView) (session : ℕ) (old : PassView) (t : Told) (n k : ℕ) (p q : PassView) (u : Told) →
+    IsWriting b r session old t n k p u → Refused fault.Memory r p q → IsCalled r p q →
+    LeavesOut b r session old.fragment t (write_end cause.Memory n []) k q.fragment u
+ends_without_memory b r session old t n k p q u i h is_called = record {
+  written = record {
+    calls = i.calls;
+    accepted = i.accepted;
+    writes = refused_one b r session old t n k p q u fault.Memory i h is_called;
+    sent = i.sent;
+    leaves = refl;
+    in_history = i.fresh;
+    at_link = (i.ended, i.failures);
+  };
+  counted = none_unsent b r session old t n k p u i;
 }
 
 -- the law of route_history on the replies to a Take

@@ -25,4 +25,4 @@ pub use link::{Got, Link, LinkFault};
 pub use memory_link::MemoryLink;
 pub use reader::read_session;
 pub use run::run_sessions;
-pub use writer::{MOST_TAKEN, write_session};
+pub use writer::{MOST_TAKEN, write_newest, write_session};

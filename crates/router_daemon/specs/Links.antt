@@ -11,7 +11,7 @@ use Rattle.slot_lock.specs.Calls.{Refused}
 use Rattle.slot_lock.specs.Passes.{PassView, RouterView}
 use Rattle.slot_lock.specs.declared.answer.Answer.{Answer}
 use Rattle.router_daemon.specs.Retries.{reopens, wait_before}
-use Rattle.router_daemon.specs.Sessions.{Serves}
+use Rattle.router_daemon.specs.Sessions.{ServesLast}
 
 -- the Down of a session was entered
 abbrev pub IsSettled : RouterView → ℕ → PassView → PassView → Type 0
@@ -27,13 +27,10 @@ pub record AreFresh (input : ReaderView) (output : WriterView) : Type 0 where
   pub readable : input.end ≡ None
   pub writable : output.over ≡ false
 
--- its files are opened, and one session is served over them
-pub record Opens (r : RouterView) (d : Domain) (neighbour : ℕ) (old : PassView) (again : Bool) (new : PassView) : Type 0 where
-  pub input : ReaderView
-  pub output : WriterView
-  pub fresh : AreFresh input output
+-- its files are opened, and sessions are served over them; the last one says whether the link can be opened again
+pub record Opens (r : RouterView) (d : Domain) (neighbour : ℕ) (again : Bool) : Type 0 where
   pub why : SessionEnd
-  pub serves : Serves r d neighbour input output old why new
+  pub last : ServesLast r d neighbour why
   pub again_is : again ≡ can_be_opened_again true why
 
 -- A file was asked for to be read, and is not: it was not opened, or there is no memory to read it. `may_read` says what may be answered
@@ -48,7 +45,7 @@ IsUnopened may_read may_write files = IsUnreadable may_read (string_bytes files.
 -- a link is opened once, or one of its files was not opened, and nothing is entered
 abbrev pub KeepsOnce : (List ℕ → Bool → Type 0) → (List ℕ → Bool → Type 0) → RouterView → Domain → LinkFiles → PassView → Bool → PassView → Type 0
 KeepsOnce may_read may_write r d files old again new =
-    Opens r d files.node old again new ⊎ (IsUnopened may_read may_write files × (again ≡ true) × (new ≡ old))
+    Opens r d files.node again ⊎ (IsUnopened may_read may_write files × (again ≡ true) × (new ≡ old))
 
 -- A link is opened once. What that came to and `--retry` alone decide whether it is opened again, and after how many seconds, besides how long it
 -- waited before and whether the session was a long one.

@@ -1,9 +1,12 @@
--- One session of a link, from the greeting to the Down. (This project's own choice.)
-use Rattle.std.specs.Prelude.{◌≡◌, ◌⊎◌, ℕ, ◌-◌, ◌≤◌, true, [], ⊤}
-use Rattle.message_streams.specs.Views.{ReaderView, WriterView}
+-- The sessions of a link, each from the greeting to the Down. (This project's own choice.)
+use Rattle.std.specs.Prelude.{◌≡◌, ◌⊎◌, ℕ, ◌-◌, ◌≤◌, true, [], Option, ⊤}
+use Rattle.link_handshake.specs.declared.post.CameUp.{CameUp}
+use Rattle.link_handshake.specs.declared.said.Said.{Said}
+use Rattle.message_streams.specs.Views.{ReaderView}
 use Rattle.neighbour_session.specs.Calls.{IsUnopened, Opens}
 use Rattle.neighbour_session.specs.Ending.{GoesDown}
-use Rattle.neighbour_session.specs.Greeting.{Greets, IsUngreeted}
+use Rattle.neighbour_session.specs.Greeting.{IsUnmet}
+use Rattle.neighbour_session.specs.Greeting.{Meets as ComesUp}
 use Rattle.neighbour_session.specs.Reading.{Hears}
 use Rattle.neighbour_session.specs.declared.ends.SessionEnd.{SessionEnd}
 use Rattle.neighbour_session.specs.declared.ends.SessionEnd.TheVariants as end
@@ -25,7 +28,7 @@ part_of p = record { seen = p.fragment.seen; mine = []; failed_tries = 0; shares
 -- A session whose Up was entered is over: it went down with nobody to serve it; or anybody entered what the neighbour said, and its Down.
 abbrev pub IsOver : RouterView → ℕ → ReaderView → PassView → SessionEnd → PassView → Type 0
 IsOver r session input old why new =
-    GoesDown r session end.NotStarted old why new ⊎ Hears true (λ _. ⊤) (λ _. ⊤) r session old input why new
+    GoesDown r session end.NotStarted old why new ⊎ ((left : ReaderView) × Hears true (λ _. ⊤) (λ _. ⊤) r session old input why new left)
 
 -- until a pass is so, calls were made that a full history had no room for; or none was
 abbrev pub HasWaited : RouterView → PassView → PassView → Type 0
@@ -69,12 +72,12 @@ pub record ServesNeighbour (r : RouterView) (neighbour : ℕ) (input : ReaderVie
   pub back : TakesBack mid new
   pub shares : old.fragment.shares ≤ new.fragment.shares
 
--- they greeted one another, and then it was served
-pub record Meets (r : RouterView) (d : Domain) (neighbour : ℕ) (input : ReaderView) (output : WriterView) (old : PassView) (why : SessionEnd)
+-- the end of the link came up, on a greeting of the neighbour that answered its present attempt, and then the neighbour was served
+pub record Meets (r : RouterView) (d : Domain) (neighbour : ℕ) (input : ReaderView) (first : Option Said) (old : PassView) (why : SessionEnd)
     (new : PassView) : Type 0 where
+  pub meeting : CameUp
   pub i : ReaderView
-  pub o : WriterView
-  pub greets : Greets d neighbour input i output o
+  pub meets : ComesUp d neighbour first input meeting i
   pub serves : ServesNeighbour r neighbour i old why new
 
 -- the pass has no share that it could give to a writer: no session is begun
@@ -84,14 +87,20 @@ pub record LacksShares (old : PassView) (why : SessionEnd) (new : PassView) : Ty
   pub unchanged : new ≡ old
 
 -- the neighbour did not greet as it has to: nothing is entered
-pub record IsTurnedAway (d : Domain) (neighbour : ℕ) (input : ReaderView) (output : WriterView) (old : PassView) (why : SessionEnd)
-    (new : PassView) : Type 0 where
+pub record IsTurnedAway (d : Domain) (neighbour : ℕ) (old : PassView) (why : SessionEnd) (new : PassView) : Type 0 where
   pub i : ReaderView
-  pub o : WriterView
-  pub ungreeted : IsUngreeted why d neighbour input i output o
+  pub unmet : IsUnmet why d neighbour i
   pub unchanged : new ≡ old
 
 -- One session of a link: with a pass of one share there is none; of a neighbour that does not greet as it has to nothing is entered.
-abbrev pub Serves : RouterView → Domain → ℕ → ReaderView → WriterView → PassView → SessionEnd → PassView → Type 0
-Serves r d neighbour input output old why new = LacksShares old why new ⊎ (IsTurnedAway d neighbour input output old why new
-    ⊎ Meets r d neighbour input output old why new)
+abbrev pub Serves : RouterView → Domain → ℕ → ReaderView → Option Said → PassView → SessionEnd → PassView → Type 0
+Serves r d neighbour input first old why new = LacksShares old why new ⊎ (IsTurnedAway d neighbour old why new
+    ⊎ Meets r d neighbour input first old why new)
+
+-- One of them was the last over its streams.
+pub record ServesLast (r : RouterView) (d : Domain) (neighbour : ℕ) (why : SessionEnd) : Type 0 where
+  pub input : ReaderView
+  pub first : Option Said
+  pub old : PassView
+  pub new : PassView
+  pub serves : Serves r d neighbour input first old why new

@@ -55,3 +55,8 @@ unkept_line = codes "history: not saved: only its last entries are kept\n"
 -- no line of the operator is taken any more, for a fault
 abbrev pub deaf_line : StreamFault → List ℕ
 deaf_line why = codes "operator: " ++ fault_code why ++ codes ": no more lines are taken\n"
+
+-- so many messages of a session were not sent to a node, since later ones replaced them
+abbrev pub left_out_line : ℕ → ℕ → List ℕ
+left_out_line node count =
+    codes "link " ++ decimal node ++ codes ": messages left out, since later ones replaced them: " ++ decimal count ++ codes "\n"

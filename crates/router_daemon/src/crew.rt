@@ -3,9 +3,12 @@ ghost use Rattle.std.specs.Prelude.{◌≡◌};
 
 use crate::signals::Signals;
 use link_board::Ending;
-use neighbour_session::{Crew, Leaver, READER};
+use link_handshake::{CameUp, Said};
+use neighbour_session::{Crew, Ears, Leaver, READER};
+use netchange_core::Reply;
 use route_session::Gate;
 use slot_lock::Answer;
+use std::random::RandomSource;
 use std::rt::Clock;
 use std::sync::Wait;
 
@@ -56,7 +59,8 @@ impl<'a> LinkLeaver<'a> {
     }
 }
 
-/// Lets the writer of a link sleep until something waits for the neighbour: true then, and false where its session is over.
+/// Lets the writer of a link sleep until something waits for the neighbour: true then, and false where its session is over, or a line is to be
+/// written because none was for a while.
 fn await_queued<R: Wait>(rt: &R, signals: &Signals, link: usize, session: u32) -> bool {
     let Some(bell) = signals.bells.get(link) else {
         return false;
@@ -69,6 +73,9 @@ fn await_queued<R: Wait>(rt: &R, signals: &Signals, link: usize, session: u32) -
         if board.has_waiting(link) {
             return true;
         }
+        if signals.stations.is_due(rt, link) {
+            return false;
+        }
         board.sleep(link);
         board = bell.wait(rt, board);
     }
@@ -78,12 +85,19 @@ fn await_queued<R: Wait>(rt: &R, signals: &Signals, link: usize, session: u32) -
 impl<'a> Gate for LinkCrew<'a> {
     fn may_go<R: Wait + Clock>(&self, rt: &R, job: u32, _turn: u32) -> bool {
         if job == READER {
+            // Who reads asks after each line that it read, and first after the greeting.
+            self.signals.stations.note_heard(rt, self.link);
             return self.signals.session(rt, self.link) == Some(self.session);
         }
         await_queued(rt, self.signals, self.link, self.session)
     }
 
     fn answered<R: Wait + Clock>(&self, rt: &R, _job: u32, answer: &Answer) {
+        if let Reply::Messages(messages) = &answer.reply {
+            if !messages.as_slice().is_empty() {
+                self.signals.stations.note_written(rt, self.link);
+            }
+        }
         self.signals.note_served(rt, self.link, answer);
         self.signals.await_room(rt, answer.at);
     }
@@ -104,6 +118,14 @@ impl<'a> Crew for LinkCrew<'a> {
         self.signals.session(rt, self.link) == Some(self.session)
     }
 
+    fn owes_line<R: Wait + Clock>(&self, rt: &R) -> bool {
+        let is_due = self.signals.stations.is_due(rt, self.link);
+        if is_due {
+            self.signals.stations.note_written(rt, self.link);
+        }
+        is_due
+    }
+
     fn end<R: Wait + Clock>(self, rt: &R) -> (bool, LinkLeaver<'a>)
         ensures first { result.0 ≡ result.1.ending.is_first }
         ensures of { (result.1.ending.link ≡ self.entry.link) × (result.1.ending.session ≡ self.entry.session) }
@@ -121,5 +143,32 @@ impl<'a> Crew for LinkCrew<'a> {
             owes_down: is_first,
         };
         (is_first, leaver)
+    }
+}
+
+/// Who hears what the neighbour of a link says while there is no session.
+#[derive(Clone, Copy)]
+pub(crate) struct LinkEars<'a> {
+    signals: &'a Signals,
+    /// The link's number.
+    link: usize,
+}
+
+impl<'a> LinkEars<'a> {
+    /// Who hears the neighbour of a link.
+    pub(crate) fn new(signals: &'a Signals, link: usize) -> LinkEars<'a> {
+        LinkEars { signals, link }
+    }
+}
+
+impl<'a> Ears for LinkEars<'a> {
+    fn hear<R: Wait + RandomSource>(&self, rt: &R, line: Said) -> Option<CameUp> {
+        let meeting = self.signals.stations.hear(rt, self.link, line);
+        self.signals.ring(rt, self.link);
+        meeting
+    }
+
+    fn is_open<R: Wait>(&self, rt: &R) -> bool {
+        self.signals.stations.is_open(rt, self.link)
     }
 }

@@ -1,13 +1,16 @@
 //! Who keeps a link.
+//!
+//! **The next session is had over the same streams**, wherever these go on, without `--retry` too: a line that outlives its ends has no other end.
 ghost use Rattle.std.specs.Prelude.{◌≡◌, ◌<◌, ⊤, false, true, IfErr, IfNone, IfOk};
 ghost use Rattle.slot_lock.specs.Passes.{IsPassOf};
 ghost use Rattle.router_daemon.specs.Links.{AreFresh, IsUnopened, IsUnreadable, KeepsOnce, KeepsTurn, StaysClosed};
-ghost use Rattle.router_daemon.specs.Sessions.{IsOver, OpensLater, OpensNever, Serves, ServesNeighbour};
+ghost use Rattle.router_daemon.specs.Sessions.{IsOver, OpensLater, OpensNever, Serves, ServesLast, ServesNeighbour};
 ghost use Rattle.neighbour_session.specs.Ending.{GoesDown};
+ghost use Rattle.message_streams.specs.Views.{ReaderView};
 ghost use Rattle.neighbour_session.specs.Reading.{Hears};
 
 use crate::closing::stay;
-use crate::crew::LinkCrew;
+use crate::crew::{LinkCrew, LinkEars};
 use crate::folder::LinkFolder;
 use crate::naming::{FreshTicket, Ticket};
 use crate::retrying::{reopening, seconds, wait_before, was_long};
@@ -16,13 +19,16 @@ use crate::settling::{passes, pause, settle};
 use crate::shared::Shared;
 use crate::signals::Closing;
 use crate::telling::{tell_end, tell_unopened};
+use crate::watching::now;
+use link_handshake::{Said, Speaker};
 use message_streams::{MessageReader, MessageWriter};
-use neighbour_session::{Domain, SessionEnd, enter_down, enter_up, greet, serve_reader};
+use neighbour_session::{Domain, SessionEnd, enter_down, enter_up, meet, serve_reader};
 use router_operator::Naming;
 use router_options::LinkFiles;
 use slot_lock::{Answer, Pass};
 use std::alloc::Global;
 use std::io::{self, BufReader, Read, Write};
+use std::random::RandomSource;
 use std::rt::Clock;
 use std::sync::{Arc, Wait};
 use std::thread;
@@ -39,6 +45,8 @@ pub(crate) struct Link {
     pub(crate) domain: Domain,
     /// How long it is closed before it is opened again, in seconds.
     pub(crate) retry: Option<u32>,
+    /// How many seconds this router may be silent before it is dead; 0 for any time.
+    pub(crate) hold: u16,
 }
 
 /// The streams of a link that is open.
@@ -144,8 +152,14 @@ fn tell_of_file<R: Wait, J: Naming, E: Write>(
     tell_unopened(alloc, &mut *errors, node, unopened.name, &unopened.why);
 }
 
-/// Serves a session of a link that began: orders that it is written, enters what the neighbour says, and waits until nobody uses the
-/// streams any more. Where the writer did not end it, tells people why it is over. Answers that and the pass of the writer.
+/// A stream of a session that is over, if it goes on; otherwise it is closed.
+fn going_on<I: Read + Drop>(why: SessionEnd, input: MessageReader<I>) -> Option<MessageReader<I>> {
+    if why.goes_on() { Some(input) } else { None }
+}
+
+/// Serves a session of a link that began: orders that it is written, enters what the neighbour says, and waits until the writer is done with
+/// it. Where this one ended it, tells people why it is over. Answers that, the stream that was read, if it goes on, and the pass of the writer. One
+/// that does not is closed before people are told.
 fn serve_begun<R: Wait + Clock, I: Read + Drop, O: Write + Drop, J: Naming, E: Write>(
     rt: &R,
     alloc: Global,
@@ -153,23 +167,25 @@ fn serve_begun<R: Wait + Clock, I: Read + Drop, O: Write + Drop, J: Naming, E: W
     room: &Room<O, J>,
     link: &Link,
     input: MessageReader<I>,
-    order: Order<O, J>,
+    order: Order<J>,
     pass: &mut Pass,
-) -> (SessionEnd, Ticket<J>)
+) -> (SessionEnd, Option<MessageReader<I>>, Ticket<J>)
     requires { IsPassOf J.router pass.old }
     ensures of { IsPassOf J.router pass.new }
     ensures shares { pass.new.fragment.shares ≡ pass.old.fragment.shares }
-    ensures hears { Hears true (λ _. ⊤) (λ _. ⊤) J.router order.session pass.old input result.0 pass.new }
+    ensures hears { (left : ReaderView) × Hears true (λ _. ⊤) (λ _. ⊤) J.router order.session pass.old input result.0 pass.new left }
 {
     let (node, session) = (link.files.node, order.session);
     room.put_order(rt, order);
+    shared.signals.ring(rt, link.index);
     let crew = LinkCrew::new(&shared.signals, link.index, session);
-    let (why, leaver) = serve_reader(rt, &shared.router, pass, session, input, crew, true);
+    let (why, input, leaver) = serve_reader(rt, &shared.router, pass, session, input, crew, true);
     leaver.note_owed(rt);
+    let input = going_on(why, input);
     if leaver.ended_it() {
         tell_unless_closed(rt, alloc, shared, node, why);
     }
-    (why, room.await_done(rt))
+    (why, input, room.await_done(rt))
 }
 
 /// Enters the Down of a session that nobody serves, and notes it. Why it is over. Where the Down is refused, it is owed.
@@ -197,8 +213,8 @@ fn abandon<R: Wait, J: Naming, E: Write>(
     }
 }
 
-/// Serves a session whose Up has this answer, until it is over and nobody uses the streams any more. Where the link has a session
-/// already, or the router is being closed, its Down is entered at once. Why it is over, and the pass of who was to write.
+/// Serves a session whose Up has this answer, until it is over. Where the link has a session already, or the router is being closed, its Down
+/// is entered at once. Why it is over, the stream that was read, if it goes on, and the pass of who was to write.
 fn serve_opened<R: Wait + Clock, I: Read + Drop, O: Write + Drop, J: Naming, E: Write>(
     rt: &R,
     alloc: Global,
@@ -206,10 +222,10 @@ fn serve_opened<R: Wait + Clock, I: Read + Drop, O: Write + Drop, J: Naming, E: 
     room: &Room<O, J>,
     link: &Link,
     input: MessageReader<I>,
-    order: Order<O, J>,
+    order: Order<J>,
     answer: &Answer,
     pass: &mut Pass,
-) -> (SessionEnd, Ticket<J>)
+) -> (SessionEnd, Option<MessageReader<I>>, Ticket<J>)
     requires { IsPassOf J.router pass.old }
     ensures of { IsPassOf J.router pass.new }
     ensures shares { pass.new.fragment.shares ≡ pass.old.fragment.shares }
@@ -218,14 +234,10 @@ fn serve_opened<R: Wait + Clock, I: Read + Drop, O: Write + Drop, J: Naming, E: 
     if shared.signals.begin(rt, link.index, order.session, answer) {
         return serve_begun(rt, alloc, shared, room, link, input, order, pass);
     }
-    let Order {
-        session,
-        ticket,
-        ..
-    } = order;
+    let Order { session, ticket } = order;
     let why = abandon(rt, shared, pass, link.index, session);
     shared.signals.settle(rt, link.index);
-    (why, Ticket::new(ticket.pass()))
+    (why, None, Ticket::new(ticket.pass()))
 }
 
 /// Enters the Up of a link's neighbour: the session, and the answer. Where the history is full, it is tried again every few milliseconds, until
@@ -259,9 +271,9 @@ fn open_session<R: Wait + Clock, J: Naming, E: Write>(
     unreachable!()
 }
 
-/// Serves a neighbour whose greeting was accepted: enters its Up, has the session written, enters what it says, and enters Down when it
-/// is over. Answers why it is, and notes when it began. Where the router is being closed this never returns, and its thread ends with the
-/// process.
+/// Serves a neighbour whose greeting answered this router's: enters its Up, has the session written, enters what it says, and enters Down when
+/// it is over. Says why it is, hands back the stream that was read, if it goes on, and notes when it began. Where the router is being closed this never
+/// returns, and its thread ends with the process.
 fn serve_neighbour<R: Wait + Clock, I: Read + Drop, O: Write + Drop, J: Naming, E: Write>(
     rt: &R,
     alloc: Global,
@@ -269,66 +281,124 @@ fn serve_neighbour<R: Wait + Clock, I: Read + Drop, O: Write + Drop, J: Naming, 
     room: &Room<O, J>,
     link: &Link,
     input: MessageReader<I>,
-    output: MessageWriter<O>,
     pass: &mut Pass,
     begun: &mut Option<Instant>,
-) -> SessionEnd
+) -> (SessionEnd, Option<MessageReader<I>>)
     requires of { IsPassOf J.router pass.old }
     requires shares { 1 < pass.old.fragment.shares }
     ensures of { IsPassOf J.router pass.new }
-    ensures served { ServesNeighbour J.router link.now.files.node input pass.old result pass.new }
+    ensures served { ServesNeighbour J.router link.now.files.node input pass.old result.0 pass.new }
 {
     let (session, answer) = match open_session(rt, shared, link, pass) {
         Ok(opened) => opened,
         Err(why) => {
+            drop(input);
             tell_unless_closed(rt, alloc, shared, link.files.node, why);
-            return why;
+            return (why, None);
         }
     };
     *begun = Instant::now(rt).ok();
     let writing = shared.router.split(pass, 1);
     let order = Order {
         session,
-        output,
         ticket: FreshTicket::new(writing),
     };
-    let (why, ticket) = serve_opened(rt, alloc, shared, room, link, input, order, &answer, pass);
+    let (why, input, ticket) = serve_opened(
+        rt, alloc, shared, room, link, input, order, &answer, pass,
+    );
     shared.router.join(pass, ticket.pass());
-    why
+    (why, input)
 }
 
-/// Serves one session over the streams of a link, until nobody uses them any more: greets the neighbour first. Why it is over. Notes when it
+/// The end of a link that was opened now begins.
+fn open_station<R: Wait + Clock + RandomSource, J: Naming, E: Write>(
+    rt: &R,
+    shared: &Shared<J, E>,
+    link: &Link,
+) {
+    let speaker = Speaker {
+        size: link.domain.size,
+        node: link.domain.me,
+        hold: link.hold,
+    };
+    let now = now(rt).unwrap_or(0);
+    shared.signals.stations.open(rt, link.index, speaker, now);
+}
+
+/// Serves one session over the streams of a link, until it is over: waits first until the neighbour answers this router's greeting. A line that
+/// ended the session before may be the first that is heard. Says why it is over, and hands back the stream that was read, if it goes on. Notes when it
 /// began.
-fn serve_link<R: Wait + Clock, I: Read + Drop, O: Write + Drop, J: Naming, E: Write>(
+fn serve_link<R: Wait + Clock + RandomSource, I: Read + Drop, O: Write + Drop, J: Naming, E: Write>(
     rt: &R,
     alloc: Global,
     shared: &Shared<J, E>,
     room: &Room<O, J>,
     link: &Link,
     mut input: MessageReader<I>,
-    mut output: MessageWriter<O>,
+    first: Option<Said>,
+    pass: &mut Pass,
+    begun: &mut Option<Instant>,
+) -> (SessionEnd, Option<MessageReader<I>>)
+    requires { IsPassOf J.router pass.old }
+    ensures of { IsPassOf J.router pass.new }
+    ensures serves { Serves J.router link.now.domain link.now.files.node input first pass.old result.0 pass.new }
+{
+    if pass.shares() < 2 {
+        return (SessionEnd::NotStarted, None);
+    }
+    let ears = LinkEars::new(&shared.signals, link.index);
+    let node = link.files.node;
+    match meet(rt, &mut input, &ears, link.domain, node, first) {
+        Ok(_) => serve_neighbour(rt, alloc, shared, room, link, input, pass, begun),
+        Err(why) => {
+            let input = going_on(why, input);
+            tell_unless_closed(rt, alloc, shared, node, why);
+            (why, input)
+        }
+    }
+}
+
+/// Serves one session after another over the streams of a link, as long as these go on: why the last one is over. After each it waits until its
+/// Down is no more owed. Notes when the last one began.
+fn serve_streams<
+    R: Wait + Clock + RandomSource,
+    I: Read + Drop,
+    O: Write + Drop,
+    J: Naming,
+    E: Write,
+>(
+    rt: &R,
+    alloc: Global,
+    shared: &Shared<J, E>,
+    room: &Room<O, J>,
+    link: &Link,
+    input: MessageReader<I>,
     pass: &mut Pass,
     begun: &mut Option<Instant>,
 ) -> SessionEnd
     requires { IsPassOf J.router pass.old }
     ensures of { IsPassOf J.router pass.new }
-    ensures serves { Serves J.router link.now.domain link.now.files.node input output pass.old result pass.new }
+    ensures last { ServesLast J.router link.now.domain link.now.files.node result }
 {
-    if pass.shares() < 2 {
-        return SessionEnd::NotStarted;
-    }
-    match greet(&mut input, &mut output, link.domain, link.files.node) {
-        Ok(()) => serve_neighbour(rt, alloc, shared, room, link, input, output, pass, begun),
-        Err(why) => {
-            tell_unless_closed(rt, alloc, shared, link.files.node, why);
-            why
+    let mut input = input;
+    let mut first = None;
+    for _ in rt.forever() {
+        let (why, read) = serve_link(rt, alloc, shared, room, link, input, first, pass, begun);
+        settle(rt, shared, pass, link.index);
+        let is_open = shared.signals.stations.is_open(rt, link.index);
+        match read {
+            Some(read) if is_open && !shared.signals.is_closing(rt) => input = read,
+            _ => return why,
         }
+        first = why.last_line();
     }
+    unreachable!()
 }
 
-/// Opens a link, and serves one session. Says whether it can be opened again, and notes when the session began.
+/// Opens a link, and serves sessions over its streams, as long as these go on. Says whether it can be opened again, and notes when the last
+/// session began.
 fn keep_once<
-    R: Wait + Clock,
+    R: Wait + Clock + RandomSource,
     I: Read + Drop,
     O: Write + Drop,
     D: LinkFolder<I, O>,
@@ -350,7 +420,13 @@ fn keep_once<
 {
     match open_streams::<I, O, D>(folder, alloc, link) {
         Ok(Streams { input, output }) => {
-            let why = serve_link(rt, alloc, shared, room, link, input, output, pass, begun);
+            open_station(rt, shared, link);
+            room.put_output(rt, output);
+            let why = serve_streams(rt, alloc, shared, room, link, input, pass, begun);
+            shared.signals.stations.close(rt, link.index);
+            room.close(rt);
+            shared.signals.ring(rt, link.index);
+            room.await_closed(rt);
             why.can_be_opened_again(true)
         }
         Err(unopened) => {
@@ -360,10 +436,10 @@ fn keep_once<
     }
 }
 
-/// Opens a link, serves one session, and waits until its Down is no more owed. After how many seconds it is to be opened again, where it
+/// Opens a link, and serves sessions over its streams. After how many seconds it is to be opened again, where it
 /// waited so long before; None where it stays closed.
 fn keep_turn<
-    R: Wait + Clock,
+    R: Wait + Clock + RandomSource,
     I: Read + Drop,
     O: Write + Drop,
     D: LinkFolder<I, O>,
@@ -389,13 +465,12 @@ fn keep_turn<
         rt, alloc, folder, shared, room, link, pass, &mut begun,
     );
     let before = wait_before(was_long(rt, begun), before);
-    settle(rt, shared, pass, link.index);
     reopening(link.retry, again, before)
 }
 
 /// Keeps a link: serves one session after another, until it stays closed (None) or the router is being closed.
 pub(crate) fn keep_link<
-    R: Wait + Clock + Drop,
+    R: Wait + Clock + RandomSource + Drop,
     I: Read + Drop,
     O: Write + Drop,
     D: LinkFolder<I, O> + Drop,

@@ -24,7 +24,9 @@ mod settling;
 mod shared;
 mod signals;
 mod starting;
+mod stations;
 mod telling;
+mod watching;
 mod writer;
 
 pub use fault::DaemonFault;

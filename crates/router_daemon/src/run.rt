@@ -29,6 +29,7 @@ use slot_lock::{Pass, Right, Router};
 use std::alloc::{AllocError, Global};
 use std::io::{Read, Write};
 use std::marker::Brand;
+use std::random::RandomSource;
 use std::rt::Clock;
 use std::sync::{Arc, Wait};
 use std::thread::Threads;
@@ -86,7 +87,7 @@ fn end_saving<R: Wait, S: SegmentFolder + Drop, J: Naming, E: Write>(
 
 /// Serves the links of a router and its operator, until the operator quits or their lines end.
 fn serve_all<
-    R: Threads + Wait + Clock + Copy + Send + Drop + 'static,
+    R: Threads + Wait + Clock + RandomSource + Copy + Send + Drop + 'static,
     FI: Read + Send + Drop + 'static,
     FO: Write + Send + Drop + 'static,
     D: LinkFolder<FI, FO> + Send + Sync + Drop + 'static,
@@ -169,7 +170,7 @@ fn end_run<R: Threads + Wait, S: SegmentFolder + Drop, J: Naming, E: Write>(
 /// Runs a router that was opened, until the operator quits or their lines end.
 fn run_named<
     J: Naming + Send + Sync + 'static,
-    R: Threads + Wait + Clock + Copy + Send + Drop + 'static,
+    R: Threads + Wait + Clock + RandomSource + Copy + Send + Drop + 'static,
     FI: Read + Send + Drop + 'static,
     FO: Write + Send + Drop + 'static,
     D: LinkFolder<FI, FO> + Send + Sync + Drop + 'static,
@@ -215,6 +216,7 @@ fn run_named<
         queue,
         links,
         retry,
+        hold,
         stays,
         ..
     } = plan;
@@ -229,6 +231,7 @@ fn run_named<
             me: opening.me(),
         },
         retry,
+        hold,
     };
     let shared: Arc<Shared<J, E>> = Arc::new(
         alloc,
@@ -251,7 +254,7 @@ fn run_named<
 /// Runs a router: its links, its operator and its history, until the operator quits or their lines end. The folder in which its history is to be
 /// saved has no segments before.
 pub fn run_router<
-    R: Threads + Wait + Clock + Copy + Send + Drop + 'static,
+    R: Threads + Wait + Clock + RandomSource + Copy + Send + Drop + 'static,
     FI: Read + Send + Drop + 'static,
     FO: Write + Send + Drop + 'static,
     D: LinkFolder<FI, FO> + Send + Sync + Drop + 'static,

@@ -2,6 +2,7 @@
 ghost use Rattle.std.specs.Prelude.{◌≡◌, IfOk, is_some};
 ghost use Rattle.link_board.specs.Boards.{AllAwake};
 
+use crate::stations::Stations;
 use link_board::{Board, Ending};
 use router_operator::Listener;
 use slot_lock::Answer;
@@ -21,6 +22,8 @@ pub(crate) struct Closing {
 pub(crate) struct Signals {
     /// What those who serve the links know together.
     pub(crate) board: Mutex<Board>,
+    /// The ends of the links.
+    pub(crate) stations: Stations,
     /// One for each link: its writer sleeps on it.
     pub(crate) bells: Vec<Condvar>,
     /// Who saves the history and forgets it sleeps on it.
@@ -95,6 +98,7 @@ impl Signals {
     pub(crate) fn new(alloc: Global, nodes: &[u16]) -> Result<Signals, AllocError> {
         Ok(Signals {
             board: Mutex::new(Board::new(alloc, nodes)?),
+            stations: Stations::new(alloc, nodes.len())?,
             bells: bells_of(alloc, nodes.len())?,
             saver_bell: Condvar::new(),
             settled: Condvar::new(),
@@ -123,6 +127,15 @@ impl Signals {
         } else {
             self.wake_saver(board);
         }
+    }
+
+    /// Wakes the writer of a link, whatever it waits for.
+    pub(crate) fn ring<R: Wait>(&self, rt: &R, link: usize) {
+        let board = self.board.lock(rt);
+        if let Some(bell) = self.bells.get(link) {
+            bell.notify_one();
+        }
+        drop(board);
     }
 
     /// Notes the answer to a call: where it changed a distance, something waits for each neighbour.
@@ -242,12 +255,16 @@ impl Signals {
         begins
     }
 
-    /// Ends a session of a link: the answer says who is the first who does, who is to enter its Down, and to say when that is settled.
+    /// Ends a session of a link: the answer says who is the first who does, who is to enter its Down, and to say when that is settled. The
+    /// end of the link begins anew then.
     pub(crate) fn end<R: Wait>(&self, rt: &R, link: usize, session: u32) -> Ending
         ensures { (result.link ≡ link) × (result.session ≡ session) }
     {
         let mut board = self.board.lock(rt);
         let ending = board.end(link, session);
+        if ending.is_first() && !board.is_closing() {
+            self.stations.begin_anew(rt, link);
+        }
         self.wake(board);
         ending
     }

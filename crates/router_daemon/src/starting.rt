@@ -12,6 +12,7 @@ use crate::naming::Ticket;
 use crate::room::Room;
 use crate::shared::Shared;
 use crate::telling::tell_unstarted;
+use crate::watching::watch_links;
 use crate::writer::write_link;
 use history_saver::SegmentFolder;
 use neighbour_session::Domain;
@@ -20,6 +21,7 @@ use router_options::LinkFiles;
 use slot_lock::Pass;
 use std::alloc::{AllocError, Global};
 use std::io::{Read, Write};
+use std::random::RandomSource;
 use std::rt::Clock;
 use std::snapshot::Snapshot;
 use std::sync::{Arc, Wait};
@@ -39,11 +41,13 @@ pub(crate) struct Links {
     pub(crate) domain: Domain,
     /// How long a closed link waits before it is opened again, in seconds.
     pub(crate) retry: Option<u32>,
+    /// How many seconds the router may be silent before it is dead; 0 for any time.
+    pub(crate) hold: u16,
 }
 
 /// Starts the thread of a link's writer. Whether it was started.
 fn start_writer<
-    R: Threads + Wait + Clock + Copy + Send + Drop + 'static,
+    R: Threads + Wait + Clock + RandomSource + Copy + Send + Drop + 'static,
     O: Write + Send + Drop + 'static,
     J: Naming + Send + Sync + 'static,
     E: Write + Send + Drop + 'static,
@@ -66,7 +70,7 @@ fn start_writer<
 
 /// Starts the thread of who keeps a link. Whether it was started.
 fn start_keeper<
-    R: Threads + Wait + Clock + Copy + Send + Drop + 'static,
+    R: Threads + Wait + Clock + RandomSource + Copy + Send + Drop + 'static,
     I: Read + Send + Drop + 'static,
     O: Write + Send + Drop + 'static,
     D: LinkFolder<I, O> + Send + Sync + Drop + 'static,
@@ -92,7 +96,7 @@ fn start_keeper<
 
 /// Starts the threads of a link. Whether they were started.
 fn start_link<
-    R: Threads + Wait + Clock + Copy + Send + Drop + 'static,
+    R: Threads + Wait + Clock + RandomSource + Copy + Send + Drop + 'static,
     I: Read + Send + Drop + 'static,
     O: Write + Send + Drop + 'static,
     D: LinkFolder<I, O> + Send + Sync + Drop + 'static,
@@ -131,9 +135,29 @@ pub(crate) fn take_part<J: Naming, E: Write>(
     Ok(Ticket::new(shared.router.split(pass, shares)))
 }
 
-/// Starts the threads of all links. Where one is not started, people are told, and the link stays down.
+/// Starts the thread that looks at the clock for all links. Whether it was started.
+fn start_watcher<
+    R: Threads + Wait + Clock + RandomSource + Copy + Send + Drop + 'static,
+    J: Naming + Send + Sync + 'static,
+    E: Write + Send + Drop + 'static,
+>(
+    rt: &R,
+    alloc: Global,
+    shared: &Arc<Shared<J, E>>,
+    ticket: Ticket<J>,
+) -> Result<bool, AllocError> {
+    let handle = *rt;
+    let shared = Arc::try_clone(shared)?;
+    let started = thread::spawn(rt, move || {
+        watch_links::<R, J, E>(handle, alloc, shared, ticket)
+    });
+    Ok(started.is_ok())
+}
+
+/// Starts the threads of all links, and the one that looks at the clock for them. Where a link's is not started, people are told, and the link
+/// stays down.
 pub(crate) fn start_links<
-    R: Threads + Wait + Clock + Copy + Send + Drop + 'static,
+    R: Threads + Wait + Clock + RandomSource + Copy + Send + Drop + 'static,
     I: Read + Send + Drop + 'static,
     O: Write + Send + Drop + 'static,
     D: LinkFolder<I, O> + Send + Sync + Drop + 'static,
@@ -151,6 +175,10 @@ pub(crate) fn start_links<
     requires { IsLegalPass J.router pass.old }
     ensures { IsLegalPass J.router pass.new }
 {
+    let ticket = take_part(shared, pass, 1)?;
+    // Without it no line is written again and no neighbour is found silent, as with a HOLD of 0.
+    let is_watched = start_watcher::<R, J, E>(rt, alloc, shared, ticket)?;
+    let hold = if is_watched { common.hold } else { 0 };
     for (index, files) in links.into_iter().enumerate() {
         let node = files.node;
         let link = Link {
@@ -158,6 +186,7 @@ pub(crate) fn start_links<
             files,
             domain: common.domain,
             retry: common.retry,
+            hold,
         };
         let ticket = take_part(shared, pass, SHARES)?;
         if !start_link::<R, I, O, D, J, E>(rt, alloc, folder, shared, link, ticket)? {
@@ -170,7 +199,7 @@ pub(crate) fn start_links<
 
 /// Starts the thread that bounds the memory of a router.
 pub(crate) fn start_bounding<
-    R: Threads + Wait + Clock + Copy + Send + Drop + 'static,
+    R: Threads + Wait + Clock + RandomSource + Copy + Send + Drop + 'static,
     S: SegmentFolder + Send + Drop + 'static,
     J: Naming + Send + Sync + 'static,
     E: Write + Send + Drop + 'static,

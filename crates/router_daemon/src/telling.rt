@@ -204,3 +204,23 @@ pub(crate) fn tell_deaf<E: Write>(alloc: Global, errors: &mut E, why: StreamFaul
 {
     tell(errors, deaf_line(alloc, why));
 }
+
+/// The line that tells how many messages a node was not sent.
+fn left_out_line(alloc: Global, node: u16, count: u64) -> Result<String, AllocError>
+    ensures { IfOk result (λ line. string_bytes line ≡ spec.left_out_line node count) }
+{
+    let mut line = String::new(alloc);
+    let words = ": messages left out, since later ones replaced them: ";
+    push_numbered(&mut line, "link ", node, words)?;
+    let mut digits = Buffer::new();
+    line.push_str(digits.format(count))?;
+    line.push_str("\n")?;
+    Ok(line)
+}
+
+/// Tells how many messages of a session a node was not sent, since later ones replaced them.
+pub(crate) fn tell_left_out<E: Write>(alloc: Global, errors: &mut E, node: u16, count: u64)
+    ensures { AppendsFront (E.contents errors.old) (E.contents errors.new) (spec.left_out_line node count) }
+{
+    tell(errors, left_out_line(alloc, node, count));
+}

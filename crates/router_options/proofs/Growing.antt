@@ -31,6 +31,7 @@ pub with_link : (plan : PlanView) (text : List ℕ) (link : LinkFiles) → IsPla
 with_link plan text link h may = record {
   limit = h.limit;
   queue = h.queue;
+  hold = h.hold;
   members = h.members;
   neighbours = All-push (λ (l : LinkFiles). is_neighbour plan.opening l.node ≡ true) plan.links link h.neighbours may.neighbour;
   imports = h.imports;
@@ -53,6 +54,7 @@ pub with_import : (plan : PlanView) (text : List ℕ) (u : FilterUse) → IsPlan
 with_import plan text u h may = record {
   limit = h.limit;
   queue = h.queue;
+  hold = h.hold;
   members = h.members;
   neighbours = h.neighbours;
   imports = All-push (IsUsed plan.opening plan.filters) plan.imports u h.imports (used plan plan.imports text u may);
@@ -68,6 +70,7 @@ pub with_export : (plan : PlanView) (text : List ℕ) (u : FilterUse) → IsPlan
 with_export plan text u h may = record {
   limit = h.limit;
   queue = h.queue;
+  hold = h.hold;
   members = h.members;
   neighbours = h.neighbours;
   imports = h.imports;
@@ -91,6 +94,7 @@ with_filter plan filter h =
     let more = λ (u : FilterUse) (k : IsUsed plan.opening plan.filters u). still_used plan.opening plan.filters filter u k in record {
       limit = h.limit;
       queue = h.queue;
+      hold = h.hold;
       members = h.members;
       neighbours = h.neighbours;
       imports = All-weaker (IsUsed plan.opening plan.filters) (IsUsed plan.opening (plan.filters ++ filter ∷ [])) more plan.imports h.imports;
@@ -107,6 +111,7 @@ pub with_prefix : (plan : PlanView) (text : List ℕ) (given : NodePrefix) (pref
 with_prefix plan text given prefixes h may = record {
   limit = h.limit;
   queue = h.queue;
+  hold = h.hold;
   members = All-push (λ (node : ℕ). is_member plan.opening node ≡ true) plan.placed given.node h.members may.member;
   neighbours = h.neighbours;
   imports = All-weaker (IsUsed plan.opening plan.filters) (IsUsed (record plan.opening { prefixes = prefixes }) plan.filters)
@@ -193,6 +198,6 @@ unknown_filter old v uses text u given filters name is says near same named has 
     )
 
 -- numbers that fit are those of a domain
-pub fit_network : (a b c d e : Bool) → ((((a && b) && c) && d) && e) ≡ true → a ≡ true
-fit_network true b c d e h = refl
-fit_network false b c d e h = cc
+pub fit_network : (a b c d e f : Bool) → (((((a && b) && c) && d) && e) && f) ≡ true → a ≡ true
+fit_network true b c d e f h = refl
+fit_network false b c d e f h = cc

@@ -24,6 +24,7 @@ pub record PlanView : Type 0 where
   pub save : Option (String Global)
   pub segments : Option ℕ
   pub retry : Option ℕ
+  pub hold : ℕ
   pub stays : Bool
 
 -- a node of the domain
@@ -67,12 +68,17 @@ pub record IsUsed (opening : OpeningView) (filters : List (String Global)) (used
 abbrev pub smallest_room : ℕ
 smallest_room = 2048
 
--- The room is within its limits. A neighbour that comes up is told one distance for each node of the domain: so many messages may wait. Each
+-- a router may be silent for an hour at most, or for any time, which a HOLD of 0 says
+abbrev pub longest_hold : ℕ
+longest_hold = 3600
+
+-- The room and the HOLD are within their limits. A neighbour that comes up is told one distance for each node of the domain: so many messages may wait. Each
 -- prefix that was given is that of a node of the domain, each link leads to a neighbour, and each use is of a filter that has a name, at
 -- a neighbour. No node has two prefixes that were given, two import filters, two export filters or two links.
 pub record IsPlan (plan : PlanView) : Type 0 where
   pub limit : (smallest_room ≤ plan.limit) × (plan.limit ≤ largest_limit)
   pub queue : plan.opening.size ≤ plan.queue
+  pub hold : plan.hold ≤ longest_hold
   pub members : All (λ node. is_member plan.opening node ≡ true) plan.placed
   pub neighbours : All (λ link. is_neighbour plan.opening link.node ≡ true) plan.links
   pub imports : All (IsUsed plan.opening plan.filters) plan.imports

@@ -8,7 +8,7 @@ use Rattle.operator_cmds.specs.Networks.{is_network}
 use Rattle.operator_cmds.specs.Domain.{default_opening, limit_or}
 use Rattle.operator_cmds.specs.Limits.{largest_limit}
 use Rattle.router_options.specs.Forms.{IsLink, IsPrefix, IsUse, is_link, is_prefix, is_use, node_in, said_in}
-use Rattle.router_options.specs.PlanView.{PlanView, has_filter, has_link, has_prefix, has_use, is_member, is_neighbour, smallest_room}
+use Rattle.router_options.specs.PlanView.{PlanView, longest_hold, has_filter, has_link, has_prefix, has_use, is_member, is_neighbour, smallest_room}
 use Rattle.router_options.specs.declared.fault.NodeFault.{NodeFault}
 use Rattle.router_options.specs.declared.fault.NodeFault.TheVariants.{Outside, Itself}
 use Rattle.router_options.specs.declared.fault.NumberFault.{NumberFault}
@@ -60,16 +60,28 @@ has_bounds n = has_room n && is_queue n.size (queue_or n.queue)
 abbrev pub can_save : Numbers → Bool → Bool
 can_save n saves = has_bounds n && are_segments n.segments saves
 
--- all of that, and the wait fit
+-- the wait fits, too
+abbrev pub can_wait : Numbers → Bool → Bool
+can_wait n saves = can_save n saves && is_retry n.retry
+
+-- how many seconds a router may be silent, where it may be left out; 0 for any time
+abbrev pub hold_or : Option ℕ → ℕ
+hold_or None = 9
+hold_or (Some seconds) = seconds
+
+abbrev pub is_hold : ℕ → Bool
+is_hold seconds = nat_le seconds longest_hold
+
+-- all of that, and the HOLD fit
 abbrev pub are_numbers : Numbers → Bool → Bool
-are_numbers n saves = can_save n saves && is_retry n.retry
+are_numbers n saves = can_wait n saves && is_hold (hold_or n.hold)
 
 -- a node is not below the size of a domain, whose last node is this
 abbrev pub IsBeyond : ℕ → ℕ → ℕ → Type 0
 IsBeyond size node last = (nat_lt node size ≡ false) × (last + 1 ≡ size)
 
 -- Why numbers are refused. The first that does not fit is told: the size, the router's node, the room, the bound on what waits, the number of
--- segments and then the wait. Memory may be refused.
+-- segments, the wait and then the HOLD. Memory may be refused.
 abbrev pub RefusesNumbers : Numbers → Bool → NumberFault → Type 0
 RefusesNumbers n saves (number.Size size) = (size ≡ n.size) × (is_size n.size ≡ false)
 RefusesNumbers n saves (number.Node node last) = (node ≡ n.me) × (is_size n.size ≡ true) × IsBeyond n.size n.me last
@@ -80,6 +92,7 @@ RefusesNumbers n saves number.Segments = (n.segments ≡ Some 0) × (has_bounds 
 RefusesNumbers n saves (number.Unsaved count) =
     (n.segments ≡ Some count) × (has_bounds n ≡ true) × (nat_le 1 count ≡ true) × (saves ≡ false)
 RefusesNumbers n saves number.Retry = (n.retry ≡ Some 0) × (can_save n saves ≡ true)
+RefusesNumbers n saves (number.Hold seconds) = (n.hold ≡ Some seconds) × (can_wait n saves ≡ true) × (is_hold seconds ≡ false)
 RefusesNumbers n saves number.Memory = Unit {0}
 
 -- the plan of these numbers, with the default prefixes, without links and filters
@@ -96,6 +109,7 @@ new_plan n save stays = record {
   save = save;
   segments = n.segments;
   retry = n.retry;
+  hold = hold_or n.hold;
   stays = stays;
 }
 

@@ -36,6 +36,9 @@ pub enum NumberFault {
     /// A link that was closed would be opened again at once, and over and over where its files open without waiting.
     #[error("a link is opened again after 1 second or more")]
     Retry,
+    /// The router may be silent for longer than an hour.
+    #[error("a HOLD is 3600 seconds or fewer")]
+    Hold(u32),
     /// Memory was refused.
     #[error("out of memory")]
     Memory,

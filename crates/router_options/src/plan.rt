@@ -32,6 +32,12 @@ pub const SMALLEST_ROOM: u32 = 2_048;
 /// domains, so that a burst of changes ends no session whose neighbour reads; and 249 such queues take 65 MB.
 pub const USUAL_QUEUE: u32 = 65_536;
 
+/// Seconds: a router may be silent so long at most, unless it may be for any time.
+pub const LARGEST_HOLD: u32 = 3_600;
+
+/// Seconds: a router may be silent so long where nothing else is said.
+const USUAL_HOLD: u32 = 9;
+
 /// The numbers of a router, as they are given.
 #[derive(Clone, Copy, PartialEq, Eq)]
 pub struct Numbers {
@@ -47,6 +53,8 @@ pub struct Numbers {
     pub segments: Option<u32>,
     /// How long a link that is closed waits before it is opened again, in seconds, 1 at least; for ever where none is said.
     pub retry: Option<u32>,
+    /// How many seconds the router may be silent before its neighbours hold it for dead, at most 3,600, or 0 for any time.
+    pub hold: Option<u32>,
 }
 
 /// What a router is told before it begins. A node has at most one prefix that was given, one import filter, one export filter and one link,
@@ -75,6 +83,8 @@ pub struct RouterPlan {
     pub segments: Option<u32>,
     /// How long a closed link waits before it is opened again, in seconds.
     pub retry: Option<u32>,
+    /// How many seconds the router may be silent before its neighbours hold it for dead; 0 for any time.
+    pub hold: u16,
     /// The router goes on where its standard input ends.
     pub stays: bool,
 }
@@ -84,9 +94,9 @@ impl Model for RouterPlan {
 
     ghost Value = { PlanView };
 
-    ghost view = { λ p. record { opening = p.opening; placed = p.placed.items; limit = p.limit; queue = p.queue; filters = p.filters.items; imports = p.imports.items; exports = p.exports.items; links = p.links.items; save = p.save; segments = p.segments; retry = p.retry; stays = p.stays } };
+    ghost view = { λ p. record { opening = p.opening; placed = p.placed.items; limit = p.limit; queue = p.queue; filters = p.filters.items; imports = p.imports.items; exports = p.exports.items; links = p.links.items; save = p.save; segments = p.segments; retry = p.retry; hold = p.hold; stays = p.stays } };
 
-    ghost invariant = { λ p. IsPlan (record { opening = p.opening; placed = p.placed.items; limit = p.limit; queue = p.queue; filters = p.filters.items; imports = p.imports.items; exports = p.exports.items; links = p.links.items; save = p.save; segments = p.segments; retry = p.retry; stays = p.stays }) };
+    ghost invariant = { λ p. IsPlan (record { opening = p.opening; placed = p.placed.items; limit = p.limit; queue = p.queue; filters = p.filters.items; imports = p.imports.items; exports = p.exports.items; links = p.links.items; save = p.save; segments = p.segments; retry = p.retry; hold = p.hold; stays = p.stays }) };
 }
 
 /// Whether a domain has so many nodes.
@@ -101,6 +111,13 @@ fn is_limit(limit: u32) -> bool
     ensures { result ≡ spec.is_limit limit }
 {
     SMALLEST_ROOM <= limit && limit <= LARGEST_LIMIT
+}
+
+/// The HOLD of a router, by what is given.
+fn hold_or(hold: Option<u32>) -> u32
+    ensures { result ≡ spec.hold_or hold }
+{
+    hold.unwrap_or(USUAL_HOLD)
 }
 
 /// Looks at the numbers of a router whose history is saved or not, in order, up to the first that does not fit.
@@ -136,6 +153,11 @@ fn check_numbers(numbers: Numbers, saves: bool) -> Result<(), NumberFault>
     }
     if numbers.retry == Some(0) {
         return Err(NumberFault::Retry);
+    }
+    if let Some(hold) = numbers.hold {
+        if hold > LARGEST_HOLD {
+            return Err(NumberFault::Hold(hold));
+        }
     }
     Ok(())
 }
@@ -240,6 +262,7 @@ impl RouterPlan {
             save,
             segments: numbers.segments,
             retry: numbers.retry,
+            hold: hold_or(numbers.hold) as u16,
             stays,
         })
     }

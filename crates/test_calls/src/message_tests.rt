@@ -2,19 +2,19 @@
 
 use crate::asserts::{RouterHost, done, must};
 use crate::streams::Sink;
-use message_streams::{Greeting, GreetingFault, MessageReader, MessageWriter, StreamEnd};
+use message_streams::{MessageReader, MessageWriter, StreamEnd};
 use netchange_core::Message;
 use std::io::ErrorKind;
 
-/// What is written: the lines that the document of links shows.
-const WRITTEN: &[u8] = b"netchange 1 10 3\n7 2\n0 65535\n";
+/// What is written: a text, and two messages.
+const WRITTEN: &[u8] = b"\n7 2\n0 65535\n";
 
-/// A writer writes a line for each message, after its greeting.
+/// A writer writes a text as it is, and a line for each message.
 #[test]
 fn writers_write(rt: HostRuntime) {
     let mut bytes = Vec::new(rt.alloc());
     let mut writer = MessageWriter::new(rt.alloc(), &mut bytes);
-    done(&rt, writer.write_greeting(Greeting { size: 10, node: 3 }));
+    done(&rt, writer.write_text(b"\n"));
     for (dest, dist) in [(7, 2), (0, 65_535)] {
         done(&rt, writer.write_message(Message { dest, dist }));
     }
@@ -22,10 +22,8 @@ fn writers_write(rt: HostRuntime) {
     must(&rt, bytes.as_slice() == WRITTEN, "what is written");
 }
 
-/// Messages.
+/// A message.
 const FIRST: Message = Message { dest: 1, dist: 2 };
-
-const SECOND: Message = Message { dest: 3, dist: 4 };
 
 /// A writer writes no more once its stream has failed, here after the first line and a half.
 #[test]
@@ -38,33 +36,46 @@ fn a_failed_stream_is_written_no_more(rt: HostRuntime) {
     }
 }
 
-/// Streams, what is made of their first line by one who expects a greeting of node 3 of 10, the messages that follow, and the end.
-const GREETED: [(&[u8], Result<(), StreamEnd>, &[Message], StreamEnd); 2] = [
+/// A line of 65 bytes, its line feed counted, behind which another line stands.
+const LONG: &[u8] = b"0123456789012345678901234567890123456789012345678901234567890123\n1 2\n";
+
+/// Streams, the lines that they have, and why no more is handed out after these.
+const READ: [(&[u8], &[&[u8]], StreamEnd); 3] = [
     (
-        b"netchange 1 10 3\n1 2\n3 4\n",
-        Ok(()),
-        &[FIRST, SECOND],
+        b"netchange 2 10 3 9 7 0\n\n1 2\n",
+        &[b"netchange 2 10 3 9 7 0", b"", b"1 2"],
         StreamEnd::Ended,
     ),
-    (
-        b"netchange 1 10 4\n1 2\n",
-        Err(StreamEnd::Greeting(GreetingFault::OtherNode(4))),
-        &[],
-        StreamEnd::Greeting(GreetingFault::OtherNode(4)),
-    ),
+    (b"1 2\n3 ", &[b"1 2"], StreamEnd::Unfinished),
+    (LONG, &[], StreamEnd::TooLong),
 ];
 
-/// The greeting comes first; what follows it is left for the messages.
+/// Lines are handed out in order, up to the end.
 #[test]
-fn greetings_are_read(rt: HostRuntime) {
-    for (bytes, greeted, messages, end) in &GREETED {
+fn lines_are_read(rt: HostRuntime) {
+    for (bytes, lines, end) in &READ {
         let mut reader = MessageReader::new(*bytes);
-        let found = reader.read_greeting(Greeting { size: 10, node: 3 });
-        must(&rt, found == *greeted, "a greeting");
-        for message in *messages {
-            must(&rt, reader.next_message() == Ok(*message), "a message");
+        for line in *lines {
+            let is_so = match reader.next_line() {
+                Ok(found) => found.as_slice() == *line,
+                Err(_) => false,
+            };
+            must(&rt, is_so, "a line");
         }
-        let ends = reader.next_message() == Err(*end);
-        must(&rt, ends, "the end of a stream");
+        must(&rt, reader.next_line().err() == Some(*end), "the end");
+    }
+}
+
+/// Behind a line that is too long its rest is read as a line, and then the next one.
+#[test]
+fn the_rest_of_a_long_line_is_read(rt: HostRuntime) {
+    let mut reader = MessageReader::new(LONG);
+    must(&rt, reader.next_line().is_err(), "a line that is too long");
+    for wanted in [&b""[..], b"1 2"] {
+        let is_so = match reader.next_line() {
+            Ok(found) => found.as_slice() == wanted,
+            Err(_) => false,
+        };
+        must(&rt, is_so, "what follows");
     }
 }

@@ -14,7 +14,7 @@ use filter_tokens::TokenFault;
 use filter_types::{ExpectedKind, TypeFault};
 use filter_verifier::VerifyFault;
 use line_protocol::StreamFault;
-use message_streams::{GreetingFault, StreamEnd};
+use message_streams::StreamEnd;
 use netchange_core::{Event, EventRefusal};
 use prefix_patterns::{Ip, Prefix, SetFault};
 use route_history::{CallFault, Journal};
@@ -74,7 +74,7 @@ fn must_show<R: Host>(rt: &R, shown: &Shown, wanted: &str) {
 }
 
 /// Each fault, some addresses and prefixes, and what is shown of them.
-const SHOWN: [(Shown, &str); 121] = [
+const SHOWN: [(Shown, &str); 117] = [
     (
         Shown::Token(TokenFault::BadCharacter(1)),
         "unexpected character at byte 1",
@@ -480,19 +480,6 @@ const SHOWN: [(Shown, &str); 121] = [
     (
         Shown::End(StreamEnd::TooLong),
         "the line has more than 64 bytes",
-    ),
-    (Shown::End(StreamEnd::NoMessage), "the line is no message"),
-    (
-        Shown::End(StreamEnd::Greeting(GreetingFault::NoGreeting)),
-        "this is no greeting of version 1",
-    ),
-    (
-        Shown::End(StreamEnd::Greeting(GreetingFault::OtherSize(9))),
-        "the neighbour's domain has 9 nodes",
-    ),
-    (
-        Shown::End(StreamEnd::Greeting(GreetingFault::OtherNode(4))),
-        "the neighbour is node 4",
     ),
     (Shown::End(StreamEnd::Read), "the stream could not be read"),
     (Shown::Address(0x0a14_1e28), "10.20.30.40"),

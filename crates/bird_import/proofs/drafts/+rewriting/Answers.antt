@@ -2,7 +2,7 @@ use Rattle.std.proofs.Common.{◌<◌, ◌+◌, length, subst, arith}
 use Rattle.bird_import.specs.Scopes.{AreInScope}
 use Rattle.bird_import.specs.Steps.{BecomesWithin}
 use Rattle.bird_import.specs.Stuck.{AreApart, Halts, Hinder, Hinders}
-use Rattle.bird_import.proofs.Halted.{at_once, by_copy, by_hinders, by_refusal, by_steps, by_words, hinders_of, more_of_why, stuck_at}
+use Rattle.bird_import.proofs.Halted.{at_once, by_copy, by_hinders, by_refusal, by_steps, by_words, by_work, hinders_of, more_of_why, stuck_at}
 use Rattle.bird_import.proofs.Reached.{call_is_next, steps_on}
 use Rattle.bird_import.proofs.drafts.+rewriting.Goals as goal
 
@@ -71,6 +71,12 @@ rewrite-returns-then-all-gt-WORD_LIMIT-clause-stuck t c =
     by_words c.args.config.now c.args.depth c.loop-made.invariant.0 c.args.words.items c.loop-made.words.items c.loop-made.invariant.2
     c.too_long.result c.too_long.ensures
     (subst (λ list. 65536 < length list) c.as_slice-all.ensures.value c.if-all-gt-WORD_LIMIT.true)
+
+pub rewrite-returns-then-is_much-clause-stuck : goal.rewrite-returns-then-is_much-clause-stuck
+rewrite-returns-then-is_much-clause-stuck t c =
+    by_work c.args.config.now c.args.depth c.loop-made.invariant.0 c.args.words.items c.loop-made.words.items c.loop-made.invariant.2
+    c.too_long-then-is_much.result c.loop-made.made c.as_slice-all.result.now c.too_long-then-is_much.ensures c.as_slice-all.ensures.value c.loop-made.invariant.1
+    (c.is_much.ensures c.if-is_much.true)
 
 pub rewrite-returns-in-Stuck-clause-stuck : goal.rewrite-returns-in-Stuck-clause-stuck
 rewrite-returns-in-Stuck-clause-stuck t c =

@@ -8,6 +8,6 @@ returns g c =
     let parse = c.try_get_matches_from in
     let is = c.in_ok-program.ensures in
     record {
-      ok = meets c.tellings.result c.tellings.ensures _ is line parse.result parse.ensures.matches parse.ensures.kinds;
-      err = shows c.tellings.result c.tellings.ensures _ is line parse.result parse.ensures.kinds;
+      ok = meets c.choices.result c.choices.ensures _ is line parse.result parse.ensures.matches parse.ensures.kinds;
+      err = shows c.choices.result c.choices.ensures _ is line parse.result parse.ensures.kinds;
     }

@@ -3,13 +3,13 @@ use Rattle.filter_diff.specs.declared.route_part.RoutePart.{RoutePart}
 use Rattle.filter_checks.specs.PartLines.{last_words, several_words}
 use Rattle.filter_checks.proofs.part_lines.push_last_words.Goals as goal
 
-several : (count : ℕ) (parts : List RoutePart) → 2 ≤ count → last_words count parts ≡ several_words count
-several zero parts h = absurd (omega (arith, h))
-several (suc zero) parts h = absurd (omega (arith, h))
-several (suc (suc more)) parts h = refl
+several : (size count : ℕ) (parts : List RoutePart) → 2 ≤ count → last_words size count parts ≡ several_words count
+several size zero parts h = absurd (omega (arith, h))
+several size (suc zero) parts h = absurd (omega (arith, h))
+several size (suc (suc more)) parts h = refl
 
 pub returns : goal.returns
 returns c =
     let more : 2 ≤ c.args.undecided = omega (arith, c.if-undecided-eq0.false, c.if-undecided-eq1.false) in
     subst (λ (words : List ℕ). OnOk c.push_several_words.result (c.push_several_words.new.out.items ≡ c.args.out.now.items ++ words))
-    (sym (several c.args.undecided c.args.parts.now more)) c.push_several_words.ensures
+    (sym (several c.args.size c.args.undecided c.args.parts.now more)) c.push_several_words.ensures

@@ -1,5 +1,5 @@
-use Rattle.message_streams.proofs.Exact.{messages_in-text}
+use Rattle.message_streams.proofs.Exact.{messages_in-lines}
 use Rattle.message_streams.proofs.laws.written_is_read.Goals as goal
 
 pub returns : goal.returns
-returns c = messages_in-text
+returns c = messages_in-lines

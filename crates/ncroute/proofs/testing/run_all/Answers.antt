@@ -1,6 +1,6 @@
 use Rattle.filter_source.proofs.Refused.{of_error}
 use Rattle.filter_reports.specs.Faults.{stream_fault}
-use Rattle.ncroute.proofs.Tested.{bails, none_tested, one_more_tested, some_stopped}
+use Rattle.ncroute.proofs.Tested.{none_tested, one_more_tested, some_stopped}
 use Rattle.ncroute.proofs.testing.run_all.Goals as goal
 
 pub loop-source-init : goal.loop-source-init
@@ -13,12 +13,7 @@ returns-in_err-after-clause-stopped g c =
     (some_stopped _ c.args.how c.args.sources.now (stream_fault fault) c.loop-source.source-index c.source-item.result _ _ _
     c.loop-source.tally c.loop-source-test.true c.source-item.is c.loop-source.invariant c.in_err-after.ensures.stopped)
 
-pub returns-in-None-clause-finished : goal.returns-in-None-clause-finished
-returns-in-None-clause-finished g c =
-    bails _ c.args.how c.args.sources.now c.loop-source.source-index c.source-item.result _ _ _ c.loop-source.tally c.in_ok-after.field-0
-    c.loop-source-test.true c.source-item.is c.loop-source.invariant c.in-None.is c.in_ok-after.ensures.finished
-
 pub loop-source-preserved : goal.loop-source-preserved
 loop-source-preserved g c =
-    one_more_tested _ c.args.how c.args.sources.now c.loop-source.source-index c.source-item.result _ _ _ c.loop-source.tally c.in-Some.after
-    c.in_ok-after.field-0 c.loop-source-test.true c.source-item.is c.loop-source.invariant c.in-Some.is c.in_ok-after.ensures.finished
+    one_more_tested _ c.args.how c.args.sources.now c.loop-source.source-index c.source-item.result _ _ _ c.loop-source.tally c.in_ok-after.after
+    c.loop-source-test.true c.source-item.is c.loop-source.invariant c.in_ok-after.ensures.finished

@@ -21,17 +21,18 @@ returns-in-Some-end_of_reader-clause-reads g c =
     let link = c.read_turns-cause.new.link in
     reads_stopped c.args.waits (g.C.Crew.may_be_present c.args.crew.now) c.args.router.now c.args.session c.args.pass.now c.args.input
     c.loop.pass c.loop.link.told c.read_turns-cause.result c.in-Some-end_of_reader.why c.read_turns-cause.new.pass
-    link.told link.reader c.loop.invariant.read c.read_turns-cause.ensures.read
-    (subst (λ (r : ReaderView). ReadsLines r link.told.handed link.reader) (sym c.requires.named) c.lines_are_told.ensures)
+    link.told link.over c.into_reader.result c.loop.invariant.read c.read_turns-cause.ensures.read
+    (subst (λ (r : ReaderView). ReadsLines r link.told.handed link.over c.into_reader.result) (sym c.requires.named) c.into_reader.ensures)
     c.in-Some-end_of_reader.ensures.over c.read_turns-cause.ensures.absent
 
 pub returns-then-not-is_present-clause-reads : goal.returns-then-not-is_present-clause-reads
 returns-then-not-is_present-clause-reads g c =
     let link = c.read_turns-cause.new.link in
     reads_absent c.args.waits (g.C.Crew.may_be_present c.args.crew.now) c.args.router.now c.args.session c.args.pass.now c.args.input
-    c.loop.pass c.loop.link.told c.read_turns-cause.result c.read_turns-cause.new.pass link.told link.reader
-    c.loop.invariant.read c.read_turns-cause.ensures.read
-    (subst (λ (r : ReaderView). ReadsLines r link.told.handed link.reader) (sym c.requires.named) c.lines_are_told.ensures)
+    c.loop.pass c.loop.link.told c.read_turns-cause.result c.read_turns-cause.new.pass link.told link.over
+    c.into_reader-then-not-is_present.result c.loop.invariant.read c.read_turns-cause.ensures.read
+    (subst (λ (r : ReaderView). ReadsLines r link.told.handed link.over c.into_reader-then-not-is_present.result) (sym c.requires.named)
+    c.into_reader-then-not-is_present.ensures)
     c.in_default.ensures.goes_on c.if-not-is_present.ensures
 
 pub loop-preserved : goal.loop-preserved

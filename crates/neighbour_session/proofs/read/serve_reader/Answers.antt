@@ -4,7 +4,7 @@ use Rattle.neighbour_session.proofs.read.serve_reader.Goals as goal
 pub returns-clause-hears : goal.returns-clause-hears
 returns-clause-hears g c = record {
   before = c.read_all-why.new.pass;
-  why = c.read_all-why.result;
+  why = c.read_all-why.result.0;
   reads = c.read_all-why.ensures.reads;
-  ends = c.end_session.ensures.ends;
+  ends = c.end_session-why.ensures.ends;
 }

@@ -1,0 +1,10 @@
+use Rattle.std.proofs.Common.{◌≡◌, ◌≤◌}
+use Rattle.domain_cmds.specs.Failures.{count_below, is_moved}
+use Rattle.domain_cmds.proofs.counts.moved_nodes.Given as goal
+
+-- those so far
+abbrev pub invariant-loop-v : goal.invariant-loop-v
+invariant-loop-v l = record {
+  counted : l.count ≡ count_below l.v (is_moved l.size l.what l.before l.after);
+  few : l.count ≤ l.v;
+}

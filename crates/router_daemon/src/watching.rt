@@ -1,0 +1,111 @@
+//! Who looks at the clock for all links.
+//!
+//! **A thread that waits for a file is not woken.** Who finds a neighbour silent ends its session at once, and greets it again over the same
+//! streams. Whoever reads or writes these streams goes on as soon as the neighbour says or takes a byte, or ends them. To open the other end of a
+//! FIFO for a moment, so that a read or a write returns, would bring the link back no sooner.
+ghost use Rattle.slot_lock.specs.Passes.{IsPassOf};
+
+use crate::crew::LinkCrew;
+use crate::keeper::tell_unless_closed;
+use crate::naming::Ticket;
+use crate::settling::settle_once;
+use crate::shared::Shared;
+use neighbour_session::{SessionEnd, end_session};
+use router_operator::Naming;
+use slot_lock::Pass;
+use std::alloc::Global;
+use std::io::Write;
+use std::rt::Clock;
+use std::sync::{Arc, Wait};
+use std::thread;
+use std::time::Duration;
+
+/// Milliseconds between two looks at the clock: fewer than count at most from one to the next.
+const LOOK: u64 = 200;
+
+/// What the clock tells, in milliseconds, if it can be read.
+pub(crate) fn now<R: Clock>(rt: &R) -> Option<u64> {
+    let time = rt.monotonic().ok()?;
+    u64::try_from(time.as_millis()).ok()
+}
+
+/// Ends the session of a link whose neighbour was silent, if nobody ended it before: enters its Down, and tells people why.
+fn close_silent<R: Wait + Clock, J: Naming, E: Write>(
+    rt: &R,
+    alloc: Global,
+    shared: &Shared<J, E>,
+    pass: &mut Pass,
+    link: usize,
+    hold: u16,
+)
+    requires { IsPassOf J.router pass.old }
+    ensures { IsPassOf J.router pass.new }
+{
+    let signals = &shared.signals;
+    let (Some(session), Some(node)) = (signals.session(rt, link), shared.nodes.get(link)) else {
+        return;
+    };
+    let crew = LinkCrew::new(signals, link, session);
+    let why = SessionEnd::Silent(hold);
+    let (why, leaver) = end_session(rt, &shared.router, pass, session, crew, why);
+    leaver.note_owed(rt);
+    if leaver.ended_it() {
+        tell_unless_closed(rt, alloc, shared, *node, why);
+    }
+}
+
+/// Looks at the clock for a link: closes its session if the neighbour was silent, and wakes who writes if a line is to be written.
+fn look_at<R: Wait + Clock, J: Naming, E: Write>(
+    rt: &R,
+    alloc: Global,
+    shared: &Shared<J, E>,
+    pass: &mut Pass,
+    link: usize,
+    now: u64,
+)
+    requires { IsPassOf J.router pass.old }
+    ensures { IsPassOf J.router pass.new }
+{
+    if let Some(silence) = shared.signals.stations.look(rt, link, now) {
+        close_silent(rt, alloc, shared, pass, link, silence.hold());
+    }
+    settle_once(rt, shared, pass, link);
+    if shared.signals.stations.is_due(rt, link) {
+        shared.signals.ring(rt, link);
+    }
+}
+
+/// Looks at the clock for all links once.
+fn look_at_all<R: Wait + Clock, J: Naming, E: Write>(
+    rt: &R,
+    alloc: Global,
+    shared: &Shared<J, E>,
+    pass: &mut Pass,
+    now: u64,
+)
+    requires { IsPassOf J.router pass.old }
+    ensures { IsPassOf J.router pass.new }
+{
+    for link in 0..shared.nodes.len() {
+        look_at(rt, alloc, shared, pass, link, now);
+    }
+}
+
+/// Looks at the clock for all links a few times a second, until the router is being closed. A clock that cannot be read closes nothing.
+pub(crate) fn watch_links<R: Wait + Clock + Drop, J: Naming, E: Write + Drop>(
+    rt: R,
+    alloc: Global,
+    shared: Arc<Shared<J, E>>,
+    ticket: Ticket<J>,
+) {
+    let mut pass = ticket.pass();
+    for _ in rt.forever() {
+        thread::sleep(&rt, Duration::from_millis(LOOK));
+        if shared.signals.is_closing(&rt) {
+            return;
+        }
+        if let Some(now) = now(&rt) {
+            look_at_all(&rt, alloc, &shared, &mut pass, now);
+        }
+    }
+}
