@@ -2,12 +2,12 @@
 """Kills `ncroute router --save FOLDER` 200 times at random moments, while one neighbour talks, one comes and goes, and the operator asks and
 replaces a filter; and sees what is left in FOLDER: `ncroute replay` finds all replies right, but for the front of a line at the end of the last
 file, and the entries that the operator knew of a second before are there. Some more runs are longer: there segments are begun and the oldest
-are removed. Prints a line for each run where this does not hold, and at last 'N passed, M failed'.
+are removed. Prints a line for each run where this does not hold, and at last 'N passed, M failed'. On a machine that lets this script wait a run
+lasts as much longer, and what was known that much sooner has to be there.
 
 usage: NCROUTE=PATH scripts/check_kills.py [RUNS [LONG [SEED]]]     (PATH: the program; 200 runs and 10 long ones, of seed 1)
 """
 import concurrent.futures
-import pathlib
 import random
 import re
 import subprocess
@@ -15,6 +15,7 @@ import sys
 import time
 
 from lib.counts import Counts
+from lib.processes import Delays, first_of
 from lib.program import built
 from lib.routers import Run
 from lib.traffic import BLOCK, FILTERS, Churn, Drain, Flood, end_all, end_of
@@ -35,12 +36,22 @@ STATE_END = b"\n.\n"
 class Operator:
     """Asks, replaces a filter, and remembers when it knew of how many entries, and when it had had how many entries made."""
 
-    def __init__(self, run):
-        self.run, self.known, self.made, self.rounds = run, [(time.monotonic(), 0)], [(time.monotonic(), 0)], 0
+    def __init__(self, run, delays):
+        self.run, self.delays, self.begun, self.longest, self.rounds = run, delays, time.monotonic(), 0.0, 0
+        self.known, self.made = [(self.begun, 0)], [(self.begun, 0)]
+
+    def seconds(self):
+        """How long it has worked."""
+        return time.monotonic() - self.begun
+
+    def delay(self):
+        """How late this machine is: the longest time from one look to the next, and by which a sleep was late. The router's threads wait, too, where
+        there is more to do than can be done."""
+        return self.longest + self.delays.longest
 
     def work(self, is_over):
-        """Works until it is over, by how many entries are known."""
-        while not is_over(self.known[-1][1]):
+        """Works until it is over."""
+        while not is_over(self):
             self.rounds += 1
             lines = ["show 0"] * 3
             if self.rounds % 5 == 1:
@@ -49,7 +60,9 @@ class Operator:
                 answer = self.run.ask(line)
                 if answer.startswith(("route ", "done ")):
                     self.made.append((time.monotonic(), self.made[-1][1] + 1))
-            self.known.append((time.monotonic(), end_of(self.run, self.known[-1][1])))
+            at, count = self.known[-1]
+            self.known.append((time.monotonic(), end_of(self.run, count)))
+            self.longest = max(self.longest, self.known[-1][0] - at)
 
 
 def before(seen, when):
@@ -57,30 +70,24 @@ def before(seen, when):
     return max((count for at, count in seen if at < when), default=0)
 
 
-def longest_wait(seen):
-    """The longest time from one look to the next. A machine with more work than it can do lets this script wait, and the router's threads, too."""
-    return max((later - at for (at, _), (later, _) in zip(seen, seen[1:])), default=0.0)
-
-
 class Folder:
     """The segments that a router left."""
 
     def __init__(self, run):
-        # The router writes the next segment under a name with a dot, and gives it its own once it is whole.
-        self.program, self.files = run.program, sorted(pathlib.Path(run.history).glob("[0-9]*.history"))
+        self.program, self.files = run.program, run.segments()
         self.texts = [file.read_bytes() for file in self.files]
         # After the last line feed of the last file comes the front of a line, if anything does.
         self.is_cut = bool(self.texts) and self.texts[-1][-1:] != b"\n"
 
     def first(self):
-        return int(self.files[0].name[:20])
+        return first_of(self.files[0]) if self.files else 0
 
     def end(self):
         """How many entries the history has up to the last that is saved whole."""
         if not self.files:
             return 0
         text = self.texts[-1]
-        return int(self.files[-1].name[:20]) + text.count(b"\n", text.index(STATE_END) + len(STATE_END))
+        return first_of(self.files[-1]) + text.count(b"\n", text.index(STATE_END) + len(STATE_END))
 
     def made(self):
         """How many entries there are that only an operator makes."""
@@ -115,59 +122,70 @@ def begin(run, block, pause, stays):
     one, two, three = (run.neighbours[node] for node in (1, 2, 3))
     one.come(SIZE)
     three.come(SIZE)
-    threads = [Flood(one, block, pause), Churn(two, SIZE, stays), Drain(one), Drain(three)]
+    threads = [Flood(one, block, pause), Churn(run, two.node, SIZE, stays), Drain(one), Drain(three)]
     for thread in threads:
         thread.start()
     return threads
 
 
+class Left:
+    """What a killed router left: what is wrong with it, how many entries are saved and how many had to be, and which ones."""
+
+    def __init__(self, folder, known, made):
+        self.wrong, self.saved, self.known = folder.fault(), folder.end(), known
+        self.is_cut, self.first = folder.is_cut, folder.first()
+        if not self.wrong and self.saved < known:
+            self.wrong = f"{known} entries were known a second before, and {self.saved} are saved"
+        if not self.wrong and folder.made() < made:
+            self.wrong = f"{made} entries of the operator were answered a second before, and {folder.made()} are saved"
+
+
 def killed(program, is_over, more=(), talk=(FEW, REST, 0.05)):
-    """What is wrong with what a router leaves that is killed once it is over, and the folder that it left."""
-    run = Run(program, nodes=(1, 2, 3), size=SIZE, more=("--limit", "50000", "--retry", "1", *more))
+    """What a router left that is killed once it is over."""
+    run, threads = Run(program, nodes=(1, 2, 3), size=SIZE, more=("--limit", "50000", "--retry", "1", *more)), []
     try:
-        threads, operator = begin(run, *talk), Operator(run)
-        operator.work(is_over)
-        when = time.monotonic() - LATE - longest_wait(operator.known)
+        with Delays() as delays:
+            threads, operator = begin(run, *talk), Operator(run, delays)
+            operator.work(is_over)
+            when = time.monotonic() - LATE - operator.delay()
+            run.kill()
+        # Where segments are removed, entries of the operator are, too.
+        return Left(Folder(run), before(operator.known, when), 0 if more else before(operator.made, when))
+    finally:
         run.kill()
         end_all(threads)
-        left = Folder(run)
-        wrong = left.fault()
-        known, made = before(operator.known, when), before(operator.made, when)
-        if not wrong and left.end() < known:
-            wrong = f"{known} entries were known a second before, and {left.end()} are saved"
-        if not wrong and not more and left.made() < made:
-            wrong = f"{made} entries of the operator were answered a second before, and {left.made()} are saved"
-        return wrong, left
-    finally:
         run.close()
 
 
 def short_run(program, seconds):
-    """One that is killed after so many seconds."""
-    begun = time.monotonic()
-    return killed(program, lambda known: time.monotonic() - begun >= seconds)
+    """One that is killed after so many seconds, and after as many more as the machine is late."""
+    return killed(program, lambda operator: operator.seconds() >= seconds + operator.delay())
 
 
 def long_run(program, entries):
     """One that is killed after so many entries, or after a minute and more."""
-    begun = time.monotonic()
-    return killed(program, lambda known: known >= entries or time.monotonic() - begun > LONGEST, ("--segments", "2"), (BLOCK, 0.0, 0.5))
+    return killed(program, lambda operator: operator.known[-1][1] >= entries or operator.seconds() > LONGEST, ("--segments", "2"), (BLOCK, 0.0, 0.5))
 
 
 def main(runs=200, long_runs=10, seed=1):
     program, counts, chosen = built(), Counts(), random.Random(seed)
     times = [chosen.uniform(0, 2.5) for _ in range(runs)]
     ends = [chosen.randrange(500_000, 3_500_000) for _ in range(long_runs)]
-    cut = later = removed = 0
+    found = []
     with concurrent.futures.ThreadPoolExecutor(BESIDE) as pool:
-        for number, (wrong, left) in enumerate(pool.map(lambda seconds: short_run(program, seconds), times)):
-            counts.judge(f"run {number}, after {times[number]:.3f} s", wrong)
-            cut += left.is_cut
+        for number, left in enumerate(pool.map(lambda seconds: short_run(program, seconds), times)):
+            counts.judge(f"run {number}, after {times[number]:.3f} s", left.wrong)
+            found.append(left)
     for number, entries in enumerate(ends):
-        wrong, left = long_run(program, entries)
-        counts.judge(f"long run {number}, after {entries} entries", wrong)
-        cut, later, removed = cut + left.is_cut, later + (left.end() > 1_000_000), removed + (left.first() > 0)
-    print(f"{cut} of {runs + long_runs} were cut within a line; of the long ones {later} had a second segment, and {removed} had removed one")
+        found.append(long_run(program, entries))
+        counts.judge(f"long run {number}, after {entries} entries", found[-1].wrong)
+    # Where nothing was known so long before, nothing has to be there. Of the short runs that is so in about half.
+    telling = sum(left.known > 0 for left in found)
+    counts.judge("all runs", telling < len(found) // 8 and f"only in {telling} of {len(found)} something had to be saved")
+    cut = sum(left.is_cut for left in found)
+    later, removed = (sum(it) for it in zip((0, 0), *((left.saved > 1_000_000, left.first > 0) for left in found[runs:])))
+    print(f"{cut} of {len(found)} were cut within a line, and in {telling} something had to be saved; "
+          f"of the long ones {later} had a second segment, and {removed} had removed one")
     counts.finish()
 
 

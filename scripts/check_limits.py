@@ -18,6 +18,7 @@ import tempfile
 
 from lib import netchange
 from lib.counts import Counts
+from lib.processes import segments_of
 from lib.program import TOP, built
 
 LINE = 1_048_576
@@ -636,7 +637,7 @@ def long_router(ncroute):
     with tempfile.TemporaryDirectory() as folder:
         kept = os.path.join(folder, "history")
         wrong = differs(run(ncroute, f"router --size {NODES} --node 0 --save {kept}", lines), (wanted, 0))
-        segments = " ".join(map(str, sorted(pathlib.Path(kept).iterdir())))
+        segments = " ".join(map(str, segments_of(kept)))
         return wrong or differs(run(ncroute, f"replay {segments}", b""), (b"replay ok %d\n" % (ENTRIES + 1), 0))
 
 

@@ -16,7 +16,7 @@ import subprocess
 import sys
 import time
 
-from lib.processes import open_files
+from lib.processes import SAVED, awaited, open_files
 from lib.program import built
 from lib.routers import Run
 from router_sizes import MAY_WAIT, SizeRows
@@ -257,7 +257,7 @@ class Rows(SizeRows):
                 one.close()
                 self.judge("1 is down", run.routes_until(1, "8"))
                 # The session is over before its files are closed. Until then its reader could take the next greeting, or break the pipe.
-                run.told_closed(1, times)
+                run.lets_go(1)
             found = run.ask("history 0")
             self.judge("sessions", len(re.findall(r"up 1 opened", found)) == 3 == len(re.findall(r"down \d+ done", found)), found)
             self.end(run)
@@ -270,6 +270,8 @@ class Rows(SizeRows):
             one.come()
             one.say(b"1 0\n")
             self.judge("1 is up", run.routes_until(1, "1:1"))
+            # Its writer has nothing more to do once it has written the last distance and nothing is entered for a while.
+            self.judge("1 hears", one.hear(b"\n1 1\n"), one.told)
             run.rests()
             one.close()
             self.judge("1 is down", run.routes_until(1, "8"))
@@ -351,9 +353,10 @@ class Rows(SizeRows):
             self.judge("stays", run.is_running())
             text = run.said("", patience=0)
             self.judge("says nothing", text == "", text)
+            saved = awaited(run.saved, lambda entries: len(entries) >= 3, SAVED)
             run.kill()
             said = run.replays()
-            self.judge("replay", said.startswith("replay ok ") and int(said.split()[-1]) >= 3, said)
+            self.judge("replay", len(saved) >= 3 and said.startswith("replay ok ") and int(said.split()[-1]) >= 3, (len(saved), said))
 
     def row_full_disk(self):
         def prepare():
@@ -417,6 +420,7 @@ class Rows(SizeRows):
             resource.prlimit(run.process.pid, resource.RLIMIT_AS, (resource.RLIM_INFINITY, resource.RLIM_INFINITY))
             for each in (one, two):
                 each.close()
+                self.judge("its files are closed", run.lets_go(each.node))
             answer = run.asks_until("neighbours", "^neighbours$")
             self.judge("none is left", answer == "neighbours", answer)
             one.come()
@@ -446,7 +450,7 @@ class Rows(SizeRows):
             resource.setrlimit(resource.RLIMIT_STACK, (stack, resource.getrlimit(resource.RLIMIT_STACK)[1]))
             resource.setrlimit(resource.RLIMIT_AS, (limit, limit))
         found = []
-        with Run(self.program, nodes=range(1, 21), size=30, prepare=prepare) as run:
+        with Run(self.program, nodes=range(1, 21), size=30, prepare=prepare, environment={"MALLOC_ARENA_MAX": "1"}) as run:
             try:
                 self.find_without_threads(run, found)
             except BrokenPipeError as why:

@@ -11,7 +11,7 @@ direction, so that a link can be cut by ending both. For each topology the lab
   2. looks at the idle routers for 2 seconds, or for as long as `--idle` says: no entry is made, and hardly any processor time is used;
   3. cuts a link, and compares again; mends it, and compares again;
   4. replaces the import filter of a node by one that counts one link more, and compares again;
-  5. kills a router (SIGKILL), of which all that it answered of its history a second before has to be saved, compares the others, starts it again,
+  5. kills a router (SIGKILL), of which all that it answered of its history a while before has to be saved, compares the others, starts it again,
      and compares again;
   6. has all routers quit, and replays each history that was saved.
 
@@ -35,11 +35,10 @@ from lib.program import TOP, built
 TOPOLOGIES = ("examples/ring_of_five.domain", "examples/grid_of_sixteen.domain")
 SETUP = ("domain", "prefix", "load", "link", "import", "export")
 
-# Seconds: what is quiet makes no entry for so long; how long idle routers are looked at, if no option says otherwise; what was answered so long
-# ago is saved.
-QUIET, IDLE, SAVED = 0.5, 2.0, 1.0
+# Seconds: what is quiet makes no entry for so long; how long idle routers are looked at, if no option says otherwise.
+QUIET, IDLE = 0.5, 2.0
 
-# Seconds of a processor that an idle router may take in a minute, for its empty lines, and in any time, which the system tells in hundredths.
+# Seconds of a processor that an idle router may take in a minute, for its empty lines, and in any time.
 MOST_IN_A_MINUTE, MOST_AT_ALL = 0.05, 0.02
 
 
@@ -216,9 +215,10 @@ class Lab:
             self.replay(node)
 
     def kill(self, victim):
-        """Kills a router, a second after it answered its history."""
+        """Kills a router, a while after it answered its history."""
         answered = victim.router.entries()
-        time.sleep(SAVED)
+        _, took = victim.router.has_saved(answered)
+        print(f"{self.name}: killed: all was saved after {took:.2f} s", file=sys.stderr)
         victim.router.kill()
         self.replay(victim, may_be_cut=True)
         saved = victim.router.saved()

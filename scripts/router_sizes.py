@@ -4,12 +4,14 @@ import re
 import sys
 import time
 
-from lib.routers import PATIENCE, SIZE, Run, RunRows
+from lib.processes import PATIENCE
+from lib.routers import SIZE, Run, RunRows
+from lib.traffic import end_of
 
 # The largest domain, in which a router has a link to each other node.
 NODES = 250
 
-# Seconds: what was answered so long ago is saved, and what is to be told is told.
+# Seconds: what is to be told is told.
 PROMPT = 1.0
 
 # How often a neighbour comes and goes, and how many times less long a router sleeps meanwhile: a minute then takes 4 milliseconds.
@@ -66,8 +68,10 @@ class SizeRows(RunRows):
 
     WAITING = ("comes_a_thousand_times", "killed", "retries", "waits_longer")
 
+    TIMED = ("exports", "retries", "waits_longer")
+
     def row_killed(self):
-        """A router is killed a second after its last entry, whichever that is: its file has all that it answered of its history."""
+        """A router is killed a while after its last entry, whichever that is: its file has all that it answered of its history."""
         with contextlib.ExitStack() as stack:
             runs = {what: stack.enter_context(Run(self.program, more=MAY_WAIT)) for what in LAST_ENTRIES}
             answered = {}
@@ -78,7 +82,8 @@ class SizeRows(RunRows):
                 LAST_ENTRIES[what](run)
                 answered[what] = run.rests()
             self.judge("there are many", max(map(len, answered.values())) > MANY)
-            time.sleep(PROMPT)
+            latest = max(run.has_saved(answered[what])[1] for what, run in runs.items())
+            print(f"killed: the last was saved after {latest:.2f} s", file=sys.stderr)
             for what, run in runs.items():
                 run.kill()
                 saved, wanted = run.saved(), answered[what]
@@ -108,6 +113,12 @@ class SizeRows(RunRows):
 
     def judge_last_entries(self, run):
         """The last entries are shown at their positions, and those before them are refused."""
+        # Once node 2 was told the last distance, and nothing is entered for a while, no writer makes an entry any more.
+        self.judge("2 hears the last", run.neighbours[2].hear(b"\n4 4\n"), run.neighbours[2].told[-100:])
+        before, end = 0, end_of(run, 1)
+        while before != end:
+            time.sleep(0.2)
+            before, end = end, end_of(run, end)
         self.judge("show", run.ask("show 7") == "route 8 none")
         answer = run.ask("history 0")
         first = int((re.fullmatch(r"refused O10 (\d+)", answer) or [0, 0])[1])
@@ -138,7 +149,7 @@ class SizeRows(RunRows):
                 one.say(b"1 0\n")
                 came = run.routes_until(1, "1:1")
                 one.close()
-                run.told_closed(1, times)
+                run.lets_go(1)
                 went = run.routes_until(1, str(SIZE))
                 if not (came and went):
                     break
@@ -189,7 +200,7 @@ class SizeRows(RunRows):
             one.say(b"3 0\n3 1\n" * (LINES // 2) + b"4 0\n")
             self.judge("the last line is entered", run.routes_until(4, "1:1"))
             # What is told last stands for what was left out before it.
-            self.judge("2 hears the last", two.listen(lambda: two.told.endswith(b"\n4 1\n")), two.told[-100:])
+            self.judge("2 hears the last", two.hear(b"\n4 1\n"), two.told[-100:])
             self.judge("both are up", run.ask("neighbours") == "neighbours 1:1 2:2")
             self.end(run)
             received = sum(" recv 1 3 " in entry for entry in run.saved())
@@ -206,7 +217,7 @@ class SizeRows(RunRows):
                 self.bring_up(run)
                 closed[seconds] = time.monotonic()
                 run.neighbours[1].close()
-                run.told_closed(1, 1)
+                run.lets_go(1)
             until = time.monotonic() + max(RETRIES) + PATIENCE
             while not took.keys() >= set(RETRIES) and time.monotonic() < until:
                 for seconds, run in runs.items():
@@ -231,7 +242,7 @@ class SizeRows(RunRows):
                     time.sleep(61 / FASTER)
                 closed = time.monotonic()
                 one.close()
-                run.told_closed(1, times)
+                run.lets_go(1)
                 one.open()
                 waited = time.monotonic() - closed
                 self.judge(f"waits {seconds} s", seconds / FASTER <= waited <= seconds / FASTER + LATE, waited)
@@ -272,7 +283,8 @@ class SizeRows(RunRows):
             self.judge_heard(run, distances)
             print(f"{count} links: {run.status('VmRSS')}, {run.status('Threads')} threads", file=sys.stderr)
             gone = count * 4 // 5
-            run.neighbours[gone].close()
+            # It reads still when it ends, so that the router, which says something now and then, does not find out by that.
+            run.neighbours[gone].close_one("writes")
             self.says(run, f"link {gone}: the neighbour ended its stream: closed\n", is_all=True)
             self.judge_heard(run, {**distances, gone: size}, gone)
             run.ask(FAR)

@@ -15,16 +15,15 @@ router keeps its last two segments in FOLDER, which must not be there yet.
 import argparse
 import os
 import pathlib
-import re
 import subprocess
 import tempfile
 import threading
 import time
 
 from lib.counts import Counts
-from lib.processes import awaited
+from lib.processes import PATIENCE, awaited, first_of, segments_of
 from lib.program import named
-from lib.routers import PATIENCE, Run
+from lib.routers import Run
 from lib.traffic import FILTERS, Churn, Drain, Flood, end_of
 
 SIZE = 8
@@ -45,15 +44,15 @@ class Replays(threading.Thread):
 
     def find(self):
         """Names the files that are new."""
-        for name in sorted(os.listdir(self.folder)):
-            if name > self.last and name.endswith(".history") and name[0] != ".":
-                os.link(self.folder / name, self.links / name)
-                self.files.append(self.links / name)
-                self.last = name
+        for segment in segments_of(self.folder):
+            if segment.name > self.last:
+                os.link(segment, self.links / segment.name)
+                self.files.append(self.links / segment.name)
+                self.last = segment.name
 
     def begin(self, end):
         """Begins to replay the first segment and the one that follows it, if there is one: they go up to an end."""
-        files, first = self.files[:2], begin_of(self.files[0])
+        files, first = self.files[:2], first_of(self.files[0])
         self.wanted = f"replay ok {end - first}" + (f" from {first}" if first else "")
         self.replay = subprocess.Popen([self.program, "replay", *files], stdout=subprocess.PIPE, text=True)
 
@@ -73,7 +72,7 @@ class Replays(threading.Thread):
                 if self.replay and self.replay.poll() is not None:
                     self.judge()
                 if not self.replay and len(self.files) > 2:
-                    self.begin(begin_of(self.files[2]))
+                    self.begin(first_of(self.files[2]))
                 time.sleep(0.1)
         except OSError as why:
             self.wrong.append(str(why))
@@ -84,18 +83,13 @@ class Replays(threading.Thread):
         self.join()
         self.find()
         text = self.files[-1].read_bytes()
-        end = begin_of(self.files[-1]) + text.count(b"\n", text.index(b"\n.\n") + 3)
+        end = first_of(self.files[-1]) + text.count(b"\n", text.index(b"\n.\n") + 3)
         while self.files:
             if not self.replay:
-                self.begin(begin_of(self.files[2]) if len(self.files) > 2 else end)
+                self.begin(first_of(self.files[2]) if len(self.files) > 2 else end)
             self.judge()
         self.links.rmdir()
         return end
-
-
-def begin_of(file):
-    """How many entries come before a segment."""
-    return int(re.match(r"\d+", file.name)[0])
 
 
 def is_told_closed(run):
@@ -108,7 +102,7 @@ def soak(run, counts, entries):
     one, two, three = (run.neighbours[node] for node in (1, 2, 3))
     one.come(SIZE)
     three.come(SIZE)
-    flood, churn = Flood(one), Churn(two, SIZE)
+    flood, churn = Flood(one), Churn(run, two.node, SIZE)
     threads = [flood, churn, Drain(one), Drain(three)]
     for thread in threads:
         thread.start()

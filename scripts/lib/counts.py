@@ -1,6 +1,17 @@
 """How the scripts count their checks: the last line of each is 'N passed, M failed', and ', K skipped' behind it where something could not be run."""
 import os
+import shutil
 import sys
+
+
+class NotRun(Exception):
+    """Why something cannot be run here."""
+
+
+def lack_of(*commands):
+    """Why what takes these commands cannot be run here; nothing where it can."""
+    lacking = sorted({command for command in commands if not shutil.which(command)})
+    return f"there is no `{'`, `'.join(lacking)}` here" if lacking else None
 
 
 class Counts:
@@ -27,6 +38,10 @@ class Counts:
     def add(self, passed, failed, skipped=0):
         """Counts checks that were made elsewhere."""
         self.passed, self.failed, self.skipped = self.passed + passed, self.failed + failed, self.skipped + skipped
+
+    def all(self):
+        """How many passed, failed and were skipped."""
+        return self.passed, self.failed, self.skipped
 
     def finish(self):
         """Ends the script with its count. Where nothing was checked, it has not passed; with CI=true what could not be run has failed."""

@@ -6,12 +6,42 @@ import resource
 import select
 import signal
 import subprocess
+import threading
 import time
 
+from lib.counts import NotRun, lack_of
 from lib.program import TOP
 
-# Seconds: no answer takes longer.
-PATIENCE = 30.0
+# Seconds: what is awaited and comes, comes sooner on any machine. Nothing that a script judges takes so long where all is well.
+PATIENCE = 60.0
+
+# Seconds: a router saves what was answered a second before. On a machine with much else to do it may take longer, but far less than a minute.
+SAVED = 20.0
+
+
+class Delays(threading.Thread):
+    """Sees how late a machine is that has more to do than it can: the longest time by which a short sleep took longer than it was to, in seconds."""
+
+    SLEEP = 0.02
+
+    def __init__(self):
+        super().__init__(daemon=True)
+        self.longest, self.is_over = 0.0, False
+
+    def __enter__(self):
+        self.start()
+        return self
+
+    def __exit__(self, *_):
+        self.is_over = True
+        self.join()
+
+    def run(self):
+        before = time.monotonic()
+        while not self.is_over:
+            time.sleep(self.SLEEP)
+            now = time.monotonic()
+            self.longest, before = max(self.longest, now - before - self.SLEEP), now
 
 
 def awaited(look, is_enough, patience, pause=0.01):
@@ -79,9 +109,19 @@ class Process:
         return int(self.status(name).split()[0])
 
     def processor_time(self):
-        """The seconds that it took of processors."""
-        fields = pathlib.Path(f"/proc/{self.process.pid}/stat").read_text().rsplit(")", 1)[1].split()
-        return (int(fields[11]) + int(fields[12])) / os.sysconf("SC_CLK_TCK")
+        """The seconds that it took of processors. /proc/PID/stat has them in hundredths, of which an idle process takes few: so this is the clock
+        of the process, whose number Linux makes of its PID."""
+        return time.clock_gettime(~self.process.pid << 3 | 2)
+
+
+def segments_of(folder):
+    """The files of a history's segments, in order. One that is being made is none of them: it has a name with a dot until it is whole."""
+    return sorted(pathlib.Path(folder).glob("[0-9]*.history"))
+
+
+def first_of(segment):
+    """How many entries come before a segment."""
+    return int(segment.name[:20])
 
 
 class Router(Process):
@@ -109,9 +149,17 @@ class Router(Process):
             raise ValueError(f"`history {len(found)}` is answered {answer!r}")
         return found
 
+    def rests(self):
+        """The entries of the history, once they are the same twice."""
+        before, found = None, self.entries()
+        until = time.monotonic() + PATIENCE
+        while before != found and time.monotonic() < until:
+            time.sleep(0.2)
+            before, found = found, self.entries()
+        return found
+
     def segments(self):
-        """The files of the history's segments, in order. One that is being made is none of them."""
-        return sorted(pathlib.Path(self.history).glob("[0-9]*.history"))
+        return segments_of(self.history)
 
     def saved(self):
         """The entries in the segments of the history, as far as their lines are whole."""
@@ -121,6 +169,12 @@ class Router(Process):
             # A state comes first, up to a full stop.
             found += lines[lines.index(".") + 1:]
         return found
+
+    def has_saved(self, entries):
+        """Waits until these entries are saved, first of all: whether they are, and how many seconds that took."""
+        begun = time.monotonic()
+        is_saved = awaited(lambda: self.saved()[:len(entries)] == entries, bool, SAVED, 0.02)
+        return is_saved, time.monotonic() - begun
 
     def replays(self):
         """The verdict of `ncroute replay` on the segments of the history, and that there are none."""
@@ -140,6 +194,8 @@ def open_files(most):
 
 def preloaded(source, folder):
     """The environment that has a program load a small library of the scripts before the C library."""
+    if why := lack_of("cc"):
+        raise NotRun(why)
     library = os.path.join(folder, source.replace(".c", ".so"))
     subprocess.run(["cc", "-shared", "-fPIC", "-O1", "-o", library, TOP / "scripts" / source, "-ldl"], check=True)
     return {"LD_PRELOAD": library}

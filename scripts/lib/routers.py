@@ -13,11 +13,11 @@ import tempfile
 import time
 import traceback
 
-from lib.counts import Counts
-from lib.processes import Router, awaited, preloaded
+from lib.counts import Counts, NotRun
+from lib.lines import has_open
+from lib.processes import PATIENCE, Delays, Router, awaited, preloaded
 
 SIZE = 8
-PATIENCE = 10.0
 
 # What Linux calls the question how many bytes a FIFO holds: 65,536 where a page has 4,096 bytes, and more where pages are larger.
 F_GETPIPE_SZ = 1032
@@ -183,23 +183,20 @@ class Run(Router):
         """What standard error says, when it has this or patience is over."""
         return awaited(self.errors.read_text, lambda text: wanted in text, patience)
 
-    def told_closed(self, node, times):
-        """Waits until standard error has said so many times that the link to a node was closed: then its IN is read no more."""
-        awaited(self.errors.read_text, lambda text: len(re.findall(rf"(?m)^link {node}: .*: closed$", text)) >= times, PATIENCE)
+    def has_let_go(self, node):
+        """Whether the router has closed the files of a link that its neighbour has closed. If these were opened again before, the reader of the
+        session that is over could take what is said next, or would not notice that the stream has ended."""
+        neighbour = self.neighbours[node]
+        return not any(has_open(self.process.pid, path) for path in (neighbour.there, neighbour.back))
+
+    def lets_go(self, node):
+        """Waits until it has: whether it has."""
+        return awaited(lambda: self.has_let_go(node), bool, PATIENCE)
 
     def routes_until(self, node, wanted):
         """Asks for the routes, which makes no entry, until that of a node is the wanted one: whether it is."""
         has_it = rf" {node}:{wanted}( |$)"
         return bool(re.search(has_it, self.asks_until("routes", has_it)))
-
-    def rests(self):
-        """The entries of the history, once they are the same twice."""
-        before, found = None, self.entries()
-        until = time.monotonic() + PATIENCE
-        while before != found and time.monotonic() < until:
-            time.sleep(0.2)
-            before, found = found, self.entries()
-        return found
 
 
 class RunRows:
@@ -208,8 +205,14 @@ class RunRows:
     # Rows that mostly wait, and run beside the others.
     WAITING = ()
 
+    # Rows that look at a clock. One that fails on a machine that has more to do than it can says nothing of the router, and is run again.
+    TIMED = ()
+
+    # How often such a row is run at most, and by how many seconds a sleep is late where the machine is as busy as that.
+    TRIALS, BUSY = 4, 0.1
+
     # Seconds: no row takes so long. An answer that does not come would keep a row for ever.
-    LONGEST = 120
+    LONGEST = 600
 
     def __init__(self, program):
         self.program, self.counts, self.name = program, Counts(), ""
@@ -244,13 +247,29 @@ class RunRows:
         self.ends_well(run)
 
     def run_row(self, name):
+        """Runs a row, more than once where it is one of times and the machine is busy, and counts what it judged at last."""
+        before, self.name = self.counts, name[4:]
+        for trial in range(self.TRIALS):
+            self.counts = Counts()
+            with Delays() as delays:
+                self.try_row(name)
+            if not self.counts.failed or self.name not in self.TIMED or delays.longest < self.BUSY:
+                break
+            print(f"{name[4:]}: a sleep was late by {delays.longest:.2f} s" + (": run again" if trial < self.TRIALS - 1 else ""), flush=True)
+        if not any(self.counts.all()):
+            self.judge("judges", False, "nothing")
+        before.add(*self.counts.all())
+        self.counts = before
+
+    def try_row(self, name):
         """Runs a row. One that breaks has failed, and the others run."""
-        self.name = name[4:]
         begun = time.monotonic()
         signal.signal(signal.SIGALRM, self.take_too_long)
         signal.alarm(self.LONGEST)
         try:
             getattr(self, name)()
+        except NotRun as why:
+            self.counts.skip(self.name, str(why))
         except Exception as why:
             traceback.print_exc()
             self.judge("runs", False, str(why))
@@ -264,6 +283,8 @@ class RunRows:
 
     def run(self, chosen):
         names = [name for name in dir(self) if name.startswith("row_") and (not chosen or name[4:] in chosen)]
+        if unknown := sorted(set(chosen) - {name[4:] for name in names}):
+            sys.exit(f"there is no row {', '.join(unknown)}")
         with concurrent.futures.ProcessPoolExecutor(len(self.WAITING)) as pool:
             beside = [pool.submit(counts_of, self.anew(), name) for name in names if name[4:] in self.WAITING]
             for name in names:
@@ -276,4 +297,4 @@ class RunRows:
 def counts_of(rows, name):
     """Runs a row: how many of its judgements passed, how many failed, and how many could not be made."""
     rows.run_row(name)
-    return rows.counts.passed, rows.counts.failed, rows.counts.skipped
+    return rows.counts.all()

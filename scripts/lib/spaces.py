@@ -4,22 +4,15 @@ A namespace is held by a process, and goes with it. Whoever is not root makes th
 """
 import contextlib
 import os
-import shutil
 import subprocess
 
-from lib.processes import awaited
+from lib.counts import NotRun, lack_of
+from lib.processes import PATIENCE, awaited
 
 NEEDED = ("ip", "nsenter", "socat", "unshare")
 
-# Seconds: `socat` has made its terminal.
-PATIENCE = 10.0
-
 # No interface has this address, so what is sent there reaches nobody.
 NOWHERE = "02:00:00:00:00:99"
-
-
-class NotMade(Exception):
-    """Why there are no namespaces here."""
 
 
 class Spaces:
@@ -30,9 +23,8 @@ class Spaces:
 
     def __enter__(self):
         try:
-            for needed in NEEDED:
-                if not shutil.which(needed):
-                    raise NotMade(f"there is no `{needed}` here")
+            if why := lack_of(*NEEDED):
+                raise NotRun(why)
             if os.geteuid():
                 self.owner = self.hold(["unshare", "--user", "--map-root-user"])
             for _ in range(self.count):
@@ -55,7 +47,7 @@ class Spaces:
         with contextlib.suppress(BrokenPipeError):
             holder.stdin.write(b"\n")
         if holder.stdout.read(1) != b"\n":
-            raise NotMade(holder.communicate()[1].decode().strip())
+            raise NotRun(holder.communicate()[1].decode().strip())
         return holder
 
     def as_owner(self):
@@ -69,11 +61,14 @@ class Spaces:
     def ip(self, space, *words):
         ran = subprocess.run([*self.inside(space), "ip", *words], capture_output=True, text=True, check=False)
         if ran.returncode:
-            raise NotMade(f"ip {' '.join(words)}: {ran.stderr.strip()}")
+            raise OSError(f"ip {' '.join(words)}: {ran.stderr.strip()}")
 
-    def can_make_interfaces(self):
+    def need_interfaces(self):
         """Looks whether interfaces can be made here, where that is not known yet."""
-        self.ip(0, "link", "add", "look0", "type", "veth", "peer", "name", "look1")
+        try:
+            self.ip(0, "link", "add", "look0", "type", "veth", "peer", "name", "look1")
+        except OSError as why:
+            raise NotRun(str(why)) from why
         self.ip(0, "link", "del", "look0")
 
 
@@ -111,7 +106,7 @@ class Wire:
     def join(self):
         """Starts `socat` at both ends, anew where it ran before, and waits for the terminals."""
         self.close()
-        ways = ("TCP-LISTEN:7000,reuseaddr", f"TCP:{self.addresses[0]}:7000,retry=100,interval=0.1")
+        ways = ("TCP-LISTEN:7000,reuseaddr", f"TCP:{self.addresses[0]}:7000,retry=600,interval=0.1")
         for end, way in enumerate(ways):
             words = [*self.spaces.inside(self.ends[end]), "socat", "-t0.1", f"PTY,link={self.files[end]},rawer", way]
             self.socats[end] = subprocess.Popen(words, stderr=subprocess.DEVNULL)

@@ -51,11 +51,11 @@ class Drain(threading.Thread):
 
 
 class Churn(threading.Thread):
-    """A neighbour that comes and goes."""
+    """A neighbour of a router that comes and goes."""
 
-    def __init__(self, neighbour, size, stays=0.5):
+    def __init__(self, run, node, size, stays=0.5):
         super().__init__(daemon=True)
-        self.neighbour, self.size, self.stays, self.is_over, self.times = neighbour, size, stays, False, 0
+        self.router, self.neighbour, self.size, self.stays, self.is_over, self.times = run, run.neighbours[node], size, stays, False, 0
 
     def comes(self):
         """Waits until the router opens the link, which it does later each time, and greets: whether it came."""
@@ -64,13 +64,17 @@ class Churn(threading.Thread):
             self.neighbour.meet(self.size)
         return not self.is_over
 
+    def goes(self):
+        self.neighbour.close()
+        self.times += 1
+        awaited(lambda: self.is_over or self.router.has_let_go(self.neighbour.node), bool, math.inf)
+
     def run(self):
         try:
             while self.comes():
                 self.neighbour.say(b"2 0\n")
                 time.sleep(self.stays)
-                self.neighbour.close()
-                self.times += 1
+                self.goes()
         except OSError:
             # The router ended meanwhile, and nobody reads the link any more.
             pass
