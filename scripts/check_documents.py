@@ -18,11 +18,10 @@ usage: scripts/check_documents.py        (NCROUTE=PATH: the program; without it,
 import collections
 import os
 import re
-import shutil
 
 import list_calls
 from lib import documents, terminals
-from lib.counts import Counts
+from lib.counts import Counts, lack_of
 from lib.documents import examples, read
 from lib.program import TOP, Program, named
 
@@ -95,6 +94,12 @@ def needs_program(command):
     return any(word in command for word in words) or ".filter" in re.sub(r"< *[\w/.]+", "", command)
 
 
+def more_patient(command):
+    """A command that sleeps ten times as long, for what goes on meanwhile; none of one that does not sleep."""
+    slower = re.sub(r"\bsleep (\d+)", lambda found: f"sleep {10 * int(found[1])}", command)
+    return slower if slower != command else None
+
+
 def explained(ncroute, tell):
     """Compares the tables of codes with `ncroute explain`, and runs the examples of its pages."""
     rows = list(meanings())
@@ -117,8 +122,8 @@ def played(ncroute, tell, counts):
     for name in documents.names():
         blocks = []
         for block in terminals.blocks(read(name)):
-            if lacking := sorted(needed for needed in needs(block) if not shutil.which(needed)):
-                counts.skip(f"{name}: {' '.join(block[-1])}", f"there is no `{'`, `'.join(lacking)}` here")
+            if why := lack_of(*needs(block)):
+                counts.skip(f"{name}: {' '.join(block[-1])}", why)
             else:
                 blocks.append(block)
         if blocks:
@@ -184,6 +189,8 @@ def main():
 
     def compare(command, wanted):
         wrote, _ = next(said)
+        if wrote != wanted.encode() and (slower := more_patient(command)):
+            wrote, _ = ncroute.shell(slower)
         return command, wrote != wanted.encode() and f"wrote {wrote.decode()!r}, and not {wanted!r}"
 
     for name, rows in shown:

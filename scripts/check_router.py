@@ -30,6 +30,9 @@ MOST_TAKEN, MOST_MEMORY = (1 << 16) + (1 << 13), 4096
 # The least room for entries, and how many messages may wait for a neighbour that never reads. How often how many changes are told meanwhile.
 LEAST_ROOM, MOST_WAITING, BLOCKS, BLOCK = 2_048, 1_000, 2_000, 500
 
+# Seconds: what a router tells of a link whose files are closed has been told.
+MOMENT = 0.3
+
 # So many kilobytes of memory more than those of queues and entries are no matter.
 SLACK = 1_024
 
@@ -144,22 +147,35 @@ class Rows(SizeRows):
         self.with_one(saying(b"3 9\n9 0\n3 1\n"), "", history=r"recv (\d+) 3 9 refused N5 .*recv \1 9 0 refused N4 .*recv \1 3 1 done 1")
 
     def row_closes_at_each_byte(self):
+        """Node 1 ends behind each byte of a greeting and a message: it closes what it writes, and reads on; or it closes both."""
         text = b"netchange 2 8 1 0 7 0\n1 0\n"
         for count in range(len(text) + 1):
-            def behave(one, count=count):
-                one.say(text[:count])
-                one.close()
             ends = "ended its stream" if count in (0, 22, 26) else "ended within line"
             self.name = f"closes at byte {count}"
-            # The first line that node 1 is told is the router's greeting. It may have closed its end before that is written.
             with Run(self.program) as run:
-                one = run.neighbours[1]
-                one.open()
-                behave(one)
+                self.close_behind(run, text[:count], "writes")
                 said = run.said("closed")
-                self.judge("says", ends in said or "could not be written" in said, said)
+                self.judge("says", ends in said, said)
                 self.serve_two(run)
                 self.end(run)
+            self.name = f"closes both at byte {count}"
+            with Run(self.program) as run:
+                self.close_behind(run, text[:count], "writes", "reads")
+                self.judge("its files are closed", run.lets_go(1))
+                # Where the router has a greeting to answer, it may find that nobody reads it, and tells nobody of that.
+                said = run.said("closed", MOMENT)
+                self.judge("says", ends in said or count >= 22 and not said, said)
+                self.serve_two(run)
+                self.end(run)
+
+    def close_behind(self, run, text, *ends):
+        """Node 1 is greeted, says something, and closes its ends."""
+        one = run.neighbours[1]
+        one.open()
+        one.listen(one.greetings)
+        one.say(text)
+        for end in ends:
+            one.close_one(end)
 
     def row_nobody_opens(self):
         with Run(self.program) as run:
@@ -238,6 +254,7 @@ class Rows(SizeRows):
             wanted = "link 1: a line could not be written: closed\n"
             self.says(run, wanted, is_all=True)
             one.close()
+            run.lets_go(1)
             one.come()
             up = run.asks_until("neighbours", " 1:")
             self.judge("1 is up again", " 1:" in up, up)

@@ -156,25 +156,35 @@ class SizeRows(RunRows):
             self.judge("comes and goes each time", (came, went, times) == (True, True, SESSIONS), (came, went, times))
             wanted = {node: {0: 0, 2: 1}.get(node, SIZE) for node in range(SIZE)}
             self.judge("2 hears at last", run.neighbours[2].hear_distances(wanted), run.neighbours[2].distances())
+            self.judge_newest(run, 2)
             self.end(run)
             self.judge_sessions(run, {1: SESSIONS, 2: 1})
-            self.judge_newest(run, 2)
 
     def judge_newest(self, run, node):
-        """The neighbour of a router that ended was told what the Takes of its one session brought, of each the newest, in order. Standard error
-        says how many others there were, if there were any: how many."""
-        neighbour, entries = run.neighbours[node], run.saved()
-        neighbour.listen(lambda: False)
+        """A neighbour is told what the Takes of its one session bring, of each the newest, in order, and ends. Standard error says how many others
+        there were, if there were any: how many."""
+        neighbour, newest, taken = run.neighbours[node], *self.newest_of_takes(run, node)
+        self.judge(f"{node} is told the newest of each Take", neighbour.listen(lambda: neighbour.messages() == newest),
+                   (len(neighbour.messages()), len(newest)))
+        # Who quits does not wait for what is told of the sessions that end then.
+        neighbour.close()
+        left_out = taken - len(newest)
+        says = f"link {node}: messages left out, since later ones replaced them: {left_out}\n"
+        said = run.said(says if left_out else "closed")
+        self.judge("the others are counted", says in said if left_out else f"link {node}: messages left out" not in said, said[-500:])
+        return left_out
+
+    def newest_of_takes(self, run, node):
+        """Of each Take of a node's first session, in the history that is saved once it rests, the newest message about each node; and how many
+        messages all of them brought."""
+        before, entries = None, run.saved()
+        while before != entries:
+            time.sleep(1.0)
+            before, entries = entries, run.saved()
         session = next(up[1] for entry in entries if (up := re.search(rf" up {node} opened (\d+)$", entry)))
         takes = [re.findall(r"(\d+):(\d+)", entry) for entry in entries if f" take {session} 16 messages" in entry]
-        newest = [pair for take in takes for at, pair in enumerate(take) if pair[0] not in {later for later, _ in take[at + 1:]}]
-        lines = [tuple(line.split()) for line in neighbour.told.decode().splitlines() if line and not line.startswith("netchange ")]
-        self.judge(f"{node} is told the newest of each Take", lines == newest, (len(lines), len(newest)))
-        left_out = sum(map(len, takes)) - len(newest)
-        says = f"link {node}: messages left out, since later ones replaced them: {left_out}\n"
-        said = run.said(says if left_out else "")
-        self.judge("the others are counted", says in said if left_out else "left out" not in said, said)
-        return left_out
+        newest = [(int(at), int(dist)) for take in takes for k, (at, dist) in enumerate(take) if at not in {later for later, _ in take[k + 1:]}]
+        return newest, sum(map(len, takes))
 
     def judge_sessions(self, run, wanted):
         """The history that was saved has so many sessions of each node, each of them after the one before, and the Down of each."""
@@ -202,10 +212,10 @@ class SizeRows(RunRows):
             # What is told last stands for what was left out before it.
             self.judge("2 hears the last", two.hear(b"\n4 1\n"), two.told[-100:])
             self.judge("both are up", run.ask("neighbours") == "neighbours 1:1 2:2")
+            self.judge("many are left out", self.judge_newest(run, 2) > LINES // 2)
             self.end(run)
             received = sum(" recv 1 3 " in entry for entry in run.saved())
             self.judge("each is saved", received == LINES, received)
-            self.judge("many are left out", self.judge_newest(run, 2) > LINES // 2)
 
     def row_retries(self):
         """A link that was closed is opened again after as many seconds as `--retry` says: not before, and not much later. Without it, it is not."""

@@ -133,10 +133,14 @@ class Neighbour:
         """Reads until what came contains these bytes: whether it does."""
         return self.listen(lambda: enough in self.told, patience)
 
-    def distances(self):
-        """The distance to each node that it was told last, behind the greeting."""
+    def messages(self):
+        """The nodes and distances that it was told, behind the greeting."""
         lines = self.told[:self.told.rfind(b"\n") + 1].decode().splitlines()
-        return dict(map(int, line.split()) for line in lines if line and not line.startswith("netchange "))
+        return [tuple(map(int, line.split())) for line in lines if line and not line.startswith("netchange ")]
+
+    def distances(self):
+        """The distance to each node that it was told last."""
+        return dict(self.messages())
 
     def hear_distances(self, wanted, patience=PATIENCE):
         """Reads until it was told these distances: whether it was."""

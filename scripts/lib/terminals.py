@@ -7,23 +7,31 @@ A block of lines, each behind four spaces and the name of a terminal:
     one: LINE         is shown there next, on standard output or on standard error
 
 A command that only looks (`routes`, `neighbours`, `show`, `told`) is typed again until its answer is the one that is shown: what a neighbour says
-takes a while to come. All of a block runs in one new folder.
+takes a while to come. All of a block runs in one new folder. What a terminal's shell has assigned to a name its later commands have, and a port that
+a block listens at is another one here, which nobody has.
 """
 import os
 import re
 import select
 import shutil
 import signal
+import socket
 import subprocess
 import tempfile
 import time
 
-PATIENCE = 10.0
+from lib.processes import PATIENCE
+
 # Seconds between what is shown and the next line that changes something: nobody types it at once. A router that is told to quit while its neighbour
 # still tells it something ends the link by another fault than one that is told when all is quiet.
 PAUSE = 0.2
 LOOKS = ("routes", "neighbours", "show", "told")
 LINE = re.compile(r"    (\w+)([$>:]) (.*)")
+ASSIGNED = re.compile(r"(?:^|; )(\w+=[^\s;]+)(?=;|$)")
+# A router says now and then to each neighbour that it is there. If it does so at the very moment at which one ends, it tells that end by another
+# fault than the document, and the block is played again, so often at most.
+OTHER_END = re.compile(r"\w+: shows 'link \d+: .*: closed', and not 'link \d+: .*: closed'")
+PLAYS = 3
 
 
 def blocks(text):
@@ -46,15 +54,17 @@ class Terminal:
 
     def __init__(self, folder, environment):
         self.folder, self.environment = folder, environment
-        self.process, self.shown, self.typed, self.processes = None, b"", None, []
+        self.process, self.shown, self.typed, self.processes, self.assigned = None, b"", None, [], ""
 
     def start(self, command):
         if self.process:
             self.process.stdin.close()
             self.process.wait(timeout=PATIENCE)
-        started = subprocess.Popen(["bash", "-c", f"exec {command}" if re.match(r"ncroute\b", command) and "|" not in command else command],
+        alone = "exec " if re.match(r"ncroute\b", command) and "|" not in command else ""
+        started = subprocess.Popen(["bash", "-c", f"{self.assigned}{alone}{command}"],
                                    cwd=self.folder, env=self.environment, stdin=subprocess.PIPE, stdout=subprocess.PIPE, stderr=subprocess.STDOUT,
                                    start_new_session=True)
+        self.assigned += "".join(f"{it}; " for it in ASSIGNED.findall(command))
         self.processes.append(started)
         self.process, self.shown, self.typed = started, b"", None
 
@@ -97,8 +107,30 @@ class Terminal:
             process.stdout.close()
 
 
+def free_port():
+    """A port that nobody has."""
+    with socket.socket() as it:
+        it.bind(("", 0))
+        return str(it.getsockname()[1])
+
+
+def with_free_ports(block):
+    """A block with other ports."""
+    ports = {port: free_port() for _, kind, words in block if kind == "$" for port in re.findall(r"\bTCP-LISTEN:(\d+)", words)}
+    return [(name, kind, re.sub(r"(?<=:)\d+\b", lambda found: ports.get(found[0], found[0]), words)) for name, kind, words in block]
+
+
 def play(block, environment):
-    """Plays a block: for each line what is wrong with it, if anything. The lines behind the first wrong one are not played."""
+    """Plays a block: what is wrong with it, if anything is."""
+    for _ in range(PLAYS):
+        why = play_once(with_free_ports(block), environment)
+        if not why or not OTHER_END.fullmatch(why):
+            break
+    return why
+
+
+def play_once(block, environment):
+    """What is wrong with the first line that is. Those behind it are not played."""
     folder = tempfile.mkdtemp(prefix="terminals.")
     terminals = {}
     try:
