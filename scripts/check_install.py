@@ -11,12 +11,11 @@ import json
 import os
 import pathlib
 import re
-import shutil
 import subprocess
 import tempfile
 
 from lib import documents, manual
-from lib.counts import Counts
+from lib.counts import Counts, lack_of
 from lib.program import TOP, built
 from lib.tokens import tokens
 
@@ -342,8 +341,8 @@ def main():
     with tempfile.TemporaryDirectory() as prefix:
         subprocess.run([TOP / "scripts" / "install.sh", prefix], env=environment, check=True, capture_output=True)
         for name, needed, differs in CHECKS:
-            if needed and not shutil.which(needed):
-                counts.skip(name, f"there is no `{needed}` here")
+            if why := lack_of(*filter(None, [needed])):
+                counts.skip(name, why)
             else:
                 counts.judge(name, differs(prefix))
     counts.finish()

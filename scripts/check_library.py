@@ -19,7 +19,7 @@ import sys
 import tempfile
 
 from lib import documents
-from lib.counts import Counts
+from lib.counts import Counts, lack_of
 from lib.program import TOP, built
 
 MOST_BYTES = 1_000_000
@@ -208,13 +208,14 @@ def check(counts, ncroute, folder):
         return
     counts.judge("the files", files_differ(library))
     for name, needed, differs in (("the file of pkg-config", "pkg-config", flags_differ), ("the header in C++", "g++", cxx_differs)):
-        if shutil.which(needed):
-            counts.judge(name, differs(library))
+        if why := lack_of(needed):
+            counts.skip(name, why)
         else:
-            counts.skip(name, f"there is no `{needed}` here")
-    has_valgrind = bool(shutil.which("valgrind"))
-    if not has_valgrind:
-        counts.skip("under valgrind", "there is no `valgrind` here")
+            counts.judge(name, differs(library))
+    why = lack_of("valgrind")
+    if why:
+        counts.skip("under valgrind", why)
+    has_valgrind = not why
     sources = TOP / "examples" / "c"
     one, many = (library.build(sources / name) for name in ("filter_routes.c", "many_threads.c"))
     static = library.build(sources / "filter_routes.c", is_static=True)
@@ -249,11 +250,11 @@ def check(counts, ncroute, folder):
 
 def main():
     ncroute, counts = built(), Counts()
-    if shutil.which("cc"):
+    if why := lack_of("cc"):
+        counts.skip("the library", why)
+    else:
         with tempfile.TemporaryDirectory() as folder:
             check(counts, ncroute, pathlib.Path(folder))
-    else:
-        counts.skip("the library", "there is no `cc` here")
     counts.finish()
 
 

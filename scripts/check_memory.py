@@ -11,7 +11,7 @@ those of the modules `memory` and `memory_routers`, and those of the lock.
 A test that meets a refused allocation ends with the error that it was handed (at once, by `some` or `done` of its module `asserts`, or after it made
 the refused call again; then it also says what the call answered). A test that passes all the same did without the memory.
 Anything else is a fault: a wrong answer (a failed assertion, or an expectation, which is told without `error: `), a bad access, a test that does not
-end within a minute.
+end within five minutes.
 
 A run of the program that meets one ends with status 1 and the code of what was refused, and has written the first lines of its whole answer,
 each whole; or it did without, and ended as ever. `net` meets a refusal also where its threads have ended and it replays what came of them.
@@ -27,11 +27,13 @@ import subprocess
 import sys
 import tempfile
 
-from lib.counts import Counts
+from lib.counts import Counts, NotRun
 from lib.processes import preloaded
 from lib.program import TOP, named
 
 AT_ONCE = max(2, os.cpu_count() or 1)
+# Seconds: each test and each run ends sooner, on any machine.
+LONGEST = 300
 # The modules whose tests are swept.
 MODULES = ("memory", "memory_routers", "lock")
 
@@ -45,6 +47,9 @@ run_sessions""".split()
 MEMORY = {b"ncroute: E3\n"}
 MEMORY_OF_NETWORK = {b"ncroute: %s\n" % code for code in (b"E3", b"J2", b"L3", b"X1", b"X2")}
 
+# How often a run is swept at most, until each of its ends has come about.
+SWEEPS = 5
+
 # How often `net` asks for memory at least, once its threads have ended: 48 to 55 times were seen, 16 and more for the replay of each of its three
 # histories.
 LEAST_OF_REPLAYS = 45
@@ -57,14 +62,15 @@ class Sweep:
         self.folder, self.marks, self.refusing = folder, itertools.count(), preloaded("fail_nth_allocation.c", folder)
 
     def without(self, nth, words, given=b"", **more):
-        """How the command ends without its Nth allocation: status, output and errors; `None` where it asks less often. A minute is its limit."""
+        """How the command ends without its Nth allocation: status, output and errors; `None` where it asks less often. It is not waited for
+        without end."""
         mark = os.path.join(self.folder, f"refused.{next(self.marks)}")
         told = {**os.environ, "NTH_ALLOCATION": str(nth), "REFUSED_FILE": mark, **self.refusing, **more}
         try:
-            ran = subprocess.run(words, input=given, capture_output=True, env=told, timeout=60)
+            ran = subprocess.run(words, input=given, capture_output=True, env=told, timeout=LONGEST)
             ended = ran.returncode, ran.stdout, ran.stderr
         except subprocess.TimeoutExpired:
-            ended = None, b"", b"it did not end within a minute"
+            ended = None, b"", b"it did not end within five minutes"
         if not os.path.exists(mark):
             return None
         os.remove(mark)
@@ -146,13 +152,17 @@ def sweep_runs(sweep, pool, counts):
     for words, given, ends in runs_of(ncroute):
         ever = subprocess.run([ncroute, *words], input=given, capture_output=True)
         faults, came = [], set()
-        for nth, (status, output, errors) in sweep.all(pool, [ncroute, *words], given):
-            if (status, output, errors) == (ever.returncode, ever.stdout, ever.stderr):
-                continue
-            all_refused += 1
-            came.add(errors)
-            if status != 1 or errors not in ends or not begins_whole(output, ever.stdout):
-                faults.append(f"without allocation {nth}: status {status}, {errors.decode(errors='replace')!r}, {len(output)} bytes written")
+        # Which call of a thread is refused is another one each time.
+        for _ in range(SWEEPS):
+            for nth, (status, output, errors) in sweep.all(pool, [ncroute, *words], given):
+                if (status, output, errors) == (ever.returncode, ever.stdout, ever.stderr):
+                    continue
+                all_refused += 1
+                came.add(errors)
+                if status != 1 or errors not in ends or not begins_whole(output, ever.stdout):
+                    faults.append(f"without allocation {nth}: status {status}, {errors.decode(errors='replace')!r}, {len(output)} bytes written")
+            if ends <= came:
+                break
         faults += [f"no refusal ended it with {end.decode()!r}" for end in sorted(ends - came)]
         counts.judge(" ".join(words), "; ".join(faults))
     print(f"runs: {all_refused} allocations refused that ended a run")
@@ -171,8 +181,11 @@ def main():
     # Thousands of tests end by an abort, and are not to leave a core each.
     resource.setrlimit(resource.RLIMIT_CORE, (0, resource.getrlimit(resource.RLIMIT_CORE)[1]))
     with tempfile.TemporaryDirectory() as folder, concurrent.futures.ThreadPoolExecutor(AT_ONCE) as pool:
-        for name in names:
-            (sweep_runs if name == "runs" else sweep_tests)(Sweep(folder), pool, counts)
+        try:
+            for name in names:
+                (sweep_runs if name == "runs" else sweep_tests)(Sweep(folder), pool, counts)
+        except NotRun as why:
+            counts.skip("allocations", str(why))
     counts.finish()
 
 

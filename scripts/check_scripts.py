@@ -6,10 +6,9 @@ so, and it counts as skipped.
 usage: scripts/check_scripts.py
 """
 import glob
-import shutil
 import subprocess
 
-from lib.counts import Counts
+from lib.counts import Counts, lack_of
 from lib.program import TOP
 
 PYTHON = ("scripts/**/*.py", "bench/*.py", "bindings/**/*.py", "examples/**/*.py", "tests/**/*.py")
@@ -22,8 +21,8 @@ LINTERS = ((["pyflakes3"], PYTHON), (["pycodestyle"], PYTHON), (["shellcheck", "
 def main():
     counts = Counts()
     for words, patterns in LINTERS:
-        if not shutil.which(words[0]):
-            counts.skip(words[0], f"there is no `{words[0]}` here")
+        if why := lack_of(words[0]):
+            counts.skip(words[0], why)
             continue
         paths = sorted(path for pattern in patterns for path in glob.glob(pattern, root_dir=TOP, recursive=True))
         ran = subprocess.run([*words, *paths], cwd=TOP, stdout=subprocess.PIPE, stderr=subprocess.STDOUT, text=True)
