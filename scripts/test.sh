@@ -55,11 +55,12 @@ trap 'exit 130' INT TERM
 output="$folder/output"
 passed=0 failed=0 skipped=0
 
-# Runs one part, and adds what its last line counts. A part that counts nothing has failed.
+# Runs one part, and adds what the last line of its counts says. A part that counts nothing has failed.
 add() {
     "$@" 2>&1 | tee "$output"
     local status=${PIPESTATUS[0]} counts
-    counts="$(tail -n 1 "$output" | sed -nE 's/^([0-9]+) passed, ([0-9]+) failed(, ([0-9]+) skipped)?$/\1 \2 0\4/p')"
+    # What a process that ends still says on standard error may come behind it.
+    counts="$(sed -nE 's/^([0-9]+) passed, ([0-9]+) failed(, ([0-9]+) skipped)?$/\1 \2 0\4/p' "$output" | tail -n 1)"
     local ok=0 bad=0 left=0
     read -r ok bad left <<<"$counts"
     passed=$((passed + 10#0$ok))
