@@ -9,12 +9,11 @@ import os
 import pathlib
 import re
 import shutil
-import subprocess
 import tempfile
 
 from lib import documents
 from lib.counts import Counts
-from lib.program import TOP, built
+from lib.program import TOP, Program, built
 
 # A filter of a file that gets into a script.
 TAKES_FILTER = re.compile(r"examples/\w+\.filter.*\bncroute (run|domain)\b|\bncroute run\b.*examples/\w+\.filter")
@@ -38,20 +37,18 @@ def mistaken(folder, right, wrong):
 
 
 def main():
-    program, counts = built(), Counts()
+    built()
+    ncroute, counts = Program(), Counts()
     with tempfile.TemporaryDirectory() as folder:
-        os.mkdir(os.path.join(folder, "bin"))
-        os.symlink(program, os.path.join(folder, "bin", "ncroute"))
-        environment = {**os.environ, "PATH": os.path.join(folder, "bin") + os.pathsep + os.environ["PATH"]}
         for name, mistake in {**NO_MISTAKE, **MISTAKES}.items():
             copy = os.path.join(folder, name)
             mistaken(copy, *mistake)
             for page, command in examples():
-                words = ["bash", "-c", command]
-                run = subprocess.run(words, cwd=copy, env=environment, stdout=subprocess.PIPE, stderr=subprocess.DEVNULL, text=True)
-                found = IN_FORCE.search(run.stdout)
+                wrote = ncroute.shell(command, where=copy)[0].decode()
+                found = IN_FORCE.search(wrote)
                 wrong = bool(found) != (name in NO_MISTAKE)
-                counts.judge(page, wrong and f"with {name} `{command}` answers {found[0] if found else run.stdout!r}")
+                counts.judge(page, wrong and f"with {name} `{command}` answers {found[0] if found else wrote!r}")
+    ncroute.close()
     counts.finish()
 
 

@@ -10,12 +10,13 @@ usage: NCROUTE=PATH scripts/check_kills.py [RUNS [LONG [SEED]]]     (PATH: the p
 import concurrent.futures
 import random
 import re
-import subprocess
 import sys
 import time
 
+from lib import histories
 from lib.counts import Counts
-from lib.processes import Delays, first_of
+from lib.histories import STATE_END, first_of, replay_ok
+from lib.processes import Delays
 from lib.program import built
 from lib.routers import Run
 from lib.traffic import BLOCK, FILTERS, Churn, Drain, Flood, end_all, end_of
@@ -29,8 +30,6 @@ BESIDE = 4
 FEW, REST = b"3 0\n4 2\n3 1\n4 3\n" * 20, 0.005
 # Seconds: no long run takes longer.
 LONGEST = 90.0
-# Behind this come the entries of a segment.
-STATE_END = b"\n.\n"
 
 
 class Operator:
@@ -84,10 +83,11 @@ class Folder:
 
     def end(self):
         """How many entries the history has up to the last that is saved whole."""
-        if not self.files:
-            return 0
-        text = self.texts[-1]
-        return first_of(self.files[-1]) + text.count(b"\n", text.index(STATE_END) + len(STATE_END))
+        return histories.end_of(self.files[-1], self.texts[-1]) if self.are_whole() and self.files else 0
+
+    def are_whole(self):
+        """Whether each segment has all of the state that it begins with."""
+        return all(STATE_END in text for text in self.texts)
 
     def made(self):
         """How many entries there are that only an operator makes."""
@@ -95,13 +95,13 @@ class Folder:
 
     def replayed(self):
         """The verdict on all segments."""
-        return subprocess.run([self.program, "replay", *self.files], capture_output=True).stdout.decode()
+        return histories.replayed(self.program, self.files)[0]
 
     def fault(self):
         """What is wrong with the segments, if anything is. The front of a line is cut off."""
         if not self.files:
             return None
-        if not all(STATE_END in text for text in self.texts):
+        if not self.are_whole():
             return "a segment has no whole state"
         if self.is_cut:
             which = f"file {len(self.files)} " if len(self.files) > 1 else ""
@@ -109,8 +109,7 @@ class Folder:
             if wrong := wrong_of(self.replayed(), f"{which}cut {lines + 1}\n"):
                 return wrong
             self.files[-1].write_bytes(self.texts[-1][: self.texts[-1].rfind(b"\n") + 1])
-        behind = f" from {self.first()}" if self.first() else ""
-        return wrong_of(self.replayed(), f"replay ok {self.end() - self.first()}{behind}\n")
+        return wrong_of(self.replayed(), replay_ok(self.end() - self.first(), self.first()))
 
 
 def wrong_of(said, wanted):

@@ -20,7 +20,8 @@ import tempfile
 
 from lib import documents
 from lib.counts import Counts, lack_of
-from lib.program import TOP, built
+from lib.prefixes import written
+from lib.program import TOP, Program, built
 
 MOST_BYTES = 1_000_000
 CALLS = {f"gomthau_filter_{name}" for name in ("open", "open_code", "run", "run_all", "bounds", "share", "close")}
@@ -107,8 +108,7 @@ def random_routes(count, size):
     for _ in range(count):
         word = numbers.getrandbits(32) if numbers.random() < 0.4 else numbers.choice(BASES) | numbers.getrandbits(numbers.choice((8, 16, 24)))
         length = numbers.randint(0, 32)
-        word = word >> (32 - length) << (32 - length)
-        lines.append(f"{word >> 24}.{word >> 16 & 255}.{word >> 8 & 255}.{word & 255}/{length} {numbers.randint(0, size)}\n")
+        lines.append(f"{written(word, length)} {numbers.randint(0, size)}\n")
     return lines
 
 
@@ -187,19 +187,19 @@ def example(begin):
     return "".join(f"{line[4:]}\n" for line in lines[:end]), told
 
 
-def check_document(library, ncroute):
+def check_document(library):
     """The examples of the page on filters in other programs; that in Rattle is a test of `test_calls`."""
-    source, commands = library.folder / "it.c", library.folder / "bin"
+    source, command = library.folder / "it.c", Program()
     source.write_text(example("#include <gomthau_filter.h>")[0])
-    commands.mkdir()
-    (commands / "ncroute").symlink_to(ncroute)
-    library.environment["PATH"] = f"{commands}{os.pathsep}{os.environ['PATH']}"
+    library.environment["PATH"] = command.environment()["PATH"]
     for begin in ("#include <gomthau_filter.h>", "from gomthau_filter import Filter, Refused", "import subprocess"):
         text, told = example(begin)
         ran = library.run([library.build(source)] if begin.startswith("#") else [sys.executable, "-c", text])
         said = ran.stdout.decode().splitlines()
         holds = not ran.returncode and said and said == told[: len(said)]
         library.counts.expect(f"the example that begins with {begin}", holds, f"{said}, and not {told}")
+    command.close()
+    library.environment["PATH"] = os.environ["PATH"]
 
 
 def check(counts, ncroute, folder):
@@ -241,7 +241,7 @@ def check(counts, ncroute, folder):
         counts.skip("the Python module", "there is no pip here")
     else:
         check_python(library, has_valgrind)
-        check_document(library, ncroute)
+        check_document(library)
         in_python = TOP / "examples" / "python" / "filter_routes.py"
         programs["Python"] = refusing["Python"] = lambda size, path: [sys.executable, in_python, str(size), path]
     check_refusals(library, ncroute, refusing)

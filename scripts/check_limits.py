@@ -18,7 +18,7 @@ import tempfile
 
 from lib import netchange
 from lib.counts import Counts
-from lib.processes import segments_of
+from lib.histories import replay_ok, segments_of
 from lib.program import TOP, built
 
 LINE = 1_048_576
@@ -638,7 +638,7 @@ def long_router(ncroute):
         kept = os.path.join(folder, "history")
         wrong = differs(run(ncroute, f"router --size {NODES} --node 0 --save {kept}", lines), (wanted, 0))
         segments = " ".join(map(str, segments_of(kept)))
-        return wrong or differs(run(ncroute, f"replay {segments}", b""), (b"replay ok %d\n" % (ENTRIES + 1), 0))
+        return wrong or differs(run(ncroute, f"replay {segments}", b""), (replay_ok(ENTRIES + 1).encode(), 0))
 
 
 def domains_of_each_size(ncroute):

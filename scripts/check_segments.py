@@ -13,6 +13,7 @@ import sys
 import tempfile
 
 from lib.counts import Counts
+from lib.histories import replay_ok, replayed
 from lib.netchange import Router
 from lib.program import TOP, built
 
@@ -100,12 +101,6 @@ def history_of(program, folder, kind, size, seed):
     return lines
 
 
-def answered(program, files):
-    """The verdict on files, and the status."""
-    ran = subprocess.run([program, "replay", *files], capture_output=True)
-    return ran.stdout.decode(), ran.returncode
-
-
 def mutated(chosen, state):
     """Lines of a state in which something is another: a number, or a line is left out, or doubled, or two are changed with one another."""
     lines = list(state)
@@ -141,11 +136,10 @@ def check_history(program, counts, chosen, folder, name, lines):
     for path, (state, told) in zip(files, segments):
         put(path, state, told)
     for k, at in enumerate(cuts):
-        behind = f" from {at}" if at else ""
-        counts.judge(f"{name} from {at}", wrong_of(answered(program, files[k:]), f"replay ok {entries - at}{behind}\n", 0))
-        counts.judge(f"{name} at {at}", wrong_of(answered(program, files[k : k + 1]), f"replay ok {len(segments[k][1])}{behind}\n", 0))
+        counts.judge(f"{name} from {at}", wrong_of(replayed(program, files[k:]), replay_ok(entries - at, at), 0))
+        counts.judge(f"{name} at {at}", wrong_of(replayed(program, files[k : k + 1]), replay_ok(len(segments[k][1]), at), 0))
     for k in range(1, len(cuts) - 1):
-        found = answered(program, [*files[:k], *files[k + 1 :]])
+        found = replayed(program, [*files[:k], *files[k + 1 :]])
         counts.judge(f"{name} without the one at {cuts[k]}", wrong_of(found, f"file {k + 1} refused H3 2\n", 1))
     spare = folder / "spare"
     for _ in range(MUTATIONS):
@@ -153,13 +147,13 @@ def check_history(program, counts, chosen, folder, name, lines):
         state, told = segments[k]
         other = mutated(chosen, state)
         put(spare, other, told)
-        said, status = answered(program, [*files[:k], spare, *files[k + 1 :]])
+        said, status = replayed(program, [*files[:k], spare, *files[k + 1 :]])
         wrong = other != state and (status != 1 or not said.startswith(f"file {k + 1} "))
         counts.judge(f"{name}, another state", wrong and f"{said!r} of {other}")
         at = chosen.randrange(len(told))
         entry = told[at].rsplit(" ", 1)
         put(spare, state, [*told[:at], " ".join([*entry[:-1], entry[-1] + "1"]), *told[at + 1 :]])
-        said, status = answered(program, [*files[:k], spare, *files[k + 1 :]])
+        said, status = replayed(program, [*files[:k], spare, *files[k + 1 :]])
         counts.judge(f"{name}, another entry", (status != 1 or not said.startswith(f"file {k + 1} ")) and f"{said!r} at {at}")
 
 

@@ -20,8 +20,10 @@ import tempfile
 import threading
 import time
 
+from lib import histories
 from lib.counts import Counts
-from lib.processes import PATIENCE, awaited, first_of, segments_of
+from lib.histories import first_of, replay_ok, segments_of
+from lib.processes import PATIENCE, awaited
 from lib.program import named
 from lib.routers import Run
 from lib.traffic import FILTERS, Churn, Drain, Flood, end_of
@@ -53,12 +55,12 @@ class Replays(threading.Thread):
     def begin(self, end):
         """Begins to replay the first segment and the one that follows it, if there is one: they go up to an end."""
         files, first = self.files[:2], first_of(self.files[0])
-        self.wanted = f"replay ok {end - first}" + (f" from {first}" if first else "")
+        self.wanted = replay_ok(end - first, first)
         self.replay = subprocess.Popen([self.program, "replay", *files], stdout=subprocess.PIPE, text=True)
 
     def judge(self):
         """Judges a replay, waiting for its end, and forgets the first segment."""
-        said = self.replay.communicate()[0].strip()
+        said = self.replay.communicate()[0]
         first = self.files.pop(0)
         if said != self.wanted:
             self.wrong.append(f"{first.name}: {said!r} in place of {self.wanted!r}")
@@ -82,8 +84,7 @@ class Replays(threading.Thread):
         self.is_over = True
         self.join()
         self.find()
-        text = self.files[-1].read_bytes()
-        end = first_of(self.files[-1]) + text.count(b"\n", text.index(b"\n.\n") + 3)
+        end = histories.end_of(self.files[-1], self.files[-1].read_bytes())
         while self.files:
             if not self.replay:
                 self.begin(first_of(self.files[2]) if len(self.files) > 2 else end)

@@ -10,6 +10,7 @@ import threading
 import time
 
 from lib.counts import NotRun, lack_of
+from lib.histories import entries_of, replayed, segments_of
 from lib.program import TOP
 
 # Seconds: what is awaited and comes, comes sooner on any machine. Nothing that a script judges takes so long where all is well.
@@ -114,16 +115,6 @@ class Process:
         return time.clock_gettime(~self.process.pid << 3 | 2)
 
 
-def segments_of(folder):
-    """The files of a history's segments, in order. One that is being made is none of them: it has a name with a dot until it is whole."""
-    return sorted(pathlib.Path(folder).glob("[0-9]*.history"))
-
-
-def first_of(segment):
-    """How many entries come before a segment."""
-    return int(segment.name[:20])
-
-
 class Router(Process):
     """A process of `ncroute router`. `links` has the files that it reads and writes for each neighbour, `history` is the folder where it saves."""
 
@@ -163,12 +154,7 @@ class Router(Process):
 
     def saved(self):
         """The entries in the segments of the history, as far as their lines are whole."""
-        found = []
-        for segment in self.segments():
-            lines = segment.read_text().split("\n")[:-1]
-            # A state comes first, up to a full stop.
-            found += lines[lines.index(".") + 1:]
-        return found
+        return [entry.decode() for segment in self.segments() for entry in entries_of(segment.read_bytes())]
 
     def has_saved(self, entries):
         """Waits until these entries are saved, first of all: whether they are, and how many seconds that took."""
@@ -179,10 +165,7 @@ class Router(Process):
     def replays(self):
         """The verdict of `ncroute replay` on the segments of the history, and that there are none."""
         segments = self.segments()
-        if not segments:
-            return "no segments"
-        ran = subprocess.run([self.program, "replay", *segments], capture_output=True, check=False)
-        return ran.stdout.decode().strip()
+        return replayed(self.program, segments)[0].strip() if segments else "no segments"
 
 
 def open_files(most):

@@ -66,10 +66,10 @@ class Program:
     def close(self):
         self.holder.cleanup()
 
-    def shell(self, line, given=b""):
-        """What a line writes and its status, in a folder that has what is read of the repository."""
+    def shell(self, line, given=b"", where=None):
+        """What a line writes and its status, in a folder that has what is read of the repository, or in another one."""
         words = ["bash", "-o", "pipefail", "-c", line]
-        ran = subprocess.run(words, cwd=self.here, env=self.environment(), input=given, capture_output=True)
+        ran = subprocess.run(words, cwd=where or self.here, env=self.environment(), input=given, capture_output=True)
         return ran.stdout, ran.returncode
 
     def environment(self):

@@ -1,0 +1,37 @@
+"""Histories that are saved in segments: their files, and what `ncroute replay` says of them."""
+import pathlib
+import subprocess
+
+# What ends the state that a segment begins with: its entries come behind it.
+STATE_END = b"\n.\n"
+
+
+def segments_of(folder):
+    """The files of a history's segments, in order. One that is being made is none of them: it has a name with a dot until it is whole."""
+    return sorted(pathlib.Path(folder).glob("[0-9]*.history"))
+
+
+def first_of(segment):
+    """How many entries come before a segment."""
+    return int(segment.name[:20])
+
+
+def entries_of(text):
+    """The lines of a segment's entries, as far as they are whole."""
+    return text[text.index(STATE_END) + len(STATE_END):].split(b"\n")[:-1]
+
+
+def end_of(segment, text):
+    """How many entries the history has up to the last whole one of a segment."""
+    return first_of(segment) + text.count(b"\n", text.index(STATE_END) + len(STATE_END))
+
+
+def replayed(program, segments):
+    """What `ncroute replay` says of segments, and its exit status."""
+    ran = subprocess.run([program, "replay", *segments], capture_output=True, check=False)
+    return ran.stdout.decode(), ran.returncode
+
+
+def replay_ok(count, first=0):
+    """What it says of so many entries that are right, which come behind so many others."""
+    return f"replay ok {count}" + (f" from {first}" if first else "") + "\n"
