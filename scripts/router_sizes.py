@@ -170,17 +170,14 @@ class SizeRows(RunRows):
         neighbour.close()
         left_out = taken - len(newest)
         says = f"link {node}: messages left out, since later ones replaced them: {left_out}\n"
-        said = run.said(says if left_out else "closed")
-        self.judge("the others are counted", says in said if left_out else f"link {node}: messages left out" not in said, said[-500:])
+        told = [line for line in run.said(says if left_out else f"link {node}: ").splitlines(True) if line.startswith(f"link {node}: ")]
+        self.judge("the others are counted", says in told if left_out else not any("left out" in line for line in told), (left_out, told))
         return left_out
 
     def newest_of_takes(self, run, node):
-        """Of each Take of a node's first session, in the history that is saved once it rests, the newest message about each node; and how many
-        messages all of them brought."""
-        before, entries = None, run.saved()
-        while before != entries:
-            time.sleep(1.0)
-            before, entries = entries, run.saved()
+        """Of each Take of a node's first session, in the history once it rests, the newest message about each node; and how many messages all of
+        them brought."""
+        entries = run.rests(1.0)
         session = next(up[1] for entry in entries if (up := re.search(rf" up {node} opened (\d+)$", entry)))
         takes = [re.findall(r"(\d+):(\d+)", entry) for entry in entries if f" take {session} 16 messages" in entry]
         newest = [(int(at), int(dist)) for take in takes for k, (at, dist) in enumerate(take) if at not in {later for later, _ in take[k + 1:]}]

@@ -140,12 +140,12 @@ class Router(Process):
             raise ValueError(f"`history {len(found)}` is answered {answer!r}")
         return found
 
-    def rests(self):
-        """The entries of the history, once they are the same twice."""
+    def rests(self, pause=0.2):
+        """The entries of the history, once they are the same twice, a pause apart."""
         before, found = None, self.entries()
         until = time.monotonic() + PATIENCE
         while before != found and time.monotonic() < until:
-            time.sleep(0.2)
+            time.sleep(pause)
             before, found = found, self.entries()
         return found
 
