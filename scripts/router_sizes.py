@@ -161,11 +161,16 @@ class SizeRows(RunRows):
             self.judge_sessions(run, {1: SESSIONS, 2: 1})
 
     def judge_newest(self, run, node):
-        """A neighbour is told what the Takes of its one session bring, of each the newest, in order, and ends. Standard error says how many others
+        """A neighbour was told what the Takes of its one session brought, of each the newest, in order, and ends. Standard error says how many others
         there were, if there were any: how many."""
-        neighbour, newest, taken = run.neighbours[node], *self.newest_of_takes(run, node)
-        self.judge(f"{node} is told the newest of each Take", neighbour.listen(lambda: neighbour.messages() == newest),
-                   (len(neighbour.messages()), len(newest)))
+        neighbour = run.neighbours[node]
+        # What comes last is what an export filter makes of all distances: once that is heard, all was taken that waited.
+        routes = [route.split(":") for route in run.ask("routes").split()[1:]]
+        run.ask(FAR)
+        run.ask(f"export {node} far")
+        self.judge(f"{node} hears the last", neighbour.hear_distances({int(v): min(int(dist) + 2, SIZE) for v, dist, *_ in routes}), routes)
+        newest, taken = self.newest_of_takes(run, node)
+        self.judge(f"{node} is told the newest of each Take", neighbour.messages() == newest, (len(neighbour.messages()), len(newest)))
         # Who quits does not wait for what is told of the sessions that end then.
         neighbour.close()
         left_out = taken - len(newest)
@@ -175,9 +180,8 @@ class SizeRows(RunRows):
         return left_out
 
     def newest_of_takes(self, run, node):
-        """Of each Take of a node's first session, in the history once it rests, the newest message about each node; and how many messages all of
-        them brought."""
-        entries = run.rests(1.0)
+        """Of each Take of a node's first session the newest message about each node; and how many messages all of them brought."""
+        entries = run.entries()
         session = next(up[1] for entry in entries if (up := re.search(rf" up {node} opened (\d+)$", entry)))
         takes = [re.findall(r"(\d+):(\d+)", entry) for entry in entries if f" take {session} 16 messages" in entry]
         newest = [(int(at), int(dist)) for take in takes for k, (at, dist) in enumerate(take) if at not in {later for later, _ in take[k + 1:]}]

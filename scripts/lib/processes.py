@@ -140,12 +140,12 @@ class Router(Process):
             raise ValueError(f"`history {len(found)}` is answered {answer!r}")
         return found
 
-    def rests(self, pause=0.2):
-        """The entries of the history, once they are the same twice, a pause apart."""
+    def rests(self):
+        """The entries of the history, once they are the same twice."""
         before, found = None, self.entries()
         until = time.monotonic() + PATIENCE
         while before != found and time.monotonic() < until:
-            time.sleep(pause)
+            time.sleep(0.2)
             before, found = found, self.entries()
         return found
 
