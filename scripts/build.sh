@@ -14,13 +14,8 @@ if [ $# != 1 ] || [ -z "$1" ] || [ "${1#-}" != "$1" ]; then
     echo "usage: scripts/build.sh [--unproved] OUT" >&2
     exit 2
 fi
-if ! command -v rt >/dev/null; then
-    echo "there is no \`rt\` on the path: it is a command of Rattle's kit" >&2
-    exit 1
-fi
 mkdir -p "$(dirname "$1")"
 if [ $build = unproved ]; then
-    echo "building ncroute without proofs, which takes a minute or more" >&2
     exec "$top/scripts/build_unproved.py" "$1"
 fi
 echo "proving and building ncroute, which takes an hour or more from nothing" >&2
