@@ -15,7 +15,7 @@ import time
 
 from lib import histories
 from lib.counts import Counts
-from lib.histories import STATE_END, first_of, replay_ok
+from lib.histories import STATE_END, first_of, replay_ok, wrong_of
 from lib.processes import Delays
 from lib.program import built
 from lib.routers import Run
@@ -95,7 +95,7 @@ class Folder:
 
     def replayed(self):
         """The verdict on all segments."""
-        return histories.replayed(self.program, self.files)[0]
+        return histories.replayed(self.program, self.files)
 
     def fault(self):
         """What is wrong with the segments, if anything is. The front of a line is cut off."""
@@ -109,11 +109,7 @@ class Folder:
             if wrong := wrong_of(self.replayed(), f"{which}cut {lines + 1}\n"):
                 return wrong
             self.files[-1].write_bytes(self.texts[-1][: self.texts[-1].rfind(b"\n") + 1])
-        return wrong_of(self.replayed(), replay_ok(self.end() - self.first(), self.first()))
-
-
-def wrong_of(said, wanted):
-    return None if said == wanted else f"replayed is {said!r} in place of {wanted!r}"
+        return wrong_of(self.replayed(), replay_ok(self.end() - self.first(), self.first()), 0)
 
 
 def begin(run, block, pause, stays):

@@ -13,7 +13,7 @@ import sys
 import tempfile
 
 from lib.counts import Counts
-from lib.histories import replay_ok, replayed
+from lib.histories import replay_ok, replayed, wrong_of
 from lib.netchange import Router
 from lib.program import TOP, built
 
@@ -140,7 +140,7 @@ def check_history(program, counts, chosen, folder, name, lines):
         counts.judge(f"{name} at {at}", wrong_of(replayed(program, files[k : k + 1]), replay_ok(len(segments[k][1]), at), 0))
     for k in range(1, len(cuts) - 1):
         found = replayed(program, [*files[:k], *files[k + 1 :]])
-        counts.judge(f"{name} without the one at {cuts[k]}", wrong_of(found, f"file {k + 1} refused H3 2\n", 1))
+        counts.judge(f"{name} without the one at {cuts[k]}", wrong_of(found, f"file {k + 1} refused H3 2\n"))
     spare = folder / "spare"
     for _ in range(MUTATIONS):
         k = chosen.randrange(len(cuts))
@@ -155,11 +155,6 @@ def check_history(program, counts, chosen, folder, name, lines):
         put(spare, state, [*told[:at], " ".join([*entry[:-1], entry[-1] + "1"]), *told[at + 1 :]])
         said, status = replayed(program, [*files[:k], spare, *files[k + 1 :]])
         counts.judge(f"{name}, another entry", (status != 1 or not said.startswith(f"file {k + 1} ")) and f"{said!r} at {at}")
-
-
-def wrong_of(found, said, status):
-    """What is wrong with an answer, if anything is."""
-    return None if found == (said, status) else f"{found!r} in place of {(said, status)!r}"
 
 
 def main(histories=8, seed=1):

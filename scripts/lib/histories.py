@@ -35,3 +35,8 @@ def replayed(program, segments):
 def replay_ok(count, first=0):
     """What it says of so many entries that are right, which come behind so many others."""
     return f"replay ok {count}" + (f" from {first}" if first else "") + "\n"
+
+
+def wrong_of(found, said, status=1):
+    """What is wrong with what it said and its exit status, if anything is. The status is that of what is cut or refused, if no other is named."""
+    return None if found == (said, status) else f"{found!r} in place of {(said, status)!r}"
