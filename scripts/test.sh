@@ -88,16 +88,20 @@ if [ -n "$is_proved" ]; then
     fi
 elif [ -z "${NCROUTE:-}" ]; then
     export NCROUTE="$folder/ncroute"
+    begun=$SECONDS
     if ! scripts/build.sh --unproved "$NCROUTE"; then
         echo "0 passed, 1 failed"
         exit 1
     fi
+    echo "the build: $((SECONDS - begun)) s"
 fi
 for part in $parts; do
     read -ra words <<<"$(sed -nE "s/^$part +\| ([^|]*) \|.*/\1/p" $list)"
     # `memory` refuses also the allocations of tests, which only a proof builds.
     [ "$part" != memory ] || [ -n "$is_proved" ] || words+=(runs)
+    begun=$SECONDS
     add "scripts/${words[0]}" "${words[@]:1}"
+    echo "$part: $((SECONDS - begun)) s"
 done
 if [ -z "$is_proved" ]; then
     echo "no proof was made: \`rt ci\` did not run, nor did the tests of the crates, those whose allocations \`memory\` refuses among them"
