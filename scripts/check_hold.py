@@ -12,8 +12,7 @@ in which wires are lost; what the other routers then say is compared with what `
 says why, and counts as skipped. Standard error says how long everything took.
 
 A silence is to be noticed within the HOLD and a second, and the end of a stream within half a second. On a busy machine that may take longer: what
-takes half a minute more has failed. A row that looks for something sooner, or looks that nothing comes so soon, is run again where it fails and the
-machine was busy.
+takes ten seconds more has failed, and is tried again where the machine was as busy as that.
 """
 import argparse
 import contextlib
@@ -28,7 +27,7 @@ import time
 
 from lab import Topology
 from lib.lines import Pipes, Relayed, Straight, Terminal, fifos, has_open
-from lib.processes import Router, awaited
+from lib.processes import PATIENCE, Router, awaited
 from lib.program import built
 from lib.routers import Run, RunRows
 from lib.spaces import Spaces, Wire
@@ -37,7 +36,7 @@ from lib.spaces import Spaces, Wire
 SIZE, RING = 4, 16
 
 # Seconds: the HOLD that a router has if nothing else is said; how long a close may take beyond it, as this script judges.
-HOLD, LATE = 9, 30
+HOLD, LATE = 9, 10
 
 # Seconds: where a stream ends, and where a HOLD is 1, nobody waits for a HOLD of 9. A router says something each third of it, so a neighbour finds it
 # silent after two thirds at the earliest.
@@ -94,7 +93,7 @@ class End:
 
     def says(self, line):
         """Whether standard error says a line. A session is over a moment before that is told."""
-        return awaited(lambda: line in self.said(), bool, LATE)
+        return awaited(lambda: line in self.said(), bool, PATIENCE)
 
 
 class Pair:
@@ -475,7 +474,7 @@ class Rows(RunRows):
             ring = stack.enter_context(Ring(self.program, spaces, folder))
             wire = ring.wires[0, 1]
             stopped = ring.routers[2].process
-            self.judge_ring(ring, "begun", (), None, HOLD + LATE)
+            self.judge_ring(ring, "begun", (), None, COME_UP)
             breaks = (
                 ("interface down", lambda: wire.set_interface(1, "down"), lambda: wire.set_interface(1, "up"), ((0, 1),), None, HOLD + LATE),
                 ("packets dropped", wire.swallow, wire.pass_on, ((0, 1),), None, HOLD + LATE),
@@ -487,7 +486,7 @@ class Rows(RunRows):
                 does()
                 self.judge_ring(ring, what, cut, lost, patience)
                 mends()
-                self.judge_ring(ring, f"{what}, and mended", (), None, HOLD + LATE)
+                self.judge_ring(ring, f"{what}, and mended", (), None, COME_UP)
 
     def judge_ring(self, ring, what, cut, lost, patience):
         down, right = ring.watch(cut, lost, patience)
