@@ -76,7 +76,8 @@ class Wire:
     """A wire between two namespaces: a pair of interfaces, and at each end a terminal that `socat` joins to the other one over TCP."""
 
     def __init__(self, spaces, folder, number, ends):
-        self.spaces, self.ends = spaces, ends
+        # A node that listens for two wires has a port for each: neither socat takes the other one's connection, nor finds its port taken.
+        self.spaces, self.ends, self.port = spaces, ends, 7000 + number
         self.interfaces = [f"to{other}" for other in reversed(ends)]
         self.addresses = [f"10.99.{number}.{end + 1}" for end in (0, 1)]
         self.files = [os.path.join(folder, f"{near}-{far}") for near, far in (ends, ends[::-1])]
@@ -106,7 +107,7 @@ class Wire:
     def join(self):
         """Starts `socat` at both ends, anew where it ran before, and waits for the terminals."""
         self.close()
-        ways = ("TCP-LISTEN:7000,reuseaddr", f"TCP:{self.addresses[0]}:7000,retry=600,interval=0.1")
+        ways = (f"TCP-LISTEN:{self.port},reuseaddr", f"TCP:{self.addresses[0]}:{self.port},retry=600,interval=0.1")
         for end, way in enumerate(ways):
             words = [*self.spaces.inside(self.ends[end]), "socat", "-t0.1", f"PTY,link={self.files[end]},rawer", way]
             self.socats[end] = subprocess.Popen(words, stderr=subprocess.DEVNULL)
