@@ -252,14 +252,15 @@ class RunRows:
 
     def run_row(self, name):
         """Runs a row, more than once where it is one of times and the machine is busy, and counts what it judged at last."""
-        before, self.name = self.counts, name[4:]
+        before = self.counts
         for trial in range(self.TRIALS):
-            self.counts = Counts()
+            self.counts, self.name = Counts(), name[4:]
             with Delays() as delays:
                 self.try_row(name)
-            if not self.counts.failed or self.name not in self.TIMED or delays.longest < self.BUSY:
+            if not self.counts.failed or name[4:] not in self.TIMED or delays.longest < self.BUSY:
                 break
-            print(f"{name[4:]}: a sleep was late by {delays.longest:.2f} s" + (": run again" if trial < self.TRIALS - 1 else ""), flush=True)
+            again = ": run again" if trial < self.TRIALS - 1 else ""
+            print(f"{name[4:]}: a sleep was late by {delays.longest:.2f} s{again}", flush=True)
         if not any(self.counts.all()):
             self.judge("judges", False, "nothing")
         before.add(*self.counts.all())
