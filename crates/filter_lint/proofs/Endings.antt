@@ -1,5 +1,5 @@
 -- How a run of `lint` ends.
-use Rattle.std.proofs.Common.{◌≡◌, inr, ℕ, ◌+◌, Bool, true, false, List, [], length, Option, Result, Ok, Err, IfOk, Global, subst}
+use Rattle.std.proofs.Common.{◌≡◌, inr, ℕ, ◌+◌, ◌&&◌, Bool, true, false, List, [], length, Option, Result, Ok, Err, IfOk, Global, subst}
 use Rattle.std.specs.Prelude.{All, String}
 use Rattle.filter_code.specs.CodeView.{CodeView}
 use Rattle.filter_source.specs.TextPlaces.{ArePlacesOf}
@@ -28,13 +28,13 @@ pub reported : {E : Type 0} (program : CodeView) (size limit : ℕ) (allowed : L
     (all : Warnings) (host_bits bits : List HostBits) (told : List Warning) (r : Result Report E) → others ≡ places
     → told ≡ told_of allowed source.text all.found.items → bits ≡ told_host_bits allowed source.text host_bits
     → AreFound program source.text others size all → All (IsTrueOf program size others) all.found.items
-    → (IsEnough size limit → all.is_complete ≡ true) → AreHostBits source.text host_bits
-    → IfOk r (λ report. report.lines.items ≡ warnings_text source.name source.text program.sets told bits all.is_complete)
-    → IfOk r (λ report. report.found ≡ linted_as all.is_complete (length told + length bits))
+    → (IsEnough size limit → all.is_complete ≡ true) → (IsEnough size limit → all.is_ordered ≡ true) → AreHostBits source.text host_bits
+    → IfOk r (λ report. report.lines.items ≡ warnings_text source.name source.text program.sets told bits all.is_complete all.is_ordered)
+    → IfOk r (λ report. report.found ≡ linted_as (all.is_complete && all.is_ordered) (length told + length bits))
     → IfOk r (λ report. IsReport program size limit allowed places source report.lines.items report.found)
-reported program size limit allowed places others source all host_bits bits told (Err why) same alike fewer found true_of decided are lines counted =
+reported program size limit allowed places others source all host_bits bits told (Err why) same alike fewer found true_of decided ordered are lines counted =
     tt
-reported program size limit allowed places others source all host_bits bits told (Ok report) same alike fewer found true_of decided are lines
+reported program size limit allowed places others source all host_bits bits told (Ok report) same alike fewer found true_of decided ordered are lines
     counted = record {
       all = all;
       are_found = subst (λ (ps : List ℕ). AreFound program source.text ps size all) same found;
@@ -43,6 +43,7 @@ reported program size limit allowed places others source all host_bits bits told
       are_host_bits = are;
       lines_are = rw (← alike, ← fewer) lines;
       decided = decided;
+      ordered = ordered;
       comes_to = rw (← alike, ← fewer) counted;
     }
 
@@ -89,7 +90,7 @@ module _ (size limit : ℕ) (source : Named) (v : VerifiedView) (places : List �
 
     pub linted_well : (found : Linted) → WritesWarnings v.program v.size limit allowed places source held holds found
         → LintsNamed size limit allowed is_explained source held holds tells tells found
-    linted_well linted.Refused h = not_refused h.report.all.is_complete _ h.report.comes_to
+    linted_well linted.Refused h = not_refused (h.report.all.is_complete && h.report.all.is_ordered) _ h.report.comes_to
     linted_well (linted.Warned count) h = linted_filter (linted.Warned count) h
     linted_well (linted.Undecided count) h = linted_filter (linted.Undecided count) h
 

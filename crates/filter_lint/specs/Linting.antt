@@ -1,5 +1,5 @@
 -- What comes of a filter that is linted. (This project's own choice.)
-use Rattle.std.specs.Prelude.{◌≡◌, ◌⊎◌, ℕ, ◌+◌, Bool, true, false, List, [], All, Option, Some, String, length}
+use Rattle.std.specs.Prelude.{◌≡◌, ◌⊎◌, ℕ, ◌+◌, ◌&&◌, Bool, true, false, List, [], All, Option, Some, String, length}
 use Rattle.std.specs.Io.KnownBytes.{Appends, Keeps}
 use Rattle.std.specs.declared.alloc.Global.{Global}
 use Rattle.filter_code.specs.CodeView.{CodeView}
@@ -23,7 +23,7 @@ use Rattle.filter_lint.specs.declared.linting.Linted.{Linted}
 use Rattle.filter_lint.specs.declared.linting.Linted.TheVariants as linted
 use Rattle.filter_lint.specs.declared.rules.Warnings.{Warnings}
 
--- what comes of a filter of which so many warnings are said: all routes were tried, or not
+-- what comes of a filter of which so many warnings are said: all routes and metrics were tried, or not
 abbrev pub linted_as : Bool → ℕ → Linted
 linted_as true count = linted.Warned count
 linted_as false count = linted.Undecided count
@@ -36,11 +36,12 @@ pub record IsReport (program : CodeView) (size limit : ℕ) (allowed : List (Str
   pub are_found : AreFound program source.text places size all
   pub are_true : All (IsTrueOf program size places) all.found.items
   pub decided : IsEnough size limit → all.is_complete ≡ true
+  pub ordered : IsEnough size limit → all.is_ordered ≡ true
   pub host_bits : List HostBits
   pub are_host_bits : AreHostBits source.text host_bits
   pub lines_are : lines ≡ warnings_text source.name source.text program.sets (told_of allowed source.text all.found.items)
-      (told_host_bits allowed source.text host_bits) all.is_complete
-  pub comes_to : found ≡ linted_as all.is_complete
+      (told_host_bits allowed source.text host_bits) all.is_complete all.is_ordered
+  pub comes_to : found ≡ linted_as (all.is_complete && all.is_ordered)
       (length (told_of allowed source.text all.found.items) + length (told_host_bits allowed source.text host_bits))
 
 -- They were written. `held` and `holds` are what the writer held before and holds now.

@@ -1,5 +1,5 @@
 //! `ncroute lint`: what is plainly wrong with a filter that is verified.
-ghost use Rattle.std.specs.Prelude.{◌≡◌, ◌+◌, ◌≤◌, All, IfErr, IfOk, OnOk, length, true};
+ghost use Rattle.std.specs.Prelude.{◌≡◌, ◌+◌, ◌≤◌, ◌&&◌, All, IfErr, IfOk, OnOk, length, true};
 ghost use Rattle.std.specs.Io.KnownBytes.{Appends};
 ghost use Rattle.filter_reports.specs.Faults.{stream_fault};
 ghost use Rattle.filter_reports.specs.Naming.{named};
@@ -32,7 +32,7 @@ pub enum Linted {
     Refused,
     /// It is verified, all routes were tried, and so many warnings are said of it.
     Warned(usize),
-    /// It is verified, but not all routes were tried, which a line says. So many warnings are said of it, by rules that try no route.
+    /// It is verified, but not all routes were tried, or not all metrics, which a line says. So many warnings are said of it, by the other rules.
     Undecided(usize),
 }
 
@@ -65,6 +65,7 @@ fn warnings_of(
     ensures found { IfOk result (AreFound verified.now.program text.now places.now verified.now.size) }
     ensures sound { IfOk result (λ all. All (IsTrueOf verified.now.program verified.now.size places.now) all.found.items) }
     ensures decided { IsEnough verified.now.size limit → IfOk result (λ all. all.is_complete ≡ true) }
+    ensures ordered { IsEnough verified.now.size limit → IfOk result (λ all. all.is_ordered ≡ true) }
 {
     find_warnings(alloc, verified.code(), text, places, verified.size(), limit)
 }
@@ -79,9 +80,10 @@ fn report_on(
     host_bits: &[HostBits],
 ) -> Result<Report, AllocError>
     ensures lines { IfOk result (λ report. report.lines.items
-        ≡ warnings_text_of source.now.name.now source.now.text.now verified.now.program.sets told.now host_bits.now all.now.is_complete) }
+        ≡ warnings_text_of source.now.name.now source.now.text.now verified.now.program.sets told.now host_bits.now all.now.is_complete
+        all.now.is_ordered) }
     ensures comes_to { IfOk result (λ report. report.found
-        ≡ spec.linted_as all.now.is_complete (length told.now + length host_bits.now)) }
+        ≡ spec.linted_as (all.now.is_complete && all.now.is_ordered) (length told.now + length host_bits.now)) }
 {
     let lines = warnings_text(
         alloc,
@@ -91,10 +93,12 @@ fn report_on(
         told,
         host_bits,
         all.is_complete,
+        all.is_ordered,
     )?;
+    let is_decided = all.is_complete && all.is_ordered;
     Ok(Report {
         lines,
-        found: linted_as(all.is_complete, told.len() + host_bits.len()),
+        found: linted_as(is_decided, told.len() + host_bits.len()),
     })
 }
 

@@ -14,13 +14,14 @@ ghost use Rattle.filter_lint.specs.Truths.{IsTrueOf};
 
 use crate::commands::unreached_commands;
 use crate::conditions::constant_conditions;
+use crate::disorders::{disorder_of, is_told};
 use crate::hints::push_hints;
 use crate::lowering::metrics_not_lowered;
 use crate::surveyed_filter::SurveyedFilter;
 use crate::warning::Warning;
 use crate::watching::watched_places;
 use filter_code::Code;
-use filter_diff::{Mark, Reach, reach};
+use filter_diff::{Mark, Order, Reach, check_order, reach};
 use filter_verifier::survey_code;
 use std::alloc::{AllocError, Global};
 
@@ -31,6 +32,8 @@ pub(crate) struct Warnings {
     pub(crate) found: Vec<Warning>,
     /// Whether all routes were tried, so that the rules on routes were looked for.
     pub(crate) is_complete: bool,
+    /// Whether all metrics of all routes were tried, or two were found whose order is not kept.
+    pub(crate) is_ordered: bool,
 }
 
 /// What is said where all routes were tried.
@@ -63,15 +66,19 @@ fn said_on_routes(
     on_routes(alloc, source, reached.marks.as_slice())
 }
 
-/// All that is said of a filter's code, where this is found of the instructions that runs come to.
+/// All that is said of a filter's code, where this is found of the instructions that runs come to, and of the order of metrics.
 fn said_of(
     alloc: Global,
     source: &SurveyedFilter,
     reached: &Reach,
+    order: Order,
 ) -> Result<Vec<Warning>, AllocError>
-    ensures { IfOk result (λ found. found.items ≡ spec.said_of source.now reached.now) }
+    ensures { IfOk result (λ found. found.items ≡ spec.said_of source.now reached.now order) }
 {
     let mut found = said_on_routes(alloc, source, reached)?;
+    if let Some(warning) = disorder_of(source, order) {
+        found.push(warning)?;
+    }
     push_hints(alloc, &mut found, source)?;
     Ok(found)
 }
@@ -82,6 +89,7 @@ fn find_in(alloc: Global, source: &SurveyedFilter, limit: u64) -> Result<Warning
     ensures found { IfOk result (spec.AreFound source.now.program source.now.text source.now.places source.now.size) }
     ensures sound { IfOk result (λ all. All (IsTrueOf source.now.program source.now.size source.now.places) all.found.items) }
     ensures decided { IsEnough source.now.size limit → NeverFaults source.now.program source.now.size → IfOk result (λ all. all.is_complete ≡ true) }
+    ensures ordered { IsEnough source.now.size limit → IfOk result (λ all. all.is_ordered ≡ true) }
 {
     let watched = watched_places(alloc, source)?;
     let reached = reach(
@@ -91,10 +99,12 @@ fn find_in(alloc: Global, source: &SurveyedFilter, limit: u64) -> Result<Warning
         limit,
         watched.as_slice(),
     )?;
-    let found = said_of(alloc, source, &reached)?;
+    let order = check_order(alloc, source.code(), source.size(), limit)?;
+    let found = said_of(alloc, source, &reached, order)?;
     Ok(Warnings {
         found,
         is_complete: reached.is_complete,
+        is_ordered: is_told(order),
     })
 }
 
@@ -111,6 +121,7 @@ pub(crate) fn find_warnings(
     ensures found { IfOk result (spec.AreFound code.now text.now places.now size) }
     ensures sound { IfOk result (λ all. All (IsTrueOf code.now size places.now) all.found.items) }
     ensures decided { IsEnough size limit → NeverFaults code.now size → IfOk result (λ all. all.is_complete ≡ true) }
+    ensures ordered { IsEnough size limit → IfOk result (λ all. all.is_ordered ≡ true) }
 {
     let survey = survey_code(alloc, code, size)?;
     let source = SurveyedFilter::new(text, code, places, size, &survey);

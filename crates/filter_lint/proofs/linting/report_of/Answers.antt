@@ -14,6 +14,6 @@ returns c =
     c.report_on.result c.as_slice.ensures.value
     (c.as_slice-5.ensures.value ∙ c.in_ok-told.ensures ∙ ap (told_of allowed text) c.as_slice-3.ensures.value)
     (c.as_slice-6.ensures.value ∙ c.in_ok-told_bits.ensures ∙ ap (told_host_bits allowed text) c.as_slice-4.ensures.value)
-    c.in_ok-all.ensures.found c.in_ok-all.ensures.sound c.in_ok-all.ensures.decided
+    c.in_ok-all.ensures.found c.in_ok-all.ensures.sound c.in_ok-all.ensures.decided c.in_ok-all.ensures.ordered
     (c.in_ok-host_bits.ensures.all text (subst (λ ts. IsTokenization ts 0 text) (sym c.as_slice-2.ensures.value) c.requires))
     c.report_on.ensures.lines c.report_on.ensures.comes_to
