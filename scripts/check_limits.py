@@ -576,7 +576,7 @@ def undecided_filters(ncroute):
     never = b"filter f { if net.ip.mask(24) = net.ip && net.len > 32 then reject; accept; }"
     wanted = (b"0.filter: undecided: not all routes were tried, so W1, W2 and W8 were not looked for\n"
               b"0.filter: undecided: not all metrics of all routes were tried, so W9 was not looked for\n")
-    return differs(on_filters(ncroute, "lint --size 250 --limit 50000", [never]), (wanted, 3))
+    return differs(on_filters(ncroute, "lint --order --size 250 --limit 50000", [never]), (wanted, 3))
 
 
 def padded_tests(ncroute):

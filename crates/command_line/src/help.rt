@@ -149,7 +149,7 @@ W1, W2, W8 and W9 are told by all routes of the domain, which are searched as by
   W6   a variable that is never read
   W7   a metric that means unreachable, whatever the route
   W8   an assignment that would lower the metric on some route, which no filter can
-  W9   metrics whose order is not kept: the lesser one of two comes to more
+  W9   metrics whose order is not kept: the lesser one of two comes to more; with --order
 Where CLASSES are not enough for W1, W2 and W8, or for W9, a line `FILE: undecided: ..` says so.
 A warning is left out where --allow names its code, or where the line that it is said of ends
 with a comment as `# lint: allow W3`.

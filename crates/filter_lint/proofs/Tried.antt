@@ -1,6 +1,6 @@
 -- The warnings that follow from what is found of the instructions that runs come to.
 use Rattle.std.proofs.Common.{◌≡◌, ℕ, Bool, true, false, if◌then◌else◌, List, [], Option, Some, None, refl, subst}
-use Rattle.std.specs.Prelude.{All, option_to_list, slice_get}
+use Rattle.std.specs.Prelude.{All, IfSome, option_to_list, slice_get}
 use Rattle.std.proofs.lemmas.List.Elements.{All-append, All-cons, All-nil, All-same}
 use Rattle.filter_code.specs.CodeView.{CodeView}
 use Rattle.filter_diff.specs.Reaching.{IsReach}
@@ -38,12 +38,17 @@ module _ (program : CodeView) (size : ℕ) (places : List ℕ) where
       All-cons (IsTrueOf program size places) _ [] (record { place = there; is_so = is }) (All-nil (IsTrueOf program size places))
   disorder_is_so (Some byte) order.Undecided there is = All-nil (IsTrueOf program size places)
 
-module _ (source : SurveyedFilterView) (watched : List Bool) (reach : Reach) (found : Order)
-    (is_reach : IsReach source.program source.size watched reach) (is_order : IsOrderOf source.program source.size found) where
+module _ (source : SurveyedFilterView) (watched : List Bool) (reach : Reach) (found : Option Order)
+    (is_reach : IsReach source.program source.size watched reach) (is_order : IfSome found (IsOrderOf source.program source.size)) where
   routes_are_so : (b : Bool) → reach.is_complete ≡ b
       → All (IsTrueOf source.program source.size source.places) (if b then on_routes source reach.marks.items else [])
   routes_are_so false e = All-nil (IsTrueOf source.program source.size source.places)
   routes_are_so true e = on_routes_are_so source.program source.size source.text source.places watched reach is_reach e
+
+  asked_is_so : (asked : Option Order) → IfSome asked (IsOrderOf source.program source.size)
+      → All (IsTrueOf source.program source.size source.places) (option_to_list (disorder_of source asked))
+  asked_is_so None is = All-nil (IsTrueOf source.program source.size source.places)
+  asked_is_so (Some order) is = disorder_is_so source.program source.size source.places (slice_get source.places 0) order refl is
 
   -- all that is said is so
   pub said_is_so : (said : List Warning) → said ≡ said_of source reach found → All (IsTrueOf source.program source.size source.places) said
@@ -52,5 +57,5 @@ module _ (source : SurveyedFilterView) (watched : List Bool) (reach : Reach) (fo
       All-same P said (said_of source reach found) is
       (All-append P (said_on_routes source reach) _ (routes_are_so reach.is_complete refl)
       (All-append P (option_to_list (disorder_of source found)) (hints source)
-      (disorder_is_so source.program source.size source.places (slice_get source.places 0) found refl is_order)
+      (asked_is_so found is_order)
       (hints_are_so source.program source.size source.text source.places)))

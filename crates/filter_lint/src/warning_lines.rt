@@ -346,12 +346,12 @@ fn push_message(
     alloc: Global,
     out: &mut Vec<u8>,
     sets: &[PatternSet],
-    cause: Cause,
+    cause: &Cause,
 ) -> Result<(), AllocError>
-    ensures { OnOk result (out.new.items ≡ out.old.items ++ message (spec.words sets.now cause) (spec.code_of cause)) }
+    ensures { OnOk result (out.new.items ≡ out.old.items ++ message (spec.words sets.now cause.now) (spec.code_of cause.now)) }
 {
     out.extend_from_slice(b": ")?;
-    push_words(alloc, out, sets, cause)?;
+    push_words(alloc, out, sets, *cause)?;
     out.extend_from_slice(b" (")?;
     out.extend_from_slice(cause.code())?;
     out.extend_from_slice(b")\n")
@@ -371,7 +371,7 @@ fn push_warning(
     let place = place_in(text, warning.byte);
     push_shown(alloc, out, name)?;
     push_position(out, place.line, place.column)?;
-    push_message(alloc, out, sets, warning.cause)
+    push_message(alloc, out, sets, &warning.cause)
 }
 
 /// Puts what is said of a prefix with host bits and its code at the end of `out`, to the end of the line.

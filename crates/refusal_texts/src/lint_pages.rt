@@ -113,12 +113,13 @@ were tried, so there is such a route.
 W9: the order of metrics is not kept
 Place: the filter's first command
 
-    $ echo 'filter f { if rip_metric = 1 then reject; accept; }' | ncroute lint --size 16
+    $ echo 'filter f { if rip_metric = 1 then reject; accept; }' | ncroute lint --order --size 16
     <stdin>:1:15: the order of metrics is not kept: of 0.0.0.0/0 metric 1 is rejected, and 2 becomes 2 (W9)
 
 A lesser metric comes to more than a greater one, where a rejection counts as the most. With such a filter a new
 link, over which a route gets shorter, may cut others off, and make loops on the way there. Write tests of metrics
-so that what is nearer is never treated worse, as `if rip_metric > 7 then reject;`.
+so that what is nearer is never treated worse, as `if rip_metric > 7 then reject;`. It is said only where `--order`
+asks for it: the search compares each metric with the next one, and may take long.
 ",
     },
 ];

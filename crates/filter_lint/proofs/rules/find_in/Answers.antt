@@ -3,7 +3,7 @@ use Rattle.filter_code.specs.CodeView.{CodeView}
 use Rattle.filter_diff.specs.Parts.{IsEnough}
 use Rattle.filter_diff.specs.Reaching.{NeverFaults}
 use Rattle.filter_lint.specs.Watching.{is_watched, watched_places}
-use Rattle.filter_lint.proofs.Tried.{said_is_so, same_order, same_reach}
+use Rattle.filter_lint.proofs.Tried.{said_is_so, same_reach}
 use Rattle.filter_lint.proofs.Watched.{length-watched}
 use Rattle.filter_lint.proofs.rules.find_in.Goals as goal
 
@@ -21,8 +21,8 @@ returns-clause-found c =
       is_reach = same_reach c.code.result.now source.program c.size.result source.size c.as_slice.result.now (watched_places source)
           c.in_ok-reached.reached c.code.ensures c.size.ensures (c.as_slice.ensures.value ∙ c.in_ok-watched.ensures) c.in_ok-reached.ensures.found;
       order = c.in_ok-order.order;
-      is_order = same_order c.code-2.result.now source.program c.size-2.result source.size c.in_ok-order.order c.code-2.ensures c.size-2.ensures
-          c.in_ok-order.ensures.found;
+      asked = c.in_ok-order.ensures.asked;
+      is_order = c.in_ok-order.ensures.found;
       found_is = c.in_ok-found.ensures;
       complete_is = refl;
       ordered_is = c.is_told.ensures;
@@ -34,8 +34,7 @@ returns-clause-sound c =
     said_is_so source c.as_slice.result.now c.in_ok-reached.reached c.in_ok-order.order
     (same_reach c.code.result.now source.program c.size.result source.size c.as_slice.result.now c.as_slice.result.now
     c.in_ok-reached.reached c.code.ensures c.size.ensures refl c.in_ok-reached.ensures.found)
-    (same_order c.code-2.result.now source.program c.size-2.result source.size c.in_ok-order.order c.code-2.ensures c.size-2.ensures
-    c.in_ok-order.ensures.found)
+    c.in_ok-order.ensures.found
     c.in_ok-found.found.items c.in_ok-found.ensures
 
 pub returns-clause-decided : goal.returns-clause-decided
