@@ -171,3 +171,37 @@ lost_first program class metric address prefix real known lost address_is prefix
   where
     metric_is : unwrap_or class.metric 0 ≡ metric
     metric_is = ap (λ (m : Option ℕ). unwrap_or m 0) known
+
+-- then its metric has a next one below the size
+pub lost_below : (program : CodeView) (class : Class) (metric : ℕ) → IsOfSize class.size class → class.metric ≡ Some metric
+    → Throughout class (λ route. IsLostAt program route) → metric + 1 < class.size
+lost_below program class metric real known lost =
+    let first = lost _ (first_is_in class real) (first_is_of class real) in
+    subst (λ (n : ℕ). n + 1 < class.size) (ap (λ (m : Option ℕ). unwrap_or m 0) known) first.below
+
+-- and with the runs on that route, with its metric and with the next one, it is not kept
+pub not_kept_first : (program : CodeView) (class : Class) (metric address : ℕ) (prefix : List Bool) (ran after : RouteView) (lesser next : Outcome)
+    → IsOfSize class.size class → class.metric ≡ Some metric → Throughout class (λ route. IsLostAt program route)
+    → address ≡ address_of class.known → prefix ≡ prefix_bits address class.len
+    → ran ≡ route_with class.size prefix metric → after ≡ route_with class.size prefix (metric + 1)
+    → lesser ≡ outcome_of program ran → next ≡ outcome_of program after → comes_to class.size lesser ≤ comes_to class.size next → ⊥
+not_kept_first program class metric address prefix ran after lesser next real known lost address_is prefix_is ran_is after_is lesser_is next_is kept =
+    let here = lost_first program class metric address prefix real known lost address_is prefix_is in
+    let a : comes_to class.size lesser ≡ comes_to class.size (outcome_of program (route_with class.size prefix metric)) =
+    ap (comes_to class.size) (lesser_is ∙ ap (outcome_of program) ran_is) in
+    let b : comes_to class.size next ≡ comes_to class.size (outcome_of program (route_with class.size prefix (metric + 1))) =
+    ap (comes_to class.size) (next_is ∙ ap (outcome_of program) after_is) in
+    omega (arith, here.more, a, b, kept)
+
+-- two metrics of a route whose runs are shown
+pub is_disorder : (program : CodeView) (size : ℕ) (shown : Disorder) (ran after : RouteView) → length shown.prefix ≤ 32 → shown.metric + 1 < size
+    → ran ≡ route_with size shown.prefix shown.metric → after ≡ route_with size shown.prefix (shown.metric + 1)
+    → shown.lesser ≡ outcome_of program ran → shown.next ≡ outcome_of program after
+    → comes_to size shown.next < comes_to size shown.lesser → IsDisorder program size shown
+is_disorder program size shown ran after fits below ran_is after_is lesser_is next_is more = record {
+  fits = fits;
+  below = below;
+  lesser = sym (lesser_is ∙ ap (outcome_of program) ran_is);
+  next = sym (next_is ∙ ap (outcome_of program) after_is);
+  more = more;
+}

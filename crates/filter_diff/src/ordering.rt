@@ -1,6 +1,6 @@
 //! The search for a route and two metrics of which the lesser one comes to more.
 
-ghost use Rattle.std.specs.Prelude.{◌≡◌, ◌≢◌, ◌+◌, ◌<◌, ◌≤◌, ◌⊎◌, All, IfOk, IfSome, None, OnOk, Some, false, length, vec_len};
+ghost use Rattle.std.specs.Prelude.{◌≡◌, ◌≢◌, ◌+◌, ◌<◌, ◌≤◌, ◌⊎◌, All, IfOk, IfSome, None, OnOk, Some, false, length, true, vec_len};
 ghost use Rattle.filter_code.specs.Limits.{largest_size, smallest_size};
 ghost use Rattle.filter_code.specs.RouteView.{RouteView};
 ghost use Rattle.filter_diff.specs.Classes.{IsOf, IsOfSize};
@@ -57,20 +57,36 @@ fn comes_to(outcome: Outcome, size: u32) -> u32
 }
 
 /// Whether the outcome with the lesser metric comes to no more than that with the next one.
+fn is_kept(size: u32, lesser: Outcome, next: Outcome) -> bool
+    ensures kept { result ≡ true → comes_to size lesser ≤ comes_to size next }
+    ensures lost { result ≡ false → comes_to size next < comes_to size lesser }
+{
+    comes_to(lesser, size) <= comes_to(next, size)
+}
+
+/// What is found where all runs with a metric end so, and all with the next one so.
 fn compared(size: u32, lesser: Outcome, next: Outcome) -> Found
     ensures compared { IsCompared size lesser next result }
     ensures decided { is_asking result ≡ false }
 {
-    if comes_to(lesser, size) <= comes_to(next, size) {
+    if is_kept(size, lesser, next) {
         Found::Same
     } else {
         Found::Differ(Ending::Fixed(lesser), Ending::Fixed(next))
     }
 }
 
+/// Whether the next metric is one with which a filter is asked: it is below the size.
+fn has_next(class: &Class, metric: u32) -> bool
+    ensures next { result ≡ true → metric + 1 < class.now.size }
+    ensures none { result ≡ false → class.now.size ≤ metric + 1 }
+{
+    metric < class.size.saturating_sub(1)
+}
+
 /// The class with the next metric.
 fn next_class(class: &Class, metric: u32) -> Class
-    requires { metric < class.now.size }
+    requires { metric < 250 }
     ensures { result ≡ record class.now { metric = Some (metric + 1) } }
 {
     Class {
@@ -104,6 +120,7 @@ fn order_on_route(code: &Code, class: &Class, metric: u32) -> Found
 
 /// What is found of the routes of a class with a metric.
 fn order_on_class(code: &Code, class: &Class, metric: u32) -> Found
+    requires small { class.now.size ≤ 250 }
     requires known { class.now.metric ≡ Some metric }
     requires below { metric + 1 < class.now.size }
     ensures said { SaysKept code.now class.now result }
@@ -141,7 +158,7 @@ fn order_with(code: &Code, class: &Class, metric: u32) -> Found
     ensures said { SaysKept code.now class.now result }
     ensures decided { smallest_size ≤ class.now.size → IsWhole class.now → is_asking result ≡ false }
 {
-    if metric + 1 >= class.size {
+    if !has_next(class, metric) {
         return Found::Same;
     }
     if class.known.len() == class.len {
@@ -173,13 +190,15 @@ fn shown_with(code: &Code, class: &Class, metric: u32) -> Option<Disorder>
     ensures shown { IfSome result (IsDisorder code.now class.now.size) }
     ensures some { smallest_size ≤ class.now.size → Throughout class.now (λ route. IsLostAt code.now route) → result ≢ None }
 {
-    if metric + 1 >= class.size {
+    if !has_next(class, metric) {
         return None;
     }
     let prefix = Prefix::new(class.known.address(), class.len)?;
-    let lesser = run_checked(code, &Route::new(prefix, metric, class.size)?);
-    let next = run_checked(code, &Route::new(prefix, metric + 1, class.size)?);
-    if comes_to(lesser, class.size) <= comes_to(next, class.size) {
+    let route = Route::new(prefix, metric, class.size)?;
+    let after = Route::new(prefix, metric + 1, class.size)?;
+    let lesser = run_checked(code, &route);
+    let next = run_checked(code, &after);
+    if is_kept(class.size, lesser, next) {
         return None;
     }
     Some(Disorder {
