@@ -24,18 +24,18 @@ use Rattle.filter_lint.specs.declared.rules.Warnings.{Warnings}
 use Rattle.filter_lint.specs.declared.warning.Warning.{Warning}
 
 -- the lines of the warnings that are told are a report on those that are found
-pub reported : {E : Type 0} (program : CodeView) (size limit : ℕ) (allowed : List (String Global)) (asks_order : Bool) (places others : List ℕ) (source : Named)
-    (all : Warnings) (host_bits bits : List HostBits) (told : List Warning) (r : Result Report E) → others ≡ places
+pub reported : {E : Type 0} (program : CodeView) (size limit : ℕ) (allowed : List (String Global)) (asks_order : Bool) (places others : List ℕ)
+    (source : Named) (all : Warnings) (host_bits bits : List HostBits) (told : List Warning) (r : Result Report E) → others ≡ places
     → told ≡ told_of allowed source.text all.found.items → bits ≡ told_host_bits allowed source.text host_bits
     → AreFound program source.text others size asks_order all → All (IsTrueOf program size others) all.found.items
     → (IsEnough size limit → all.is_complete ≡ true) → (IsEnough size limit → all.is_ordered ≡ true) → AreHostBits source.text host_bits
     → IfOk r (λ report. report.lines.items ≡ warnings_text source.name source.text program.sets told bits all.is_complete all.is_ordered)
     → IfOk r (λ report. report.found ≡ linted_as (all.is_complete && all.is_ordered) (length told + length bits))
     → IfOk r (λ report. IsReport program size limit allowed asks_order places source report.lines.items report.found)
-reported program size limit allowed asks_order places others source all host_bits bits told (Err why) same alike fewer found true_of decided ordered are lines counted =
-    tt
-reported program size limit allowed asks_order places others source all host_bits bits told (Ok report) same alike fewer found true_of decided ordered are lines
-    counted = record {
+reported program size limit allowed asks_order places others source all host_bits bits told (Err why) same alike fewer found true_of decided ordered
+    are lines counted = tt
+reported program size limit allowed asks_order places others source all host_bits bits told (Ok report) same alike fewer found true_of decided ordered
+    are lines counted = record {
       all = all;
       are_found = subst (λ (ps : List ℕ). AreFound program source.text ps size asks_order all) same found;
       are_true = subst (λ (ps : List ℕ). All (IsTrueOf program size ps) all.found.items) same true_of;

@@ -30,8 +30,8 @@ linted_as false count = linted.Undecided count
 
 -- These are the lines of the warnings of a filter's code and of the prefixes of its text that have host bits, but for what is allowed, and this
 -- comes of the filter. Each of the warnings is true of the code. All routes were tried where the limit leaves out no class of them.
-pub record IsReport (program : CodeView) (size limit : ℕ) (allowed : List (String Global)) (asks_order : Bool) (places : List ℕ) (source : Named) (lines : List ℕ)
-    (found : Linted) : Type 0 where
+pub record IsReport (program : CodeView) (size limit : ℕ) (allowed : List (String Global)) (asks_order : Bool) (places : List ℕ) (source : Named)
+    (lines : List ℕ) (found : Linted) : Type 0 where
   pub all : Warnings
   pub are_found : AreFound program source.text places size asks_order all
   pub are_true : All (IsTrueOf program size places) all.found.items
@@ -45,14 +45,15 @@ pub record IsReport (program : CodeView) (size limit : ℕ) (allowed : List (Str
       (length (told_of allowed source.text all.found.items) + length (told_host_bits allowed source.text host_bits))
 
 -- They were written. `held` and `holds` are what the writer held before and holds now.
-pub record WritesWarnings (program : CodeView) (size limit : ℕ) (allowed : List (String Global)) (asks_order : Bool) (places : List ℕ) (source : Named)
-    (held holds : Option (List ℕ)) (found : Linted) : Type 0 where
+pub record WritesWarnings (program : CodeView) (size limit : ℕ) (allowed : List (String Global)) (asks_order : Bool) (places : List ℕ)
+    (source : Named) (held holds : Option (List ℕ)) (found : Linted) : Type 0 where
   pub lines : List ℕ
   pub report : IsReport program size limit allowed asks_order places source lines found
   pub written : Appends held holds lines
 
 -- A fault kept them from being written whole: memory was refused, and nothing was written; or they were cut.
-abbrev pub CutsWarnings : StreamFault → CodeView → ℕ → ℕ → List (String Global) → Bool → List ℕ → Named → Option (List ℕ) → Option (List ℕ) → Type 0
+abbrev pub CutsWarnings : StreamFault → CodeView → ℕ → ℕ → List (String Global) → Bool → List ℕ → Named → Option (List ℕ) → Option (List ℕ)
+    → Type 0
 CutsWarnings fault program size limit allowed asks_order places source held holds =
     ((fault ≡ Memory) × Keeps held holds)
     ⊎ ((lines : List ℕ) × (found : Linted) × IsReport program size limit allowed asks_order places source lines found × (fault ≡ Write)
@@ -60,13 +61,15 @@ CutsWarnings fault program size limit allowed asks_order places source held hold
 
 -- It spells a filter whose code never goes wrong in domains of the size, and the warnings of this code were written, each at the place of
 -- the text that its instruction comes from, and nothing told.
-abbrev pub LintsFilter : ℕ → ℕ → List (String Global) → Bool → Named → Option (List ℕ) → Option (List ℕ) → Option (List ℕ) → Option (List ℕ) → Linted → Type 0
+abbrev pub LintsFilter : ℕ → ℕ → List (String Global) → Bool → Named → Option (List ℕ) → Option (List ℕ) → Option (List ℕ) → Option (List ℕ)
+    → Linted → Type 0
 LintsFilter size limit allowed asks_order source held holds tells told found = (f : FilterView)
     × (is_f : IsFilterOf source.text size f) × (places : List ℕ) × ArePlacesOf source.text places
     × WritesWarnings is_f.program size limit allowed asks_order places source held holds found × Keeps tells told
 
 -- The text is refused, which was told, and nothing written; or its warnings were written.
-abbrev pub LintsNamed : ℕ → ℕ → List (String Global) → Bool → Bool → Named → Option (List ℕ) → Option (List ℕ) → Option (List ℕ) → Option (List ℕ) → Linted → Type 0
+abbrev pub LintsNamed : ℕ → ℕ → List (String Global) → Bool → Bool → Named → Option (List ℕ) → Option (List ℕ) → Option (List ℕ)
+    → Option (List ℕ) → Linted → Type 0
 LintsNamed size limit allowed asks_order is_explained source held holds tells told linted.Refused = (why : Diagnosis)
     × IsDiagnosis size false source.text why × Keeps held holds × TellsOf is_explained source.name source.text (Some why) tells told
 LintsNamed size limit allowed asks_order is_explained source held holds tells told (linted.Warned count) =
@@ -75,7 +78,8 @@ LintsNamed size limit allowed asks_order is_explained source held holds tells to
     LintsFilter size limit allowed asks_order source held holds tells told (linted.Undecided count)
 
 -- A fault ended it: before anything was written or told, for want of memory; while a refusal was told; or while warnings were written.
-abbrev pub LintsNamedOff : StreamFault → ℕ → ℕ → List (String Global) → Bool → Bool → Named → Option (List ℕ) → Option (List ℕ) → Option (List ℕ) → Option (List ℕ) → Type 0
+abbrev pub LintsNamedOff : StreamFault → ℕ → ℕ → List (String Global) → Bool → Bool → Named → Option (List ℕ) → Option (List ℕ)
+    → Option (List ℕ) → Option (List ℕ) → Type 0
 LintsNamedOff fault size limit allowed asks_order is_explained source held holds tells told =
     ((fault ≡ Memory) × Keeps held holds × Keeps tells told)
     ⊎ (((why : Diagnosis) × IsDiagnosis size false source.text why × Keeps held holds

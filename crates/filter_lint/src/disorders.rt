@@ -4,8 +4,8 @@
 //! order of each metric and the next is kept, that of any two is. Where a run asks for the metric each metric is a class, so W9 may be undecided
 //! where the others are not; a limit of classes holds for each of both searches.
 //!
-//! **W9 is looked for only where it is asked for.** Where a filter asks for the metric of what a set of a thousand patterns holds, a domain of 250 nodes
-//! has more than a million classes for it: it would take seconds and end undecided of filters of which nothing else is to be said.
+//! **W9 is looked for only where it is asked for.** Where a filter asks for the metric of what a set of a thousand patterns holds, a domain of 250
+//! nodes has more than a million classes for it: it would take seconds and end undecided of filters of which nothing else is to be said.
 //!
 //! **W9 is said once of a filter, at its first instruction.** Which command is to blame no rule can tell.
 ghost use Rattle.std.specs.Prelude.{◌≡◌, Some};

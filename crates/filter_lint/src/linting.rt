@@ -178,7 +178,8 @@ fn write_warnings<W: Write>(
 
 /// Writes the warnings of the filter that a text spells, for domains of `size` nodes, a line for each, but for those whose codes are
 /// `allowed` and those that a comment of their line allows. Whether the order of metrics is kept is looked for where `asks_order` says so. At most
-/// `limit` classes of routes are tried in each search; where these are not all, a line says so. A text that is refused is told on `errors` under its name, in words where `is_explained` says so, and nothing is written.
+/// `limit` classes of routes are tried in each search; where these are not all, a line says so. A text that is refused is told on `errors` under
+/// its name, in words where `is_explained` says so, and nothing is written.
 pub fn lint_named<W: Write, E: Write>(
     alloc: Global,
     source: &NamedText<'_>,
@@ -192,8 +193,8 @@ pub fn lint_named<W: Write, E: Write>(
 ) -> Result<Linted, ProgramFault>
     ensures finished { IfOk result (spec.LintsNamed size limit allowed.now asks_order is_explained (named source.now)
         (W.contents writer.old) (W.contents writer.new) (E.contents errors.old) (E.contents errors.new)) }
-    ensures broken_off { IfErr result (λ fault. spec.LintsNamedOff (stream_fault fault) size limit allowed.now asks_order is_explained (named source.now)
-        (W.contents writer.old) (W.contents writer.new) (E.contents errors.old) (E.contents errors.new)) }
+    ensures broken_off { IfErr result (λ fault. spec.LintsNamedOff (stream_fault fault) size limit allowed.now asks_order is_explained
+        (named source.now) (W.contents writer.old) (W.contents writer.new) (E.contents errors.old) (E.contents errors.new)) }
 {
     match placed_code(alloc, source.text, size) {
         Ok(placed) => {
