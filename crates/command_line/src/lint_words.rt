@@ -5,7 +5,7 @@ ghost use Rattle.command_line.specs.Meaning.{AskFor, SaysSize};
 ghost use Rattle.command_line.specs.declared.command_names.CommandName.TheVariants as command;
 
 use crate::diff_words::USUAL_LIMIT;
-use crate::given::count_given;
+use crate::given::{count_given, is_given};
 use crate::requests::{Request, files_in, has_files, tells_in, values_of};
 use crate::terminals::Terminals;
 use clap::ArgMatches;
@@ -20,6 +20,8 @@ pub struct Linting {
     pub limit: u64,
     /// The codes of warnings that are not told.
     pub allowed: Vec<String>,
+    /// Whether the order of metrics is kept is looked for too.
+    pub asks_order: bool,
     /// A refusal is told in words too.
     pub is_explained: bool,
 }
@@ -40,6 +42,7 @@ pub fn lint_in(
         size,
         limit: count_given(matches, "limit").unwrap_or(USUAL_LIMIT),
         allowed: values_of(alloc, matches, "allow")?,
+        asks_order: is_given(matches, "order"),
         is_explained: tells_in(matches, terminals, has_files),
     };
     Ok(Request::Lint { how, sources })

@@ -1,10 +1,13 @@
 -- The lines of warnings. (This project's own choice.)
-use Rattle.std.specs.Prelude.{ℕ, ◌==◌, Bool, true, false, ◌&&◌, if◌then◌else◌, List, [], ◌++◌, ◌∷◌, codes}
+use Rattle.std.specs.Prelude.{ℕ, ◌+◌, ◌==◌, Bool, true, false, ◌&&◌, if◌then◌else◌, List, [], ◌++◌, ◌∷◌, codes}
 use Rattle.std.specs.Prelude.{decimal, flat_map, length, slice_get, unwrap_or, Option, Some, None}
 use Rattle.prefix_patterns.specs.Bits.{address_length}
 use Rattle.prefix_patterns.specs.Matching.{PrefixPattern}
 use Rattle.prefix_patterns.specs.Spelling.{prefix_text}
 use Rattle.filter_tokens.specs.Lexemes.{covered}
+use Rattle.filter_code.specs.declared.outcome.Outcome.{Outcome}
+use Rattle.filter_code.specs.declared.outcome.Outcome.TheVariants as outcome
+use Rattle.filter_diff.specs.declared.ordering.Disorder.{Disorder}
 use Rattle.filter_reports.specs.Explanations.{message, position}
 use Rattle.filter_reports.specs.Places.{column_at, line_at}
 use Rattle.filter_reports.specs.Shown.{shown}
@@ -27,6 +30,7 @@ code_of (cause.Covered number inner outer) = codes "W4"
 code_of cause.Unread = codes "W6"
 code_of (cause.Unreachable bounds) = codes "W7"
 code_of cause.NotLowered = codes "W8"
+code_of (cause.Disordered shown) = codes "W9"
 
 -- what is true, or false
 abbrev pub subject_of : Site → List ℕ
@@ -122,6 +126,22 @@ unreachable_words bounds = codes "the metric is set to " ++ bounds_text bounds +
 unfoldable pub not_lowered_words : List ℕ
 not_lowered_words = codes "a filter cannot lower the metric: on some route that comes here the value is below the one received"
 
+-- what becomes of a metric, and of two of a route, of which the lesser one comes to more
+abbrev pub end_words : Outcome → List ℕ
+end_words (outcome.Accept after) = codes " becomes " ++ decimal after
+end_words outcome.Reject = codes " is rejected"
+end_words (outcome.Fault kind at) = codes " ends with a fault"
+
+abbrev pub fate_words : ℕ → Outcome → List ℕ
+fate_words metric end = decimal metric ++ end_words end
+
+abbrev pub fates_words : Disorder → List ℕ
+fates_words shown = fate_words shown.metric shown.lesser ++ codes ", and " ++ fate_words (shown.metric + 1) shown.next
+
+abbrev pub disordered_words : Disorder → List ℕ
+disordered_words shown =
+    codes "the order of metrics is not kept: of " ++ prefix_text shown.prefix ++ codes " metric " ++ fates_words shown
+
 -- what is said of a cause, in code with these sets
 abbrev pub words : List (List PrefixPattern) → Cause → List ℕ
 words sets (cause.Constant place value) = constant_words place value
@@ -131,6 +151,7 @@ words sets (cause.Covered number inner outer) = covered_words sets number inner 
 words sets cause.Unread = codes "this variable is never read"
 words sets (cause.Unreachable bounds) = unreachable_words bounds
 words sets cause.NotLowered = not_lowered_words
+words sets (cause.Disordered shown) = disordered_words shown
 
 -- the line of a warning: the name of the source as it is shown, the line and the column, what is said, and the code of the rule
 abbrev pub warning_line : List ℕ → List ℕ → List (List PrefixPattern) → Warning → List ℕ
@@ -159,7 +180,18 @@ undecided_line name = shown name ++ undecided_words
 abbrev pub undecided_text : List ℕ → Bool → List ℕ
 undecided_text name is_complete = if is_complete then [] else undecided_line name
 
--- the lines of the warnings of a text, of its prefixes with host bits, and a last one where not all routes were tried
-abbrev pub warnings_text : List ℕ → List ℕ → List (List PrefixPattern) → List Warning → List HostBits → Bool → List ℕ
-warnings_text name text sets warnings host_bits is_complete =
+-- the line that says that not all metrics of all routes were tried
+unfoldable pub unordered_words : List ℕ
+unordered_words = codes ": undecided: not all metrics of all routes were tried, so W9 was not looked for" ++ 10 ∷ []
+
+abbrev pub unordered_line : List ℕ → List ℕ
+unordered_line name = shown name ++ unordered_words
+
+abbrev pub unordered_text : List ℕ → Bool → List ℕ
+unordered_text name is_ordered = if is_ordered then [] else unordered_line name
+
+-- the lines of the warnings of a text, of its prefixes with host bits, and last ones where not all routes were tried, or not all metrics
+abbrev pub warnings_text : List ℕ → List ℕ → List (List PrefixPattern) → List Warning → List HostBits → Bool → Bool → List ℕ
+warnings_text name text sets warnings host_bits is_complete is_ordered =
     flat_map (warning_line name text sets) warnings ++ host_bits_text name text host_bits ++ undecided_text name is_complete
+    ++ unordered_text name is_ordered
