@@ -1,12 +1,11 @@
 -- Parts that stand for others, as they are joined one after another.
-use Rattle.std.proofs.Common.{◌≡◌, ◌⊎◌, inl, inr, ℕ, zero, suc, ◌<◌, List, [], ◌∷◌, ◌++◌, All, length, get_or, refl, sym, subst, arith}
-use Rattle.std.specs.Prelude.{Some, false, slice_set}
+use Rattle.std.proofs.Common.{◌≡◌, ◌∙◌, ◌⊎◌, inl, inr, ℕ, zero, suc, ◌<◌, List, [], ◌∷◌, ◌++◌, All, length, get_or, refl, sym, subst, arith}
+use Rattle.std.specs.Prelude.{Some, slice_set}
 use Rattle.std.proofs.lemmas.List.Elements.{All-get_or, All-pop, All-push, All-set}
 use Rattle.filter_code.specs.CodeView.{CodeView}
 use Rattle.filter_code.specs.RouteView.{RouteView}
 use Rattle.filter_diff.specs.Joins.{Joins, StandFor}
-use Rattle.filter_diff.specs.Parts.{Has, Holds, InOne, IsDecided, IsIn, IsReal, IsTrueOf, is_undecided}
-use Rattle.filter_diff.specs.declared.route_part.Finding.{Finding}
+use Rattle.filter_diff.specs.Parts.{Has, Holds, InOne, IsDecided, IsIn, IsReal, IsTrueOf}
 use Rattle.filter_diff.specs.declared.route_part.RoutePart.{RoutePart}
 use Rattle.filter_diff.proofs.Dealt.{in_kept, in_new}
 
@@ -44,9 +43,9 @@ true_either : (old new : CodeView) (size : ℕ) (other part whole : RoutePart) (
     IsTrueOf old new size other → IsTrueOf old new size part → IsIn size route → Has other route ⊎ Has part route →
     Holds old new whole.finding route
 true_either old new size other part whole route j other_true part_true is_in (inl h) =
-    subst (λ (f : Finding). Holds old new f route) j.first_found (other_true route is_in h)
+    j.found.in_first old new route h (other_true route is_in h)
 true_either old new size other part whole route j other_true part_true is_in (inr h) =
-    subst (λ (f : Finding). Holds old new f route) j.second_found (part_true route is_in h)
+    j.found.in_second old new route h (part_true route is_in h)
 
 joined_true : (old new : CodeView) (size : ℕ) (other part whole : RoutePart) → Joins other part whole → IsTrueOf old new size other →
     IsTrueOf old new size part → IsTrueOf old new size whole
@@ -76,7 +75,7 @@ add_joined parts others after at other part whole there h j set stand = record {
       subst (All (IsReal size)) (sym set) (All-set (IsReal size) parts at whole (j.real size other_real split.1) so_far);
   decided = λ all.
       let split = All-pop IsDecided (others ++ (part ∷ [])) others (Some part) refl all in
-      let whole_decided : IsDecided whole = subst (λ (f : Finding). is_undecided f ≡ false) j.second_found split.1 in
+      let whole_decided : IsDecided whole = sym j.found.second_decided ∙ split.1 in
       subst (All IsDecided) (sym set) (All-set IsDecided parts at whole whole_decided (stand.decided split.0));
 }
 

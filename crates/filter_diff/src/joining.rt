@@ -1,11 +1,14 @@
 //! Parts that join: they differ in one thing alone, and in that they lie side by side.
 
 ghost use Rattle.std.specs.Prelude.{◌≡◌, ◌+◌, ◌≤◌, ◌++◌, [], ◌∷◌, true, false, IfOk, IfSome, IsTrue, List, OnOk};
-ghost use Rattle.filter_diff.specs.Joins.{Joins, StandFor};
+ghost use Rattle.filter_diff.specs.Joins.{IsEndingOfBoth, IsFoundOfBoth, Joins, KeepsMetric, StandFor};
+ghost use Rattle.filter_diff.specs.declared.route_part.Finding.TheVariants as finding;
 ghost use Rattle.filter_diff.specs.declared.route_part.RoutePart.{RoutePart as RoutePartView};
 
-use crate::route_part::RoutePart;
+use crate::ending::Ending;
+use crate::route_part::{Finding, RoutePart};
 use crate::search::longer;
+use filter_code::Outcome;
 use prefix_patterns::Prefix;
 use std::alloc::{AllocError, Global};
 
@@ -22,11 +25,68 @@ fn same_prefix(a: &Prefix, b: &Prefix) -> bool
     *a == *b
 }
 
-/// Whether the same was found of two parts.
-fn same_finding(a: &RoutePart, b: &RoutePart) -> bool
-    ensures { IsTrue result → a.now.finding ≡ b.now.finding }
+/// Whether an ending is that each route of a part keeps its metric. It is so, too, where it names the only metric that the part has.
+fn keeps_metric(part: &RoutePart, end: Ending) -> bool
+    ensures { IsTrue result → KeepsMetric part.now end }
 {
-    a.finding == b.finding
+    match end {
+        Ending::Unchanged => true,
+        Ending::Fixed(Outcome::Accept(metric)) => {
+            part.least == metric && part.greatest == metric
+        }
+        Ending::Fixed(_) => false,
+    }
+}
+
+/// What two endings, of the routes of one part and of another, are for both: the same, or that each route keeps its metric. So metrics that
+/// are kept are one part, however many they are.
+fn ending_of_both(a: &RoutePart, b: &RoutePart, first: Ending, second: Ending) -> Option<Ending>
+    ensures { IfSome result (IsEndingOfBoth a.now b.now first second) }
+{
+    if first == second {
+        return Some(first);
+    }
+    if !keeps_metric(a, first) {
+        return None;
+    }
+    if !keeps_metric(b, second) {
+        return None;
+    }
+    Some(Ending::Unchanged)
+}
+
+/// What is found of the routes of two parts where both codes end differently on each.
+fn difference_of_both(
+    a: &RoutePart,
+    b: &RoutePart,
+    first: (Ending, Ending),
+    second: (Ending, Ending),
+) -> Option<Finding>
+    requires first { a.now.finding ≡ finding.Differ first.0 first.1 }
+    requires second { b.now.finding ≡ finding.Differ second.0 second.1 }
+    ensures { IfSome result (IsFoundOfBoth a.now b.now) }
+{
+    let before = ending_of_both(a, b, first.0, second.0)?;
+    let after = ending_of_both(a, b, first.1, second.1)?;
+    Some(Finding::Differ(before, after))
+}
+
+/// What was found of two parts, if it is the same.
+fn finding_of_both(a: &RoutePart, b: &RoutePart) -> Option<Finding>
+    ensures { IfSome result (IsFoundOfBoth a.now b.now) }
+{
+    match a.finding {
+        Finding::Undecided => match b.finding {
+            Finding::Undecided => Some(Finding::Undecided),
+            Finding::Differ(_, _) => None,
+        },
+        Finding::Differ(before, after) => match b.finding {
+            Finding::Undecided => None,
+            Finding::Differ(other_before, other_after) => {
+                difference_of_both(a, b, (before, after), (other_before, other_after))
+            }
+        },
+    }
 }
 
 /// Whether two parts have the same lengths.
@@ -65,9 +125,7 @@ fn metrics_follow(a: &RoutePart, b: &RoutePart) -> bool
 fn join_lengths(a: &RoutePart, b: &RoutePart) -> Option<RoutePart>
     ensures { IfSome result (λ whole. Joins a.now b.now whole) }
 {
-    if !same_finding(a, b) {
-        return None;
-    }
+    let finding = finding_of_both(a, b)?;
     if !same_prefix(&a.prefix, &b.prefix) {
         return None;
     }
@@ -83,7 +141,7 @@ fn join_lengths(a: &RoutePart, b: &RoutePart) -> Option<RoutePart>
         longest: b.longest,
         least: a.least,
         greatest: a.greatest,
-        finding: a.finding,
+        finding,
     })
 }
 
@@ -91,9 +149,7 @@ fn join_lengths(a: &RoutePart, b: &RoutePart) -> Option<RoutePart>
 fn join_metrics(a: &RoutePart, b: &RoutePart) -> Option<RoutePart>
     ensures { IfSome result (λ whole. Joins a.now b.now whole) }
 {
-    if !same_finding(a, b) {
-        return None;
-    }
+    let finding = finding_of_both(a, b)?;
     if !same_prefix(&a.prefix, &b.prefix) {
         return None;
     }
@@ -109,7 +165,7 @@ fn join_metrics(a: &RoutePart, b: &RoutePart) -> Option<RoutePart>
         longest: a.longest,
         least: a.least,
         greatest: b.greatest,
-        finding: a.finding,
+        finding,
     })
 }
 
@@ -136,9 +192,7 @@ fn whole_of(zero: &Prefix, one: &Prefix) -> Option<Prefix>
 fn join_halves(a: &RoutePart, b: &RoutePart) -> Option<RoutePart>
     ensures { IfSome result (λ whole. Joins a.now b.now whole) }
 {
-    if !same_finding(a, b) {
-        return None;
-    }
+    let finding = finding_of_both(a, b)?;
     if !same_lengths(a, b) {
         return None;
     }
@@ -155,7 +209,7 @@ fn join_halves(a: &RoutePart, b: &RoutePart) -> Option<RoutePart>
             longest: a.longest,
             least: a.least,
             greatest: a.greatest,
-            finding: a.finding,
+            finding,
         }),
         None => None,
     }
