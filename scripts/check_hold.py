@@ -255,7 +255,7 @@ class Rows(RunRows):
                "starts_over_a_line_that_keeps", "starts_over_fifos", "starts_over_terminals_that_drop", "starts_over_terminals_that_keep", "stopped",
                "stopped_for_less")
 
-    TIMED = ("hold", "idle", "line_is_cut", "most_links", "ring", "slow_line", "stopped", "stopped_for_less")
+    TIMED = ("half_a_line", "hold", "idle", "line_is_cut", "most_links", "ring", "slow_line", "stopped", "stopped_for_less")
 
     def __init__(self, program, starts, minutes, seed):
         super().__init__(program)
