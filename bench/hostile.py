@@ -53,6 +53,12 @@ def numbered(middle, size):
     return "".join(pieces)
 
 
+def defined(size):
+    """Definitions, each of the one before, and a filter with the last."""
+    definitions = numbered("define A{1} = A{0};\n", size)
+    return f"define A0 = 1;\n{definitions}filter f {{ if net.len > A{definitions.count('=')} then accept; reject; }}\n"
+
+
 def histories():
     """A script whose first hundred events open sessions and take all that is to be told in them, and that asks for them many times."""
     events = [f"up {node}\ntake {node}\n" for node in range(1, 51)]
@@ -95,7 +101,10 @@ GROWING = [
         "filter f { case net.ip { " + numbered("1.0.{0}.0: accept; ", min(size, 4_000)) + "else: reject; } }")),
     ("pipes with tables of their own", LONGEST_CONFIG, lambda size: imported(
         numbered("ipv4 table t{0}; protocol pipe p{0} {{ table t{0}; peer table t{0}; import filter {{ accept; }}; }}\n", size))),
-    ("definitions, each of the one before", LONGEST_CONFIG, lambda size: imported("define A0 = 1;\n" + numbered("define A{1} = A{0};\n", size))),
+    ("definitions, each of the one before, and a filter with the last", LONGEST_CONFIG, lambda size: imported(defined(size))),
+    ("definitions, and a filter with each of them", LONGEST_CONFIG, lambda size: imported(
+        numbered("define A{0} = 1.0.1.0/24;\n", size) + "filter f { if net ~ [ "
+        + numbered("A{0}, ", size // 4) + "2.0.0.0/8 ] then accept; reject; }\n")),
     ("filters", LONGEST_CONFIG, lambda size: imported(numbered("filter f{} {{ accept; }}\n", size))),
 ]
 
