@@ -10,13 +10,7 @@ use std::alloc::{AllocError, Global};
 pub(crate) fn push_found(out: &mut Vec<Warning>, found: &Option<Warning>) -> Result<(), AllocError>
     ensures { OnOk result (out.new.items ≡ out.old.items ++ option_to_list found.now) }
 {
-    match found {
-        Some(warning) => {
-            out.push(*warning)?;
-            Ok(())
-        }
-        None => Ok(()),
-    }
+    out.extend_from_slice(found.as_slice())
 }
 
 /// The warnings of all indices below `count`, in order, where `said` is what is said of each.
