@@ -3,6 +3,7 @@ pub mod Following
 pub mod FollowingFilters
 pub mod Increasing
 pub mod Kept
+pub mod Left
 pub mod Linking
 pub mod OfDomain
 pub mod Offering

@@ -102,7 +102,7 @@ links_more p q u w l f = record {
   exports = λ x y. f.exports x y ∙ sym (linking_keeps (λ (c : PeerView). c.exports) (λ _ _. refl) q u w true l x y);
 }
 
-cuts_fewer : (p q : PlanView) (u w : ℕ) → IsLink q u w → HasFewerLinks p q → HasFewerLinks p (linking false u w q)
+pub cuts_fewer : (p q : PlanView) (u w : ℕ) → IsLink q u w → HasFewerLinks p q → HasFewerLinks p (linking false u w q)
 cuts_fewer p q u w l f = record {
   size = f.size;
   prefixes = f.prefixes;
@@ -114,7 +114,7 @@ cuts_fewer p q u w l f = record {
   exports = λ x y. linking_keeps (λ (c : PeerView). c.exports) (λ _ _. refl) q u w false l x y ∙ f.exports x y;
 }
 
-has_itself : (p : PlanView) → HasFewerLinks p p
+pub has_itself : (p : PlanView) → HasFewerLinks p p
 has_itself p = record { size = refl; prefixes = refl; linked = λ u w h. h; imports = λ u w. refl; exports = λ u w. refl }
 
 pub since_link : (s : Since) (linked : Bool) (p q : PlanView) (u w : ℕ) → IsLink q u w → IsSince s p q → IsSince (after_link linked s) p (linking linked u w q)
@@ -155,7 +155,7 @@ with_less false true h = never (h refl)
 with_less false false h = refl
 
 -- the same filters make the same tolls
-same_toll : (p q : PlanView) → HasFewerLinks p q → (v u w x : ℕ) → toll q v u w x ≡ toll p v u w x
+pub same_toll : (p q : PlanView) → HasFewerLinks p q → (v u w x : ℕ) → toll q v u w x ≡ toll p v u w x
 same_toll p q f v u w x =
     same_filtered_distance (opening_of q) (opening_of p) f.size f.prefixes (peer q u w).imports v
     (filtered_distance (opening_of q) (peer q w u).exports v x)
