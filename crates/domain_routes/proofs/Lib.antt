@@ -11,6 +11,7 @@ pub mod One
 pub mod Places
 pub mod Quiet
 pub mod Reach
+pub mod Restoring
 pub mod Still
 pub mod Unlinked
 pub mod Values

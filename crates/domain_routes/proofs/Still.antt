@@ -117,6 +117,16 @@ cuts_fewer p q u w l f = record {
 pub has_itself : (p : PlanView) → HasFewerLinks p p
 has_itself p = record { size = refl; prefixes = refl; linked = λ u w h. h; imports = λ u w. refl; exports = λ u w. refl }
 
+-- links that are fewer than those that are fewer
+pub fewer_on : (p q r : PlanView) → HasFewerLinks p q → HasFewerLinks q r → HasFewerLinks p r
+fewer_on p q r one next = record {
+  size = next.size ∙ one.size;
+  prefixes = next.prefixes ∙ one.prefixes;
+  linked = λ u w linked. one.linked u w (next.linked u w linked);
+  imports = λ u w. next.imports u w ∙ one.imports u w;
+  exports = λ u w. next.exports u w ∙ one.exports u w;
+}
+
 pub since_link : (s : Since) (linked : Bool) (p q : PlanView) (u w : ℕ) → IsLink q u w → IsSince s p q → IsSince (after_link linked s) p (linking linked u w q)
 since_link since.Nothing true p q u w l is = links_more p q u w l (subst (λ x. HasFewerLinks q x) is (has_itself q))
 since_link since.Nothing false p q u w l is = cuts_fewer p q u w l (subst (λ x. HasFewerLinks x q) is (has_itself q))
