@@ -5,7 +5,7 @@
 //!
 //! **A node whose route is left may gain by another's loss**, where a filter makes less of a greater distance. So it is offered each new way, too.
 //! Once one of these would come before its route, all routes are found from nothing: what was found may lead through that node.
-ghost use Rattle.std.specs.Prelude.{◌≡◌, ◌≢◌, ◌<◌, ◌≤◌, ℕ, IfOk, IsTrue, length, true};
+ghost use Rattle.std.specs.Prelude.{◌≡◌, ◌≢◌, ◌+◌, ◌<◌, ◌≤◌, ℕ, IfOk, IsTrue, length, true};
 ghost use Rattle.netchange_core.specs.declared.reply.Via.TheVariants as via;
 ghost use Rattle.domain_routes.specs.Cuts.{WereRoutes};
 ghost use Rattle.domain_routes.specs.Left.{AreBestBefore, AreLeft, HasHops, IsLeft};
@@ -100,6 +100,32 @@ fn offered(plan: &Plan, v: u16, u: u16, w: u16, dist: u16, route: Best) -> Best
     }
 }
 
+/// The better of a node's route and the way through another, where they are neighbours and that one is done.
+fn offered_through(
+    plan: &Plan,
+    v: u16,
+    u: u16,
+    w: u16,
+    routes: &[Best],
+    done: &[bool],
+    route: Best,
+) -> Best
+    requires v { v < plan.now.size }
+    requires u { u < plan.now.size }
+    requires w { w < plan.now.size }
+    requires one_a_node { length routes.now ≡ plan.now.size }
+    requires marks { length done.now ≡ plan.now.size }
+    requires reachable { (route_at plan.now.size routes.now w).dist ≤ plan.now.size }
+    ensures done { is_done done.now w ≡ true → IsOffered (topology plan.now v) w (route_at plan.now.size routes.now w).dist u route result }
+    ensures waits { is_done done.now w ≡ false → result ≡ route }
+{
+    let k = usize::from(w);
+    if !done[k] {
+        return route;
+    }
+    offered(plan, v, u, w, routes[k].dist, route)
+}
+
 /// The best way of a node through those that are done, or none.
 fn best_way(plan: &Plan, v: u16, u: u16, routes: &[Best], done: &[bool]) -> Best
     requires v { v < plan.now.size }
@@ -114,10 +140,7 @@ fn best_way(plan: &Plan, v: u16, u: u16, routes: &[Best], done: &[bool]) -> Best
         via: Via::Nowhere,
     };
     for w in 0..plan.size() {
-        let k = usize::from(w);
-        if done[k] {
-            best = offered(plan, v, u, w, routes[k].dist, best);
-        }
+        best = offered_through(plan, v, u, w, routes, done, best);
     }
     best
 }
@@ -133,9 +156,10 @@ fn take_way(plan: &Plan, v: u16, u: u16, routes: &mut [Best], done: &[bool])
     ensures { AreBestBefore (topology plan.now v) v (route_at plan.now.size routes.new) (is_done done.now) (u + 1) }
 {
     let k = usize::from(u);
-    if !done[k] {
-        routes[k] = best_way(plan, v, u, routes, done);
+    if done[k] {
+        return;
     }
+    routes[k] = best_way(plan, v, u, routes, done);
 }
 
 /// Each node that is not done takes the best way through those that are.
@@ -150,6 +174,20 @@ fn take_ways(plan: &Plan, v: u16, routes: &mut [Best], done: &[bool])
     for u in 0..plan.size() {
         take_way(plan, v, u, routes, done);
     }
+}
+
+/// Whether a node's route stays where the way through another at this distance is offered to it, if they are neighbours.
+fn stays(plan: &Plan, v: u16, u: u16, w: u16, dist: u16, route: Best) -> bool
+    requires v { v < plan.now.size }
+    requires u { u < plan.now.size }
+    requires w { w < plan.now.size }
+    requires reachable { dist ≤ plan.now.size }
+    ensures { IsTrue result → IsOffered (topology plan.now v) w dist u route route }
+{
+    if !plan.is_linked(u, w) {
+        return true;
+    }
+    !comes_before(route, plan.toll(v, u, w, dist), w)
 }
 
 /// A node is offered the way through another at this distance, if they are neighbours. Whether it keeps its route, where it is done.
@@ -173,11 +211,11 @@ fn offer_one(
     ensures others { (x : ℕ) → x ≢ u → route_at plan.now.size routes.new x ≡ route_at plan.now.size routes.old x }
 {
     let k = usize::from(u);
-    if !done[k] {
-        routes[k] = offered(plan, v, u, w, dist, routes[k]);
-        return true;
+    if done[k] {
+        return stays(plan, v, u, w, dist, routes[k]);
     }
-    !plan.is_linked(u, w) || !comes_before(routes[k], plan.toll(v, u, w, dist), w)
+    routes[k] = offered(plan, v, u, w, dist, routes[k]);
+    true
 }
 
 /// Each neighbour of a node is offered the way through it. Whether all that are done keep their routes.
