@@ -6,7 +6,7 @@ use Rattle.std.proofs.lemmas.List.{get_or-replicate, length-replicate}
 use Rattle.netchange_core.specs.declared.reply.Via.{Via}
 use Rattle.netchange_core.specs.declared.reply.Via.TheVariants.{Local, Node, Nowhere}
 use Rattle.routing_domain.specs.Rest.{IsRest, LeadsThrough, Topology}
-use Rattle.routing_domain.specs.Ways.{GoesVia}
+use Rattle.routing_domain.specs.Ways.{GoesVia, LeadsFirst}
 use Rattle.domain_routes.specs.Cuts.{WereRoutes}
 use Rattle.domain_routes.specs.Left.{AreBestBefore, AreLeft, HasHops, IsLeft}
 use Rattle.domain_routes.specs.Offers.{ComesBefore, IsBetter, StaysBehind, hop_of, way}
@@ -69,13 +69,10 @@ module _ (n : Topology) (to : ℕ) (linked : ℕ → ℕ → Bool) (tolls : ℕ 
   pub goes_local : to < n.size → (route to).via ≡ Local
   goes_local short = own_via (route to).via (were.vias to short)
 
-  hop_within : (u w : ℕ) (via : Via) → via ≡ Node w → GoesVia was to dist u via → w < n.size
-  hop_within u w Local is goes = absurd (let never : Local ≡ Node w = is in cc)
-  hop_within u w (Node x) is goes = omega (arith, goes.leads.member, ap hop_of is)
-  hop_within u w Nowhere is goes = absurd (let never : Nowhere ≡ Node w = is in cc)
-
   pub hops_within : HasHops n.size routes
-  hops_within u w short is = hop_within u w (route u).via is (were.vias u short)
+  hops_within u w short is =
+      let goes : LeadsFirst was to dist u w = subst (GoesVia was to dist u) is (were.vias u short) in
+      goes.leads.member
 
   found_left : (done : ℕ → Bool) (u : ℕ) (via : Via) → u ≢ to → IsLeft n.linked done u via → GoesVia was to dist u via
       → IsFound n route done u (dist u) via
@@ -297,26 +294,26 @@ one_way_more m to old new done n own waits b best others =
 
 module _ (m : Topology) (to : ℕ) (routes : List Best) (done : ℕ → Bool) (all : AreAllDone m.size done)
     (b : AreBestBefore m to (route_at m.size routes) done m.size) where
-  abbrev at : ℕ → Best
-  at u = route_at m.size routes u
+  abbrev routed : ℕ → Best
+  routed u = route_at m.size routes u
 
-  led : (u : ℕ) (via : Via) → u ≢ to → (at u).dist < m.size → IsFound m at done u (at u).dist via
-      → (w : ℕ) × LeadsThrough m to (λ x. (at x).dist) u w
-  led u Local other reached f = absurd f
-  led u (Node w) other reached f =
+  leads_on : (u : ℕ) (via : Via) → u ≢ to → (routed u).dist < m.size → IsFound m routed done u (routed u).dist via
+      → (w : ℕ) × LeadsThrough m to (λ x. (routed x).dist) u w
+  leads_on u Local other reached f = absurd f
+  leads_on u (Node w) other reached f =
       (w, record { other = other; member = f.member; linked = f.linked; one_more = f.one_more; in_reach = f.in_reach })
-  led u Nowhere other reached f = absurd (omega (arith, reached, f))
+  leads_on u Nowhere other reached f = absurd (omega (arith, reached, f))
 
-  goes : (u : ℕ) (via : Via) → u < m.size → u ≢ to → (at u).via ≡ via → IsFound m at done u (at u).dist via
-      → GoesVia m to (λ x. (at x).dist) u via
-  goes u Local short other is f = absurd f
-  goes u (Node w) short other is f = record {
+  goes_on : (u : ℕ) (via : Via) → u < m.size → u ≢ to → (routed u).via ≡ via → IsFound m routed done u (routed u).dist via
+      → GoesVia m to (λ x. (routed x).dist) u via
+  goes_on u Local short other is f = absurd f
+  goes_on u (Node w) short other is f = record {
     leads = record { other = other; member = f.member; linked = f.linked; one_more = f.one_more; in_reach = f.in_reach };
-    first = λ x less l. absurd (let no_later : hop_of (at u).via ≤ x =
+    first = λ x less l. absurd (let no_later : hop_of (routed u).via ≤ x =
         ((b.best u short other (inr short)).behind x l.member (all x l.member) l.linked).first l.one_more in
         omega (arith, less, no_later, ap hop_of is));
   }
-  goes u Nowhere short other is f = (other, f)
+  goes_on u Nowhere short other is f = (other, f)
 
   -- when all nodes are done, their routes are those at rest
   pub all_at_rest : length routes ≡ m.size → AreRoutes m to routes
@@ -326,10 +323,10 @@ module _ (m : Topology) (to : ℕ) (routes : List Best) (done : ℕ → Bool) (a
       own = ap (λ (r : Best). r.dist) b.own;
       bounded = b.bounded;
       least = λ u short other w member linked. ((b.best u short other (inr short)).behind w member (all w member) linked).near;
-      led = λ u short other reached. led u (at u).via other reached (b.best u short other (inr short)).found;
+      led = λ u short other reached. leads_on u (routed u).via other reached (b.best u short other (inr short)).found;
     };
     vias = λ u short. ⊎_elim
-        (λ (same : u ≡ to). subst (GoesVia m to (λ x. (at x).dist) u) (sym (ap (λ n. (at n).via) same ∙ ap (λ (r : Best). r.via) b.own)) same)
-        (λ (other : u ≢ to). goes u (at u).via short other refl (b.best u short other (inr short)).found)
+        (λ (same : u ≡ to). subst (GoesVia m to (λ x. (routed x).dist) u) (sym (ap (λ n. (routed n).via) same ∙ ap (λ (r : Best). r.via) b.own)) same)
+        (λ (other : u ≢ to). goes_on u (routed u).via short other refl (b.best u short other (inr short)).found)
         (cases_eq u to);
   }
