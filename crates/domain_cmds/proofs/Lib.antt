@@ -7,5 +7,6 @@ pub mod Growing
 pub mod OnTheWay
 pub mod Counting
 pub mod Alone
+pub mod Reusing
 pub mod Failing
 mod FailureRows
