@@ -1,8 +1,8 @@
 -- Routes that are left after links were cut: they are the best among themselves, and once all nodes are done, the routes at rest.
-use Rattle.std.proofs.Common.{◌≡◌, ◌≢◌, ◌⊎◌, ⊎_elim, inl, inr, ℕ, ◌+◌, suc, zero, ◌<◌, ◌≤◌, Bool, true, false, List, [], ◌∷◌, length, replicate, slice_set}
+use Rattle.std.proofs.Common.{◌≡◌, ◌≢◌, ◌⊎◌, ⊎_elim, inl, inr, ℕ, ◌+◌, suc, zero, ◌<◌, ◌≤◌, Bool, true, false, List, [], ◌∷◌, length, replicate, slice_index_or, slice_set}
 use Rattle.std.proofs.Common.{get_or-set_same, get_or-set_other, refl, sym, ap, subst, ◌∙◌, arith}
 use Rattle.std.proofs.lemmas.Bool.{cases_Bool, cases_eq, cases_order, false≢true}
-use Rattle.std.proofs.lemmas.List.{get_or-replicate, length-replicate}
+use Rattle.std.proofs.lemmas.List.{get_or-replicate, get_or_default, length-replicate}
 use Rattle.netchange_core.specs.declared.reply.Via.{Via}
 use Rattle.netchange_core.specs.declared.reply.Via.TheVariants.{Local, Node, Nowhere}
 use Rattle.routing_domain.specs.Rest.{IsRest, LeadsThrough, Topology}
@@ -156,6 +156,13 @@ own_left now v before w short =
 pub own_done : (n v : ℕ) → v < n → is_done (slice_set (replicate n false) v true) v ≡ true
 own_done n v short = get_or-set_same (replicate n false) v true true (omega (arith, short, length-replicate n false))
 
+-- a next hop that is read is a node
+pub hop_read : (size : ℕ) (before : List Best) (k u w : ℕ) (d : Best) → HasHops size before → k ≡ u → u < size → length before ≡ size
+    → (slice_index_or before k d).via ≡ Node w → w < size
+hop_read size before k u w d hops is short long leads =
+    hops u w short (ap (λ (r : Best). r.via) (get_or_default before u (nowhere size) d (omega (arith, short, long)))
+    ∙ ap (λ j. (slice_index_or before j d).via) (sym is) ∙ leads)
+
 -- ---- the best way of a node that is not done
 
 -- of the ways through nodes before one
@@ -176,10 +183,10 @@ module _ (m : Topology) (routes : ℕ → Best) (done : ℕ → Bool) (u : ℕ) 
   -- one node more, which has no way
   pub below_skips : (n : ℕ) (route : Best) → IsBestBelow m routes done u n route → (done n ≡ true → m.linked u n ≡ false)
       → IsBestBelow m routes done u (n + 1) route
-  below_skips n route b no = record {
+  below_skips n route b apart = record {
     found = b.found;
     behind = λ w member less is joined. ⊎_elim
-        (λ (same : w ≡ n). absurd (false≢true (sym (no (subst (λ k. done k ≡ true) same is)) ∙ subst (λ k. m.linked u k ≡ true) same joined)))
+        (λ (same : w ≡ n). absurd (false≢true (sym (apart (subst (λ k. done k ≡ true) same is)) ∙ subst (λ k. m.linked u k ≡ true) same joined)))
         (λ (other : w ≢ n). b.behind w member (omega (arith, less, other)) is joined)
         (cases_eq w n);
   }
@@ -289,6 +296,21 @@ one_way_more m to old new done n own waits b best others =
           (λ (is : done u ≡ true). inl is) (λ (less : u < n + 1). inr (omega (arith, less, apart))) which))))
           (cases_eq u n);
     }
+
+-- the same, of lists: a mark that is read says that the node is not done, and it gets its way
+pub waits_read : (done : List Bool) (k n : ℕ) (d : Bool) → k ≡ n → n < length done → slice_index_or done k d ≡ false → is_done done n ≡ false
+waits_read done k n d is short waits =
+    get_or_default done n true d short ∙ ap (λ j. slice_index_or done j d) (sym is) ∙ waits
+
+pub way_taken : (m : Topology) (to : ℕ) (routes : List Best) (done : ℕ → Bool) (k n : ℕ) (route : Best) → k ≡ n → n < length routes
+    → done to ≡ true → done n ≡ false → AreBestBefore m to (route_at m.size routes) done n → IsBestSoFar m (route_at m.size routes) done n route
+    → AreBestBefore m to (route_at m.size (slice_set routes k route)) done (n + 1)
+way_taken m to routes done k n route is short own waits b best =
+    let here : route_at m.size (slice_set routes k route) n ≡ route =
+    ap (λ j. route_at m.size (slice_set routes j route) n) is ∙ get_or-set_same routes n route (nowhere m.size) short in
+    one_way_more m to (route_at m.size routes) (route_at m.size (slice_set routes k route)) done n own waits b
+    (subst (IsBestSoFar m (route_at m.size routes) done n) (sym here) best)
+    (λ x other. get_or-set_other routes k x route (nowhere m.size) (λ same. other (same ∙ is)))
 
 -- ---- at the end
 

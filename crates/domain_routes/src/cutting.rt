@@ -5,7 +5,7 @@
 //!
 //! **A node whose route is left may gain by another's loss**, where a filter makes less of a greater distance. So it is offered each new way, too.
 //! Once one of these would come before its route, all routes are found from nothing: what was found may lead through that node.
-ghost use Rattle.std.specs.Prelude.{◌≡◌, ◌≢◌, ◌+◌, ◌<◌, ◌≤◌, ℕ, IfOk, IsTrue, length, true};
+ghost use Rattle.std.specs.Prelude.{◌≡◌, ◌≢◌, ◌+◌, ◌<◌, ◌≤◌, ℕ, IfOk, IsTrue, false, length, true};
 ghost use Rattle.netchange_core.specs.declared.reply.Via.TheVariants as via;
 ghost use Rattle.domain_routes.specs.Cuts.{WereRoutes};
 ghost use Rattle.domain_routes.specs.Left.{AreBestBefore, AreLeft, HasHops, IsLeft};
@@ -229,8 +229,9 @@ fn offer(plan: &Plan, v: u16, w: usize, routes: &mut [Best], done: &[bool]) -> b
     ensures keeps { (x : ℕ) → x < plan.now.size → is_done done.now x ≡ true → route_at plan.now.size routes.new x ≡ route_at plan.now.size routes.old x }
 {
     let dist = routes[w].dist;
+    let size = plan.size();
     let hop = w as u16;
-    for u in 0..plan.size() {
+    for u in 0..size {
         if !offer_one(plan, v, hop, dist, u, routes, done) {
             return false;
         }

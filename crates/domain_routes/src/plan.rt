@@ -130,7 +130,8 @@ impl Plan {
         requires u { u < self.old.size }
         requires w { w < self.old.size }
         requires apart { u ≢ w }
-        ensures { self.new ≡ linking linked u w self.old }
+        ensures value { self.new ≡ linking linked u w self.old }
+        ensures plan { IsPlan self.old }
     {
         self.rows[usize::from(u)].set_linked(w, linked);
         self.rows[usize::from(w)].set_linked(u, linked);

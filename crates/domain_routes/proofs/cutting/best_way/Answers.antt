@@ -1,5 +1,5 @@
 -- One way more.
-use Rattle.std.proofs.Common.{◌≡◌, ◌∙◌, ⊎_elim, ◌+◌, true, false, sym, subst}
+use Rattle.std.proofs.Common.{◌≡◌, ◌∙◌, ⊎_elim, ◌+◌, true, false, sym, subst, arith}
 use Rattle.std.proofs.lemmas.Bool.{cases_Bool, false≢true}
 use Rattle.domain_routes.specs.Routes.{route_at}
 use Rattle.domain_routes.specs.Solving.{is_done}
