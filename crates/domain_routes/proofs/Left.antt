@@ -312,6 +312,27 @@ way_taken m to routes done k n route is short own waits b best =
     (subst (IsBestSoFar m (route_at m.size routes) done n) (sym here) best)
     (λ x other. get_or-set_other routes k x route (nowhere m.size) (λ same. other (same ∙ is)))
 
+-- ---- a way that is offered
+
+-- to one node more
+pub offered_more : (m : Topology) (w dist u : ℕ) (first old new : ℕ → Best) → ((x : ℕ) → x < u → IsOffered m w dist x (first x) (old x))
+    → ((x : ℕ) → u ≤ x → old x ≡ first x) → IsOffered m w dist u (old u) (new u) → ((x : ℕ) → x ≢ u → new x ≡ old x)
+    → (x : ℕ) → x < u + 1 → IsOffered m w dist x (first x) (new x)
+offered_more m w dist u first old new so_far behind here others x less =
+    ⊎_elim
+    (λ (same : x ≡ u). subst (λ n. IsOffered m w dist n (first n) (new n)) (sym same)
+    (subst (λ (r : Best). IsOffered m w dist u r (new u)) (behind u (omega arith)) here))
+    (λ (other : x ≢ u). subst (IsOffered m w dist x (first x)) (sym (others x other)) (so_far x (omega (arith, less, other))))
+    (cases_eq x u)
+
+pub keeps_more : (done : ℕ → Bool) (u : ℕ) (first old new : ℕ → Best) → ((x : ℕ) → done x ≡ true → old x ≡ first x) → (done u ≡ true → new u ≡ old u)
+    → ((x : ℕ) → x ≢ u → new x ≡ old x) → (x : ℕ) → done x ≡ true → new x ≡ first x
+keeps_more done u first old new so_far here others x is =
+    ⊎_elim
+    (λ (same : x ≡ u). subst (λ n. new n ≡ old n) (sym same) (here (subst (λ n. done n ≡ true) same is)) ∙ so_far x is)
+    (λ (other : x ≢ u). others x other ∙ so_far x is)
+    (cases_eq x u)
+
 -- ---- at the end
 
 module _ (m : Topology) (to : ℕ) (routes : List Best) (done : ℕ → Bool) (all : AreAllDone m.size done)
