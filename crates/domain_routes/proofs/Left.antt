@@ -5,15 +5,14 @@ use Rattle.std.proofs.lemmas.Bool.{cases_Bool, cases_eq, cases_order, false≢tr
 use Rattle.std.proofs.lemmas.List.{get_or-replicate, get_or_default, length-replicate}
 use Rattle.netchange_core.specs.declared.reply.Via.{Via}
 use Rattle.netchange_core.specs.declared.reply.Via.TheVariants.{Local, Node, Nowhere}
-use Rattle.routing_domain.specs.Rest.{IsRest, LeadsThrough, Topology}
+use Rattle.routing_domain.specs.Rest.{LeadsThrough, Topology}
 use Rattle.routing_domain.specs.Ways.{GoesVia, LeadsFirst}
 use Rattle.domain_routes.specs.Cuts.{WereRoutes}
 use Rattle.domain_routes.specs.Left.{AreBestBefore, AreLeft, HasHops, IsLeft}
-use Rattle.domain_routes.specs.Offers.{ComesBefore, IsBetter, StaysBehind, hop_of, way}
+use Rattle.domain_routes.specs.Offers.{ComesBefore, StaysBehind, hop_of, way}
 use Rattle.domain_routes.specs.PlanView.{PlanView, is_linked}
 use Rattle.domain_routes.specs.Routes.{AreRoutes, nowhere, own_route, route_at}
 use Rattle.domain_routes.specs.Solving.{AreAllDone, IsBestSoFar, IsFound, IsOffered, is_done}
-use Rattle.domain_routes.specs.Still.{HasFewerLinks}
 use Rattle.domain_routes.specs.Topology.{toll, topology}
 use Rattle.domain_routes.specs.declared.best.Best.{Best}
 use Rattle.domain_routes.proofs.Offering.{behind_way, tie_in_reach}

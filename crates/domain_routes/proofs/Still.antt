@@ -1,6 +1,6 @@
 -- Distances that two plans have in common stand still while the links come and go that one of them has and the other has not.
 use mathlib.Core.Logic.{inl, inr}
-use Rattle.std.proofs.Common.{◌≡◌, ◌≢◌, ◌⊎◌, ⊎_elim, ℕ, ◌+◌, ◌<◌, ◌≤◌, zero, suc, min, Bool, true, false, List, cond, if◌then◌else◌}
+use Rattle.std.proofs.Common.{◌≡◌, ◌≢◌, ⊎_elim, ℕ, ◌+◌, ◌<◌, ◌≤◌, zero, suc, min, Bool, true, false, List, cond, if◌then◌else◌}
 use Rattle.std.proofs.Common.{eq-eqb, ne_eqb, sym, ap, subst, refl, ◌∙◌, arith}
 use Rattle.std.proofs.lemmas.Bool.{cases_eq}
 use Rattle.netchange_core.specs.Best.{best, distance}
@@ -11,7 +11,7 @@ use Rattle.routing_domain.specs.Domain.{Domain, IsInOrder, topology as domain_to
 use Rattle.routing_domain.specs.Failures.{AreOneBelow, HappenAll, IsLoose, Loose, with_all, with_none}
 use Rattle.routing_domain.specs.Network.{IsOrderly, IsWhole, Network}
 use Rattle.routing_domain.specs.Phases.{Phases}
-use Rattle.routing_domain.specs.Rest.{IsRest, Topology}
+use Rattle.routing_domain.specs.Rest.{Topology}
 use Rattle.routing_domain.specs.Ways.{GoesVia}
 use Rattle.domain_routes.specs.declared.best.Best.{Best}
 use Rattle.domain_routes.specs.declared.since.Since.{Since}

@@ -4,7 +4,6 @@ use Rattle.std.proofs.lemmas.Bool.{cases_Bool, false≢true}
 use Rattle.domain_routes.specs.Routes.{route_at}
 use Rattle.domain_routes.specs.Solving.{is_done}
 use Rattle.domain_routes.specs.Topology.{topology}
-use Rattle.domain_routes.specs.declared.best.Best.{Best}
 use Rattle.domain_routes.proofs.Left.{IsBestBelow, below_more, below_skips}
 use Rattle.domain_routes.proofs.cutting.best_way.Goals as goal
 

@@ -1,5 +1,5 @@
 -- Links that are fewer by one, which comes back.
-use Rattle.std.proofs.Common.{◌≡◌, ◌∙◌, true, sym, ap, subst}
+use Rattle.std.proofs.Common.{◌∙◌, true, sym, ap, subst}
 use Rattle.domain_routes.specs.Edits.{linking}
 use Rattle.domain_routes.specs.Still.{HasFewerLinks}
 use Rattle.domain_routes.proofs.Linking.{IsLink}
