@@ -6,6 +6,7 @@ pub mod Setting
 pub mod Growing
 pub mod OnTheWay
 pub mod Counting
-pub mod Restoring
+pub mod Alone
+pub mod Reusing
 pub mod Failing
 mod FailureRows

@@ -127,7 +127,8 @@ impl RestingPlan {
         ensures all { IfOk result (λ all. AreAllRoutes (linking false u w self.old) all.items) }
         ensures same { self.new ≡ self.old }
     {
-        routes_without_link(alloc, &mut self.plan, u, w)
+        let before = self.all_routes(alloc)?;
+        routes_without_link(alloc, &mut self.plan, before.as_slice(), u, w)
     }
 
     /// All routes at rest where a node has failed.
@@ -140,6 +141,7 @@ impl RestingPlan {
         ensures all { IfOk result (λ all. (later : PlanView) × IsAlone x self.old later × AreAllRoutes later all.items) }
         ensures same { self.new ≡ self.old }
     {
-        routes_without_node(alloc, &mut self.plan, x)
+        let before = self.all_routes(alloc)?;
+        routes_without_node(alloc, &mut self.plan, before.as_slice(), x)
     }
 }

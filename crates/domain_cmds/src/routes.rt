@@ -1,11 +1,12 @@
 //! Routes at rest, kept.
 //!
 //! **All routes are kept until the plan changes**, since `table`, `mark` and `changes` come in groups. `mark` and the routes in use share one
-//! table.
+//! table. Once links were cut, most of these routes are left.
 ghost use Rattle.std.specs.Prelude.{◌≡◌, ◌<◌, IfOk};
+ghost use Rattle.domain_routes.specs.Cuts.{WereRoutes};
 ghost use Rattle.domain_routes.specs.Routes as rest;
 ghost use Rattle.domain_routes.specs.Topology.{topology};
-ghost use Rattle.domain_cmds.specs.Rests.{AreAllRoutes};
+ghost use Rattle.domain_cmds.specs.Rests.{AreAllRoutes, WereAllRoutes};
 ghost use Rattle.domain_cmds.specs.Texts as spec;
 
 use domain_routes::{Best, Plan};
@@ -81,6 +82,39 @@ pub(crate) fn all_columns(alloc: Global, plan: &Plan) -> Result<Vec<Column>, All
     let mut all = Vec::with_capacity(alloc, usize::from(plan.size()))?;
     for v in 0..plan.size() {
         all.push(make_column(alloc, plan, v)?)?;
+    }
+    Ok(all)
+}
+
+/// The routes to a destination once links were cut, by those before.
+fn column_after_cuts(
+    alloc: Global,
+    plan: &Plan,
+    before: &Column,
+    v: u16,
+) -> Result<Column, AllocError>
+    requires node { v < plan.now.size }
+    requires before { WereRoutes plan.now v before.now }
+    ensures { IfOk result (λ routes. rest.AreRoutes (topology plan.now v) v routes) }
+{
+    Ok(Column {
+        routes: plan.routes_after_cuts(alloc, v, before.routes.as_slice())?,
+    })
+}
+
+/// The routes to each destination, by its number, once links were cut, by those before.
+pub(crate) fn columns_after_cuts(
+    alloc: Global,
+    plan: &Plan,
+    before: &[Column],
+) -> Result<Vec<Column>, AllocError>
+    requires { WereAllRoutes plan.now before.now }
+    ensures { IfOk result (λ all. AreAllRoutes plan.now all.items) }
+{
+    let mut all = Vec::with_capacity(alloc, usize::from(plan.size()))?;
+    for v in 0..plan.size() {
+        let column = &before[usize::from(v)];
+        all.push(column_after_cuts(alloc, plan, column, v)?)?;
     }
     Ok(all)
 }

@@ -48,23 +48,7 @@ keeps_done m to old new before after w r x short done =
     (λ other. r.settled.order x w short r.nearest.member (sym (r.others x other) ∙ done) r.nearest.waits)
     (cases_eq x w))
 
--- a node's route changes only for a shorter one or as short a one
-pub no_farther : (m : Topology) (to : ℕ) (old new : ℕ → Best) (before after : ℕ → Bool) (w : ℕ) → IsRound m to old new before after w →
-    (u : ℕ) → u < m.size → (new u).dist ≤ (old u).dist
-no_farther m to old new before after w r u short =
-    ⊎_elim
-    (λ linked. ⊎_elim
-    (λ taken. ⊎_elim
-    (λ shorter. omega (arith, ap dist taken.0, shorter)) (λ tie. omega (arith, ap dist taken.0, tie.0)) (taken.1))
-    (λ kept. omega (arith, ap dist kept.0))
-    ((r.offered u short).taken linked))
-    (λ apart. omega (arith, ap dist ((r.offered u short).kept apart)))
-    (cases_Bool (m.linked u w))
-  where
-    dist : Best → ℕ
-    dist b = b.dist
-
--- and not for one as short as the node's, where it waits
+-- no route becomes as short as the node's, where it waits
 pub no_nearer : (m : Topology) (to : ℕ) (old new : ℕ → Best) (before after : ℕ → Bool) (w : ℕ) → IsRound m to old new before after w →
     (u : ℕ) → u < m.size → before u ≡ false → (old w).dist ≤ (new u).dist
 no_nearer m to old new before after w r u short waits =

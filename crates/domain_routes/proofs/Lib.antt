@@ -3,6 +3,7 @@ pub mod Following
 pub mod FollowingFilters
 pub mod Increasing
 pub mod Kept
+pub mod Left
 pub mod Linking
 pub mod OfDomain
 pub mod Offering
@@ -10,6 +11,7 @@ pub mod One
 pub mod Places
 pub mod Quiet
 pub mod Reach
+pub mod Restoring
 pub mod Still
 pub mod Unlinked
 pub mod Values

@@ -45,7 +45,7 @@ one_via m to a b ab ba u short Nowhere Nowhere p q = refl
 abbrev route : ℕ → Via → Best
 route dist via = record { dist = dist; via = via }
 
-route_of_parts : (r s : Best) → r.dist ≡ s.dist → r.via ≡ s.via → r ≡ s
+pub route_of_parts : (r s : Best) → r.dist ≡ s.dist → r.via ≡ s.via → r ≡ s
 route_of_parts r s dist via = ap (λ d. route d r.via) dist ∙ ap (route s.dist) via
 
 pub one : (m : Topology) (to : ℕ) → NeverNearer m → (a b : List Best) → AreRoutes m to a → AreRoutes m to b → a ≡ b

@@ -1,6 +1,6 @@
 -- Distances that two plans have in common stand still while the links come and go that one of them has and the other has not.
 use mathlib.Core.Logic.{inl, inr}
-use Rattle.std.proofs.Common.{◌≡◌, ◌≢◌, ◌⊎◌, ⊎_elim, ℕ, ◌+◌, ◌<◌, ◌≤◌, zero, suc, min, Bool, true, false, List, cond, if◌then◌else◌}
+use Rattle.std.proofs.Common.{◌≡◌, ◌≢◌, ⊎_elim, ℕ, ◌+◌, ◌<◌, ◌≤◌, zero, suc, min, Bool, true, false, List, cond, if◌then◌else◌}
 use Rattle.std.proofs.Common.{eq-eqb, ne_eqb, sym, ap, subst, refl, ◌∙◌, arith}
 use Rattle.std.proofs.lemmas.Bool.{cases_eq}
 use Rattle.netchange_core.specs.Best.{best, distance}
@@ -11,7 +11,7 @@ use Rattle.routing_domain.specs.Domain.{Domain, IsInOrder, topology as domain_to
 use Rattle.routing_domain.specs.Failures.{AreOneBelow, HappenAll, IsLoose, Loose, with_all, with_none}
 use Rattle.routing_domain.specs.Network.{IsOrderly, IsWhole, Network}
 use Rattle.routing_domain.specs.Phases.{Phases}
-use Rattle.routing_domain.specs.Rest.{IsRest, Topology}
+use Rattle.routing_domain.specs.Rest.{Topology}
 use Rattle.routing_domain.specs.Ways.{GoesVia}
 use Rattle.domain_routes.specs.declared.best.Best.{Best}
 use Rattle.domain_routes.specs.declared.since.Since.{Since}
@@ -102,7 +102,7 @@ links_more p q u w l f = record {
   exports = λ x y. f.exports x y ∙ sym (linking_keeps (λ (c : PeerView). c.exports) (λ _ _. refl) q u w true l x y);
 }
 
-cuts_fewer : (p q : PlanView) (u w : ℕ) → IsLink q u w → HasFewerLinks p q → HasFewerLinks p (linking false u w q)
+pub cuts_fewer : (p q : PlanView) (u w : ℕ) → IsLink q u w → HasFewerLinks p q → HasFewerLinks p (linking false u w q)
 cuts_fewer p q u w l f = record {
   size = f.size;
   prefixes = f.prefixes;
@@ -114,8 +114,18 @@ cuts_fewer p q u w l f = record {
   exports = λ x y. linking_keeps (λ (c : PeerView). c.exports) (λ _ _. refl) q u w false l x y ∙ f.exports x y;
 }
 
-has_itself : (p : PlanView) → HasFewerLinks p p
+pub has_itself : (p : PlanView) → HasFewerLinks p p
 has_itself p = record { size = refl; prefixes = refl; linked = λ u w h. h; imports = λ u w. refl; exports = λ u w. refl }
+
+-- links that are fewer than those that are fewer
+pub fewer_on : (p q r : PlanView) → HasFewerLinks p q → HasFewerLinks q r → HasFewerLinks p r
+fewer_on p q r one next = record {
+  size = next.size ∙ one.size;
+  prefixes = next.prefixes ∙ one.prefixes;
+  linked = λ u w linked. one.linked u w (next.linked u w linked);
+  imports = λ u w. next.imports u w ∙ one.imports u w;
+  exports = λ u w. next.exports u w ∙ one.exports u w;
+}
 
 pub since_link : (s : Since) (linked : Bool) (p q : PlanView) (u w : ℕ) → IsLink q u w → IsSince s p q → IsSince (after_link linked s) p (linking linked u w q)
 since_link since.Nothing true p q u w l is = links_more p q u w l (subst (λ x. HasFewerLinks q x) is (has_itself q))
@@ -155,7 +165,7 @@ with_less false true h = never (h refl)
 with_less false false h = refl
 
 -- the same filters make the same tolls
-same_toll : (p q : PlanView) → HasFewerLinks p q → (v u w x : ℕ) → toll q v u w x ≡ toll p v u w x
+pub same_toll : (p q : PlanView) → HasFewerLinks p q → (v u w x : ℕ) → toll q v u w x ≡ toll p v u w x
 same_toll p q f v u w x =
     same_filtered_distance (opening_of q) (opening_of p) f.size f.prefixes (peer q u w).imports v
     (filtered_distance (opening_of q) (peer q w u).exports v x)

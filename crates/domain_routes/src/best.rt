@@ -1,7 +1,7 @@
 //! The route of a node to the destination.
 
-ghost use Rattle.std.specs.Prelude.{◌≡◌, suc};
-ghost use Rattle.domain_routes.specs.Offers.{IsBetter, hop_of};
+ghost use Rattle.std.specs.Prelude.{◌≡◌, suc, MatchBool};
+ghost use Rattle.domain_routes.specs.Offers.{ComesBefore, IsBetter, StaysBehind, hop_of};
 
 use netchange_core::Via;
 
@@ -24,14 +24,22 @@ fn hop_of(via: Via) -> u16
     }
 }
 
+/// Whether a way through a neighbour, one more than what its distance comes to, comes before a route: it is shorter, or as short
+/// through the neighbour of the lesser number.
+pub(crate) fn comes_before(route: Best, toll: u16, hop: u16) -> bool
+    ensures { MatchBool result (ComesBefore (suc toll) hop route) (StaysBehind (suc toll) hop route) }
+{
+    let length = u32::from(toll) + 1;
+    let dist = u32::from(route.dist);
+    length < dist || (length == dist && hop < hop_of(route.via))
+}
+
 /// The better of a route and the way through a neighbour, one more than what its distance comes to. Of two that are as
 /// short, the one through the neighbour of the lesser number.
 pub(crate) fn better(route: Best, toll: u16, hop: u16) -> Best
     ensures { IsBetter route (suc toll) hop result }
 {
-    let length = u32::from(toll) + 1;
-    let dist = u32::from(route.dist);
-    if length < dist || (length == dist && hop < hop_of(route.via)) {
+    if comes_before(route, toll, hop) {
         Best {
             dist: toll + 1,
             via: Via::Node(hop),

@@ -3,6 +3,7 @@
 #![tactic(auto)]
 
 mod best;
+mod cutting;
 mod laws;
 mod peer;
 mod plan;

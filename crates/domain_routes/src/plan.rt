@@ -11,6 +11,7 @@ ghost use Rattle.std.specs.Prelude.{◌≡◌, ◌≢◌, ◌≤◌, ◌<◌, �
 ghost use Rattle.std.specs.Option.{SomeIff};
 ghost use Rattle.domain_routes.specs.Edits.{exporting, importing, linking, unlinked, with_prefix};
 ghost use Rattle.domain_routes.specs.PlanView.{IsPlan, IsSize, is_linked, opening_of, peer, stranger};
+ghost use Rattle.domain_routes.specs.Still.{HasFewerLinks};
 ghost use Rattle.domain_routes.specs.Topology.{toll};
 
 use crate::peer::Peer;
@@ -129,7 +130,8 @@ impl Plan {
         requires u { u < self.old.size }
         requires w { w < self.old.size }
         requires apart { u ≢ w }
-        ensures { self.new ≡ linking linked u w self.old }
+        ensures value { self.new ≡ linking linked u w self.old }
+        ensures plan { IsPlan self.old }
     {
         self.rows[usize::from(u)].set_linked(w, linked);
         self.rows[usize::from(w)].set_linked(u, linked);
@@ -145,12 +147,14 @@ impl Plan {
         self.set_linked(u, w, true);
     }
 
-    /// Two nodes are neighbours no more. Their filters stay.
+    /// Two nodes are neighbours no more. Their filters stay, so a link that is made again leaves the plan as it was.
     pub fn cut(&mut self, u: u16, w: u16)
         requires u { u < self.old.size }
         requires w { w < self.old.size }
         requires apart { u ≢ w }
-        ensures { self.new ≡ linking false u w self.old }
+        ensures value { self.new ≡ linking false u w self.old }
+        ensures fewer { HasFewerLinks self.old self.new }
+        ensures back { is_linked self.old u w ≡ true → linking true u w self.new ≡ self.old }
     {
         self.set_linked(u, w, false);
     }

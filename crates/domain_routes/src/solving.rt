@@ -22,7 +22,7 @@ use std::alloc::{AllocError, Global};
 const MORE_THAN_ANY_DISTANCE: u32 = 65_536;
 
 /// Of the nodes that are not done, one that no other is nearer than.
-fn nearest(routes: &[Best], done: &[bool]) -> Option<usize>
+pub(crate) fn nearest(routes: &[Best], done: &[bool]) -> Option<usize>
     requires { length done.now ≡ length routes.now }
     ensures { MatchOption result (AreAllDone (length routes.now) (is_done done.now))
         (IsNearest (length routes.now) (route_at (length routes.now) routes.now) (is_done done.now)) }

@@ -1,4 +1,4 @@
-use Rattle.domain_routes.proofs.Still.{Happened, are_one, distance_stands, is_greatest, via_stands}
+use Rattle.domain_routes.proofs.Still.{are_one, distance_stands, is_greatest, via_stands}
 use Rattle.domain_routes.proofs.laws.what_is_near_stands_still.Goals as goal
 
 pub returns : goal.returns

@@ -18,3 +18,6 @@ invariant_of-self c =
           (linking_plan p c.args.u c.args.w c.args.linked
           (record { plan = c.self.invariant.1; from = omega (arith, size); to = omega (arith, size); apart = c.requires.apart })),
     )
+
+pub returns-clause-plan : goal.returns-clause-plan
+returns-clause-plan c = subst IsPlan c.self.view_is (c.self.invariant.1)
