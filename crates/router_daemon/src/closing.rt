@@ -16,6 +16,7 @@ fn close<R: Wait, J: Naming, E: Write>(rt: &R, shared: &Shared<J, E>) -> usize {
     board.close();
     let count = board.len();
     shared.signals.wake(board);
+    shared.signals.news.ring(rt);
     count
 }
 

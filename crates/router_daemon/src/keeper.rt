@@ -464,6 +464,10 @@ fn keep_turn<
     let again = keep_once::<R, I, O, D, J, E>(
         rt, alloc, folder, shared, room, link, pass, &mut begun,
     );
+    // A link that is not opened again does not come up any more.
+    if link.retry.is_none() {
+        shared.signals.news.note_there(rt, link.index);
+    }
     let before = wait_before(was_long(rt, begun), before);
     reopening(link.retry, again, before)
 }

@@ -11,6 +11,7 @@ ghost use Rattle.router_daemon.specs.declared.fault.DaemonFault.TheVariants as f
 use crate::bounding::MostInMemory;
 use crate::closing::close_links;
 use crate::fault::DaemonFault;
+use crate::feeding::{FeedFile, Feeding, start_feeding};
 use crate::folder::LinkFolder;
 use crate::forgetting::Forgetter;
 use crate::naming::{LegalTicket, Ticket};
@@ -103,6 +104,7 @@ fn serve_all<
     pass: &mut Pass,
     links: Vec<LinkFiles>,
     common: Links,
+    feeding: Option<Feeding<J>>,
     figures: Figures,
     filters: Filters,
     reader: &mut I,
@@ -124,6 +126,7 @@ fn serve_all<
     let operators = LegalTicket::new(shared.router.split(pass, 1));
     let folder = Arc::new(alloc, folder)?;
     start_links::<R, FI, FO, D, J, E>(rt, alloc, &folder, shared, pass, links, common)?;
+    start_feeding::<R, FI, FO, D, J, E>(rt, alloc, &folder, shared, pass, feeding)?;
     Ok(serve_lines(
         rt, alloc, shared, operators, figures, filters, reader, writer,
     ))
@@ -183,6 +186,7 @@ fn run_named<
     alloc: Global,
     folder: D,
     setting: Setting<S>,
+    feed: Option<FeedFile<'_>>,
     errors: E,
     reader: &mut I,
     writer: &mut W,
@@ -233,6 +237,7 @@ fn run_named<
         retry,
         hold,
     };
+    let feeding = Feeding::<J>::new(alloc, feed, &opening)?;
     let shared: Arc<Shared<J, E>> = Arc::new(
         alloc,
         shared_of(alloc, router, links.as_slice(), errors)?,
@@ -245,14 +250,15 @@ fn run_named<
     };
     let bounding = start_bounding(rt, alloc, &shared, forgetter, ticket, most)?;
     let ran = serve_all::<R, FI, FO, D, J, E, I, W>(
-        rt, alloc, folder, &shared, &mut pass, links, common, figures, filters, reader, writer,
+        rt, alloc, folder, &shared, &mut pass, links, common, feeding, figures, filters, reader,
+        writer,
     );
     close_links(rt, &shared, &mut pass);
     end_run(rt, alloc, &shared, bounding, ran)
 }
 
 /// Runs a router: its links, its operator and its history, until the operator quits or their lines end. The folder in which its history is to be
-/// saved has no segments before.
+/// saved has no segments before. Its routes are told, if a file is named for them.
 pub fn run_router<
     R: Threads + Wait + Clock + RandomSource + Copy + Send + Drop + 'static,
     FI: Read + Send + Drop + 'static,
@@ -267,6 +273,7 @@ pub fn run_router<
     alloc: Global,
     folder: D,
     setting: Setting<S>,
+    feed: Option<FeedFile<'_>>,
     errors: E,
     reader: &mut I,
     writer: &mut W,
@@ -282,6 +289,6 @@ pub fn run_router<
 {
     let (router, pass, right) = open_router(rt, alloc, &setting.plan, &setting.filters)?;
     run_named::<Brand, R, FI, FO, D, S, E, I, W>(
-        rt, alloc, folder, setting, errors, reader, writer, router, pass, right,
+        rt, alloc, folder, setting, feed, errors, reader, writer, router, pass, right,
     )
 }
