@@ -19,7 +19,7 @@ use Rattle.route_feed.specs.declared.fault.FeedFault.TheVariants as fault
 use Rattle.route_feed.specs.declared.hop.Hop.{Hop}
 use Rattle.route_feed.specs.declared.look.Look.{Look}
 use Rattle.route_feed.specs.Changes.{are_same_below, changes_below}
-use Rattle.route_feed.specs.Feeding.{AreMoments, FeedView, Got, HasFed, IsMoment, Tells, is_none_before, seen_by, table_after}
+use Rattle.route_feed.specs.Feeding.{AreMoments, FeedView, Got, HasFed, IsMoment, IsSpoken, Tells, is_none_before, seen_by, table_after}
 use Rattle.route_feed.specs.Lines.{Block, block_text, feed_text, gathered}
 use Rattle.route_feed.specs.Looks.{IsLook}
 use Rattle.route_feed.specs.Steps.{AreNowhere, IsStill, IsUntold, IsUnwritten, IsWritten, news_block}
@@ -319,6 +319,12 @@ module _ (f g : FeedView) (r : Result ℕ FeedFault) (text news : List ℕ) (is 
       one : (x : Result ℕ FeedFault) → IfErr x (λ why. (why ≡ fault.Write) × IsUnwritten news f g) → IfErr x (λ why. IsUntold why news f g)
       one (Ok n) e = e
       one (Err why) e = subst (λ (w : FeedFault). IsUntold w news f g) (sym e.0) e.1
+
+-- what was written is a block
+pub spoke : (f g : FeedView) (b : Block) (hops : List (Option Hop)) (end : ℕ) (r : Result ℕ FeedFault) → b.at ≡ end →
+    IfOk r (λ n. (n ≡ end) × IsWritten (block_text b) hops end f g) → IfOk r (λ n. IsSpoken n f g)
+spoke f g b hops end (Ok n) at h = record { block = b; at = at ∙ sym h.0; appends = h.1.appends }
+spoke f g b hops end (Err why) at h = tt
 
 -- the same, as the code has it: by the size and the prefixes that it read
 module _ (f g : FeedView) (j : JournalView) (same : j.opening ≡ f.opening) (member : f.opening.me < f.opening.size) (look : Look)

@@ -79,3 +79,9 @@ pub record HasFed (f : FeedView) (j : JournalView) : Type 0 where
   pub hops : AreHops f.opening.size (prefix_of f.opening) (gathered blocks) f.hops
   pub others : (p : List Bool) → is_had_below (prefix_of f.opening) p f.opening.size ≡ false → gathered blocks p ≡ None
   pub got : Got f.is_broken j blocks f.first f.held
+
+-- a block was told, and nothing beside it: it is of the moment after so many entries
+pub record IsSpoken (n : ℕ) (old new : FeedView) : Type 0 where
+  pub block : Block
+  pub at : block.at ≡ n
+  pub appends : Appends old.held new.held (block_text block)

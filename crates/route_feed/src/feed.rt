@@ -1,6 +1,6 @@
 //! A feed of a router's routes.
 ghost use Rattle.std.specs.Prelude.{◌≡◌, ◌≤◌, None, Some, false, true, IfErr, IfOk, length};
-ghost use Rattle.route_feed.specs.Feeding.{HasFed, seen_by};
+ghost use Rattle.route_feed.specs.Feeding.{HasFed, IsSpoken, seen_by};
 ghost use Rattle.route_feed.specs.Lines.{block_text};
 ghost use Rattle.route_feed.specs.Looks.{IsLook};
 ghost use Rattle.route_feed.specs.Steps as spec;
@@ -26,7 +26,7 @@ use std::sync::Wait;
 /// A stream that is told where packets go, and what it was told. A contract sees it as a `FeedView`.
 ///
 /// The first block is the whole table: a line for each prefix that can be reached. Each later one has what is another way than it was told, and
-/// nothing of what came in between. So a stream that is opened anew gets a feed of its own.
+/// nothing of what came in between; it may be that nothing is. So a stream that is opened anew gets a feed of its own.
 #[derive(Drop)]
 pub struct Feed<V: Write> {
     stream: V,
@@ -130,14 +130,16 @@ impl<V: Write + Drop> Feed<V> {
         }
     }
 
-    /// Whether the table was told, and packets for the prefix of each node still go where they were told to.
-    fn is_still(&self, hops: &[Option<Hop>]) -> bool
+    /// Whether there is nothing to tell: the table was told, packets for the prefix of each node still go where they were told to, and the stream is not
+    /// to be told so.
+    fn is_still(&self, hops: &[Option<Hop>], speaks: bool) -> bool
         requires count { length hops.now ≡ self.now.opening.size }
-        ensures { result ≡ true → spec.IsStill self.now hops.now }
+        ensures still { result ≡ true → spec.IsStill self.now hops.now }
+        ensures silent { result ≡ true → speaks ≡ false }
     {
         match self.at {
-            Some(_) => are_same(self.hops.as_slice(), hops),
-            None => false,
+            Some(_) if !speaks => are_same(self.hops.as_slice(), hops),
+            _ => false,
         }
     }
 
@@ -167,20 +169,21 @@ impl<V: Write + Drop> Feed<V> {
         }
     }
 
-    /// Tells what is new by a look.
-    fn tell_look(&mut self, alloc: Global, look: &Look) -> Result<u64, FeedFault>
+    /// Tells what is new by a look, and that nothing is where it is to speak.
+    fn tell_look(&mut self, alloc: Global, look: &Look, speaks: bool) -> Result<u64, FeedFault>
         requires goes_on { self.old.is_broken ≡ false }
         requires count { length look.now.routes.items ≡ self.old.opening.size }
         ensures opening { self.new.opening ≡ self.old.opening }
         ensures first { self.new.first ≡ self.old.first }
         ensures fed { (j : JournalView) → j.opening ≡ self.old.opening → IsLook j look.now → HasFed self.old j → HasFed self.new j }
         ensures ok { IfOk result (λ n. (n ≡ look.now.end) × (self.new.at ≡ Some n) × (self.new.is_broken ≡ false)) }
+        ensures spoken { IfOk result (λ n. speaks ≡ true → IsSpoken n self.old self.new) }
         ensures err { IfErr result (λ f. spec.Fails f self.old self.new) }
     {
         let size = self.opening.size();
         match hops_of(alloc, size, self.opening.prefixes(), look.routes.as_slice()) {
             Ok(hops) => {
-                if self.is_still(hops.as_slice()) {
+                if self.is_still(hops.as_slice(), speaks) {
                     self.at = Some(look.end);
                     return Ok(look.end);
                 }
@@ -191,7 +194,8 @@ impl<V: Write + Drop> Feed<V> {
     }
 
     /// Tells the stream where packets go at a moment of the router's history that is no earlier than what the pass has seen: the whole table at the
-    /// first time, then what is another way than it was told, and no word where nothing is. After how many entries of the history that is.
+    /// first time, then what is another way than it was told. Where nothing is, it is told no word, or, if it is to speak, a block without routes, by
+    /// which a stream that nobody reads any more is found. After how many entries of the history that is.
     ///
     /// E2 where the stream did not take all: then it is told nothing any more, and the fault comes again. E3 where memory was refused: then nothing is
     /// written, and the next call tells it.
@@ -204,6 +208,7 @@ impl<V: Write + Drop> Feed<V> {
         alloc: Global,
         router: &Router,
         pass: &mut Pass,
+        speaks: bool,
     ) -> Result<u64, FeedFault>
         requires of { IsPassOf router.now pass.old }
         requires opening { self.old.opening ≡ router.now.opening }
@@ -215,6 +220,7 @@ impl<V: Write + Drop> Feed<V> {
         ensures first { self.new.first ≡ self.old.first }
         ensures fed { HasFed self.new (seen_by router.now pass.new) }
         ensures ok { IfOk result (λ n. (n ≡ length pass.new.fragment.seen) × (self.new.at ≡ Some n) × (self.new.is_broken ≡ false)) }
+        ensures spoken { IfOk result (λ n. speaks ≡ true → IsSpoken n self.old self.new) }
         ensures err { IfErr result (λ f. spec.Fails f self.old self.new) }
     {
         if self.is_broken {
@@ -223,7 +229,7 @@ impl<V: Write + Drop> Feed<V> {
         let mut looking = Looking { alloc, look: None };
         router.observe(rt, pass, &mut looking);
         match looking.look() {
-            Some(look) => self.tell_look(alloc, &look),
+            Some(look) => self.tell_look(alloc, &look, speaks),
             None => Err(FeedFault::Memory),
         }
     }

@@ -5,6 +5,7 @@ ghost use Rattle.router_daemon.specs.Passes.{IsLegalPass};
 
 use crate::folder::LinkFolder;
 use crate::naming::Ticket;
+use crate::resting::await_rest;
 use crate::settling::pause;
 use crate::shared::Shared;
 use crate::signals::Closing;
@@ -20,7 +21,7 @@ use std::marker::{Model, PhantomData};
 use std::rt::Clock;
 use std::sync::{Arc, Wait};
 use std::thread::{self, Threads};
-use std::time::Duration;
+use std::time::{Duration, Instant};
 
 /// Where the routes are to be told.
 #[derive(Clone, Copy)]
@@ -87,47 +88,42 @@ fn tell_unfed_at_all<E: Write>(errors: &mut E) {
     );
 }
 
-/// For how many tenths of a second nothing is entered by a router at rest.
-const QUIET: u32 = 3;
-
 /// For how many milliseconds a name rests that could not be opened, or whose stream ended.
 const PAUSE: u64 = 200;
 
-/// Waits until the router has come to rest for the first time: each link has come up, or failed and is not opened again, and nothing was entered for
-/// a while. A link that is opened again often fails at first, where its neighbour has not noticed yet that its old session is over. It waits no longer
-/// than so many seconds. That the router is being closed, if it is.
-fn await_rest<R: Wait + Clock, J: Naming, E: Write>(
-    rt: &R,
-    shared: &Shared<J, E>,
-    most: u32,
-) -> Option<Closing> {
-    let (mut before, mut quiet) = (0u64, 0u32);
-    for _ in 0..u64::from(most) * 10 {
-        thread::sleep(rt, Duration::from_millis(100));
-        if let Some(closing) = shared.signals.closing(rt) {
-            return Some(closing);
-        }
-        let (entries, are_there) = shared.signals.news.look(rt);
-        quiet = if are_there && entries == before {
-            quiet.saturating_add(1)
-        } else {
-            0
-        };
-        before = entries;
-        if quiet >= QUIET {
-            return None;
-        }
+/// For how many milliseconds a stream is told nothing. Then it is told that nothing is new: a FIFO that nobody has open any more takes no more of it,
+/// and whoever opens it next is told the whole table.
+const SILENCE: u64 = 1000;
+
+/// Whether a stream that was told something unasked then is to be told something again. Where the clock cannot be read, it is.
+fn is_silent<R: Clock>(rt: &R, told: Option<Instant>) -> bool {
+    let Some(told) = told else {
+        return true;
+    };
+    match told.elapsed(rt) {
+        Ok(lasted) => lasted >= Duration::from_millis(SILENCE),
+        Err(_) => true,
     }
-    None
 }
 
-/// Tells a stream where packets go, until it takes no more (None) or the router is being closed.
+/// Whether the stream is to be told something now, although nothing may be new. It notes that it was.
+fn speaks_now<R: Clock>(rt: &R, is_kept: bool, told: &mut Option<Instant>) -> bool {
+    if is_kept || !is_silent(rt, *told) {
+        return false;
+    }
+    *told = Instant::now(rt).ok();
+    true
+}
+
+/// Tells a stream where packets go, until it takes no more (None) or the router is being closed. A file that keeps what it is told is told only
+/// what is new.
 fn tell_stream<R: Wait + Clock, O: Write + Drop, J: Naming, E: Write>(
     rt: &R,
     alloc: Global,
     shared: &Shared<J, E>,
     opening: &Opening,
     stream: O,
+    is_kept: bool,
     pass: &mut Pass,
 ) -> Option<Closing>
     requires of { IsPassOf J.router pass.old }
@@ -137,10 +133,13 @@ fn tell_stream<R: Wait + Clock, O: Write + Drop, J: Naming, E: Write>(
     let Ok(mut feed) = Feed::new(alloc, stream, opening) else {
         return None;
     };
+    let mut told = Instant::now(rt).ok();
     for _ in rt.forever() {
-        match feed.tell(rt, alloc, &shared.router, pass) {
-            Ok(told) => {
-                if let Some(closing) = shared.signals.await_news(rt, told) {
+        let speaks = speaks_now(rt, is_kept, &mut told);
+        match feed.tell(rt, alloc, &shared.router, pass, speaks) {
+            Ok(end) => {
+                let longest = Duration::from_millis(SILENCE);
+                if let Some(closing) = shared.signals.await_news(rt, end, longest) {
                     return Some(closing);
                 }
             }
@@ -151,6 +150,31 @@ fn tell_stream<R: Wait + Clock, O: Write + Drop, J: Naming, E: Write>(
         pause(rt);
     }
     unreachable!()
+}
+
+/// Opens the file that the routes are told to. Where it cannot be opened, people are told, unless they were.
+fn open_feed<R: Wait, I: Read, O: Write, D: LinkFolder<I, O>, J: Naming, E: Write>(
+    rt: &R,
+    alloc: Global,
+    folder: &D,
+    shared: &Shared<J, E>,
+    name: &str,
+    is_told: &mut bool,
+) -> Option<O> {
+    match folder.open_feed(name) {
+        Ok(stream) => {
+            *is_told = false;
+            Some(stream)
+        }
+        Err(why) => {
+            if !*is_told {
+                let mut errors = shared.errors.lock(rt);
+                tell_unfed(alloc, &mut *errors, name, &why);
+            }
+            *is_told = true;
+            None
+        }
+    }
 }
 
 /// Tells where packets go, from the first rest of the router on, until it is closed: whoever reads the file. A reader that comes later, or again, is
@@ -174,23 +198,28 @@ fn feed_routes<
     if let Some(closing) = await_rest(&rt, &shared, feeding.settle) {
         return closing;
     }
+    let name = feeding.name.as_str();
+    let mut is_told = false;
     for _ in rt.forever() {
-        match folder.open_output(feeding.name.as_str()) {
-            Ok(stream) => {
-                if let Some(closing) = tell_stream::<R, O, J, E>(
-                    &rt,
-                    alloc,
-                    &shared,
-                    &feeding.opening,
-                    stream,
-                    &mut pass,
-                ) {
-                    return closing;
-                }
-            }
-            Err(why) => {
-                let mut errors = shared.errors.lock(&rt);
-                tell_unfed(alloc, &mut *errors, feeding.name.as_str(), &why);
+        let is_kept = folder.is_kept(name);
+        if let Some(stream) = open_feed::<R, I, O, D, J, E>(
+            &rt,
+            alloc,
+            &folder,
+            &shared,
+            name,
+            &mut is_told,
+        ) {
+            if let Some(closing) = tell_stream::<R, O, J, E>(
+                &rt,
+                alloc,
+                &shared,
+                &feeding.opening,
+                stream,
+                is_kept,
+                &mut pass,
+            ) {
+                return closing;
             }
         }
         if let Some(closing) = shared.signals.closing(&rt) {

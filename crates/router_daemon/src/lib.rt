@@ -18,6 +18,7 @@ mod news;
 mod opening;
 mod operating;
 mod queues;
+mod resting;
 mod retrying;
 mod room;
 mod run;

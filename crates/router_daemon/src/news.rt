@@ -2,7 +2,9 @@
 
 use crate::signals::{Closing, Signals};
 use std::alloc::{AllocError, Global};
+use std::rt::Clock;
 use std::sync::{Condvar, Mutex, Wait};
+use std::time::Duration;
 
 /// What is known of what is new.
 #[derive(Drop)]
@@ -73,16 +75,19 @@ impl News {
 }
 
 impl Signals {
-    /// Sleeps until the history has more entries than are told, or the router is being closed: that it is, if so.
-    pub(crate) fn await_news<R: Wait>(&self, rt: &R, told: u64) -> Option<Closing> {
-        let mut known = self.news.known.lock(rt);
-        for _ in rt.forever() {
-            let closing = self.closing(rt);
-            if closing.is_some() || known.entries > told {
-                return closing;
-            }
-            known = self.news.bell.wait(rt, known);
+    /// Sleeps until the history has more entries than are told, or the router is being closed, and no longer than this: that it is being closed, if so.
+    pub(crate) fn await_news<R: Wait + Clock>(
+        &self,
+        rt: &R,
+        told: u64,
+        longest: Duration,
+    ) -> Option<Closing> {
+        let known = self.news.known.lock(rt);
+        let closing = self.closing(rt);
+        if closing.is_some() || known.entries > told {
+            return closing;
         }
-        unreachable!()
+        drop(self.news.bell.wait_timeout(rt, known, longest).0);
+        self.closing(rt)
     }
 }

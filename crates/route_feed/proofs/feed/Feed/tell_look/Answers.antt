@@ -14,7 +14,7 @@ returns-then-is_still-clause-fed g c j same looks fed =
     (c.prefixes.ensures.value ∙ ap (λ (x : FeedView). x.opening.prefixes) c.self.view_is)
     (c.size-size.ensures.value ∙ ap (λ (x : FeedView). x.opening.size) c.self.view_is)
     c.as_slice.ensures.value c.in-Ok.ensures
-    (subst (λ (l : List (Option Hop)). IsStill f l) c.as_slice-in-Ok.ensures.value (c.is_still.ensures c.if-is_still.true)))
+    (subst (λ (l : List (Option Hop)). IsStill f l) c.as_slice-in-Ok.ensures.value (c.is_still.ensures.still c.if-is_still.true)))
 
 pub returns-else-is_still-clause-fed : goal.returns-else-is_still-clause-fed
 returns-else-is_still-clause-fed g c j same looks fed =
