@@ -10,10 +10,9 @@ Each node is a namespace with the address 10.NODE.0.1, a router and an `ncroute-
 `socat` join the routers by TCP. First `ncroute-kernel` is run alone, with feeds that are right and wrong. Then for each topology the script
 
   1. starts all, and compares the kernels' tables; every node pings every other, and no way through the tables is a loop;
-  2. cuts a link, whose interface goes down and whose streams end, compares, mends it, and compares: how long nothing was answered to a ping that went
-     over it is told;
+  2. cuts a link, whose interface goes down, compares, mends it, and compares: how long nothing was answered to a ping that went over it is told;
   3. has a link swallow all that is sent over it, with its interfaces up, compares, mends it, and compares: the same is told;
-  4. has an interface go down and up, and its streams end and come back, for some seconds: no kernel hears of a route whose way does not go over it;
+  4. has an interface go down and up for some seconds: no kernel hears of a route whose way does not go over it;
   5. kills an `ncroute-kernel` (SIGKILL), starts it again, and compares: no route is gone meanwhile, or afterwards;
   6. replaces a filter, and compares;
   7. kills a router (SIGKILL), starts it again, and compares: of its kernel's routes those that are right before and after are there at any time;
@@ -108,6 +107,7 @@ class Alone:
         self.judge("dry run", found == (0, lines, "", []), found)
         self.refusals(whole)
         self.fifos(whole, there)
+        self.closes()
 
     def refusals(self, whole):
         for what, feed in (
@@ -140,8 +140,9 @@ class Alone:
                 second = ran(words, timeout=BEGINS)
                 self.judge("a second reader", second.returncode == 1 and "another ncroute-kernel reads it" in second.stderr, second.stderr)
                 self.drops(there)
-                children = pathlib.Path(f"/proc/{one.process.pid}/task/{one.process.pid}/children").read_text()
-                self.judge("has no other process", not children, children)
+                # It has `ip` run for a moment.
+                children = pathlib.Path(f"/proc/{one.process.pid}/task/{one.process.pid}/children")
+                self.judge("has no other process", not awaited(children.read_text, lambda them: not them, BEGINS))
                 one.process.send_signal(signal.SIGTERM)
                 self.judge("ends", one.process.wait(timeout=BEGINS) == 0)
             self.judge("its routes stay", self.routes() == there, self.routes())
@@ -154,6 +155,28 @@ class Alone:
         self.judge("an interface goes down", not awaited(self.routes, lambda it: not it, BEGINS), self.routes())
         self.spaces.ip(0, "link", "set", "one", "up")
         self.judge("an interface comes up", (found := awaited(self.routes, lambda it: it == there, BEGINS)) == there, found)
+
+    def closes(self):
+        """With --close connections with an address end as soon as its device is down, and others do not."""
+        for address in ("192.0.2.8", "192.0.2.9"):
+            self.spaces.ip(0, "address", "add", f"{address}/24", "dev", "other")
+        self.spaces.ip(0, "link", "set", "lo", "up")
+        with contextlib.ExitStack() as stack:
+            def start(*words):
+                return stack.enter_context(Process([*self.inside, *words], errors=subprocess.DEVNULL))
+            ends = {}
+            for address in ("192.0.2.8", "192.0.2.9"):
+                start("socat", f"TCP-LISTEN:7000,bind={address},reuseaddr", "-")
+                ends[address] = start("socat", f"TCP:{address}:7000,retry=100,interval=0.1", "-")
+            installer = start(INSTALLER, "--close", "--via", "1=192.0.2.8%one", "--via", "2=192.0.2.3%one")
+            installer.say(b"begin 0 whole\nroute 10.9.0.0/16 via 2 metric 1\nend 0\n")
+            connected = awaited(lambda: ran([*self.inside, "ss", "-Htn"]).stdout, lambda said: said.count("ESTAB") == 4, BEGINS)
+            self.judge("connections", connected.count("ESTAB") == 4, connected)
+            there = [("10.9.0.0/16", "192.0.2.3", 201)]
+            self.judge("installs", (found := awaited(self.routes, lambda it: it == there, BEGINS)) == there, found)
+            self.spaces.ip(0, "link", "set", "one", "down")
+            self.judge("closes", not awaited(ends["192.0.2.8"].is_running, lambda runs: not runs, BEGINS))
+            self.judge("and no other", ends["192.0.2.9"].is_running())
 
 
 class Node:
@@ -193,7 +216,7 @@ class Node:
         self.router = Process(self.inside(*words), errors=subprocess.DEVNULL)
 
     def start_installer(self, *more):
-        words = [INSTALLER, "--metric-base", str(BASE), "--protocol", PROTOCOL, *more]
+        words = [INSTALLER, "--metric-base", str(BASE), "--protocol", PROTOCOL, "--close", *more]
         for other, (address, device) in self.hops.items():
             words += ["--via", f"{other}={address}%{device}"]
         self.installer = Process(self.inside(*words, self.feed), errors=self.net.errors)
@@ -297,7 +320,7 @@ class Net:
         node, wire = self.nodes[u], self.wires[u, w]
         node.ip("route", "add", FOREIGN, "via", node.hops[w][0], "proto", "static", "metric", str(BASE + 1))
         for _ in range(self.asked.times):
-            self.fails("cut", lambda: self.cut(wire), lambda: self.mend(wire), AFTER_A_CUT)
+            self.fails("cut", lambda: wire.set_interface(0, "down"), lambda: self.mend(wire), AFTER_A_CUT)
         for _ in range(self.asked.times):
             self.fails(f"silence with a HOLD of {self.asked.hold} s", wire.swallow, wire.pass_on, self.asked.hold + AFTER_A_SILENCE)
         node.ip("route", "replace", FOREIGN, "via", node.hops[w][0], "proto", "static", "metric", str(BASE + 1))
@@ -307,11 +330,8 @@ class Net:
         self.kill_router(w, more)
         self.end_installers()
 
-    def cut(self, wire):
-        wire.set_interface(0, "down")
-        wire.close()
-
     def mend(self, wire):
+        """An interface goes up, and `socat`, which ended with its connection, is started again."""
         wire.set_interface(0, "up")
         wire.join()
 
@@ -332,7 +352,7 @@ class Net:
         self.ping_all(f"{what}, and mended")
 
     def flap(self, wire):
-        """An interface goes down and up at random times, with and without its streams. A way that does not go over it is not touched."""
+        """An interface goes down and up at random times. A way that does not go over it is not touched."""
         wanted = self.wanted([])
         untouched = set()
         for a, table in enumerate(wanted):
@@ -343,10 +363,9 @@ class Net:
         monitors = [subprocess.Popen(node.inside("ip", "monitor", "route"), stdout=subprocess.PIPE, text=True) for node in self.nodes]
         draw, until, times = random.Random(1), time.monotonic() + self.asked.flap, 0
         while time.monotonic() < until:
-            ends = draw.random() < 0.5
-            self.cut(wire) if ends else wire.set_interface(0, "down")
+            wire.set_interface(0, "down")
             time.sleep(draw.random())
-            self.mend(wire) if ends else wire.set_interface(0, "up")
+            self.mend(wire)
             time.sleep(draw.random() * 2)
             times += 1
         self.compare(f"an interface down and up {times} times in {self.asked.flap} s", [])
@@ -370,7 +389,7 @@ class Net:
             now = node.routes()
             missing += [route for route in before if route not in now]
         self.judge("an installer started again: the routes stay", not missing, missing[:3])
-        self.cut(wire)
+        wire.set_interface(0, "down")
         self.compare("cut, after an installer started again", [f"cut {u} {w}"])
         self.mend(wire)
         self.compare("mended, after an installer started again", [])
