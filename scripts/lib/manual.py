@@ -67,7 +67,7 @@ class Document:
         title, *self.rest = pathlib.Path(folder, f"{name}.md").read_text(encoding="utf-8").split("\n")
         if not title.startswith("# "):
             self.stop(title)
-        self.title = re.sub(rf"^`{NAME} \w+`: ", "", title[2:])
+        self.title = re.sub(rf"^`{NAME}[ -]\w+`: ", "", title[2:])
         # On a command's page the whole document is one section.
         self.headings = {"##": ".SS"} if self.page[1] == 1 else {"##": ".SH", "###": ".SS"}
         self.lines = [line for block in self.blocks() for line in self.block(block)]
