@@ -227,7 +227,7 @@ def document_differs(name, page, whole):
     """What a page lacks of the document that it has to show: a heading, code, a reference, a cell of a table, or words."""
     text = documents.read(f"docs/{name}.md")
     headings = [heading.replace("`", "") for heading in re.findall(r"(?m)^#+ (.*)$", re.sub(r"(?ms)^```.*?^```", "", text))]
-    title = re.sub(r"^ncroute \w+: ", "", headings[0])
+    title = re.sub(r"^ncroute[ -]\w+: ", "", headings[0])
     if page[1] != 1 and f"{page[0]} - {title}\n" not in whole:
         return f"its description is not {title!r}"
     wanted = [title if page[1] == 1 else "DESCRIPTION", *headings[1:], "SEE ALSO"]
