@@ -1,5 +1,5 @@
 #!/usr/bin/env python3
-"""Installs the program in a temporary folder, and looks at what came there: its man pages, its completions, and the syntax files, by which each
+"""Installs the program in a temporary folder, and looks at what came there: both programs, the man pages, the completions, and the syntax files, by which each
 token of the filters in `examples/` is read. Prints what is wrong, and at last 'N passed, M failed'. What needs a program that is not there
 (`groff`, `vim`, `zsh`, `fish`) is not run: a line says so, and it counts as skipped.
 
@@ -154,6 +154,18 @@ def fish_differs(prefix):
         said = subprocess.run(["fish", "--no-config", "-c", f"source {path}; complete -C '{line}'"], capture_output=True, text=True).stdout
         if (found := [words.split("\t")[0] for words in said.splitlines()]) != wanted:
             return f"{line}: {found}, and not {wanted}"
+    return None
+
+
+# ---- programs
+
+
+def programs_missing(prefix):
+    """Both programs run, and tell how they are called."""
+    for name in ("ncroute", "ncroute-kernel"):
+        ran = subprocess.run([os.path.join(prefix, "bin", name), "--help"], capture_output=True, text=True, check=False)
+        if ran.returncode or f"usage: {name} " not in ran.stdout.replace("Usage", "usage"):
+            return f"{name}: {ran}"
     return None
 
 
@@ -325,6 +337,7 @@ def signs_lost(_):
 
 
 CHECKS = (
+    ("the programs", None, programs_missing),
     ("the TextMate grammar", None, textmate_differs),
     ("the syntax file of vim", "vim", vim_differs),
     ("the files of the man pages", None, pages_missing),
