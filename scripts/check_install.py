@@ -1,6 +1,6 @@
 #!/usr/bin/env python3
-"""Installs the program in a temporary folder, and looks at what came there: both programs, the man pages, the completions, and the syntax files, by which each
-token of the filters in `examples/` is read. Prints what is wrong, and at last 'N passed, M failed'. What needs a program that is not there
+"""Installs the program in a temporary folder, and looks at what came there: both programs, the man pages, the completions, and the syntax files, by
+which each token of the filters in `examples/` is read. Prints what is wrong, and at last 'N passed, M failed'. What needs a program that is not there
 (`groff`, `vim`, `zsh`, `fish`) is not run: a line says so, and it counts as skipped.
 
 usage: NCROUTE=PATH scripts/check_install.py     (PATH: the program as it is built)
