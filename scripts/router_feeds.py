@@ -1,6 +1,7 @@
 """What `ncroute router` tells of its routes, by `--routes`, to whoever reads them; `check_router.py` runs these rows."""
 import contextlib
 import os
+import pathlib
 import re
 import tempfile
 import time
@@ -77,6 +78,16 @@ class Feed:
         return self.until(lambda: self.blocks() and self.table() == wanted, patience)
 
 
+class Kept(Feed):
+    """Reads the file that a router tells its routes to, from its beginning each time."""
+
+    def open(self):
+        """Nothing waits for it."""
+
+    def take(self):
+        self.text = pathlib.Path(self.path).read_bytes()
+
+
 def net(node):
     return f"10.{node}.0.0/16"
 
@@ -87,10 +98,10 @@ class FeedRows(RunRows):
     WAITING = ("feed_first_rest", "feed_silence", "feed_reader_again", "feed_no_file", "feed_to_a_file")
 
     @contextlib.contextmanager
-    def feeding(self, more=(), make=os.mkfifo, **options):
+    def feeding(self, more=(), make=os.mkfifo, kind=Feed, **options):
         """A router that tells its routes, and who is to read them."""
         with tempfile.TemporaryDirectory(prefix="feed.") as folder, contextlib.ExitStack() as stack:
-            feed = Feed(os.path.join(folder, "routes"))
+            feed = kind(os.path.join(folder, "routes"))
             make(feed.path)
             stack.callback(feed.close)
             yield stack.enter_context(Run(self.program, more=("--routes", feed.path, *more), **options)), feed
@@ -106,7 +117,7 @@ class FeedRows(RunRows):
         """Both come, and the whole table is told: that."""
         feed.open()
         table = self.come_both(run, size)
-        self.judge("the whole table", feed.gathers(table), feed.text)
+        self.judge("the whole table", feed.gathers(table), feed.text[-300:])
         return table
 
     def tells(self, feed, table, told):
@@ -123,7 +134,7 @@ class FeedRows(RunRows):
             for text, told in ((b"3 1\n", {net(3): (1, 2)}), (b"3 4\n", {net(3): (1, 5)}), (b"3 8\n", {net(3): None})):
                 one.say(text)
                 table = self.tells(feed, table, told)
-            self.judge("sound", feed.is_sound(), feed.text)
+            self.judge("sound", feed.is_sound(), feed.text[-300:])
             self.judge("positions", feed.blocks()[-1][0] <= len(run.entries()), feed.text[-100:])
             one.close()
             self.tells(feed, table, {net(1): None})
@@ -138,12 +149,12 @@ class FeedRows(RunRows):
             one.say(b"1 0\n")
             time.sleep(2)
             feed.take()
-            self.judge("nothing is told", feed.text == b"", feed.text)
+            self.judge("nothing is told", feed.text == b"", feed.text[-300:])
             two.come()
             two.say(b"2 0\n5 1\n")
             wanted = {net(1): (1, 1), net(2): (2, 1), net(5): (2, 2)}
-            self.judge("the whole table", feed.gathers(wanted), feed.text)
-            self.judge("in one block", feed.blocks()[0][1:] == (True, wanted), feed.text)
+            self.judge("the whole table", feed.gathers(wanted), feed.text[-300:])
+            self.judge("in one block", feed.blocks()[0][1:] == (True, wanted), feed.text[-300:])
 
     def row_feed_settles(self):
         """A neighbour that stays away is not waited for longer than that."""
@@ -152,7 +163,7 @@ class FeedRows(RunRows):
             feed.open()
             run.neighbours[1].come()
             run.neighbours[1].say(b"1 0\n")
-            self.judge("the whole table", feed.gathers({net(1): (1, 1)}), feed.text)
+            self.judge("the whole table", feed.gathers({net(1): (1, 1)}), feed.text[-300:])
             self.judge("not before", time.monotonic() - begun >= 2)
 
     def row_feed_link_that_fails(self):
@@ -164,7 +175,7 @@ class FeedRows(RunRows):
             one.greet(size=9)
             two.come()
             two.say(b"2 0\n")
-            self.judge("the whole table", feed.gathers({net(2): (2, 1)}), feed.text)
+            self.judge("the whole table", feed.gathers({net(2): (2, 1)}), feed.text[-300:])
 
     def row_feed_reader_again(self):
         """A reader that comes later, and one that comes again, are told the whole table first."""
@@ -176,7 +187,7 @@ class FeedRows(RunRows):
             for text, told in ((b"3 2\n4 2\n", {net(3): (1, 3), net(4): (1, 3)}), (b"3 8\n4 1\n", {net(3): None, net(4): (1, 2)}), (b"", {})):
                 time.sleep(NOTICED)
                 feed.open()
-                self.judge("the whole table", feed.until(feed.blocks) and feed.blocks()[0][1:] == (True, table), feed.text)
+                self.judge("the whole table", feed.until(feed.blocks) and feed.blocks()[0][1:] == (True, table), feed.text[-300:])
                 feed.close()
                 run.neighbours[1].say(text)
                 table = {to: hop for to, hop in {**table, **told}.items() if hop}
@@ -226,7 +237,7 @@ class FeedRows(RunRows):
             table = self.tells(feed, table, {net(9): (1, 4)})
             one.say(b"5 0\n4 8\n")
             self.tells(feed, table, {net(9): None})
-            self.judge("its own is not told", net(0).encode() not in feed.text, feed.text)
+            self.judge("its own is not told", net(0).encode() not in feed.text, feed.text[-300:])
 
     def row_feed_silence(self):
         """Where nothing changes, that is told: a block without routes, so often that a reader that is gone is noticed."""
@@ -234,8 +245,8 @@ class FeedRows(RunRows):
             self.begin(run, feed)
             feed.until(lambda: False, 2 * SILENCE)
             later = feed.blocks()[1:]
-            self.judge("says so", 2 <= len(later) <= 4 and not any(changes for _, _, changes in later), feed.text)
-            self.judge("sound", feed.is_sound(), feed.text)
+            self.judge("says so", 2 <= len(later) <= 4 and not any(changes for _, _, changes in later), feed.text[-300:])
+            self.judge("sound", feed.is_sound(), feed.text[-300:])
 
     def row_feed_no_file(self):
         """Where there is no file that is told once, and the router serves all others; when there is one, it is told the table."""
@@ -248,20 +259,19 @@ class FeedRows(RunRows):
             self.judge("once", text.count(says) == 1, text)
             os.mkfifo(feed.path)
             feed.open()
-            self.judge("the whole table", feed.gathers(table), feed.text)
+            self.judge("the whole table", feed.gathers(table), feed.text[-300:])
 
     def row_feed_to_a_file(self):
         """A file has what changed, and nothing of what was in it before."""
         def make(path):
-            with open(path, "w", encoding="ascii") as it:
-                it.write("route of another time\n" * 1000)
-        with self.feeding(make=make) as (run, feed):
+            pathlib.Path(path).write_text("route of another time\n" * 1000)
+        with self.feeding(make=make, kind=Kept) as (run, feed):
             table = self.begin(run, feed)
             run.neighbours[2].say(b"3 1\n")
             table = self.tells(feed, table, {net(3): (2, 2)})
             time.sleep(2 * SILENCE)
             feed.take()
-            self.judge("nothing else", len(feed.blocks()) == 2 and not BLOCK.sub(b"", feed.text), feed.text)
+            self.judge("nothing else", len(feed.blocks()) == 2 and not BLOCK.sub(b"", feed.text), feed.text[-300:])
 
     def row_feed_quit(self):
         """A router ends whether its routes are read, or slowly, or by nobody."""
