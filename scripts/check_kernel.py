@@ -311,24 +311,33 @@ class Net:
         self.set_up()
         for wire in self.wires.values():
             wire.join()
+        self.add_foreign()
         for node in self.nodes:
             node.start_router()
             node.start_installer()
         self.compare("begun", [])
         self.ping_all("begun")
+        self.judge_foreign("begun")
         u, w = next(iter(self.wires))
-        node, wire = self.nodes[u], self.wires[u, w]
-        node.ip("route", "add", FOREIGN, "via", node.hops[w][0], "proto", "static", "metric", str(BASE + 1))
+        wire = self.wires[u, w]
         for _ in range(self.asked.times):
             self.fails("cut", lambda: wire.set_interface(0, "down"), lambda: self.mend(wire), AFTER_A_CUT)
         for _ in range(self.asked.times):
             self.fails(f"silence with a HOLD of {self.asked.hold} s", wire.swallow, wire.pass_on, self.asked.hold + AFTER_A_SILENCE)
-        node.ip("route", "replace", FOREIGN, "via", node.hops[w][0], "proto", "static", "metric", str(BASE + 1))
         self.flap(wire)
         self.kill_installer(wire)
         more = self.filter(u, w)
         self.kill_router(w, more)
         self.end_installers()
+
+    def add_foreign(self):
+        """A route of somebody else's, which the kernel drops with its interface."""
+        node = self.nodes[0]
+        node.ip("route", "replace", FOREIGN, "via", next(iter(node.hops.values()))[0], "proto", "static", "metric", str(BASE + 1))
+
+    def judge_foreign(self, what):
+        found = self.nodes[0].routes("static")
+        self.judge(f"{what}: a route of somebody else's stays", [it[0] for it in found] == [FOREIGN], found)
 
     def mend(self, wire):
         """An interface goes up, and `socat`, which ended with its connection, is started again."""
@@ -426,13 +435,15 @@ class Net:
             node.installer.close()
             self.judge(f"node {node.number}: its routes stay", node.routes() == before, node.routes())
         node = self.nodes[0]
+        self.add_foreign()
+        before = node.routes()
         node.start_installer("--flush")
         time.sleep(BEGINS)
-        self.judge("taken over", node.routes() == before if node is self.nodes[-1] else bool(node.routes()), node.routes())
+        self.judge("an installer with --flush: takes them over", node.routes() == before, node.routes())
         node.installer.process.send_signal(signal.SIGTERM)
-        self.judge("an installer with --flush ends", node.installer.process.wait(timeout=PATIENCE) == 0)
-        self.judge("its routes are gone", not node.routes(), node.routes())
-        self.judge("a route of another protocol stays", [it[0] for it in node.routes("static")] == [FOREIGN], node.routes("static"))
+        self.judge("an installer with --flush: ends", node.installer.process.wait(timeout=PATIENCE) == 0)
+        self.judge("an installer with --flush: its routes are gone", not node.routes(), node.routes())
+        self.judge_foreign("an installer with --flush")
 
     def close(self):
         for wire in self.wires.values():
