@@ -321,10 +321,10 @@ module _ (f g : FeedView) (r : Result ℕ FeedFault) (text news : List ℕ) (is 
       one (Err why) e = subst (λ (w : FeedFault). IsUntold w news f g) (sym e.0) e.1
 
 -- what was written is a block
-pub spoke : (f g : FeedView) (b : Block) (hops : List (Option Hop)) (end : ℕ) (r : Result ℕ FeedFault) → b.at ≡ end →
-    IfOk r (λ n. (n ≡ end) × IsWritten (block_text b) hops end f g) → IfOk r (λ n. IsSpoken n f g)
-spoke f g b hops end (Ok n) at h = record { block = b; at = at ∙ sym h.0; appends = h.1.appends }
-spoke f g b hops end (Err why) at h = tt
+pub spoke : (f g : FeedView) (b : Block) (hops : List (Option Hop)) (end : ℕ) (speaks : Bool) (r : Result ℕ FeedFault) → b.at ≡ end →
+    IfOk r (λ n. (n ≡ end) × IsWritten (block_text b) hops end f g) → IfOk r (λ n. speaks ≡ true → IsSpoken n f g)
+spoke f g b hops end speaks (Ok n) at h = λ _. record { block = b; at = at ∙ sym h.0; appends = h.1.appends }
+spoke f g b hops end speaks (Err why) at h = tt
 
 -- the same, as the code has it: by the size and the prefixes that it read
 module _ (f g : FeedView) (j : JournalView) (same : j.opening ≡ f.opening) (member : f.opening.me < f.opening.size) (look : Look)

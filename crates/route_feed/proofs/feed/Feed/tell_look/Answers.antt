@@ -1,8 +1,8 @@
-use Rattle.std.proofs.Common.{◌∙◌, ◌<◌, Option, Some, List, ap, subst, sym}
+use Rattle.std.proofs.Common.{◌∙◌, ◌<◌, Option, Some, List, ap, refl, subst, sym}
 use Rattle.route_feed.specs.declared.hop.Hop.{Hop}
 use Rattle.route_feed.specs.Feeding.{FeedView, HasFed}
-use Rattle.route_feed.specs.Steps.{IsStill}
-use Rattle.route_feed.proofs.Telling.{told_hops, told_still}
+use Rattle.route_feed.specs.Steps.{IsStill, news_block}
+use Rattle.route_feed.proofs.Telling.{spoke, told_hops, told_still}
 use Rattle.route_feed.proofs.feed.Feed.tell_look.Goals as goal
 
 pub returns-then-is_still-clause-fed : goal.returns-then-is_still-clause-fed
@@ -24,3 +24,10 @@ returns-else-is_still-clause-fed g c j same looks fed =
     (c.prefixes.ensures.value ∙ ap (λ (x : FeedView). x.opening.prefixes) c.self.view_is)
     (c.size-size.ensures.value ∙ ap (λ (x : FeedView). x.opening.size) c.self.view_is)
     c.as_slice.ensures.value c.in-Ok.ensures c.requires.goes_on c.tell_hops.result c.tell_hops.ensures.ok c.tell_hops.ensures.err
+
+pub returns-else-is_still-clause-spoken : goal.returns-else-is_still-clause-spoken
+returns-else-is_still-clause-spoken g c =
+    let f = c.args.self.now in
+    let hops = c.in-Ok.hops.items in
+    let end = c.args.look.now.end in
+    spoke f c.tell_hops.new.self (news_block f hops end) hops end c.args.speaks c.tell_hops.result refl c.tell_hops.ensures.ok
