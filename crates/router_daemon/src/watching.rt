@@ -21,7 +21,7 @@ use std::thread;
 use std::time::Duration;
 
 /// Milliseconds between two looks at the clock: fewer than count at most from one to the next.
-const LOOK: u64 = 200;
+pub(crate) const LOOK: u64 = 200;
 
 /// What the clock tells, in milliseconds, if it can be read.
 pub(crate) fn now<R: Clock>(rt: &R) -> Option<u64> {
