@@ -7,4 +7,5 @@ pub mod Running
 pub mod SavedWhole
 pub mod Serving
 pub mod Splitting
+pub mod Stations
 pub mod Waiting

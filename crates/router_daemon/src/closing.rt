@@ -25,7 +25,7 @@ fn end_session<R: Wait, J: Naming, E: Write>(rt: &R, shared: &Shared<J, E>, link
     let Some(session) = shared.signals.session(rt, link) else {
         return;
     };
-    if shared.signals.end(rt, link, session).is_first() {
+    if shared.signals.end(rt, link, session, false).is_first() {
         shared.signals.owe(rt, link, session);
         shared.signals.settle(rt, link);
     }

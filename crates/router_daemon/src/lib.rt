@@ -1,7 +1,7 @@
 //! A router that talks: threads for its links, its operator and its history, round one `Router`.
 //!
 //! What the threads do is written in the crates below, which start none. A thread that waits for a file cannot be woken, so those of
-//! links are not joined, and end with the process.
+//! links are not joined, nor is the one that tells people: they end with the process.
 #![tactic(auto)]
 
 mod bounding;
@@ -17,6 +17,7 @@ mod naming;
 mod news;
 mod opening;
 mod operating;
+mod outbox;
 mod queues;
 mod resting;
 mod retrying;
@@ -27,6 +28,7 @@ mod settling;
 mod shared;
 mod signals;
 mod starting;
+mod station;
 mod stations;
 mod telling;
 mod watching;

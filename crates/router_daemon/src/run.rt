@@ -17,9 +17,10 @@ use crate::forgetting::Forgetter;
 use crate::naming::{LegalTicket, Ticket};
 use crate::opening::open_router;
 use crate::operating::{Figures, OperatorEnd, serve_lines};
+use crate::outbox::{Counts, Outbox};
 use crate::setting::{Filters, RouterEnd, Setting};
 use crate::shared::{Shared, shared_of};
-use crate::starting::{Bounding, Links, start_bounding, start_links, take_part};
+use crate::starting::{Bounding, Links, start_bounding, start_links, start_telling, take_part};
 use crate::telling::{tell_lost, tell_unkept};
 use history_saver::{SaveFault, SegmentFolder, SegmentSaver};
 use line_protocol::StreamFault;
@@ -55,16 +56,17 @@ fn begin_forgetting<S: SegmentFolder + Drop, J: Naming>(
     }
 }
 
-/// Tells people that the history is not saved, if it is not.
-fn tell_if_unkept<R: Wait, S: SegmentFolder + Drop, J: Naming, E: Write>(
+/// Tells people first, if the history is not saved, that it is not.
+fn tell_if_unkept<R: Clock>(
     rt: &R,
     alloc: Global,
-    shared: &Shared<J, E>,
-    forgetter: &Forgetter<S, J>,
+    outbox: &mut Outbox,
+    counts: &Counts,
+    saves: bool,
 ) {
-    if !forgetter.saves() {
-        let mut errors = shared.errors.lock(rt);
-        tell_unkept(alloc, &mut *errors);
+    if !saves {
+        tell_unkept(alloc, outbox);
+        counts.await_told(rt);
     }
 }
 
@@ -242,7 +244,6 @@ fn run_named<
         alloc,
         shared_of(alloc, router, links.as_slice(), errors)?,
     )?;
-    tell_if_unkept(rt, alloc, &shared, &forgetter);
     let ticket = take_part(&shared, &mut pass, 1)?;
     let most = MostInMemory {
         entries: limit,
@@ -258,7 +259,8 @@ fn run_named<
 }
 
 /// Runs a router: its links, its operator and its history, until the operator quits or their lines end. The folder in which its history is to be
-/// saved has no segments before. Its routes are told, if a file is named for them.
+/// saved has no segments before. Its routes are told, if a file is named for them. People are told by a thread of their own, so that nobody else waits
+/// for `errors`.
 pub fn run_router<
     R: Threads + Wait + Clock + RandomSource + Copy + Send + Drop + 'static,
     FI: Read + Send + Drop + 'static,
@@ -288,7 +290,11 @@ pub fn run_router<
         ((reader.new ≡ reader.old) × (writer.new ≡ writer.old))) }
 {
     let (router, pass, right) = open_router(rt, alloc, &setting.plan, &setting.filters)?;
-    run_named::<Brand, R, FI, FO, D, S, E, I, W>(
-        rt, alloc, folder, setting, feed, errors, reader, writer, router, pass, right,
-    )
+    let (mut outbox, counts) = start_telling(rt, alloc, errors)?;
+    tell_if_unkept(rt, alloc, &mut outbox, &counts, setting.save.is_some());
+    let ran = run_named::<Brand, R, FI, FO, D, S, Outbox, I, W>(
+        rt, alloc, folder, setting, feed, outbox, reader, writer, router, pass, right,
+    );
+    counts.await_told(rt);
+    ran
 }

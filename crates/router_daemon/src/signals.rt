@@ -264,14 +264,14 @@ impl Signals {
     }
 
     /// Ends a session of a link: the answer says who is the first who does, who is to enter its Down, and to say when that is settled. The
-    /// end of the link begins anew then.
-    pub(crate) fn end<R: Wait>(&self, rt: &R, link: usize, session: u32) -> Ending
+    /// end of the link begins anew then. If it is who reads the link that ends it, the line that is why is heard next.
+    pub(crate) fn end<R: Wait>(&self, rt: &R, link: usize, session: u32, by_line: bool) -> Ending
         ensures { (result.link ≡ link) × (result.session ≡ session) }
     {
         let mut board = self.board.lock(rt);
         let ending = board.end(link, session);
         if ending.is_first() && !board.is_closing() {
-            self.stations.begin_anew(rt, link);
+            self.stations.begin_anew(rt, link, by_line);
         }
         self.wake(board);
         ending
