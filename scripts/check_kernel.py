@@ -4,7 +4,7 @@
 usage: scripts/check_kernel.py [--times N] [--flap SECONDS] [--hold SECONDS] [TOPOLOGY..]    (NCROUTE=PATH: the program, without which nothing is run)
        TOPOLOGY: a script of `ncroute domain`, as scripts/lab.py reads it; without one a ring of four, and a grid of nine with filters on metrics
        --times: how often a link is cut, and falls silent, 1 if it is left out; --flap: for how long an interface goes down and up, 5
-       --hold: the HOLD of the routers, 3
+       --hold: the HOLD of the routers, 9
 
 Each node is a namespace with the address 10.NODE.0.1, a router and an `ncroute-kernel`. Each link is a pair of interfaces, over whose addresses two
 `socat` join the routers by TCP. First `ncroute-kernel` is run alone, with feeds that are right and wrong. Then for each topology the script
@@ -50,7 +50,8 @@ PROTOCOL, BASE, FOREIGN = "77", 200, "10.200.0.0/16"
 PATIENCE, LOST = 240.0, 1
 
 # Seconds: pings are answered again half a second after a cut, and a second after the HOLD of a silent neighbour. On a busy machine that may take
-# longer: what takes ten times as long has failed.
+# longer: what takes ten times as long has failed. A neighbour is found silent after two thirds of its HOLD at the earliest, so that a cut is not taken
+# for a silence where the HOLD is 9.
 AFTER_A_CUT, AFTER_A_SILENCE, TIMES_LONGER = 0.5, 1.0, 10
 
 # Seconds: an installer that is started anew has closed its feed for a while where it came into the midst of it.
@@ -478,7 +479,7 @@ def main():
     words = argparse.ArgumentParser(description=__doc__, formatter_class=argparse.RawDescriptionHelpFormatter)
     words.add_argument("--times", type=int, default=1)
     words.add_argument("--flap", type=int, default=5)
-    words.add_argument("--hold", type=int, default=3)
+    words.add_argument("--hold", type=int, default=9)
     words.add_argument("paths", nargs="*", metavar="TOPOLOGY")
     asked = words.parse_args()
     program, counts = built(), Counts()
