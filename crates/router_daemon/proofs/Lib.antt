@@ -1,4 +1,5 @@
 pub mod Entering
+pub mod Greetings
 pub mod KeptEntries
 pub mod Lines
 pub mod Looking
@@ -7,5 +8,4 @@ pub mod Running
 pub mod SavedWhole
 pub mod Serving
 pub mod Splitting
-pub mod Stations
 pub mod Waiting

@@ -5,7 +5,7 @@ use Rattle.router_daemon.specs.declared.station.Station.{Station}
 
 -- how many milliseconds it writes nothing before it says its greeting again for the first time: a third of its HOLD
 abbrev pub first_wait : ℕ → ℕ
-first_wait hold = hold * 1000 / 3
+first_wait hold = (hold * 1000) / 3
 
 -- and how many the next time: twice as many, up to all of its HOLD
 abbrev pub longer : ℕ → ℕ → ℕ
