@@ -159,14 +159,14 @@ class Alone:
 
     def closes(self):
         """With --close connections with an address end as soon as its device is down, and others do not."""
-        for address in ("192.0.2.8", "192.0.2.9"):
+        for address in ("192.0.2.8", "198.51.100.9"):
             self.spaces.ip(0, "address", "add", f"{address}/24", "dev", "other")
         self.spaces.ip(0, "link", "set", "lo", "up")
         with contextlib.ExitStack() as stack:
             def start(*words):
                 return stack.enter_context(Process([*self.inside, *words], errors=subprocess.DEVNULL))
             ends = {}
-            for address in ("192.0.2.8", "192.0.2.9"):
+            for address in ("192.0.2.8", "198.51.100.9"):
                 start("socat", f"TCP-LISTEN:7000,bind={address},reuseaddr", "-")
                 ends[address] = start("socat", f"TCP:{address}:7000,retry=100,interval=0.1", "-")
             installer = start(INSTALLER, "--close", "--via", "1=192.0.2.8%one", "--via", "2=192.0.2.3%one")
@@ -177,7 +177,7 @@ class Alone:
             self.judge("installs", (found := awaited(self.routes, lambda it: it == there, BEGINS)) == there, found)
             self.spaces.ip(0, "link", "set", "one", "down")
             self.judge("closes", not awaited(ends["192.0.2.8"].is_running, lambda runs: not runs, BEGINS))
-            self.judge("and no other", ends["192.0.2.9"].is_running())
+            self.judge("and no other", ends["198.51.100.9"].is_running())
 
 
 class Node:
