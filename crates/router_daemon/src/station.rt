@@ -6,7 +6,7 @@
 //!
 //! **An end hears the line that ended its session before it greets.** Otherwise it would greet twice, because it begins anew and because it was
 //! greeted, and one of these greetings would end the session that the other one begins.
-ghost use Rattle.std.specs.Prelude.{◌≡◌, ◌<◌, ◌+◌, ◌↔◌, IfNone, IfSome, IsTrue, cond, false, true, min};
+ghost use Rattle.std.specs.Prelude.{◌≡◌, ◌<◌, ◌+◌, ◌↔◌, IfNone, IfSome, IsTrue, cond, false, true, min, ℕ};
 ghost use Rattle.link_handshake.specs.Clocks.{IsSilent, after_writing, looked};
 ghost use Rattle.link_handshake.specs.Ends.{begun, greeting_of, heard_line};
 ghost use Rattle.link_handshake.specs.declared.said.Said.TheVariants.{Greeting as greets};
