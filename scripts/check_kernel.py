@@ -180,6 +180,21 @@ class Alone:
             self.judge("and no other", ends["198.51.100.9"].is_running())
 
 
+class Line(Wire):
+    """A wire whose `socat` is started again at each end whenever it ends, as a unit of systemd is. It connects once a router has its terminal open."""
+
+    LOOP = 'while :; do rm -f "$0"; socat -t0.1 "PTY,link=$0,rawer,wait-slave" "$1"; rm -f "$0"; sleep 0.1; done'
+
+    def join(self):
+        for end, way in enumerate(("TCP-LISTEN:7000,reuseaddr", f"TCP:{self.addresses[0]}:7000,connect-timeout=1")):
+            words = [*self.spaces.inside(self.ends[end]), "sh", "-c", self.LOOP, self.files[end], way]
+            self.socats[end] = subprocess.Popen(words, stderr=subprocess.DEVNULL, start_new_session=True)
+
+    def kill(self, end):
+        os.killpg(self.socats[end].pid, signal.SIGKILL)
+        self.socats[end].wait()
+
+
 class Node:
     """A namespace, with its router and who installs its routes; either may be killed and started again."""
 
@@ -267,7 +282,7 @@ class Net:
         for number in range(self.topology.size):
             self.nodes.append(Node(self, number))
         for number, ends in enumerate(self.topology.links):
-            wire = self.wires[ends] = Wire(self.spaces, self.folder, number, ends)
+            wire = self.wires[ends] = Line(self.spaces, self.folder, number, ends)
             for end in (0, 1):
                 self.nodes[ends[end]].hops[ends[1 - end]] = (wire.addresses[1 - end], wire.interfaces[end])
 
@@ -322,7 +337,7 @@ class Net:
         u, w = next(iter(self.wires))
         wire = self.wires[u, w]
         for _ in range(self.asked.times):
-            self.fails("cut", lambda: wire.set_interface(0, "down"), lambda: self.mend(wire), AFTER_A_CUT)
+            self.fails("cut", lambda: wire.set_interface(0, "down"), lambda: wire.set_interface(0, "up"), AFTER_A_CUT)
         for _ in range(self.asked.times):
             self.fails(f"silence with a HOLD of {self.asked.hold} s", wire.swallow, wire.pass_on, self.asked.hold + AFTER_A_SILENCE)
         self.flap(wire)
@@ -339,11 +354,6 @@ class Net:
     def judge_foreign(self, what):
         found = self.nodes[0].routes("static")
         self.judge(f"{what}: a route of somebody else's stays", [it[0] for it in found] == [FOREIGN], found)
-
-    def mend(self, wire):
-        """An interface goes up, and `socat`, which ended with its connection, is started again."""
-        wire.set_interface(0, "up")
-        wire.join()
 
     def fails(self, what, breaks, mends, aim):
         """A link fails, and is mended: how long nothing was answered to a ping that went over it."""
@@ -375,7 +385,7 @@ class Net:
         while time.monotonic() < until:
             wire.set_interface(0, "down")
             time.sleep(draw.random())
-            self.mend(wire)
+            wire.set_interface(0, "up")
             time.sleep(draw.random() * 2)
             times += 1
         self.compare(f"an interface down and up {times} times in {self.asked.flap} s", [])
@@ -401,7 +411,7 @@ class Net:
         self.judge("an installer started again: the routes stay", not missing, missing[:3])
         wire.set_interface(0, "down")
         self.compare("cut, after an installer started again", [f"cut {u} {w}"])
-        self.mend(wire)
+        wire.set_interface(0, "up")
         self.compare("mended, after an installer started again", [])
 
     def filter(self, u, w):
