@@ -181,7 +181,7 @@ class Alone:
 
 
 class Line(Wire):
-    """A wire whose `socat` is started again at each end whenever it ends, as a unit of systemd is. It connects once a router has its terminal open."""
+    """A wire whose `socat` is started again at each end whenever it ends, as by a unit. It connects once a router has opened its terminal."""
 
     LOOP = 'while :; do rm -f "$0"; socat -t0.1 "PTY,link=$0,rawer,wait-slave" "$1"; rm -f "$0"; sleep 0.1; done'
 
