@@ -148,7 +148,7 @@ pub(crate) fn open_outbox(alloc: Global) -> Result<(Outbox, Inbox), AllocError> 
     Ok((outbox, inbox))
 }
 
-/// Tells people a piece of what waits, which is as long as that or as the place for it: how many bytes it has.
+/// Tells people what waits, as far as there is place for it in a piece: how many bytes that is.
 fn tell_piece<E: Write>(errors: &mut E, inbox: &mut Inbox, piece: &mut [u8]) -> usize
     ensures taken { received inbox.new.lines ≡ received inbox.old.lines ++ take result piece.new }
     ensures told { AppendsFront (E.contents errors.old) (E.contents errors.new) (take result piece.new) }
