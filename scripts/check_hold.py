@@ -433,8 +433,8 @@ class Rows(RunRows):
             self.tell(f"up for good after {took} s, and {max(text.count(': closed') for text in said)} sessions before")
 
     def row_errors_are_full(self):
-        """Standard error is a full pipe: who falls silent is down in time all the same, one after the other, and who does not hears that the router is
-        there. Once it is read it tells of all; and `quit` waits for nobody."""
+        """Standard error is a full pipe: who falls silent is down in time all the same, one after the other, and who does not hears that the router
+        is there. Once it is read it tells of all; and `quit` waits for nobody."""
         more = ("--hold", str(SHORT_HOLD))
         errors = Unread()
         with contextlib.closing(errors), Run(self.program, nodes=(1, 2, 3), more=more, saves=False, errors=errors.writes) as run:

@@ -3,7 +3,7 @@
 //! **Nobody waits for standard error but one thread, which writes there and does nothing else.** A pipe that nobody reads, and a terminal that is
 //! stopped, take nothing for as long as they like; meanwhile neighbours fall silent, and the history has to be saved. What there is no room for is
 //! left out, and people are told how many lines that were, once they are told again.
-ghost use Rattle.std.specs.Prelude.{◌≡◌, ◌++◌, ℕ, List};
+ghost use Rattle.std.specs.Prelude.{◌≡◌, ◌++◌, take};
 ghost use Rattle.line_protocol.specs.Runs.{AppendsFront};
 ghost use Rattle.rtrb.specs.Ring.{received};
 ghost use Rattle.router_daemon.specs.Told.{untold_line};
@@ -59,16 +59,31 @@ impl Counts {
         self.bell.unpark();
     }
 
+    /// So many of them were taken, and written if they could be.
+    fn note_told(&self, count: usize) {
+        self.told.fetch_add(count as u64, Ordering::SeqCst);
+    }
+
     /// There was no room for a line.
     fn note_untold(&self) {
         self.untold.fetch_add(1, Ordering::SeqCst);
         self.bell.unpark();
     }
 
+    /// How many lines there was no room for, of which people were not told yet.
+    fn untold(&self) -> u64 {
+        self.untold.load(Ordering::SeqCst)
+    }
+
+    /// People were told of so many lines that there was no room for.
+    fn note_told_of(&self, count: u64) {
+        self.untold.fetch_sub(count, Ordering::SeqCst);
+    }
+
     /// Whether people were told all.
     fn are_told(&self) -> bool {
         let told = self.told.load(Ordering::SeqCst);
-        told == self.put.load(Ordering::SeqCst) && self.untold.load(Ordering::SeqCst) == 0
+        told == self.put.load(Ordering::SeqCst) && self.untold() == 0
     }
 
     /// Waits until people were told all, for a second at most.
@@ -133,27 +148,24 @@ pub(crate) fn open_outbox(alloc: Global) -> Result<(Outbox, Inbox), AllocError> 
     Ok((outbox, inbox))
 }
 
-/// Tells people a piece of what waits. False where nothing does.
-fn tell_piece<E: Write>(errors: &mut E, inbox: &mut Inbox) -> bool
-    ensures { (piece : List ℕ) × (received inbox.new.lines ≡ received inbox.old.lines ++ piece)
-        × AppendsFront (E.contents errors.old) (E.contents errors.new) piece }
+/// Tells people what waits, as far as there is place for it in a piece: how many bytes that is.
+fn tell_piece<E: Write>(errors: &mut E, inbox: &mut Inbox, piece: &mut [u8]) -> usize
+    ensures taken { received inbox.new.lines ≡ received inbox.old.lines ++ take result piece.new }
+    ensures told { AppendsFront (E.contents errors.old) (E.contents errors.new) (take result piece.new) }
 {
-    let mut piece = [0; PIECE];
-    let count = inbox.lines.pop_partial_slice(&mut piece);
+    let count = inbox.lines.pop_partial_slice(piece);
     // Where standard error takes no text, people are not told.
     let _ = write_text(errors, &piece[..count]);
-    inbox.counts.told.fetch_add(count as u64, Ordering::SeqCst);
-    count > 0
+    inbox.counts.note_told(count);
+    count
 }
 
 /// Tells people how many lines there was no room for, if there were any.
-fn tell_of_untold<E: Write>(alloc: Global, errors: &mut E, inbox: &Inbox)
-    ensures { (count : ℕ) × AppendsFront (E.contents errors.old) (E.contents errors.new) (untold_line count) }
+fn tell_of_untold<E: Write>(alloc: Global, errors: &mut E, untold: u64)
+    ensures { AppendsFront (E.contents errors.old) (E.contents errors.new) (untold_line untold) }
 {
-    let untold = inbox.counts.untold.load(Ordering::SeqCst);
     if untold > 0 {
         tell_untold(alloc, errors, untold);
-        inbox.counts.untold.fetch_sub(untold, Ordering::SeqCst);
     }
 }
 
@@ -164,9 +176,12 @@ pub(crate) fn tell_people<R: Wait + Drop, E: Write + Drop>(
     mut errors: E,
     mut inbox: Inbox,
 ) {
+    let mut piece = [0; PIECE];
     for _ in rt.forever() {
-        if !tell_piece(&mut errors, &mut inbox) {
-            tell_of_untold(alloc, &mut errors, &inbox);
+        if tell_piece(&mut errors, &mut inbox, &mut piece) == 0 {
+            let untold = inbox.counts.untold();
+            tell_of_untold(alloc, &mut errors, untold);
+            inbox.counts.note_told_of(untold);
             inbox.counts.bell.park(&rt);
         }
     }

@@ -6,7 +6,7 @@
 //!
 //! **An end hears the line that ended its session before it greets.** Otherwise it would greet twice, because it begins anew and because it was
 //! greeted, and one of these greetings would end the session that the other one begins.
-ghost use Rattle.std.specs.Prelude.{◌≡◌, ◌<◌, ◌+◌, ◌↔◌, IfNone, IfSome, IsTrue, cond, false, true, min, ℕ};
+ghost use Rattle.std.specs.Prelude.{◌≡◌, ◌<◌, ◌+◌, ◌↔◌, IfNone, IfSome, IsTrue, cond, false, true, max, min};
 ghost use Rattle.link_handshake.specs.Clocks.{IsSilent, after_writing, looked};
 ghost use Rattle.link_handshake.specs.Ends.{begun, greeting_of, heard_line};
 ghost use Rattle.link_handshake.specs.declared.said.Said.TheVariants.{Greeting as greets};
@@ -77,7 +77,7 @@ impl Station {
 
     /// Its session is over: it begins anew. If a line ended it, that is heard next.
     pub(crate) fn begin_anew(&mut self, by_line: bool)
-        ensures end { (next : ℕ) × (0 < next) × (self.new.post.end ≡ begun next self.old.post.end.heard) }
+        ensures end { self.new.post.end ≡ begun (max self.old.next 1) self.old.post.end.heard }
         ensures owes { self.new.post.owes_greeting ≡ true }
         ensures greets { self.new.is_to_hear ≡ by_line }
         ensures wait { self.new.wait ≡ self.old.wait }
