@@ -19,6 +19,7 @@ import contextlib
 import os
 import pathlib
 import random
+import re
 import shutil
 import signal
 import sys
@@ -26,7 +27,7 @@ import tempfile
 import time
 
 from lab import Topology
-from lib.lines import Pipes, Relayed, Straight, Terminal, fifos, has_open
+from lib.lines import Pipes, Relayed, Straight, Terminal, Unread, fifos, has_open
 from lib.processes import PATIENCE, Router, awaited
 from lib.program import built
 from lib.routers import Run, RunRows
@@ -48,8 +49,15 @@ COME_UP, LONGEST_WAIT = 60.0, 130.0
 # Seconds: what two routers that are up have still to hear of one another is heard.
 MOMENT = 0.05
 
-# Seconds that a slow line takes: there and back it has to be less than a third of the HOLD.
+# Seconds that a slow line takes: there and back it is less than a third of the HOLD.
 DELAY = 1.0
+
+# Seconds: a HOLD, and what a slower line takes: there and back it is more than two thirds of this HOLD, and less than all of it. Within how many
+# seconds two ends are up for good, and for how long they stay so here.
+SLOW_HOLD, SLOWER, FOR_GOOD, STAYS = 5, 1.75, 75, 12
+
+# How many sessions of a neighbour are over while standard error takes nothing: more than there is room for to tell.
+MANY_SESSIONS = 2500
 
 # Seconds of a processor that an idle router may take in a minute.
 IDLE_TIME = 0.05
@@ -125,6 +133,19 @@ class Pair:
     def stay_up(self):
         """Whether both are up, and still so a moment later: an end that is up with an older attempt of the other one would not be."""
         return self.are_up() and (time.sleep(MOMENT) or self.are_up())
+
+    def come_up_for_good(self, patience):
+        """How many seconds it takes until both are up and stay so, for a while; None where it does not come to that."""
+        begun = changed = time.monotonic()
+        before = None
+        while time.monotonic() < begun + patience + STAYS:
+            sessions = [end.router.ask("neighbours") for end in self.ends]
+            if sessions != before or not all(" " in session for session in sessions):
+                before, changed = sessions, time.monotonic()
+            if time.monotonic() > changed + STAYS:
+                return changed - begun
+            time.sleep(0.05)
+        return None
 
     def come_up(self, patience=COME_UP, begun=None):
         """How many seconds it takes until both are up, from some time on; None where they do not come up."""
@@ -251,9 +272,9 @@ class Ring:
 class Rows(RunRows):
     """What a neighbour does, and how soon it is noticed."""
 
-    WAITING = ("half_a_line", "hold", "hold_of_none", "idle", "line_is_cut", "old_answer", "ring", "slow_line", "starts_over_a_line_that_drops",
-               "starts_over_a_line_that_keeps", "starts_over_fifos", "starts_over_terminals_that_drop", "starts_over_terminals_that_keep", "stopped",
-               "stopped_for_less")
+    WAITING = ("errors_are_full", "half_a_line", "hold", "hold_of_none", "idle", "line_is_cut", "old_answer", "ring", "slow_line", "slower_line",
+               "starts_over_a_line_that_drops", "starts_over_a_line_that_keeps", "starts_over_fifos", "starts_over_terminals_that_drop",
+               "starts_over_terminals_that_keep", "stopped", "stopped_for_less")
 
     TIMED = ("half_a_line", "hold", "idle", "line_is_cut", "most_links", "ring", "slow_line", "stopped", "stopped_for_less")
 
@@ -425,6 +446,65 @@ class Rows(RunRows):
             after = [end.router.ask("neighbours") for end in pair.ends]
             self.judge("both stay up", after == before, (before, after, [end.said() for end in pair.ends]))
             self.tell(f"up after {took} s")
+
+    def row_slower_line(self):
+        """A line takes longer there and back than two thirds of the HOLD, so that greetings are said again before they are answered: in the end both
+        are up, and stay so."""
+        with Pair(self.program, (("--hold", str(SLOW_HOLD)),) * 2, Terminal, delay=SLOWER) as pair:
+            pair.ends[0].start()
+            time.sleep(SLOW_HOLD / 2)
+            pair.ends[1].start()
+            took = pair.come_up_for_good(FOR_GOOD)
+            said = [end.said() for end in pair.ends]
+            self.judge("both stay up", took is not None, [text[-300:] for text in said])
+            self.tell(f"up for good after {took} s, and {max(text.count(': closed') for text in said)} sessions before")
+
+    def row_errors_are_full(self):
+        """Standard error is a full pipe: who falls silent is down in time all the same, one after the other, and who does not hears that the router
+        is there. Once it is read it tells of all; and `quit` waits for nobody."""
+        more = ("--hold", str(SHORT_HOLD))
+        errors = Unread()
+        with contextlib.closing(errors), Run(self.program, nodes=(1, 2, 3), more=more, saves=False, errors=errors.writes) as run:
+            holds = {1: 1, 2: SHORT_HOLD, 3: 0}
+            for node, neighbour in run.neighbours.items():
+                neighbour.open()
+                neighbour.greet(hold=holds[node])
+            up = run.asks_until("neighbours", " 1:.* 2:.* 3:")
+            self.judge("all are up", up.count(":") == 3, up)
+            errors.fill()
+            for node in (1, 2):
+                down = awaited(lambda: run.ask("neighbours"), lambda said, node=node: f" {node}:" not in said, holds[node] + LATE)
+                self.judge(f"{node} is down", f" {node}:" not in down, down)
+            third = run.neighbours[3]
+            heard = len(third.told)
+            third.listen(lambda: third.told[heard:].endswith(b"\n\n"), 2 * SHORT_HOLD)
+            self.judge("the third hears empty lines", third.told[heard:].endswith(b"\n\n"), third.told[heard:])
+            said = awaited(errors.text, lambda text: text.count(": closed") > 1, SOON)
+            wanted = [f"link {node}: nothing heard for {holds[node]} s: closed\n" for node in (1, 2)]
+            self.judge("tells of both", all(line in said for line in wanted), said)
+            errors.fill()
+            begun = time.monotonic()
+            ended = run.quit()
+            self.judge("quits", ended == ("ok", 0) and time.monotonic() < begun + SOON, ended)
+
+    def row_errors_are_left_out(self):
+        """Standard error is a full pipe, and more is to be told than there is room for: it is told how much was left out."""
+        errors = Unread()
+        with contextlib.closing(errors), Run(self.program, nodes=(1,), saves=False, errors=errors.writes) as run:
+            one, = run.neighbours.values()
+            one.come()
+            self.judge("says that it is not saved", "history: not saved" in awaited(errors.text, bool, SOON), errors.text())
+            errors.fill()
+            for _ in range(MANY_SESSIONS):
+                one.told, one.before = one.told[one.told.rindex(b"netchange"):], 0
+                one.meet()
+            told = awaited(errors.text, lambda text: "left out" in text, COME_UP)
+            ends = told.count("link 1: the neighbour began anew: closed\n")
+            left = re.findall(r"(?m)^standard error: lines left out, since too many waited: (\d+)$", told)
+            self.judge("all are told or counted", ends + sum(map(int, left)) == MANY_SESSIONS, (ends, left, told[-300:]))
+            one.close()
+            said = awaited(errors.text, lambda text: "ended its stream" in text, SOON)
+            self.judge("goes on", said.endswith("link 1: the neighbour ended its stream: closed\n"), said[-300:])
 
     def row_most_links(self):
         """249 neighbours with a HOLD of 3 seconds, on one processor: all stay up as long as they say that they are there, and then none."""

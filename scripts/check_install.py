@@ -1,6 +1,6 @@
 #!/usr/bin/env python3
-"""Installs the program in a temporary folder, and looks at what came there: its man pages, its completions, and the syntax files, by which each
-token of the filters in `examples/` is read. Prints what is wrong, and at last 'N passed, M failed'. What needs a program that is not there
+"""Installs the program in a temporary folder, and looks at what came there: both programs, the man pages, the completions, and the syntax files, by
+which each token of the filters in `examples/` is read. Prints what is wrong, and at last 'N passed, M failed'. What needs a program that is not there
 (`groff`, `vim`, `zsh`, `fish`) is not run: a line says so, and it counts as skipped.
 
 usage: NCROUTE=PATH scripts/check_install.py     (PATH: the program as it is built)
@@ -156,6 +156,18 @@ def fish_differs(prefix):
     return None
 
 
+# ---- programs
+
+
+def programs_missing(prefix):
+    """Both programs run, and tell how they are called."""
+    for name in ("ncroute", "ncroute-kernel"):
+        ran = subprocess.run([os.path.join(prefix, "bin", name), "--help"], capture_output=True, text=True, check=False)
+        if ran.returncode or f"usage: {name} " not in ran.stdout.replace("Usage", "usage"):
+            return f"{name}: {ran}"
+    return None
+
+
 # ---- man pages: shown by groff, and compared with the documents, which are read here by other means than those of `lib/manual.py`, which makes them
 
 
@@ -226,7 +238,7 @@ def document_differs(name, page, whole):
     """What a page lacks of the document that it has to show: a heading, code, a reference, a cell of a table, or words."""
     text = documents.read(f"docs/{name}.md")
     headings = [heading.replace("`", "") for heading in re.findall(r"(?m)^#+ (.*)$", re.sub(r"(?ms)^```.*?^```", "", text))]
-    title = re.sub(r"^ncroute \w+: ", "", headings[0])
+    title = re.sub(r"^ncroute[ -]\w+: ", "", headings[0])
     if page[1] != 1 and f"{page[0]} - {title}\n" not in whole:
         return f"its description is not {title!r}"
     wanted = [title if page[1] == 1 else "DESCRIPTION", *headings[1:], "SEE ALSO"]
@@ -324,6 +336,7 @@ def signs_lost(_):
 
 
 CHECKS = (
+    ("the programs", None, programs_missing),
     ("the TextMate grammar", None, textmate_differs),
     ("the syntax file of vim", "vim", vim_differs),
     ("the files of the man pages", None, pages_missing),

@@ -5,7 +5,7 @@ usage: scripts/check_router.py [ROW..]        (NCROUTE=PATH: the program, withou
 
 Most rows start node 0 of a domain of 8 nodes with links to node 1, which does what the row says, and to node 2, which is as a neighbour should be.
 They compare what standard error says, look that node 2 is served all the while, have the router quit, and replay the history that was saved. The
-rows of `router_sizes.py` run with them.
+rows of `router_sizes.py` and `router_feeds.py` run with them.
 """
 import contextlib
 import os
@@ -19,6 +19,7 @@ import time
 from lib.processes import SAVED, awaited, open_files
 from lib.program import built
 from lib.routers import Run
+from router_feeds import FeedRows
 from router_sizes import MAY_WAIT, SizeRows
 
 GIGABYTE = 1 << 30
@@ -50,8 +51,10 @@ def saying(text):
     return lambda one: (one.greet(), one.say(text))
 
 
-class Rows(SizeRows):
+class Rows(FeedRows, SizeRows):
     """What neighbours do, and what is to come of it."""
+
+    WAITING = FeedRows.WAITING + SizeRows.WAITING
 
     def with_one(self, behave, says, more=(), history=None):
         """Node 1 behaves so while node 2 is served; standard error says that."""

@@ -1,5 +1,6 @@
 #!/usr/bin/env bash
-# Proves, builds and installs `ncroute` with its man pages, its completions for bash, zsh and fish, and the syntax files of `editors/`.
+# Proves, builds and installs `ncroute` and `ncroute-kernel` with their man pages, completions for bash, zsh and fish, and the syntax files of
+# `editors/`.
 #
 # usage: scripts/install.sh [--unproved] [PREFIX]      (PREFIX: /usr/local; --unproved: builds without proving anything, as scripts/build.sh does)
 #        scripts/install.sh --library [--unproved] [PREFIX]      installs the library of filters for C in place of the program
@@ -30,10 +31,11 @@ if [ -z "${NCROUTE:-}" ]; then
     "$top/scripts/build.sh" "${how[@]}" "$NCROUTE"
 fi
 install -D -m 755 "$NCROUTE" "$prefix/bin/ncroute"
+install -D -m 755 "$top/tools/ncroute-kernel" "$prefix/bin/ncroute-kernel"
 # Where this runs as root, it leaves no folder of its own in the sources.
 PYTHONDONTWRITEBYTECODE=1 "$top/scripts/make_manual.py" "$prefix/bin/ncroute" "$prefix"
 for part in syntax ftdetect; do
     install -D -m 644 "$top/editors/vim/$part/ncroute.vim" "$prefix/share/vim/vimfiles/$part/ncroute.vim"
 done
 (cd "$top/editors/vscode" && find . -type f -exec install -D -m 644 {} "$prefix/share/ncroute/vscode/{}" \;)
-echo "installed in $prefix: bin/ncroute, man pages, completions, and syntax files for vim; those for Visual Studio Code are in share/ncroute/vscode"
+echo "installed in $prefix: bin/ncroute, bin/ncroute-kernel, man pages, completions, and syntax files for vim; those for Visual Studio Code are in share/ncroute/vscode"

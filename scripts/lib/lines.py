@@ -28,6 +28,36 @@ def has_open(process, path):
     return False
 
 
+class Unread:
+    """A pipe that is not read until it is asked what it took, and can be filled, so that it takes nothing more."""
+
+    def __init__(self):
+        self.reads, self.writes = os.pipe()
+        os.set_blocking(self.reads, False)
+        # It is filled by a file of its own: others who write there have to wait.
+        self.fills = os.open(f"/proc/self/fd/{self.writes}", os.O_WRONLY | os.O_NONBLOCK)
+        self.took = b""
+
+    def fill(self):
+        with contextlib.suppress(BlockingIOError):
+            while True:
+                os.write(self.fills, b"~" * 4096)
+        with contextlib.suppress(BlockingIOError):
+            while True:
+                os.write(self.fills, b"~")
+
+    def text(self):
+        """What was written there, but for what it was filled with."""
+        with contextlib.suppress(BlockingIOError):
+            while came := os.read(self.reads, 65536):
+                self.took += came.replace(b"~", b"")
+        return self.took.decode()
+
+    def close(self):
+        for handle in (self.reads, self.writes, self.fills):
+            os.close(handle)
+
+
 class Pipes:
     """An end of a relay: two FIFOs, which stay open here, so that no router sees an end of its stream."""
 

@@ -1,6 +1,7 @@
 """Which documents of `docs/` are man pages, and how their Markdown becomes roff. `make_manual.py` puts the pages together.
 
-A document about one command is the last section of that command's page; each other one is a page of its own, in section 5 (formats) or 7.
+A document about one command is the last section of that command's page; each other one is a page of its own, in section 5 (formats), 7, or 8
+(programs beside the router).
 A link to another page becomes that page's name and section, and a link to anything else its text alone. A form of Markdown that no document
 has used yet ends the script with a message, so that nothing is left out unseen.
 """
@@ -18,10 +19,11 @@ PAGES = {
     "CHECK": ("ncroute-check", 1), "DIFF": ("ncroute-diff", 1), "DOMAIN": ("ncroute-domain", 1), "EVAL": ("ncroute-eval", 1),
     "FILTER": ("ncroute-filter", 1), "IMPORT": ("ncroute-import", 1), "LINT": ("ncroute-lint", 1), "LIST": ("ncroute-list", 1),
     "RUNNING": ("ncroute-router", 1), "TESTING": ("ncroute-test", 1),
+    "KERNEL": ("ncroute-kernel", 8),
     "CODE_FILE": ("ncroute-code-file", 5), "HISTORY": ("ncroute-history", 5), "LINKS": ("ncroute-links", 5), "SCRIPT": ("ncroute-script", 5),
     "CI": ("ncroute-ci", 7), "KINDS": ("ncroute-kinds", 7), "LANGUAGE": ("ncroute-language", 7), "LINES": ("ncroute-lines", 7),
-    "MACHINE": ("ncroute-machine", 7),
-    "OPERATORS": ("ncroute-operators", 7), "ROUTER": ("ncroute-tables", 7), "SESSIONS": ("ncroute-sessions", 7), "VERIFIER": ("ncroute-verifier", 7),
+    "MACHINE": ("ncroute-machine", 7), "NETWORK": ("ncroute-network", 7), "OPERATORS": ("ncroute-operators", 7),
+    "ROUTER": ("ncroute-tables", 7), "SESSIONS": ("ncroute-sessions", 7), "VERIFIER": ("ncroute-verifier", 7),
 }
 # Those for people who change the program or build on it.
 NO_PAGES = {"ARCHITECTURE", "CALLS", "DECISIONS", "EMBEDDING", "LOCK", "PROMISES"}
@@ -65,7 +67,7 @@ class Document:
         title, *self.rest = pathlib.Path(folder, f"{name}.md").read_text(encoding="utf-8").split("\n")
         if not title.startswith("# "):
             self.stop(title)
-        self.title = re.sub(rf"^`{NAME} \w+`: ", "", title[2:])
+        self.title = re.sub(rf"^`{NAME}[ -]\w+`: ", "", title[2:])
         # On a command's page the whole document is one section.
         self.headings = {"##": ".SS"} if self.page[1] == 1 else {"##": ".SH", "###": ".SS"}
         self.lines = [line for block in self.blocks() for line in self.block(block)]

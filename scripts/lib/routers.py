@@ -159,7 +159,8 @@ class Neighbour:
 class Run(Router):
     """One router and its neighbours, in a folder of their own."""
 
-    def __init__(self, program, nodes=(1, 2), more=(), size=SIZE, prepare=None, saves=True, node=0, early=(), quicker=None, environment=None):
+    def __init__(self, program, nodes=(1, 2), more=(), size=SIZE, prepare=None, saves=True, node=0, early=(), quicker=None, environment=None,
+                 errors=None):
         self.folder = tempfile.mkdtemp(prefix="router.")
         self.neighbours = {node: Neighbour(self.folder, node) for node in nodes}
         self.errors = pathlib.Path(self.folder, "errors")
@@ -169,8 +170,9 @@ class Run(Router):
             self.neighbours[other].open_early()
         links = {other: (neighbour.there, neighbour.back) for other, neighbour in self.neighbours.items()}
         history = os.path.join(self.folder, "history") if saves else None
-        with open(self.errors, "wb") as errors:
-            super().__init__(program, size, node, links, history, more, errors=errors, preexec_fn=prepare,
+        # Standard error is this file, unless another one is given.
+        with open(self.errors, "wb") as told:
+            super().__init__(program, size, node, links, history, more, errors=told if errors is None else errors, preexec_fn=prepare,
                              env={**os.environ, **(environment or {}), **sleeps})
 
     def close(self):

@@ -154,6 +154,8 @@ pub record IsRouting (given : List Row) (words : RouterWords) : Type 0 where
   pub hold : words.hold ≡ number_of 32 (codes "hold") given
   pub save : option_map (λ copy. string_bytes copy) words.save ≡ word_of (codes "save") given
   pub segments : words.segments ≡ number_of 32 (codes "segments") given
+  pub routes : option_map (λ copy. string_bytes copy) words.routes ≡ word_of (codes "routes") given
+  pub settle : words.settle ≡ number_of 32 (codes "settle") given
   pub stays : words.stays ≡ is_set (codes "stay") given
   pub prefixes : map (λ copy. string_bytes copy) words.prefixes.items ≡ words_of (codes "prefix") given
   pub filters : AreFilters given words.filters.items

@@ -158,7 +158,7 @@ static COMMANDS: [(&str, &str); 15] = [
 ];
 
 /// The options and arguments of each command, in the order in which its help shows them.
-static PARAMETERS: [(&str, Parameter); 58] = [
+static PARAMETERS: [(&str, Parameter); 60] = [
     ("check", SIZE),
     ("check", CODE),
     ("check", NAMES),
@@ -211,6 +211,8 @@ static PARAMETERS: [(&str, Parameter); 58] = [
     ("router", LINK),
     ("router", SEGMENT_FOLDER),
     ("router", SEGMENTS),
+    ("router", ROUTES),
+    ("router", SETTLE),
     ("router", STAY),
     ("run", FILTER),
     ("run", SAVE),
@@ -557,6 +559,24 @@ const SEGMENTS: Parameter = Parameter {
     name: "segments",
     value: "COUNT",
     help: "Keep the last segments of FOLDER alone, so many (1 or more); otherwise all",
+    kind: ParameterKind::Number,
+    is_required: false,
+};
+
+/// Where a router tells its routes.
+const ROUTES: Parameter = Parameter {
+    name: "routes",
+    value: "FILE",
+    help: "Tell the routes, and each change of them, to FILE, mostly a FIFO; see `man ncroute-kernel`",
+    kind: ParameterKind::Text,
+    is_required: false,
+};
+
+/// How long it waits before it tells them first.
+const SETTLE: Parameter = Parameter {
+    name: "settle",
+    value: "SECONDS",
+    help: "Tell the routes after this many seconds (10 if left out), or as soon as nothing changes any more",
     kind: ParameterKind::Number,
     is_required: false,
 };

@@ -29,6 +29,10 @@ pub struct RouterWords {
     pub save: Option<String>,
     /// How many segments of it are kept there.
     pub segments: Option<u32>,
+    /// Where the routes are told.
+    pub routes: Option<String>,
+    /// How many seconds the first table waits at most.
+    pub settle: Option<u32>,
     /// The router goes on where its standard input ends.
     pub stays: bool,
     /// The prefixes of nodes, `V=PREFIX`.
@@ -62,6 +66,8 @@ fn routing_in(
         hold: number_given(matches, "hold"),
         save: text_in(alloc, matches, "save")?,
         segments: number_given(matches, "segments"),
+        routes: text_in(alloc, matches, "routes")?,
+        settle: number_given(matches, "settle"),
         stays: is_given(matches, "stay"),
         prefixes: values_of(alloc, matches, "prefix")?,
         filters,

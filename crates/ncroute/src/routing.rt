@@ -12,7 +12,7 @@
 //! **People are told of links by a handle of standard error of their own**, which the threads of links share. So what `serve_router` promises of
 //! the other handle, on which it tells why a router is not there, does not depend on when a link is closed.
 ghost use Rattle.std.specs.Option.{option_map};
-ghost use Rattle.std.specs.Prelude.{◌≡◌, ◌++◌, IfErr, IfOk, IfSome, MatchOption, OnOk};
+ghost use Rattle.std.specs.Prelude.{◌≡◌, ◌++◌, IfErr, IfOk, IfSome, MatchOption, OnOk, is_some};
 ghost use Rattle.std.specs.Io.KnownBytes.{Appends};
 ghost use Rattle.filter_reports.specs.Cuts.{IsCut};
 ghost use Rattle.filter_reports.specs.Faults.{stream_fault};
@@ -31,7 +31,7 @@ use filter_reports::ProgramFault;
 use history_saver::{SaveFault, SegmentSaver};
 use line_protocol::StreamFault;
 use route_history::CallFault;
-use router_daemon::{DaemonFault, LinkFolder, Setting, run_router};
+use router_daemon::{DaemonFault, FeedFile, LinkFolder, Setting, run_router};
 use router_options::RouterPlan;
 use slot_lock::LockFault;
 use std::alloc::Global;
@@ -40,6 +40,9 @@ use std::random::RandomSource;
 use std::rt::Clock;
 use std::sync::Wait;
 use std::thread::Threads;
+
+/// For how many seconds the first table of routes waits at most, if no word says otherwise.
+const SETTLE: u32 = 10;
 
 /// The exit status where the words are wrong.
 const WRONG_WORDS: u8 = 2;
@@ -172,6 +175,19 @@ fn size_of(plan: &RouterPlan) -> u16
     plan.opening.size()
 }
 
+/// Where the routes are told, if they are to be.
+fn feed_of(words: &RouterWords) -> Option<FeedFile<'_>>
+    ensures { is_some result ≡ is_some words.now.routes }
+{
+    match &words.routes {
+        Some(name) => Some(FeedFile {
+            name: name.as_str(),
+            settle: words.settle.unwrap_or(SETTLE),
+        }),
+        None => None,
+    }
+}
+
 /// What a router of this plan is run with: its filters are read and verified, and then the folder of its history is made. There is none
 /// where something is not there, which people are told.
 fn fit_out<F: Folder + HistoryFolders, R: Read, W: Write, E: Write>(
@@ -277,6 +293,7 @@ fn run_setting<
     alloc: Global,
     save: &Option<String>,
     setting: Setting<R::Segments>,
+    feed: Option<FeedFile<'_>>,
     console: &mut Console<I, W, E>,
     voice: T,
 ) -> Result<u8, Untold>
@@ -293,6 +310,7 @@ where
         alloc,
         *rt,
         setting,
+        feed,
         voice,
         &mut console.reader,
         &mut console.writer,
@@ -346,6 +364,7 @@ where
             alloc,
             &words.save,
             setting,
+            feed_of(words),
             console,
             voice,
         ),

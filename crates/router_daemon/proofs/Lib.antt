@@ -1,4 +1,5 @@
 pub mod Entering
+pub mod Greetings
 pub mod KeptEntries
 pub mod Lines
 pub mod Looking

@@ -9,5 +9,6 @@ pub mod Queues
 pub mod Retries
 pub mod Sessions
 pub mod Sets
+pub mod Stations
 pub mod Told
 pub mod Uses

@@ -1,9 +1,11 @@
 -- What becomes of a link. (This project's own choice.)
-use Rattle.std.specs.Prelude.{◌≡◌, ◌⊎◌, ℕ, Bool, true, false, List, Option, None, Some, string_bytes}
+use Rattle.std.specs.Prelude.{◌≡◌, ◌⊎◌, ⊤, ℕ, Bool, true, false, List, Option, None, Some, string_bytes}
 use Rattle.message_streams.specs.Views.{ReaderView, WriterView}
 use Rattle.neighbour_session.specs.Calls.{Closes}
+use Rattle.neighbour_session.specs.Ending.{Ends}
 use Rattle.neighbour_session.specs.Words.{can_be_opened_again}
 use Rattle.neighbour_session.specs.declared.ends.SessionEnd.{SessionEnd}
+use Rattle.neighbour_session.specs.declared.ends.SessionEnd.TheVariants as end
 use Rattle.neighbour_session.specs.declared.greeting.Domain.{Domain}
 use Rattle.route_history.specs.declared.fault.CallFault.{CallFault}
 use Rattle.router_options.specs.declared.parts.LinkFiles.{LinkFiles}
@@ -20,6 +22,12 @@ IsSettled r session old new = (a : Answer) × Closes r session old a new
 -- or it is owed still: memory was refused, or the history is full
 abbrev pub IsOwed : RouterView → PassView → PassView → Type 0
 IsOwed r old new = (why : CallFault) × Refused why r old new
+
+-- A link whose neighbour was silent for its HOLD, of so many seconds, has no session, and nothing is entered; or it is ended: who is the first to
+-- end it enters its Down, once, and who is not enters nothing.
+abbrev pub EndsSilent : RouterView → ℕ → PassView → PassView → Type 0
+EndsSilent r hold old new =
+    (new ≡ old) ⊎ ((session : ℕ) × (why : SessionEnd) × Ends (λ _. ⊤) r session (end.Silent hold) old why new)
 
 -- streams that nobody used
 pub record AreFresh (input : ReaderView) (output : WriterView) : Type 0 where

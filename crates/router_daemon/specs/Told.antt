@@ -60,3 +60,7 @@ deaf_line why = codes "operator: " ++ fault_code why ++ codes ": no more lines a
 abbrev pub left_out_line : ℕ → ℕ → List ℕ
 left_out_line node count =
     codes "link " ++ decimal node ++ codes ": messages left out, since later ones replaced them: " ++ decimal count ++ codes "\n"
+
+-- so many lines were not told, since too many waited already
+abbrev pub untold_line : ℕ → List ℕ
+untold_line count = codes "standard error: lines left out, since too many waited: " ++ decimal count ++ codes "\n"

@@ -16,6 +16,7 @@ fn close<R: Wait, J: Naming, E: Write>(rt: &R, shared: &Shared<J, E>) -> usize {
     board.close();
     let count = board.len();
     shared.signals.wake(board);
+    shared.signals.news.ring(rt);
     count
 }
 
@@ -24,7 +25,7 @@ fn end_session<R: Wait, J: Naming, E: Write>(rt: &R, shared: &Shared<J, E>, link
     let Some(session) = shared.signals.session(rt, link) else {
         return;
     };
-    if shared.signals.end(rt, link, session).is_first() {
+    if shared.signals.end(rt, link, session, false).is_first() {
         shared.signals.owe(rt, link, session);
         shared.signals.settle(rt, link);
     }

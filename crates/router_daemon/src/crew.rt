@@ -20,15 +20,28 @@ pub(crate) struct LinkCrew<'a> {
     link: usize,
     /// The session.
     session: u32,
+    /// Whether it is who reads the link: then a line is why this one ends the session.
+    reads: bool,
 }
 
 impl<'a> LinkCrew<'a> {
-    /// One of those who serve a session of a link.
+    /// One of those who serve a session of a link, but do not read it.
     pub(crate) fn new(signals: &'a Signals, link: usize, session: u32) -> LinkCrew<'a> {
         LinkCrew {
             signals,
             link,
             session,
+            reads: false,
+        }
+    }
+
+    /// Who reads it.
+    pub(crate) fn reader(signals: &'a Signals, link: usize, session: u32) -> LinkCrew<'a> {
+        LinkCrew {
+            signals,
+            link,
+            session,
+            reads: true,
         }
     }
 }
@@ -134,8 +147,9 @@ impl<'a> Crew for LinkCrew<'a> {
             signals,
             link,
             session,
+            reads,
         } = self;
-        let ending = signals.end(rt, link, session);
+        let ending = signals.end(rt, link, session, reads);
         let is_first = ending.is_first();
         let leaver = LinkLeaver {
             signals,
@@ -158,6 +172,14 @@ impl<'a> LinkEars<'a> {
     /// Who hears the neighbour of a link.
     pub(crate) fn new(signals: &'a Signals, link: usize) -> LinkEars<'a> {
         LinkEars { signals, link }
+    }
+
+    /// Begins to hear the neighbour. Where no line is at hand that ended a session, what is owed to the neighbour is written first.
+    pub(crate) fn listen<R: Wait>(&self, rt: &R, has_line: bool) {
+        if !has_line {
+            self.signals.stations.listen(rt, self.link);
+            self.signals.ring(rt, self.link);
+        }
     }
 }
 

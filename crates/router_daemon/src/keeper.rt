@@ -178,7 +178,7 @@ fn serve_begun<R: Wait + Clock, I: Read + Drop, O: Write + Drop, J: Naming, E: W
     let (node, session) = (link.files.node, order.session);
     room.put_order(rt, order);
     shared.signals.ring(rt, link.index);
-    let crew = LinkCrew::new(&shared.signals, link.index, session);
+    let crew = LinkCrew::reader(&shared.signals, link.index, session);
     let (why, input, leaver) = serve_reader(rt, &shared.router, pass, session, input, crew, true);
     leaver.note_owed(rt);
     let input = going_on(why, input);
@@ -347,6 +347,7 @@ fn serve_link<R: Wait + Clock + RandomSource, I: Read + Drop, O: Write + Drop, J
         return (SessionEnd::NotStarted, None);
     }
     let ears = LinkEars::new(&shared.signals, link.index);
+    ears.listen(rt, first.is_some());
     let node = link.files.node;
     match meet(rt, &mut input, &ears, link.domain, node, first) {
         Ok(_) => serve_neighbour(rt, alloc, shared, room, link, input, pass, begun),
@@ -464,6 +465,10 @@ fn keep_turn<
     let again = keep_once::<R, I, O, D, J, E>(
         rt, alloc, folder, shared, room, link, pass, &mut begun,
     );
+    // A link that is not opened again does not come up any more.
+    if link.retry.is_none() {
+        shared.signals.news.note_there(rt, link.index);
+    }
     let before = wait_before(was_long(rt, begun), before);
     reopening(link.retry, again, before)
 }

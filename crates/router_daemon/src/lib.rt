@@ -1,21 +1,25 @@
 //! A router that talks: threads for its links, its operator and its history, round one `Router`.
 //!
 //! What the threads do is written in the crates below, which start none. A thread that waits for a file cannot be woken, so those of
-//! links are not joined, and end with the process.
+//! links are not joined, nor is the one that tells people: they end with the process.
 #![tactic(auto)]
 
 mod bounding;
 mod closing;
 mod crew;
 mod fault;
+mod feeding;
 mod filtering;
 mod folder;
 mod forgetting;
 mod keeper;
 mod naming;
+mod news;
 mod opening;
 mod operating;
+mod outbox;
 mod queues;
+mod resting;
 mod retrying;
 mod room;
 mod run;
@@ -24,12 +28,14 @@ mod settling;
 mod shared;
 mod signals;
 mod starting;
+mod station;
 mod stations;
 mod telling;
 mod watching;
 mod writer;
 
 pub use fault::DaemonFault;
+pub use feeding::FeedFile;
 pub use folder::LinkFolder;
 pub use run::run_router;
 pub use setting::{Filters, RouterEnd, Setting};

@@ -120,7 +120,7 @@ fn end_first<R: Wait, J: Naming, E: Write>(
     };
     shared.router.observe(rt, pass, &mut finding);
     let long = finding.found?;
-    let ending = shared.signals.end(rt, long.link, long.session);
+    let ending = shared.signals.end(rt, long.link, long.session, false);
     Some((long, ending))
 }
 

@@ -11,14 +11,16 @@ ghost use Rattle.router_daemon.specs.declared.fault.DaemonFault.TheVariants as f
 use crate::bounding::MostInMemory;
 use crate::closing::close_links;
 use crate::fault::DaemonFault;
+use crate::feeding::{FeedFile, Feeding, start_feeding};
 use crate::folder::LinkFolder;
 use crate::forgetting::Forgetter;
 use crate::naming::{LegalTicket, Ticket};
 use crate::opening::open_router;
 use crate::operating::{Figures, OperatorEnd, serve_lines};
+use crate::outbox::{Counts, Outbox};
 use crate::setting::{Filters, RouterEnd, Setting};
 use crate::shared::{Shared, shared_of};
-use crate::starting::{Bounding, Links, start_bounding, start_links, take_part};
+use crate::starting::{Bounding, Links, start_bounding, start_links, start_telling, take_part};
 use crate::telling::{tell_lost, tell_unkept};
 use history_saver::{SaveFault, SegmentFolder, SegmentSaver};
 use line_protocol::StreamFault;
@@ -54,16 +56,17 @@ fn begin_forgetting<S: SegmentFolder + Drop, J: Naming>(
     }
 }
 
-/// Tells people that the history is not saved, if it is not.
-fn tell_if_unkept<R: Wait, S: SegmentFolder + Drop, J: Naming, E: Write>(
+/// Tells people first, if the history is not saved, that it is not.
+fn tell_if_unkept<R: Clock>(
     rt: &R,
     alloc: Global,
-    shared: &Shared<J, E>,
-    forgetter: &Forgetter<S, J>,
+    outbox: &mut Outbox,
+    counts: &Counts,
+    saves: bool,
 ) {
-    if !forgetter.saves() {
-        let mut errors = shared.errors.lock(rt);
-        tell_unkept(alloc, &mut *errors);
+    if !saves {
+        tell_unkept(alloc, outbox);
+        counts.await_told(rt);
     }
 }
 
@@ -103,6 +106,7 @@ fn serve_all<
     pass: &mut Pass,
     links: Vec<LinkFiles>,
     common: Links,
+    feeding: Option<Feeding<J>>,
     figures: Figures,
     filters: Filters,
     reader: &mut I,
@@ -124,6 +128,7 @@ fn serve_all<
     let operators = LegalTicket::new(shared.router.split(pass, 1));
     let folder = Arc::new(alloc, folder)?;
     start_links::<R, FI, FO, D, J, E>(rt, alloc, &folder, shared, pass, links, common)?;
+    start_feeding::<R, FI, FO, D, J, E>(rt, alloc, &folder, shared, pass, feeding)?;
     Ok(serve_lines(
         rt, alloc, shared, operators, figures, filters, reader, writer,
     ))
@@ -183,6 +188,7 @@ fn run_named<
     alloc: Global,
     folder: D,
     setting: Setting<S>,
+    feed: Option<FeedFile<'_>>,
     errors: E,
     reader: &mut I,
     writer: &mut W,
@@ -233,11 +239,11 @@ fn run_named<
         retry,
         hold,
     };
+    let feeding = Feeding::<J>::new(alloc, feed, &opening)?;
     let shared: Arc<Shared<J, E>> = Arc::new(
         alloc,
         shared_of(alloc, router, links.as_slice(), errors)?,
     )?;
-    tell_if_unkept(rt, alloc, &shared, &forgetter);
     let ticket = take_part(&shared, &mut pass, 1)?;
     let most = MostInMemory {
         entries: limit,
@@ -245,14 +251,16 @@ fn run_named<
     };
     let bounding = start_bounding(rt, alloc, &shared, forgetter, ticket, most)?;
     let ran = serve_all::<R, FI, FO, D, J, E, I, W>(
-        rt, alloc, folder, &shared, &mut pass, links, common, figures, filters, reader, writer,
+        rt, alloc, folder, &shared, &mut pass, links, common, feeding, figures, filters, reader,
+        writer,
     );
     close_links(rt, &shared, &mut pass);
     end_run(rt, alloc, &shared, bounding, ran)
 }
 
 /// Runs a router: its links, its operator and its history, until the operator quits or their lines end. The folder in which its history is to be
-/// saved has no segments before.
+/// saved has no segments before. Its routes are told, if a file is named for them. People are told by a thread of their own, so that nobody else waits
+/// for `errors`.
 pub fn run_router<
     R: Threads + Wait + Clock + RandomSource + Copy + Send + Drop + 'static,
     FI: Read + Send + Drop + 'static,
@@ -267,6 +275,7 @@ pub fn run_router<
     alloc: Global,
     folder: D,
     setting: Setting<S>,
+    feed: Option<FeedFile<'_>>,
     errors: E,
     reader: &mut I,
     writer: &mut W,
@@ -281,7 +290,11 @@ pub fn run_router<
         ((reader.new ≡ reader.old) × (writer.new ≡ writer.old))) }
 {
     let (router, pass, right) = open_router(rt, alloc, &setting.plan, &setting.filters)?;
-    run_named::<Brand, R, FI, FO, D, S, E, I, W>(
-        rt, alloc, folder, setting, errors, reader, writer, router, pass, right,
-    )
+    let (mut outbox, counts) = start_telling(rt, alloc, errors)?;
+    tell_if_unkept(rt, alloc, &mut outbox, &counts, setting.save.is_some());
+    let ran = run_named::<Brand, R, FI, FO, D, S, Outbox, I, W>(
+        rt, alloc, folder, setting, feed, outbox, reader, writer, router, pass, right,
+    );
+    counts.await_told(rt);
+    ran
 }

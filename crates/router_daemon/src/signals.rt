@@ -2,6 +2,7 @@
 ghost use Rattle.std.specs.Prelude.{◌≡◌, IfOk, is_some};
 ghost use Rattle.link_board.specs.Boards.{AllAwake};
 
+use crate::news::News;
 use crate::stations::Stations;
 use link_board::{Board, Ending};
 use router_operator::Listener;
@@ -36,6 +37,8 @@ pub(crate) struct Signals {
     room_end: Mutex<Option<u64>>,
     /// Who made the last entry that there is room for sleeps on it.
     room_bell: Condvar,
+    /// What who tells the routes waits for.
+    pub(crate) news: News,
 }
 
 /// That the router is being closed, if a board says so.
@@ -105,6 +108,7 @@ impl Signals {
             owed: owed_of(alloc, nodes.len())?,
             room_end: Mutex::new(None),
             room_bell: Condvar::new(),
+            news: News::new(alloc, nodes.len())?,
         })
     }
 
@@ -143,6 +147,7 @@ impl Signals {
         let mut board = self.board.lock(rt);
         let has_changed = board.note(answer.at, &answer.reply);
         self.wake_after(board, has_changed);
+        self.news.note(rt, answer.at);
     }
 
     /// Notes the answer to a call of those who serve a session of a link.
@@ -150,6 +155,7 @@ impl Signals {
         let mut board = self.board.lock(rt);
         let has_changed = board.note_served(link, answer.at, &answer.reply);
         self.wake_after(board, has_changed);
+        self.news.note(rt, answer.at);
     }
 
     /// The session of a link, if one is there.
@@ -252,18 +258,20 @@ impl Signals {
         let mut board = self.board.lock(rt);
         let begins = board.begin(link, session, answer.at);
         self.wake(board);
+        self.news.note(rt, answer.at);
+        self.news.note_there(rt, link);
         begins
     }
 
     /// Ends a session of a link: the answer says who is the first who does, who is to enter its Down, and to say when that is settled. The
-    /// end of the link begins anew then.
-    pub(crate) fn end<R: Wait>(&self, rt: &R, link: usize, session: u32) -> Ending
+    /// end of the link begins anew then. If it is who reads the link that ends it, the line that is why is heard next.
+    pub(crate) fn end<R: Wait>(&self, rt: &R, link: usize, session: u32, by_line: bool) -> Ending
         ensures { (result.link ≡ link) × (result.session ≡ session) }
     {
         let mut board = self.board.lock(rt);
         let ending = board.end(link, session);
         if ending.is_first() && !board.is_closing() {
-            self.stations.begin_anew(rt, link);
+            self.stations.begin_anew(rt, link, by_line);
         }
         self.wake(board);
         ending
@@ -292,5 +300,6 @@ impl Listener for Signals {
         let mut board = self.board.lock(rt);
         board.note_exported(node, answer.at, &answer.reply);
         self.wake(board);
+        self.news.note(rt, answer.at);
     }
 }

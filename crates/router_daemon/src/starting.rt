@@ -9,6 +9,7 @@ use crate::folder::LinkFolder;
 use crate::forgetting::{AsBegun, Forgetter};
 use crate::keeper::{Link, keep_link};
 use crate::naming::Ticket;
+use crate::outbox::{Counts, Outbox, open_outbox, tell_people};
 use crate::room::Room;
 use crate::shared::Shared;
 use crate::telling::tell_unstarted;
@@ -195,6 +196,25 @@ pub(crate) fn start_links<
         }
     }
     Ok(())
+}
+
+/// Starts the thread that tells people: where lines for them are put, and what is known of those.
+pub(crate) fn start_telling<
+    R: Threads + Wait + Clock + RandomSource + Copy + Send + Drop + 'static,
+    E: Write + Send + Drop + 'static,
+>(rt: &R, alloc: Global, errors: E) -> Result<(Outbox, Arc<Counts>), DaemonFault>
+    ensures { IfErr result IsEarly }
+{
+    let (outbox, inbox) = open_outbox(alloc)?;
+    let counts = Arc::try_clone(&inbox.counts)?;
+    let handle = *rt;
+    let started = thread::spawn(rt, move || {
+        tell_people::<R, E>(handle, alloc, errors, inbox)
+    });
+    match started {
+        Ok(_) => Ok((outbox, counts)),
+        Err(_) => Err(DaemonFault::NotStarted),
+    }
 }
 
 /// Starts the thread that bounds the memory of a router.

@@ -2,18 +2,11 @@
 ghost use Rattle.std.specs.Prelude.{◌≡◌, ◌<◌, IfSome};
 ghost use Rattle.link_handshake.specs.declared.said.Said.TheVariants.{Greeting as greets};
 
-use link_handshake::{CameUp, Greeting, Post, Said, Speaker, Unheard};
+use crate::station::Station;
+use link_handshake::{CameUp, Greeting, Said, Speaker, Unheard};
 use std::alloc::{AllocError, Global};
 use std::random::RandomSource;
 use std::sync::{Mutex, Wait};
-
-/// The end of a link, between its opening and its closing.
-#[derive(Clone, Copy)]
-struct Station {
-    post: Post,
-    /// The number of the attempt that begins when the session is over.
-    next: u32,
-}
 
 /// The ends of the links of a router.
 #[derive(Drop)]
@@ -61,10 +54,8 @@ impl Stations {
             None => 0,
         };
         let number = draw(rt, last);
-        *station = Some(Station {
-            post: Post::open(speaker, number, now),
-            next: draw(rt, number),
-        });
+        let next = draw(rt, number);
+        *station = Some(Station::open(speaker, number, next, now));
     }
 
     /// A link is closed, or cannot be written to any more.
@@ -95,7 +86,7 @@ impl Stations {
         let station = guard.as_mut()?;
         let next = draw(rt, station.next);
         station.next = draw(rt, next);
-        station.post.hear(line, next)
+        station.hear(line, next)
     }
 
     /// A line was heard in session.
@@ -116,12 +107,20 @@ impl Stations {
         }
     }
 
-    /// The session of a link is over: its end begins anew.
-    pub(crate) fn begin_anew<R: Wait>(&self, rt: &R, link: usize) {
+    /// The session of a link is over: its end begins anew. If a line ended it, who reads the link hears that line next.
+    pub(crate) fn begin_anew<R: Wait>(&self, rt: &R, link: usize, by_line: bool) {
         if let Some(station) = self.stations.get(link) {
             if let Some(station) = station.lock(rt).as_mut() {
-                let next = station.next.max(1);
-                station.post.begin(next);
+                station.begin_anew(by_line);
+            }
+        }
+    }
+
+    /// Who reads a link has no line at hand that is heard first.
+    pub(crate) fn listen<R: Wait>(&self, rt: &R, link: usize) {
+        if let Some(station) = self.stations.get(link) {
+            if let Some(station) = station.lock(rt).as_mut() {
+                station.listen();
             }
         }
     }
@@ -129,14 +128,14 @@ impl Stations {
     /// The greeting that the end of a link has to write now, if it has to.
     pub(crate) fn take_greeting<R: Wait>(&self, rt: &R, link: usize) -> Option<Greeting> {
         let mut guard = self.stations.get(link)?.lock(rt);
-        guard.as_mut()?.post.take_greeting()
+        guard.as_mut()?.take_greeting()
     }
 
     /// Whether the end of a link has to write a line.
     pub(crate) fn is_due<R: Wait>(&self, rt: &R, link: usize) -> bool {
         match self.stations.get(link) {
             Some(station) => match &*station.lock(rt) {
-                Some(station) => station.post.is_due(),
+                Some(station) => station.is_due(),
                 None => false,
             },
             None => false,
@@ -146,6 +145,6 @@ impl Stations {
     /// Looks at the clock of a link: that nothing was heard for too long in its session, if it is so.
     pub(crate) fn look<R: Wait>(&self, rt: &R, link: usize, now: u64) -> Option<Unheard> {
         let mut guard = self.stations.get(link)?.lock(rt);
-        guard.as_mut()?.post.look(now)
+        guard.as_mut()?.look(now)
     }
 }

@@ -224,3 +224,24 @@ pub(crate) fn tell_left_out<E: Write>(alloc: Global, errors: &mut E, node: u16, 
 {
     tell(errors, left_out_line(alloc, node, count));
 }
+
+/// The line that tells how many lines were not told.
+fn untold_line(alloc: Global, count: u64) -> Result<String, AllocError>
+    ensures { IfOk result (λ line. string_bytes line ≡ spec.untold_line count) }
+{
+    let mut line = String::from_str(
+        alloc,
+        "standard error: lines left out, since too many waited: ",
+    )?;
+    let mut digits = Buffer::new();
+    line.push_str(digits.format(count))?;
+    line.push_str("\n")?;
+    Ok(line)
+}
+
+/// Tells how many lines were not told, since too many waited already.
+pub(crate) fn tell_untold<E: Write>(alloc: Global, errors: &mut E, count: u64)
+    ensures { AppendsFront (E.contents errors.old) (E.contents errors.new) (spec.untold_line count) }
+{
+    tell(errors, untold_line(alloc, count));
+}

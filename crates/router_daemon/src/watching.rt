@@ -3,6 +3,9 @@
 //! **A thread that waits for a file is not woken.** Who finds a neighbour silent ends its session at once, and greets it again over the same
 //! streams. Whoever reads or writes these streams goes on as soon as the neighbour says or takes a byte, or ends them. To open the other end of a
 //! FIFO for a moment, so that a read or a write returns, would bring the link back no sooner.
+ghost use Rattle.std.specs.Prelude.{⊤};
+ghost use Rattle.neighbour_session.specs.Ending.{Ends};
+ghost use Rattle.router_daemon.specs.Links.{EndsSilent};
 ghost use Rattle.slot_lock.specs.Passes.{IsPassOf};
 
 use crate::crew::LinkCrew;
@@ -21,7 +24,7 @@ use std::thread;
 use std::time::Duration;
 
 /// Milliseconds between two looks at the clock: fewer than count at most from one to the next.
-const LOOK: u64 = 200;
+pub(crate) const LOOK: u64 = 200;
 
 /// What the clock tells, in milliseconds, if it can be read.
 pub(crate) fn now<R: Clock>(rt: &R) -> Option<u64> {
@@ -29,7 +32,31 @@ pub(crate) fn now<R: Clock>(rt: &R) -> Option<u64> {
     u64::try_from(time.as_millis()).ok()
 }
 
-/// Ends the session of a link whose neighbour was silent, if nobody ended it before: enters its Down, and tells people why.
+/// Ends a session of a link to a node that was silent for its HOLD, if nobody ended it before: enters its Down, once, and tells people why.
+fn end_silent<R: Wait + Clock, J: Naming, E: Write>(
+    rt: &R,
+    alloc: Global,
+    shared: &Shared<J, E>,
+    pass: &mut Pass,
+    link: usize,
+    node: u16,
+    session: u32,
+    hold: u16,
+)
+    requires { IsPassOf J.router pass.old }
+    ensures of { IsPassOf J.router pass.new }
+    ensures ends { (why : SessionEnd) × Ends (λ _. ⊤) J.router session (SessionEnd.Silent hold) pass.old why pass.new }
+{
+    let crew = LinkCrew::new(&shared.signals, link, session);
+    let why = SessionEnd::Silent(hold);
+    let (why, leaver) = end_session(rt, &shared.router, pass, session, crew, why);
+    leaver.note_owed(rt);
+    if leaver.ended_it() {
+        tell_unless_closed(rt, alloc, shared, node, why);
+    }
+}
+
+/// Ends the session of a link whose neighbour was silent, if one is there.
 fn close_silent<R: Wait + Clock, J: Naming, E: Write>(
     rt: &R,
     alloc: Global,
@@ -39,19 +66,14 @@ fn close_silent<R: Wait + Clock, J: Naming, E: Write>(
     hold: u16,
 )
     requires { IsPassOf J.router pass.old }
-    ensures { IsPassOf J.router pass.new }
+    ensures of { IsPassOf J.router pass.new }
+    ensures ends { EndsSilent J.router hold pass.old pass.new }
 {
-    let signals = &shared.signals;
-    let (Some(session), Some(node)) = (signals.session(rt, link), shared.nodes.get(link)) else {
+    let (Some(session), Some(node)) = (shared.signals.session(rt, link), shared.nodes.get(link))
+    else {
         return;
     };
-    let crew = LinkCrew::new(signals, link, session);
-    let why = SessionEnd::Silent(hold);
-    let (why, leaver) = end_session(rt, &shared.router, pass, session, crew, why);
-    leaver.note_owed(rt);
-    if leaver.ended_it() {
-        tell_unless_closed(rt, alloc, shared, *node, why);
-    }
+    end_silent(rt, alloc, shared, pass, link, *node, session, hold);
 }
 
 /// Looks at the clock for a link: closes its session if the neighbour was silent, and wakes who writes if a line is to be written.

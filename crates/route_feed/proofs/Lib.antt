@@ -1,0 +1,3 @@
+mod Choosing
+mod Gathering
+mod Telling
