@@ -17,4 +17,5 @@ pub use ends::{GreetingFault, SessionEnd};
 pub use finish::end_session;
 pub use greeting::{Domain, Ears, meet};
 pub use read::serve_reader;
+pub use waiting::pause;
 pub use write::serve_writer;

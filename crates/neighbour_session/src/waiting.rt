@@ -1,14 +1,14 @@
 //! A history that is full, where that passes.
-ghost use Rattle.std.specs.Prelude.{◌≡◌, ◌↔◌, IsTrue};
+ghost use Rattle.std.specs.Prelude.{◌≡◌};
 ghost use Rattle.neighbour_session.specs.Waiting as spec;
-ghost use Rattle.route_session.specs.Calls.{StaysSound, stale};
+ghost use Rattle.route_session.specs.Calls.{StaysSound};
 ghost use Rattle.slot_lock.specs.Passes.{IsPassOf};
 
 use crate::crew::{Crew, READER};
 use crate::ends::SessionEnd;
-use netchange_core::{Event, EventRefusal, Message, Reply};
+use netchange_core::{Event, Message};
 use route_history::CallFault;
-use route_session::Cause;
+use route_session::{Cause, is_stale};
 use slot_lock::{Pass, Router};
 use std::rt::Clock;
 use std::sync::Wait;
@@ -16,7 +16,7 @@ use std::thread;
 use std::time::Duration;
 
 /// Waits a little, before a call is tried again that a full history had no room for.
-pub(crate) fn pause<R: Clock>(rt: &R) {
+pub fn pause<R: Clock>(rt: &R) {
     thread::sleep(rt, Duration::from_millis(5));
 }
 
@@ -29,13 +29,6 @@ pub(crate) fn end_of_full(waits: bool) -> SessionEnd
     } else {
         SessionEnd::Full
     }
-}
-
-/// Whether the router refused a call because the session is over.
-fn is_stale(reply: &Reply) -> bool
-    ensures { IsTrue result ↔ (reply.now ≡ stale) }
-{
-    matches!(reply, Reply::Refused(EventRefusal::Stale))
 }
 
 /// Enters a message that a full history had no room for, once there is room: it is tried again every few milliseconds, as long as the

@@ -23,6 +23,6 @@ pub use gather::merge_passes;
 pub use job::{Ending, Finished, Job, Role};
 pub use link::{Got, Link, LinkFault};
 pub use memory_link::MemoryLink;
-pub use reader::read_session;
+pub use reader::{is_stale, read_session};
 pub use run::run_sessions;
 pub use writer::{MOST_TAKEN, write_newest, write_session};

@@ -18,7 +18,7 @@ use std::rt::Clock;
 use std::sync::Wait;
 
 /// Whether the router refused a call because the session is over.
-pub(crate) fn is_stale(reply: &Reply) -> bool
+pub fn is_stale(reply: &Reply) -> bool
     ensures { IsTrue result ↔ (reply.now ≡ stale) }
 {
     matches!(reply, Reply::Refused(EventRefusal::Stale))

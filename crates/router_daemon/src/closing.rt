@@ -1,9 +1,9 @@
 //! A router is closed.
 ghost use Rattle.router_daemon.specs.Passes.{IsLegalPass};
 
-use crate::settling::{passes, pause};
+use crate::settling::passes;
 use crate::shared::Shared;
-use neighbour_session::enter_down;
+use neighbour_session::{enter_down, pause};
 use router_operator::Naming;
 use slot_lock::Pass;
 use std::io::Write;

@@ -15,14 +15,14 @@ use crate::folder::LinkFolder;
 use crate::naming::{FreshTicket, Ticket};
 use crate::retrying::{reopening, seconds, wait_before, was_long};
 use crate::room::{Order, Room};
-use crate::settling::{passes, pause, settle};
+use crate::settling::{passes, settle};
 use crate::shared::Shared;
 use crate::signals::Closing;
 use crate::telling::{tell_end, tell_unopened};
 use crate::watching::now;
 use link_handshake::{Said, Speaker};
 use message_streams::{MessageReader, MessageWriter};
-use neighbour_session::{Domain, SessionEnd, enter_down, enter_up, meet, serve_reader};
+use neighbour_session::{Domain, SessionEnd, enter_down, enter_up, meet, pause, serve_reader};
 use router_operator::Naming;
 use router_options::LinkFiles;
 use slot_lock::{Answer, Pass};
@@ -138,6 +138,20 @@ pub(crate) fn tell_unless_closed<R: Wait, J: Naming, E: Write>(
     }
     let mut errors = shared.errors.lock(rt);
     tell_end(alloc, &mut *errors, node, why);
+}
+
+/// Closes a link whose ends did not meet, and tells people why, unless another thread closed it.
+pub(crate) fn close_unmet<R: Wait, J: Naming, E: Write>(
+    rt: &R,
+    alloc: Global,
+    shared: &Shared<J, E>,
+    link: usize,
+    node: u16,
+    why: SessionEnd,
+) {
+    if shared.signals.stations.close(rt, link) {
+        tell_unless_closed(rt, alloc, shared, node, why);
+    }
 }
 
 /// Tells people that a file of a link was not opened.
@@ -353,7 +367,11 @@ fn serve_link<R: Wait + Clock + RandomSource, I: Read + Drop, O: Write + Drop, J
         Ok(_) => serve_neighbour(rt, alloc, shared, room, link, input, pass, begun),
         Err(why) => {
             let input = going_on(why, input);
-            tell_unless_closed(rt, alloc, shared, node, why);
+            if input.is_some() {
+                tell_unless_closed(rt, alloc, shared, node, why);
+            } else {
+                close_unmet(rt, alloc, shared, link.index, node, why);
+            }
             (why, input)
         }
     }

@@ -24,11 +24,6 @@ pub(crate) fn passes(why: SessionEnd) -> bool
     }
 }
 
-/// Waits a little, before a call is tried again that a full history had no room for.
-pub(crate) fn pause<R: Clock>(rt: &R) {
-    thread::sleep(rt, Duration::from_millis(5));
-}
-
 /// Enters the Down of a session that is over. False exactly where it is owed still: it is refused memory, or the history is full.
 fn enter_again<R: Wait, J: Naming, E: Write>(
     rt: &R,

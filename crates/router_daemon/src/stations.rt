@@ -58,10 +58,11 @@ impl Stations {
         *station = Some(Station::open(speaker, number, next, now));
     }
 
-    /// A link is closed, or cannot be written to any more.
-    pub(crate) fn close<R: Wait>(&self, rt: &R, link: usize) {
-        if let Some(station) = self.stations.get(link) {
-            *station.lock(rt) = None;
+    /// A link is closed, or cannot be written to any more. Whether it was open until now.
+    pub(crate) fn close<R: Wait>(&self, rt: &R, link: usize) -> bool {
+        match self.stations.get(link) {
+            Some(station) => station.lock(rt).take().is_some(),
+            None => false,
         }
     }
 

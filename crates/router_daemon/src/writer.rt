@@ -6,7 +6,7 @@ ghost use Rattle.std.specs.Io.KnownBytes.{Appends};
 ghost use Rattle.std.specs.Prelude.{IsTrue, true, ⊤};
 
 use crate::crew::{LinkCrew, LinkLeaver};
-use crate::keeper::tell_unless_closed;
+use crate::keeper::{close_unmet, tell_unless_closed};
 use crate::naming::Ticket;
 use crate::room::{Order, Room};
 use crate::settling::settle;
@@ -214,7 +214,7 @@ fn write_stream<R: Wait + Clock, O: Write + Drop, J: Naming, E: Write>(
                     if write_greeting(alloc, &mut stream, greeting) {
                         output = Some(stream);
                     } else {
-                        shared.signals.stations.close(rt, link);
+                        close_unmet(rt, alloc, shared, link, node, SessionEnd::Unwritten);
                     }
                 }
             }
