@@ -174,7 +174,7 @@ fn open_brackets(words: &[Word<'_>], at: usize) -> usize {
     depth
 }
 
-/// Whether the word at an index belongs to a label of a `case`: from it on there are constants and a `:`.
+/// Whether the word at an index belongs to a label of a `case`: from it on there are constants, which may stand in parentheses, and a `:`.
 fn is_in_label(words: &[Word<'_>], at: usize) -> bool {
     for next in at..words.len() {
         match words[next].kind {
@@ -182,7 +182,7 @@ fn is_in_label(words: &[Word<'_>], at: usize) -> bool {
             WordKind::Name
             | WordKind::Number
             | WordKind::Address(_)
-            | WordKind::Symbol(Symbol::Comma | Symbol::DotDot) => {}
+            | WordKind::Symbol(Symbol::Comma | Symbol::DotDot | Symbol::RightParen) => {}
             _ => return false,
         }
     }

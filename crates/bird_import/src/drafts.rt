@@ -22,7 +22,7 @@ use crate::config::Config;
 use crate::declarations::{first_without_value, plan_declaration};
 use crate::defines::{WORD_LIMIT, define_all, first_of_two_meanings, plan_definition};
 use crate::items::{Item, ItemKind};
-use crate::operators::{plan_grouping, plan_semicolon, plan_type_test};
+use crate::operators::{plan_grouping, plan_semicolon, plan_type_test, plan_unwrapping};
 use crate::printing::plan_printing;
 use crate::reason::{Reason, Why};
 use crate::scopes::first_stray;
@@ -68,8 +68,9 @@ pub struct Draft<'a> {
 }
 
 /// The rules by which a step is looked for, in this order.
-const ORDER: [Rule; 9] = [
+const ORDER: [Rule; 10] = [
     Rule::Defined,
+    Rule::Unwrapped,
     Rule::Separated,
     Rule::Unprinted,
     Rule::SetPlaced,
@@ -98,6 +99,7 @@ fn plan_by<'a>(
         Rule::CaseTaken | Rule::CaseBraced => plan_case(alloc, words),
         Rule::Ipv4Only => plan_type_test(alloc, words),
         Rule::Grouped => plan_grouping(alloc, words),
+        Rule::Unwrapped => plan_unwrapping(alloc, words),
         Rule::Returned => plan_return(alloc, words),
     }
 }
