@@ -14,6 +14,7 @@ mod Laying
 mod LayingRows
 mod Once
 mod Listed
+mod Noted
 mod Outside
 mod Pairs
 mod Placed
