@@ -13,6 +13,7 @@ mod Judged
 mod Laying
 mod LayingRows
 mod Once
+mod OtherTables
 mod Listed
 mod Noted
 mod Outside
