@@ -1,5 +1,5 @@
 -- What holds below a number, and below the next.
-use Rattle.std.proofs.Common.{◌≡◌, ℕ, zero, suc, ◌+◌, ◌<◌, ◌≤◌, ◌⊎◌, ◌||◌, Bool, true, false, List, Option, Some, add-one, ap, ◌∙◌, subst, sym, inl, inr, arith}
+use Rattle.std.proofs.Common.{◌≡◌, ℕ, zero, suc, ◌+◌, ◌<◌, ◌≤◌, ◌⊎◌, ◌||◌, Bool, true, false, List, Option, Some, add-one, ap, ◌∙◌, subst, sym, inl, inr, refl, arith}
 use Rattle.std.specs.Prelude.{slice_get}
 use Rattle.std.proofs.lemmas.Bool.{or_left, or_right}
 use Rattle.bird_import.specs.Items.{any_below}
@@ -42,3 +42,20 @@ any_here passes k (suc n) below is =
 pub none_further : (passes : ℕ → Bool) (n : ℕ) → any_below passes n ≡ false → passes n ≡ false → any_below passes (n + 1) ≡ false
 unfolding any_below
 none_further passes n before here = rw add-one (ap (λ b. b || passes n) before ∙ here)
+
+or_none : (a b : Bool) → (a || b) ≡ false → a ≡ false
+or_none true b e = let no : ⊥ = cc in absurd no
+or_none false b e = refl
+
+most : (m n : ℕ) → m ≤ n + 1 → (m ≤ n) ⊎ (m ≡ n + 1)
+most m n h = grind arith
+
+-- none of fewer does
+pub less_below : (passes : ℕ → Bool) (n m : ℕ) → m ≤ n → any_below passes n ≡ false → any_below passes m ≡ false
+unfolding any_below
+less_below passes zero m few none = subst (λ k. any_below passes k ≡ false) (omega (arith, few)) none
+less_below passes (suc n) m few none =
+    elim (most m n (omega (arith, few))) [
+      | inl fewer ↦ less_below passes n m fewer (or_none (any_below passes n) (passes n) none)
+      | inr same ↦ subst (λ k. any_below passes k ≡ false) (omega (arith, same)) none
+    ]

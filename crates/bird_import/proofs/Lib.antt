@@ -13,7 +13,9 @@ mod Judged
 mod Laying
 mod LayingRows
 mod Once
+mod OtherTables
 mod Listed
+mod Noted
 mod Outside
 mod Pairs
 mod Placed

@@ -234,6 +234,26 @@ module _ (words : List Word) where
   declares_other_table name k = is_other_channel (bytes_at words k)
       && (bytes_eq (bytes_at words (k + 1)) (codes "table") && bytes_eq (bytes_at words (k + 2)) name)
 
+  -- a table is declared at an index, for other routes than those of IPv4
+  unfoldable pub declares_other : ℕ → Bool
+  declares_other k = is_other_channel (bytes_at words k) && bytes_eq (bytes_at words (k + 1)) (codes "table")
+
+  -- the indices at which such tables are declared, with one more
+  unfoldable pub with_other : ℕ → List ℕ → List ℕ
+  with_other k tables = if declares_other k then tables ++ k ∷ [] else tables
+
+  -- those before an index, in order, and all of them
+  unfoldable pub tables_before : ℕ → List ℕ
+  tables_before zero = []
+  tables_before (suc k) = with_other k (tables_before k)
+
+  abbrev pub other_tables : List ℕ
+  other_tables = tables_before (length words)
+
+  -- one of some tables has a name
+  unfoldable pub are_named : List ℕ → List ℕ → Bool
+  are_named tables name = list_any (λ (k : ℕ). bytes_eq (bytes_at words (k + 2)) name) tables
+
   -- the table of a name has other routes: it is BIRD's own of IPv6, or declared so
   unfoldable pub is_other_table : List ℕ → Bool
   is_other_table name = bytes_eq name (codes "master6") || any_below (declares_other_table name) (length words)

@@ -20,3 +20,4 @@ pub mod Texts
 pub mod Unassigned
 -- What only the bodies of this crate are proved against.
 pub mod Drafts
+pub mod Names

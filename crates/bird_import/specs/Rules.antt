@@ -190,6 +190,65 @@ pub record IsSeparated (old new back : List Word) : Type 0 where
   pub behind : back ≡ next ∷ others
   pub ends : Is symbol.Else next ⊎ Is symbol.RightBrace next
 
+-- a word behind which a command begins
+abbrev pub ends_command : WordKind → Bool
+ends_command (kind.Symbol symbol.Semicolon) = true
+ends_command (kind.Symbol symbol.LeftBrace) = true
+ends_command (kind.Symbol symbol.RightBrace) = true
+ends_command (kind.Symbol symbol.Then) = true
+ends_command (kind.Symbol symbol.Else) = true
+ends_command (kind.Symbol symbol.Colon) = true
+ends_command other = false
+
+-- a word is a number or an address
+abbrev pub is_constant : WordKind → Bool
+is_constant kind.Number = true
+is_constant (kind.Address address) = true
+is_constant other = false
+
+-- What stands before a `(` here calls nothing: a label may begin behind the word, or a member of a set.
+abbrev pub begins_member : WordKind → Bool
+begins_member (kind.Symbol symbol.Comma) = true
+begins_member (kind.Symbol symbol.DotDot) = true
+begins_member (kind.Symbol symbol.LeftBracket) = true
+begins_member other = false
+
+abbrev pub begins_constant : WordKind → Bool
+begins_constant word = ends_command word || begins_member word
+
+-- a label or a set goes on, or ends, with this word
+abbrev pub ends_constant : WordKind → Bool
+ends_constant (kind.Symbol symbol.Comma) = true
+ends_constant (kind.Symbol symbol.DotDot) = true
+ends_constant (kind.Symbol symbol.Colon) = true
+ends_constant (kind.Symbol symbol.RightBracket) = true
+ends_constant other = false
+
+-- `( CONSTANT )` is written as `CONSTANT`
+pub record IsBare (old new : List Word) : Type 0 where
+  pub opening : Word
+  pub constant : Word
+  pub closing : Word
+  pub whole : old ≡ opening ∷ constant ∷ closing ∷ []
+  pub is_opening : Is symbol.LeftParen opening
+  pub is_one : is_constant constant.kind ≡ true
+  pub is_closing : Is symbol.RightParen closing
+  pub kept : Word
+  pub same : IsSame constant kept
+  pub written : new ≡ kept ∷ []
+
+-- a constant of a label or of a set is taken out of its parentheses: BIRD's labels are numbers, or what is computed in parentheses
+pub record IsUnwrapped (front old new back : List Word) : Type 0 where
+  pub before : List Word
+  pub last : Word
+  pub ahead : front ≡ before ++ last ∷ []
+  pub begins : begins_constant last.kind ≡ true
+  pub bare : IsBare old new
+  pub next : Word
+  pub others : List Word
+  pub behind : back ≡ next ∷ others
+  pub ends : ends_constant next.kind ≡ true
+
 -- How a test of the kind of a prefix comes out, where all prefixes are of IPv4.
 abbrev pub IsTest : Word → Word → Word → Type 0
 IsTest compare family answer =
@@ -220,16 +279,6 @@ is_separator (kind.Symbol symbol.Colon) = true
 is_separator (kind.Symbol symbol.If) = true
 is_separator (kind.Symbol symbol.Case) = true
 is_separator other = false
-
--- a word behind which a command begins
-abbrev pub ends_command : WordKind → Bool
-ends_command (kind.Symbol symbol.Semicolon) = true
-ends_command (kind.Symbol symbol.LeftBrace) = true
-ends_command (kind.Symbol symbol.RightBrace) = true
-ends_command (kind.Symbol symbol.Then) = true
-ends_command (kind.Symbol symbol.Else) = true
-ends_command (kind.Symbol symbol.Colon) = true
-ends_command other = false
 
 -- an expression begins behind this word
 abbrev pub BeginsBehind : Word → Type 0

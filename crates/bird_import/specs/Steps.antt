@@ -5,7 +5,7 @@ use Rattle.bird_import.specs.declared.step.Rule.{Rule}
 use Rattle.bird_import.specs.declared.step.Rule.TheVariants as rule
 use Rattle.bird_import.specs.Cases.{IsCaseBraced, IsCaseTaken}
 use Rattle.bird_import.specs.Functions.{IsCallOf, IsDecided}
-use Rattle.bird_import.specs.Rules.{IsChainGrouped, IsDefined, IsHoisted, IsSeparated, IsShortened, IsTypeTest, IsUnprinted}
+use Rattle.bird_import.specs.Rules.{IsChainGrouped, IsDefined, IsHoisted, IsSeparated, IsShortened, IsTypeTest, IsUnprinted, IsUnwrapped}
 use Rattle.bird_import.specs.Sets.{IsSetPlaced}
 
 -- a part of some words is written as another: `front old back` as `front new back`, in a way that may look at what is beside it
@@ -33,6 +33,7 @@ module _ (config : List Word) where
   Fits rule.SetPlaced front old new back = IsSetPlaced front old new back
   Fits rule.CaseTaken front old new back = IsCaseTaken old new back
   Fits rule.CaseBraced front old new back = IsCaseBraced old new
+  Fits rule.Unwrapped front old new back = IsUnwrapped front old new back
 
   -- words of the configuration that follow one another
   pub record IsPart (words : List Word) : Type 0 where

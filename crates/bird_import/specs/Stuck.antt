@@ -4,7 +4,7 @@ use Rattle.filter_tokens.specs.declared.symbol.Symbol.TheVariants as symbol
 use Rattle.bird_import.specs.Drafts.{words_of}
 use Rattle.bird_import.specs.Indices.{IsAt, IsBehind, IsForeignAt, IsNamedAt, kind_at}
 use Rattle.bird_import.specs.Reasons.{IsVariable}
-use Rattle.bird_import.specs.Rules.{IsNamed, ends_command, is_kind}
+use Rattle.bird_import.specs.Rules.{IsNamed, ends_command, is_constant, is_kind}
 use Rattle.bird_import.specs.Scopes.{IsStray}
 use Rattle.bird_import.specs.Sets.{IsDeclared}
 use Rattle.bird_import.specs.Steps.{Becomes, BecomesWithin, Reaches}
@@ -58,11 +58,17 @@ pub record WantsSemicolon (words : List Word) (k : ℕ) : Type 0 where
 abbrev pub HasValue : List Word → ℕ → Type 0
 HasValue words k = (is_kind (kind_at words k) ≡ true) × (kind_at words (k + 1) ≡ kind.Name) × IsAt symbol.Equal words (k + 2)
 
--- a step is due at an index that puts no other words in: a `;`, a declaration, a test of the kind of a prefix, an operator of a chain, or what
--- a function returns on a condition
+-- `( CONSTANT )`
+pub record IsWrapped (words : List Word) (k : ℕ) : Type 0 where
+  pub opens : IsAt symbol.LeftParen words k
+  pub constant : is_constant (kind_at words (k + 1)) ≡ true
+  pub closes : IsAt symbol.RightParen words (k + 2)
+
+-- a step is due at an index that puts no other words in: a constant without its parentheses, a `;`, a declaration, a test of the kind of a prefix,
+-- an operator of a chain, or what a function returns on a condition
 abbrev pub IsDue : List Word → ℕ → Type 0
-IsDue words k = WantsSemicolon words k
-    ⊎ (HasValue words k ⊎ (IsNamedAt (codes "type") words k ⊎ ((IsAt symbol.And words k ⊎ IsAt symbol.Or words k) ⊎ IsForeignAt (codes "return") words k)))
+IsDue words k = IsWrapped words k ⊎ (WantsSemicolon words k
+    ⊎ (HasValue words k ⊎ (IsNamedAt (codes "type") words k ⊎ ((IsAt symbol.And words k ⊎ IsAt symbol.Or words k) ⊎ IsForeignAt (codes "return") words k))))
 
 -- among some words is `KIND set NAME`
 pub record HasSetVariable (name : List ℕ) (words : List Word) : Type 0 where

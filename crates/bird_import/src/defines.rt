@@ -7,16 +7,18 @@
 //! **A definition is put in as its words, and not computed.** BIRD computes `define FAR = 2 + 3;` where it stands, and takes `FAR` wherever a
 //! constant may be. Here `( 2 + 3 )` is put in, which is the same in an expression. In a set, a label or a mask nothing is computed, so a filter
 //! that has such a name there is left out.
-ghost use Rattle.std.specs.Prelude.{◌≡◌, ◌≢◌, ◌↔◌, ◌<◌, ℕ, [], ◌∷◌, List, IfErr, IfOk, IfSome, IsTrue, None, OnOk, Some, length, slice_get};
+ghost use Rattle.std.specs.Prelude.{◌≡◌, ◌≢◌, ◌↔◌, ◌*◌, ◌<◌, ℕ, [], ◌∷◌, List, IfErr, IfOk, IfSome, IsTrue, None, OnOk, Some, length, slice_get};
 ghost use Rattle.bird_import.specs.Indices.{IsNameAt};
+ghost use Rattle.bird_import.specs.Names.{KnowsAll};
 ghost use Rattle.bird_import.specs.Reasons.{IsVariable, IsVariableAt, why_of_plan};
 ghost use Rattle.bird_import.specs.Rules.{IsDefined, IsPlaced};
 ghost use Rattle.bird_import.specs.Steps.{Becomes};
 ghost use Rattle.bird_import.specs.Drafts.{IsDefinedHere};
-ghost use Rattle.bird_import.specs.Stuck.{AreApart, Hinders, IsDefinedName, IsDefinition, IsFound, IsUsed, StandsBefore};
+ghost use Rattle.bird_import.specs.Stuck.{AreApart, Hinders, IsDefinedName, IsDefinition, IsUsed, StandsBefore};
 
 use crate::config::Config;
 use crate::items::Definition;
+use crate::names::{Names, look_up};
 use crate::reason::{Reason, Why};
 use crate::rules::{is_defined, is_kind, is_one_operand};
 use crate::step::{Plan, Rule, Step, enclosed, joined};
@@ -28,6 +30,16 @@ use std::alloc::{AllocError, Global};
 
 /// The most words of a filter: each has a byte.
 pub const WORD_LIMIT: usize = 65_536;
+
+/// The most words that the steps of a filter go through: their number times that of the words that are there.
+const WORK_LIMIT: u64 = 33_554_432;
+
+/// Whether so many steps that go through so many words are too much.
+pub fn is_much(made: usize, words: usize) -> bool
+    ensures { IsTrue result → 33554432 < made * words }
+{
+    (made as u64).saturating_mul(words as u64) > WORK_LIMIT
+}
 
 /// Whether a name is declared at an index.
 pub fn declares(words: &[Word<'_>], at: usize, name: &[u8]) -> bool
@@ -51,24 +63,31 @@ pub fn is_declared(words: &[Word<'_>], name: &[u8]) -> bool
 }
 
 /// Whether a name is defined.
-fn is_defined_name(config: &Config<'_>, name: &[u8]) -> bool
+#[tactic(auto, using(crate::proofs::Noted::never_defined, crate::proofs::Noted::once_defined, crate::proofs::Noted::twice_defined))]
+fn is_defined_name(config: &Config<'_>, names: &Names, name: &[u8]) -> bool
+    requires { KnowsAll config.now names.now }
     ensures { IsTrue result ↔ IsDefinedName config.now name.now }
 {
-    for definition in config.definitions {
-        if is_named_at(config.words, definition.name, name) {
-            return true;
-        }
+    match look_up(config, names, name) {
+        Found::Never => false,
+        Found::Once(_) => true,
+        Found::Twice => true,
     }
-    false
 }
 
 /// The word at an index, if a variable is declared there that has the name of a definition.
-fn two_meanings_at<'a>(config: &Config<'a>, words: &[Word<'a>], at: usize) -> Option<Word<'a>>
+fn two_meanings_at<'a>(
+    config: &Config<'a>,
+    names: &Names,
+    words: &[Word<'a>],
+    at: usize,
+) -> Option<Word<'a>>
+    requires { KnowsAll config.now names.now }
     ensures some { IfSome result (λ word. IsVariableAt word.bytes.now words.now at × IsDefinedName config.now word.bytes.now) }
     ensures none { result ≡ None → (name : List ℕ) → IsVariableAt name words.now at → IsDefinedName config.now name → ⊥ }
 {
     let word = word_at(words, at)?;
-    if declares(words, at, word.bytes) && is_defined_name(config, word.bytes) {
+    if declares(words, at, word.bytes) && is_defined_name(config, names, word.bytes) {
         Some(word)
     } else {
         None
@@ -76,12 +95,17 @@ fn two_meanings_at<'a>(config: &Config<'a>, words: &[Word<'a>], at: usize) -> Op
 }
 
 /// The first variable among some words that has the name of a definition: what the name means depends on where it stands.
-pub fn first_of_two_meanings<'a>(config: &Config<'a>, words: &[Word<'a>]) -> Option<Reason<'a>>
+pub fn first_of_two_meanings<'a>(
+    config: &Config<'a>,
+    names: &Names,
+    words: &[Word<'a>],
+) -> Option<Reason<'a>>
+    requires { KnowsAll config.now names.now }
     ensures some { IfSome result (λ reason. Hinders config.now words.now reason.why) }
     ensures none { result ≡ None → AreApart config.now words.now }
 {
     for at in 0..words.len() {
-        if let Some(word) = two_meanings_at(config, words, at) {
+        if let Some(word) = two_meanings_at(config, names, words, at) {
             return Some(Reason {
                 at: word.at,
                 why: Why::TwoMeanings(word.bytes),
@@ -104,7 +128,7 @@ fn may_be_defined(words: &[Word<'_>], at: usize) -> bool
 
 /// What a name is defined as.
 #[derive(Clone, Copy)]
-enum Found {
+pub enum Found {
     /// By this definition.
     Once(Definition),
     /// By two of them.
@@ -114,7 +138,7 @@ enum Found {
 }
 
 /// What is found of a name with a further definition of it.
-fn found_again(found: Found, definition: Definition) -> Found
+pub fn found_again(found: Found, definition: Definition) -> Found
     ensures first { found ≡ Found.Never → result ≡ Found.Once definition }
     ensures second { found ≢ Found.Never → result ≡ Found.Twice }
 {
@@ -122,19 +146,6 @@ fn found_again(found: Found, definition: Definition) -> Found
         Found::Never => Found::Once(definition),
         Found::Once(_) | Found::Twice => Found::Twice,
     }
-}
-
-/// The definition of a name.
-fn look_up(config: &Config<'_>, name: &[u8]) -> Found
-    ensures { IsFound config.now name.now (length config.now.definitions.now) result }
-{
-    let mut found = Found::Never;
-    for definition in config.definitions {
-        if is_named_at(config.words, definition.name, name) {
-            found = found_again(found, *definition);
-        }
-    }
-    found
 }
 
 /// The words of a value where a word stood.
@@ -174,7 +185,7 @@ fn open_brackets(words: &[Word<'_>], at: usize) -> usize {
     depth
 }
 
-/// Whether the word at an index belongs to a label of a `case`: from it on there are constants and a `:`.
+/// Whether the word at an index belongs to a label of a `case`: from it on there are constants, which may stand in parentheses, and a `:`.
 fn is_in_label(words: &[Word<'_>], at: usize) -> bool {
     for next in at..words.len() {
         match words[next].kind {
@@ -182,7 +193,7 @@ fn is_in_label(words: &[Word<'_>], at: usize) -> bool {
             WordKind::Name
             | WordKind::Number
             | WordKind::Address(_)
-            | WordKind::Symbol(Symbol::Comma | Symbol::DotDot) => {}
+            | WordKind::Symbol(Symbol::Comma | Symbol::DotDot | Symbol::RightParen) => {}
             _ => return false,
         }
     }
@@ -275,8 +286,10 @@ fn place<'a>(
 pub fn plan_definition<'a>(
     alloc: Global,
     config: &Config<'a>,
+    names: &Names,
     words: &[Word<'a>],
 ) -> Result<Plan<'a>, AllocError>
+    requires names { KnowsAll config.now names.now }
     ensures { IfOk result (λ plan. IfSome (why_of_plan plan) (Hinders config.now words.now)) }
 {
     for at in 0..words.len() {
@@ -286,7 +299,7 @@ pub fn plan_definition<'a>(
         let Some(word) = word_at(words, at) else {
             continue;
         };
-        match look_up(config, word.bytes) {
+        match look_up(config, names, word.bytes) {
             Found::Never => {}
             Found::Once(definition) => return place(alloc, config, words, definition, word, at),
             Found::Twice => return Ok(Plan::Stuck(Reason {
@@ -302,18 +315,20 @@ pub fn plan_definition<'a>(
 fn value_at<'a>(
     alloc: Global,
     config: &Config<'a>,
+    names: &Names,
     words: &[Word<'a>],
     at: usize,
     word: Word<'a>,
     is_in_brackets: bool,
 ) -> Result<Option<Vec<Word<'a>>>, AllocError>
-    requires { slice_get words.now at ≡ Some word }
+    requires names { KnowsAll config.now names.now }
+    requires there { slice_get words.now at ≡ Some word }
     ensures { IfOk result (λ found. IfSome found (λ value. IsDefined config.now.words.now (word.entry ∷ []) value.items)) }
 {
     if !may_be_defined(words, at) {
         return Ok(None);
     }
-    let Found::Once(definition) = look_up(config, word.bytes) else {
+    let Found::Once(definition) = look_up(config, names, word.bytes) else {
         return Ok(None);
     };
     let Ok(value) = value_for(config, words, definition, word, at, is_in_brackets) else {
@@ -332,19 +347,21 @@ fn value_at<'a>(
 fn push_defined<'a>(
     alloc: Global,
     config: &Config<'a>,
+    names: &Names,
     words: &[Word<'a>],
     at: usize,
     word: Word<'a>,
     is_in_brackets: bool,
     done: &mut Vec<Word<'a>>,
 ) -> Result<bool, AllocError>
-    requires { slice_get words.now at ≡ Some word }
+    requires names { KnowsAll config.now names.now }
+    requires there { slice_get words.now at ≡ Some word }
     ensures { OnOk result (IsDefinedHere config.now.words.now word.entry done.old.items done.new.items) }
 {
     let value = if done.len() > WORD_LIMIT {
         None
     } else {
-        value_at(alloc, config, words, at, word, is_in_brackets)?
+        value_at(alloc, config, names, words, at, word, is_in_brackets)?
     };
     match value {
         Some(value) => {
@@ -362,8 +379,10 @@ fn push_defined<'a>(
 fn define_each<'a>(
     alloc: Global,
     config: &Config<'a>,
+    names: &Names,
     words: &[Word<'a>],
 ) -> Result<(Vec<Word<'a>>, bool), AllocError>
+    requires names { KnowsAll config.now names.now }
     ensures { IfOk result (λ found. (depth : ℕ) → Becomes config.now.words.now depth words.now found.0.items) }
 {
     let mut done = Vec::new(alloc);
@@ -371,28 +390,33 @@ fn define_each<'a>(
     let mut is_any = false;
     for at in 0..words.len() {
         let word = words[at];
-        let is_defined = push_defined(alloc, config, words, at, word, brackets > 0, &mut done)?;
+        let is_in = brackets > 0;
+        let is_defined = push_defined(alloc, config, names, words, at, word, is_in, &mut done)?;
         is_any = is_any || is_defined;
         brackets = brackets_behind(brackets, word);
     }
     Ok((done, is_any))
 }
 
-/// The words with all definitions in place that can be, until there are too many of them. A definition speaks of those before it alone, so
-/// there are no more rounds than definitions.
+/// The words with all definitions in place that can be, until there are too many of them, or too many were gone through. A definition speaks of
+/// those before it alone, so there are no more rounds than definitions.
 pub fn define_all<'a>(
     alloc: Global,
     config: &Config<'a>,
+    names: &Names,
     words: Vec<Word<'a>>,
 ) -> Result<Vec<Word<'a>>, AllocError>
+    requires names { KnowsAll config.now names.now }
     ensures { IfOk result (λ after. (depth : ℕ) → Becomes config.now.words.now depth words.entry.items after.items) }
 {
     let mut words = words;
+    let mut made = 0usize;
     for _ in config.definitions {
-        if words.len() > WORD_LIMIT {
+        if words.len() > WORD_LIMIT || is_much(made, words.len()) {
             return Ok(words);
         }
-        let (after, is_any) = define_each(alloc, config, words.as_slice())?;
+        made = made.saturating_add(1);
+        let (after, is_any) = define_each(alloc, config, names, words.as_slice())?;
         words = after;
         if !is_any {
             return Ok(words);

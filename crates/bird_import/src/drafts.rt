@@ -4,6 +4,7 @@ ghost use Rattle.std.specs.Prelude.{◌≡◌, ◌↔◌, ◌⊎◌, ◌+◌, �
 ghost use Rattle.bird_import.specs.Drafts.{BeginsAs, IfDrafted, IsCallee, IsNext, kinds_of, words_of};
 ghost use Rattle.bird_import.specs.Functions.{IsCallOf};
 ghost use Rattle.bird_import.specs.Indices.{place_at};
+ghost use Rattle.bird_import.specs.Names.{KnowsAll};
 ghost use Rattle.bird_import.specs.Judged.{AreJudged, HasDraft, HaveDrafts, IsDraft, IsFilter, IsJudged, IsNoFilter};
 ghost use Rattle.bird_import.specs.Reasons.{AreKnown, HasNameBefore, HaveUnknown, IsLeftOpen, IsNamedBefore, is_nameable, is_spelled_name, why_of, why_of_next, why_of_plan};
 ghost use Rattle.bird_import.specs.Scopes.{AreInScope};
@@ -20,9 +21,10 @@ use crate::calls::{call_at, first_call, item_of, plan_return};
 use crate::cases::plan_case;
 use crate::config::Config;
 use crate::declarations::{first_without_value, plan_declaration};
-use crate::defines::{WORD_LIMIT, define_all, first_of_two_meanings, plan_definition};
+use crate::defines::{WORD_LIMIT, define_all, first_of_two_meanings, is_much, plan_definition};
 use crate::items::{Item, ItemKind};
-use crate::operators::{plan_grouping, plan_semicolon, plan_type_test};
+use crate::names::{Names, names_of};
+use crate::operators::{plan_grouping, plan_semicolon, plan_type_test, plan_unwrapping};
 use crate::printing::plan_printing;
 use crate::reason::{Reason, Why};
 use crate::scopes::first_stray;
@@ -35,9 +37,6 @@ use std::alloc::{AllocError, Global};
 
 /// The most steps that are made for a filter.
 const STEP_LIMIT: usize = 65_536;
-
-/// The most words that the steps of a filter go through: their number times that of the words that are there.
-const WORK_LIMIT: u64 = 33_554_432;
 
 /// How far behind a parenthesis or a bracket that is not closed the `;` is looked for that shows it.
 const REACH: usize = 1_024;
@@ -68,8 +67,9 @@ pub struct Draft<'a> {
 }
 
 /// The rules by which a step is looked for, in this order.
-const ORDER: [Rule; 9] = [
+const ORDER: [Rule; 10] = [
     Rule::Defined,
+    Rule::Unwrapped,
     Rule::Separated,
     Rule::Unprinted,
     Rule::SetPlaced,
@@ -84,13 +84,15 @@ const ORDER: [Rule; 9] = [
 fn plan_by<'a>(
     alloc: Global,
     config: &Config<'a>,
+    names: &Names,
     words: &[Word<'a>],
     rule: Rule,
 ) -> Result<Plan<'a>, AllocError>
+    requires names { KnowsAll config.now names.now }
     ensures { IfOk result (λ plan. IfSome (why_of_plan plan) (Hinders config.now words.now)) }
 {
     match rule {
-        Rule::Defined => plan_definition(alloc, config, words),
+        Rule::Defined => plan_definition(alloc, config, names, words),
         Rule::Separated => plan_semicolon(alloc, words),
         Rule::Unprinted | Rule::Shortened => plan_printing(alloc, words),
         Rule::SetPlaced => plan_sets(alloc, words),
@@ -98,16 +100,23 @@ fn plan_by<'a>(
         Rule::CaseTaken | Rule::CaseBraced => plan_case(alloc, words),
         Rule::Ipv4Only => plan_type_test(alloc, words),
         Rule::Grouped => plan_grouping(alloc, words),
+        Rule::Unwrapped => plan_unwrapping(alloc, words),
         Rule::Returned => plan_return(alloc, words),
     }
 }
 
 /// The first of the plans that has something to do.
-fn plan<'a>(alloc: Global, config: &Config<'a>, words: &[Word<'a>]) -> Result<Plan<'a>, AllocError>
+fn plan<'a>(
+    alloc: Global,
+    config: &Config<'a>,
+    names: &Names,
+    words: &[Word<'a>],
+) -> Result<Plan<'a>, AllocError>
+    requires names { KnowsAll config.now names.now }
     ensures { IfOk result (λ plan. IfSome (why_of_plan plan) (Hinders config.now words.now)) }
 {
     for rule in &ORDER {
-        match plan_by(alloc, config, words, *rule)? {
+        match plan_by(alloc, config, names, words, *rule)? {
             Plan::Done => {}
             found => return Ok(found),
         }
@@ -130,12 +139,14 @@ pub enum Next<'a> {
 fn next_step<'a>(
     alloc: Global,
     config: &Config<'a>,
+    names: &Names,
     words: &[Word<'a>],
 ) -> Result<Next<'a>, AllocError>
+    requires names { KnowsAll config.now names.now }
     ensures step { IfOk result (IsNext (λ after. (by : TheRule) × Replaces (Fits config.now.words.now by) words.now after)) }
     ensures stuck { IfOk result (λ next. IfSome (why_of_next next) (Hinders config.now words.now)) }
 {
-    match plan(alloc, config, words)? {
+    match plan(alloc, config, names, words)? {
         Plan::Step(step) => match apply(alloc, config.words, words, &step)? {
             Some(after) => Ok(Next::Words(after)),
             None => Ok(Next::Stuck(step.stuck)),
@@ -240,12 +251,14 @@ fn less_deep<'a>(depth: u8, at: usize) -> Result<u8, Reason<'a>>
 fn next_call<'a>(
     alloc: Global,
     config: &Config<'a>,
+    names: &Names,
     words: &[Word<'a>],
     at: usize,
     word: Word<'a>,
     depth: u8,
 ) -> Result<Next<'a>, AllocError>
-    requires { IsCallBy words.now at word }
+    requires names { KnowsAll config.now names.now }
+    requires called { IsCallBy words.now at word }
     ensures step { IfOk result (IsNext (Replaces (IsCallWritten config.now.words.now (BecomesWithin config.now.words.now depth)) words.now)) }
     ensures stuck { IfOk result (λ next. IfSome (why_of_next next) (Halts config.now depth words.now)) }
 {
@@ -253,7 +266,13 @@ fn next_call<'a>(
         Ok(callee) => callee,
         Err(reason) => return Ok(Next::Stuck(reason)),
     };
-    match rewrite(alloc, config, copy_of(alloc, callee.source)?, callee.less)? {
+    match rewrite(
+        alloc,
+        config,
+        names,
+        copy_of(alloc, callee.source)?,
+        callee.less,
+    )? {
         Outcome::Drafted(function) => {
             place_call(alloc, words, at, word, callee.source, function.as_slice())
         }
@@ -266,23 +285,18 @@ fn next_call<'a>(
 fn next_words<'a>(
     alloc: Global,
     config: &Config<'a>,
+    names: &Names,
     words: &[Word<'a>],
     depth: u8,
 ) -> Result<Next<'a>, AllocError>
+    requires names { KnowsAll config.now names.now }
     ensures step { IfOk result (IsNext (Writes config.now.words.now (BecomesWithin config.now.words.now depth) words.now)) }
     ensures stuck { IfOk result (λ next. IfSome (why_of_next next) (Halts config.now depth words.now)) }
 {
     match first_call(words) {
-        Some((at, word)) => next_call(alloc, config, words, at, word, depth),
-        None => next_step(alloc, config, words),
+        Some((at, word)) => next_call(alloc, config, names, words, at, word, depth),
+        None => next_step(alloc, config, names, words),
     }
-}
-
-/// Whether so many steps that go through so many words are too much.
-fn is_much(made: usize, words: usize) -> bool
-    ensures { IsTrue result → 33554432 < made * words }
-{
-    (made as u64).saturating_mul(words as u64) > WORK_LIMIT
 }
 
 /// Makes all steps for some words.
@@ -290,21 +304,26 @@ fn is_much(made: usize, words: usize) -> bool
 fn rewrite<'a>(
     alloc: Global,
     config: &Config<'a>,
+    names: &Names,
     words: Vec<Word<'a>>,
     depth: u8,
 ) -> Result<Outcome<'a>, AllocError>
+    requires names { KnowsAll config.now names.now }
     ensures drafted { IfOk result (IfDrafted (Becomes config.now.words.now depth words.entry.items)) }
     ensures apart { IfOk result (IfDrafted (λ after. AreApart config.now words.entry.items)) }
     ensures in_scope { IfOk result (IfDrafted (λ after. AreInScope words.entry.items)) }
     ensures stuck { IfOk result (λ outcome. IfSome (why_of outcome) (IsStuck config.now depth words.entry.items)) }
 {
-    if let Some(reason) = first_of_two_meanings(config, words.as_slice()) {
+    if words.len() > WORD_LIMIT {
+        return Ok(too_long(words.as_slice()));
+    }
+    if let Some(reason) = first_of_two_meanings(config, names, words.as_slice()) {
         return Ok(Outcome::LeftOut(reason));
     }
     if let Some(reason) = first_stray(words.as_slice()) {
         return Ok(Outcome::LeftOut(reason));
     }
-    let mut words = define_all(alloc, config, words)?;
+    let mut words = define_all(alloc, config, names, words)?;
     for made in 0..STEP_LIMIT {
         let all = words.as_slice();
         if all.len() > WORD_LIMIT {
@@ -313,7 +332,7 @@ fn rewrite<'a>(
         if is_much(made, all.len()) {
             return Ok(too_long(all));
         }
-        match next_words(alloc, config, all, depth)? {
+        match next_words(alloc, config, names, all, depth)? {
             Next::Words(after) => words = after,
             Next::Stuck(reason) => return Ok(Outcome::LeftOut(reason)),
             Next::Done => return Ok(Outcome::Drafted(words)),
@@ -577,9 +596,11 @@ fn kept<'a>(words: Vec<Word<'a>>) -> Outcome<'a>
 fn outcome_of<'a>(
     alloc: Global,
     config: &Config<'a>,
+    names: &Names,
     item: &'a Item,
     at: usize,
 ) -> Result<Outcome<'a>, AllocError>
+    requires names { KnowsAll config.now names.now }
     ensures { IfOk result (IsJudged config.now item.now) }
 {
     if let Some(reason) = why_no_filter(config, item, at) {
@@ -591,21 +612,23 @@ fn outcome_of<'a>(
             why: Why::Unclosed,
         }));
     };
-    rewritten(alloc, config, first_words(alloc, all, item)?)
+    rewritten(alloc, config, names, first_words(alloc, all, item)?)
 }
 
 /// What becomes of a filter that begins with some words.
 fn rewritten<'a>(
     alloc: Global,
     config: &Config<'a>,
+    names: &Names,
     words: Vec<Word<'a>>,
 ) -> Result<Outcome<'a>, AllocError>
+    requires names { KnowsAll config.now names.now }
     ensures { IfOk result (AreJudged config.now words.entry.items) }
 {
     if let Some(reason) = first_without_value(words.as_slice()) {
         return Ok(Outcome::LeftOut(reason));
     }
-    match rewrite(alloc, config, words, CALL_DEPTH)? {
+    match rewrite(alloc, config, names, words, CALL_DEPTH)? {
         Outcome::Drafted(words) => Ok(kept(words)),
         Outcome::LeftOut(reason) => Ok(Outcome::LeftOut(reason)),
     }
@@ -622,7 +645,13 @@ fn place_of(config: &Config<'_>, index: usize) -> usize
 }
 
 /// The draft of an item.
-fn draft_of<'a>(alloc: Global, config: &Config<'a>, item: &'a Item) -> Result<Draft<'a>, AllocError>
+fn draft_of<'a>(
+    alloc: Global,
+    config: &Config<'a>,
+    names: &Names,
+    item: &'a Item,
+) -> Result<Draft<'a>, AllocError>
+    requires names { KnowsAll config.now names.now }
     ensures { IfOk result (IsDraft config.now item.now) }
 {
     let at = place_of(config, item.from);
@@ -630,7 +659,7 @@ fn draft_of<'a>(alloc: Global, config: &Config<'a>, item: &'a Item) -> Result<Dr
         name: item.name.as_slice(),
         at,
         end: place_of(config, item.to.saturating_sub(1)),
-        outcome: outcome_of(alloc, config, item, at)?,
+        outcome: outcome_of(alloc, config, names, item, at)?,
     })
 }
 
@@ -638,15 +667,17 @@ fn draft_of<'a>(alloc: Global, config: &Config<'a>, item: &'a Item) -> Result<Dr
 fn push_draft<'a>(
     alloc: Global,
     config: &Config<'a>,
+    names: &Names,
     item: &'a Item,
     drafts: &mut Vec<Draft<'a>>,
 ) -> Result<(), AllocError>
+    requires names { KnowsAll config.now names.now }
     ensures { OnOk result (HasDraft config.now item.now.kind item.now drafts.old.items drafts.new.items) }
 {
     match item.kind {
         ItemKind::Function => Ok(()),
         ItemKind::Filter | ItemKind::Anonymous | ItemKind::Condition => {
-            drafts.push(draft_of(alloc, config, item)?)?;
+            drafts.push(draft_of(alloc, config, names, item)?)?;
             Ok(())
         }
     }
@@ -658,9 +689,10 @@ pub fn make_drafts<'a>(alloc: Global, config: &Config<'a>) -> Result<Vec<Draft<'
     // Each item that is no function has one draft, in order. The words that are drafted come of the item's, by steps that fit their rules.
     ensures { IfOk result (λ drafts. HaveDrafts config.now config.now.items.now (length config.now.items.now) drafts.items) }
 {
+    let names = names_of(alloc, config)?;
     let mut found = Vec::new(alloc);
     for item in config.items {
-        push_draft(alloc, config, item, &mut found)?;
+        push_draft(alloc, config, &names, item, &mut found)?;
     }
     Ok(found)
 }

@@ -10,7 +10,7 @@ use crate::case_rules::{is_case_braced, is_case_taken};
 use crate::functions::is_decided;
 use crate::rules::{
     is_chain_grouped, is_defined, is_hoisted, is_separated, is_shortened, is_type_test,
-    is_unprinted,
+    is_unprinted, is_unwrapped,
 };
 use crate::sets::is_set_placed;
 use crate::step::Rule;
@@ -40,5 +40,6 @@ pub fn fits<'w, 'a>(
         Rule::SetPlaced => is_set_placed(front, old, new, back),
         Rule::CaseTaken => is_case_taken(old, new, back),
         Rule::CaseBraced => is_case_braced(old, new),
+        Rule::Unwrapped => is_unwrapped(front, old, new, back),
     }
 }

@@ -339,52 +339,89 @@ fn is_other_channel(word: &[u8]) -> bool
         || word.starts_with(b"mpls")
 }
 
-/// Whether a table of a name is declared at an index, for other routes than those of IPv4: `KIND table NAME`.
-#[tactic(auto, unfolding(crate::specs::Items::declares_other_table))]
-fn declares_other_table(words: &[Word<'_>], name: &[u8], at: usize) -> bool
-    ensures { result ≡ spec.declares_other_table words.now name.now at }
+/// Whether a table is declared at an index, for other routes than those of IPv4: `KIND table`.
+#[tactic(auto, unfolding(crate::specs::Items::declares_other))]
+fn declares_other(words: &[Word<'_>], at: usize) -> bool
+    ensures { result ≡ spec.declares_other words.now at }
 {
-    is_other_channel(bytes_at(words, at))
-        && bytes_behind(words, at, 1) == b"table".as_slice()
-        && bytes_behind(words, at, 2) == name
+    is_other_channel(bytes_at(words, at)) && bytes_behind(words, at, 1) == b"table".as_slice()
 }
 
-/// Whether a table of a name is declared for other routes than those of IPv4.
-#[tactic(auto, using(crate::proofs::Below::any_here))]
-fn is_declared_other(words: &[Word<'_>], name: &[u8]) -> bool
-    ensures { result ≡ spec.any_below (spec.declares_other_table words.now name.now) (length words.now) }
+/// Puts the index at which such a table is declared at the end of some.
+#[tactic(auto, unfolding(crate::specs::Items::with_other))]
+fn push_other_table(
+    tables: &mut Vec<usize>,
+    words: &[Word<'_>],
+    at: usize,
+) -> Result<(), AllocError>
+    ensures { OnOk result (tables.new.items ≡ spec.with_other words.now at tables.old.items) }
 {
+    if declares_other(words, at) {
+        tables.push(at)?;
+        return Ok(());
+    }
+    Ok(())
+}
+
+/// Where tables are declared for other routes than those of IPv4, in order. They are looked for once: a configuration may have thousands of pipes.
+fn find_other_tables(alloc: Global, words: &[Word<'_>]) -> Result<Vec<usize>, AllocError>
+    ensures { IfOk result (λ tables. tables.items ≡ spec.other_tables words.now) }
+{
+    let mut tables = Vec::new(alloc);
     for at in 0..words.len() {
-        if declares_other_table(words, name, at) {
+        push_other_table(&mut tables, words, at)?;
+    }
+    Ok(tables)
+}
+
+/// Whether one of some tables has a name.
+#[tactic(auto, using(std::proofs::lemmas::List::Folds::list_any_at, std::proofs::lemmas::List::Folds::list_any_more), unfolding(crate::specs::Items::are_named))]
+fn are_named(words: &[Word<'_>], tables: &[usize], name: &[u8]) -> bool
+    ensures { result ≡ spec.are_named words.now tables.now name.now }
+{
+    for table in tables {
+        if bytes_behind(words, *table, 2) == name {
             return true;
         }
     }
     false
 }
 
+/// Whether a table of a name is declared for other routes than those of IPv4.
+fn is_declared_other(words: &[Word<'_>], tables: &[usize], name: &[u8]) -> bool
+    requires tables { tables.now ≡ spec.other_tables words.now }
+    ensures { result ≡ spec.any_below (spec.declares_other_table words.now name.now) (length words.now) }
+{
+    are_named(words, tables, name)
+}
+
 /// Whether the table of a name has other routes than those of IPv4: BIRD's own of IPv6, or one that is declared so.
 #[tactic(auto, unfolding(crate::specs::Items::is_other_table))]
-fn is_other_table(words: &[Word<'_>], name: &[u8]) -> bool
+fn is_other_table(words: &[Word<'_>], tables: &[usize], name: &[u8]) -> bool
+    requires tables { tables.now ≡ spec.other_tables words.now }
     ensures { result ≡ spec.is_other_table words.now name.now }
 {
-    name == b"master6".as_slice() || is_declared_other(words, name)
+    name == b"master6".as_slice() || is_declared_other(words, tables, name)
 }
 
 /// Whether a protocol takes such a table at an index: `table NAME`.
 #[tactic(auto, unfolding(crate::specs::Items::takes_other_table))]
-fn takes_other_table(words: &[Word<'_>], at: usize) -> bool
+fn takes_other_table(words: &[Word<'_>], tables: &[usize], at: usize) -> bool
+    requires tables { tables.now ≡ spec.other_tables words.now }
     ensures { result ≡ spec.takes_other_table words.now at }
 {
-    bytes_at(words, at) == b"table".as_slice() && is_other_table(words, bytes_behind(words, at, 1))
+    bytes_at(words, at) == b"table".as_slice()
+        && is_other_table(words, tables, bytes_behind(words, at, 1))
 }
 
 /// Whether it does so from one index on and before another.
 #[tactic(auto, using(crate::proofs::Below::any_here, crate::proofs::Below::none_further), unfolding(crate::specs::Items::has_other_table, crate::specs::Items::any_below))]
-fn has_other_table(words: &[Word<'_>], from: usize, to: usize) -> bool
+fn has_other_table(words: &[Word<'_>], tables: &[usize], from: usize, to: usize) -> bool
+    requires tables { tables.now ≡ spec.other_tables words.now }
     ensures { result ≡ spec.has_other_table words.now from to }
 {
-    for at in 0..to {
-        if from <= at && takes_other_table(words, at) {
+    for at in from..to {
+        if takes_other_table(words, tables, at) {
             return true;
         }
     }
@@ -401,20 +438,27 @@ fn is_pipe(words: &[Word<'_>], head: usize) -> bool
 
 /// Whether a pipe between tables of other routes than those of IPv4 begins at an index.
 #[tactic(auto, unfolding(crate::specs::Items::is_other_pipe))]
-fn is_other_pipe(words: &[Word<'_>], head: usize) -> bool
+fn is_other_pipe(words: &[Word<'_>], tables: &[usize], head: usize) -> bool
+    requires tables { tables.now ≡ spec.other_tables words.now }
     ensures { result ≡ spec.is_other_pipe words.now head }
 {
     is_pipe(words, head)
-        && has_other_table(words, head, block_end(words, head).unwrap_or(words.len()))
+        && has_other_table(
+            words,
+            tables,
+            head,
+            block_end(words, head).unwrap_or(words.len()),
+        )
 }
 
 /// Whether a channel of other routes than those of IPv4 begins at some index, or a pipe between tables of such.
 #[tactic(auto, using(std::proofs::lemmas::List::Folds::list_any_at, std::proofs::lemmas::List::Folds::list_any_more), unfolding(crate::specs::Items::have_ipv6))]
-fn have_ipv6(words: &[Word<'_>], heads: &[usize]) -> bool
+fn have_ipv6(words: &[Word<'_>], tables: &[usize], heads: &[usize]) -> bool
+    requires tables { tables.now ≡ spec.other_tables words.now }
     ensures { result ≡ spec.have_ipv6 words.now heads.now }
 {
     for head in heads {
-        if is_other_channel(bytes_at(words, *head)) || is_other_pipe(words, *head) {
+        if is_other_channel(bytes_at(words, *head)) || is_other_pipe(words, tables, *head) {
             return true;
         }
     }
@@ -550,14 +594,15 @@ impl Blocks {
 
 /// The use of a filter at an index, if one is there: `filter NAME` within a block.
 #[tactic(auto, unfolding(crate::specs::Items::use_at))]
-fn use_at(words: &[Word<'_>], blocks: &Blocks, at: usize) -> Option<Use>
-    requires { at < length words.now }
+fn use_at(words: &[Word<'_>], tables: &[usize], blocks: &Blocks, at: usize) -> Option<Use>
+    requires below { at < length words.now }
+    requires tables { tables.now ≡ spec.other_tables words.now }
     ensures { result ≡ spec.use_at words.now (spec.view_of_blocks blocks.now) at }
 {
     if is_symbol(kind_at(words, at), Symbol::Filter) && !blocks.heads.as_slice().is_empty() {
         Some(Use {
             name: at + 1,
-            is_other: have_ipv6(words, blocks.heads.as_slice()),
+            is_other: have_ipv6(words, tables, blocks.heads.as_slice()),
         })
     } else {
         None
@@ -565,13 +610,14 @@ fn use_at(words: &[Word<'_>], blocks: &Blocks, at: usize) -> Option<Use>
 }
 
 /// Where filters are used, in order.
-fn find_uses(alloc: Global, words: &[Word<'_>]) -> Result<Vec<Use>, AllocError>
+fn find_uses(alloc: Global, words: &[Word<'_>], tables: &[usize]) -> Result<Vec<Use>, AllocError>
+    requires tables { tables.now ≡ spec.other_tables words.now }
     ensures { IfOk result (λ found. found.items ≡ spec.uses_in words.now) }
 {
     let mut blocks = Blocks::outermost(alloc);
     let mut found = Vec::new(alloc);
     for at in 0..words.len() {
-        if let Some(one) = use_at(words, &blocks, at) {
+        if let Some(one) = use_at(words, tables, &blocks, at) {
             found.push(one)?;
         }
         blocks.go_past(words, at)?;
@@ -610,11 +656,13 @@ fn is_used_for_ipv4(words: &[Word<'_>], uses: &[Use], name: &[u8]) -> bool
 #[tactic(auto, unfolding(crate::specs::Items::is_for_others, crate::specs::Items::is_used_for_others))]
 fn is_for_others(
     words: &[Word<'_>],
+    tables: &[usize],
     uses: &[Use],
     blocks: &Blocks,
     kind: ItemKind,
     at: usize,
 ) -> bool
+    requires tables { tables.now ≡ spec.other_tables words.now }
     requires below { at < length words.now }
     requires used { uses.now ≡ spec.uses_in words.now }
     ensures { result ≡ spec.is_for_others words.now (spec.view_of_blocks blocks.now) kind at }
@@ -624,7 +672,7 @@ fn is_for_others(
             let name = bytes_at(words, at + 1);
             is_used(words, uses, name) && !is_used_for_ipv4(words, uses, name)
         }
-        _ => have_ipv6(words, blocks.heads.as_slice()),
+        _ => have_ipv6(words, tables, blocks.heads.as_slice()),
     }
 }
 
@@ -736,11 +784,13 @@ fn item_end(words: &[Word<'_>], kind: ItemKind, from: usize) -> Option<usize>
 fn item_of(
     alloc: Global,
     words: &[Word<'_>],
+    tables: &[usize],
     uses: &[Use],
     blocks: &Blocks,
     at: usize,
     kind: ItemKind,
 ) -> Result<Item, AllocError>
+    requires tables { tables.now ≡ spec.other_tables words.now }
     requires below { at < length words.now }
     requires used { uses.now ≡ spec.uses_in words.now }
     ensures { IfOk result (λ one. spec.view_of_item one ≡ spec.item_of words.now (spec.view_of_blocks blocks.now) at kind) }
@@ -753,7 +803,7 @@ fn item_of(
         to: end.unwrap_or(words.len()),
         name,
         is_closed: end.is_some(),
-        is_ipv6: is_for_others(words, uses, blocks, kind, at),
+        is_ipv6: is_for_others(words, tables, uses, blocks, kind, at),
     })
 }
 
@@ -762,16 +812,18 @@ fn item_of(
 fn item_at(
     alloc: Global,
     words: &[Word<'_>],
+    tables: &[usize],
     uses: &[Use],
     blocks: &Blocks,
     at: usize,
 ) -> Result<Option<Item>, AllocError>
+    requires tables { tables.now ≡ spec.other_tables words.now }
     requires below { at < length words.now }
     requires used { uses.now ≡ spec.uses_in words.now }
     ensures { IfOk result (λ found. option_map spec.view_of_item found ≡ spec.item_at words.now (spec.view_of_blocks blocks.now) at) }
 {
     match item_kind(words, blocks, at) {
-        Some(kind) => Ok(Some(item_of(alloc, words, uses, blocks, at, kind)?)),
+        Some(kind) => Ok(Some(item_of(alloc, words, tables, uses, blocks, at, kind)?)),
         None => Ok(None),
     }
 }
@@ -805,9 +857,11 @@ impl Walk {
         &mut self,
         alloc: Global,
         words: &[Word<'_>],
+        tables: &[usize],
         uses: &[Use],
         at: usize,
     ) -> Result<(), AllocError>
+        requires tables { tables.now ≡ spec.other_tables words.now }
         requires below { at < length words.now }
         requires used { uses.now ≡ spec.uses_in words.now }
         ensures { OnOk result (spec.view_of_walk self.new ≡ spec.walk_past words.now at (spec.view_of_walk self.old)) }
@@ -815,7 +869,7 @@ impl Walk {
         if at < self.next {
             return Ok(());
         }
-        match item_at(alloc, words, uses, &self.blocks, at)? {
+        match item_at(alloc, words, tables, uses, &self.blocks, at)? {
             Some(item) => self.take(item),
             None => self.blocks.go_past(words, at),
         }
@@ -827,14 +881,15 @@ pub fn find_items(alloc: Global, words: &[Word<'_>]) -> Result<Vec<Item>, AllocE
     ensures found { IfOk result (λ found. map spec.view_of_item found.items ≡ spec.items_in words.now) }
     ensures follow { IfOk result (λ found. AreItemsIn words.now (map spec.view_of_item found.items)) }
 {
-    let uses = find_uses(alloc, words)?;
+    let tables = find_other_tables(alloc, words)?;
+    let uses = find_uses(alloc, words, tables.as_slice())?;
     let mut walk = Walk {
         blocks: Blocks::outermost(alloc),
         next: 0,
         found: Vec::new(alloc),
     };
     for at in 0..words.len() {
-        walk.go_past(alloc, words, uses.as_slice(), at)?;
+        walk.go_past(alloc, words, tables.as_slice(), uses.as_slice(), at)?;
     }
     let Walk {
         blocks: _blocks,

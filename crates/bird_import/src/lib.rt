@@ -15,6 +15,7 @@ mod fits;
 mod functions;
 mod includes;
 mod items;
+mod names;
 mod operators;
 mod printing;
 mod reason;

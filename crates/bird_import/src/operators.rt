@@ -4,10 +4,10 @@ ghost use Rattle.std.specs.Prelude.{◌≡◌, ◌≢◌, ◌⊎◌, ◌+◌, �
 ghost use Rattle.filter_tokens.specs.declared.symbol.Symbol.TheVariants as symbol;
 ghost use Rattle.bird_import.specs.Indices.{IsAt, IsNamedAt};
 ghost use Rattle.bird_import.specs.Reasons.{why_of_plan};
-ghost use Rattle.bird_import.specs.Stuck.{Hinder, WantsSemicolon};
+ghost use Rattle.bird_import.specs.Stuck.{Hinder, IsWrapped, WantsSemicolon};
 
 use crate::reason::unwritten;
-use crate::rules::ends_command;
+use crate::rules::{begins_constant, ends_command, ends_constant, is_constant};
 use crate::step::{Plan, Rule, joined, planned};
 use crate::word::{
     Word, WordKind, begins_command, is_at, is_before, is_named_at, kind_at, word_at,
@@ -141,6 +141,41 @@ pub fn plan_semicolon<'a>(alloc: Global, words: &[Word<'a>]) -> Result<Plan<'a>,
             let stop = Word::made(Symbol::Semicolon, words[at].at).after(b"");
             let written = Vec::from_slice(alloc, &[stop]);
             return planned(Rule::Separated, at, at, written, unwritten(stop.at));
+        }
+    }
+    Ok(Plan::Done)
+}
+
+/// Whether a number or an address stands in parentheses at an index.
+fn is_wrapped(words: &[Word<'_>], at: usize) -> bool
+    requires { at < length words.now }
+    ensures { IsTrue result → IsWrapped words.now at }
+{
+    is_at(words, at, Symbol::LeftParen)
+        && is_constant(kind_at(words, at + 1))
+        && is_at(words, at.saturating_add(2), Symbol::RightParen)
+}
+
+/// Whether it is a label of a `case`, or a member of a set, or an end of a range of these.
+fn is_member(words: &[Word<'_>], at: usize) -> bool {
+    match at.checked_sub(1) {
+        Some(last) => begins_constant(kind_at(words, last))
+            && ends_constant(kind_at(words, at.saturating_add(3))),
+        None => false,
+    }
+}
+
+/// Takes the first constant of a label or of a set out of its parentheses: BIRD takes a defined name as a label in these alone.
+pub fn plan_unwrapping<'a>(alloc: Global, words: &[Word<'a>]) -> Result<Plan<'a>, AllocError>
+    ensures { IfOk result (λ plan. IfSome (why_of_plan plan) (Hinder words.now)) }
+{
+    for at in 0..words.len() {
+        if is_member(words, at) && is_wrapped(words, at) {
+            let opening = words[at];
+            let constant = word_at(words, at.saturating_add(1)).unwrap_or(opening);
+            let written = Vec::from_slice(alloc, &[constant.after(opening.gap)]);
+            let to = at.saturating_add(3);
+            return planned(Rule::Unwrapped, at, to, written, unwritten(opening.at));
         }
     }
     Ok(Plan::Done)

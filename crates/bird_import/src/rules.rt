@@ -292,6 +292,66 @@ pub fn is_separated(old: &[Word<'_>], new: &[Word<'_>], back: &[Word<'_>]) -> bo
         && (next.is(Symbol::Else) || next.is(Symbol::RightBrace))
 }
 
+/// Whether a word is a number or an address.
+pub fn is_constant(kind: WordKind) -> bool
+    ensures { result ≡ spec.is_constant kind }
+{
+    matches!(kind, WordKind::Number | WordKind::Address(_))
+}
+
+/// Whether a label or a member of a set may begin behind a word, and no command with a parenthesis.
+pub fn begins_constant(kind: WordKind) -> bool
+    ensures { result ≡ spec.begins_constant kind }
+{
+    ends_command(kind)
+        || matches!(
+            kind,
+            WordKind::Symbol(Symbol::Comma | Symbol::DotDot | Symbol::LeftBracket)
+        )
+}
+
+/// Whether a label or a set goes on, or ends, with a word.
+pub fn ends_constant(kind: WordKind) -> bool
+    ensures { result ≡ spec.ends_constant kind }
+{
+    matches!(
+        kind,
+        WordKind::Symbol(Symbol::Comma | Symbol::DotDot | Symbol::Colon | Symbol::RightBracket)
+    )
+}
+
+/// Whether a constant is taken out of its parentheses.
+fn is_bare(old: &[Word<'_>], new: &[Word<'_>]) -> bool
+    ensures { IsTrue result → spec.IsBare old.now new.now }
+{
+    match (old, new) {
+        ([opening, constant, closing], [kept]) => {
+            opening.is(Symbol::LeftParen)
+                && closing.is(Symbol::RightParen)
+                && is_constant(constant.kind)
+                && is_same(constant, kept)
+        }
+        _ => false,
+    }
+}
+
+/// Whether a constant of a label or a set is taken out of its parentheses.
+pub fn is_unwrapped(
+    front: &[Word<'_>],
+    old: &[Word<'_>],
+    new: &[Word<'_>],
+    back: &[Word<'_>],
+) -> bool
+    ensures { IsTrue result → spec.IsUnwrapped front.now old.now new.now back.now }
+{
+    match (front.split_last(), back.split_first()) {
+        (Some((last, _)), Some((next, _))) => {
+            begins_constant(last.kind) && ends_constant(next.kind) && is_bare(old, new)
+        }
+        _ => false,
+    }
+}
+
 /// Whether a test of the kind of a prefix comes out so.
 fn is_test(compare: &Word<'_>, family: &Word<'_>, answer: &Word<'_>) -> bool
     ensures { IsTrue result → spec.IsTest compare.now family.now answer.now }

@@ -38,6 +38,8 @@ pub enum Rule {
     Grouped,
     /// A `;` that is missing before `else` or a closing brace.
     Separated,
+    /// A number or an address in a label or a set: no parentheses stand round it.
+    Unwrapped,
 }
 
 /// A step: the words `from..to` of a filter are written as others.

@@ -23,6 +23,22 @@ pub(crate) fn is_name(token: Option<Token>) -> bool {
     }
 }
 
+/// Whether a token is a prefix.
+pub(crate) fn is_prefix(token: Option<Token>) -> bool {
+    match token {
+        Some(token) => matches!(token.word, TokenKind::Prefix { .. }),
+        None => false,
+    }
+}
+
+/// Whether a token is a sign of arithmetic.
+pub(crate) fn is_sign(kind: TokenKind) -> bool {
+    matches!(
+        kind,
+        TokenKind::Symbol(Symbol::Plus | Symbol::Minus | Symbol::Times | Symbol::Divide)
+    )
+}
+
 /// Whether a token is a number.
 pub(crate) fn is_number(kind: TokenKind) -> bool {
     matches!(kind, TokenKind::Number(_))

@@ -1,6 +1,6 @@
 //! What to write in place of what this language has not.
 
-use crate::around::{is_kind, is_name, is_symbol};
+use crate::around::{is_kind, is_name, is_prefix, is_symbol};
 use filter_parser::{Around, Expected};
 use filter_tokens::{Symbol, Token, TokenKind};
 
@@ -30,6 +30,18 @@ pub(crate) fn in_place_of_name(name: &str) -> Option<&'static str> {
         "permit" => Some("write `accept`"),
         "deny" | "drop" => Some("write `reject`"),
         "for" | "while" => Some("there are no loops"),
+        "in" => Some("write `~`"),
+        "default" => Some("write `else:`"),
+        _ => None,
+    }
+}
+
+/// What to write in place of a word that says of a prefix in a set which lengths are meant.
+pub(crate) fn in_place_of_lengths(name: &str) -> Option<&'static str> {
+    match name {
+        "le" | "ge" | "eq" | "upto" | "exact" | "longer" | "orlonger" => {
+            Some("write the lengths in braces, as `10.0.0.0/8{8,24}`")
+        }
         _ => None,
     }
 }
@@ -62,10 +74,52 @@ fn in_place_of_semicolon(around: Around) -> Option<&'static str> {
     }
 }
 
+/// What to write where a value is missing behind a `=`.
+fn in_place_of_compared(found: Option<Token>) -> Option<&'static str> {
+    if is_symbol(found, Symbol::Equal) {
+        Some("compare by a single `=`")
+    } else if is_symbol(found, Symbol::Greater) {
+        Some("write `>=`")
+    } else if is_symbol(found, Symbol::Less) {
+        Some("write `<=`")
+    } else {
+        None
+    }
+}
+
+/// Whether a prefix stands before a `+` or a `-`, as in a pattern.
+fn is_pattern(around: Around) -> bool {
+    let is_signed = is_symbol(around.last, Symbol::Plus) || is_symbol(around.last, Symbol::Minus);
+    is_signed && is_prefix(around.earlier)
+}
+
 /// What to write where a value is missing.
 fn in_place_of_operand(around: Around) -> Option<&'static str> {
-    if is_symbol(around.found, Symbol::Equal) && is_symbol(around.last, Symbol::Equal) {
-        Some("compare by a single `=`")
+    if is_symbol(around.last, Symbol::Equal) {
+        in_place_of_compared(around.found)
+    } else if is_pattern(around) {
+        Some("a pattern stands in `[ ]`, as in `net ~ [ 10.0.0.0/8+ ]`")
+    } else {
+        None
+    }
+}
+
+/// What to write where a body is missing.
+fn in_place_of_body(around: Around) -> Option<&'static str> {
+    let is_sign = is_symbol(around.found, Symbol::Minus) || is_symbol(around.found, Symbol::Dot);
+    if is_sign && is_name(around.last) {
+        Some("a name is letters, digits and `_`")
+    } else {
+        None
+    }
+}
+
+/// What to write where the next command, or the end of all, is missing.
+fn in_place_of_command(around: Around) -> Option<&'static str> {
+    if is_symbol(around.found, Symbol::Else) && is_symbol(around.last, Symbol::Semicolon) {
+        Some("its `if` has ended: several commands of one stand in braces")
+    } else if begins_declaration(around.found) {
+        Some("declare variables before the first command")
     } else {
         None
     }
@@ -139,9 +193,8 @@ pub(crate) fn in_place_of_found(expected: Expected, around: Around) -> Option<&'
         Expected::Member => in_place_of_member(around.found?.word),
         Expected::Prefix => in_place_of_prefix(around.found?.word),
         Expected::Number => in_place_of_number(around.found?.word),
-        Expected::CommandOrEnd if begins_declaration(around.found) => {
-            Some("declare variables before the first command")
-        }
+        Expected::CommandOrEnd => in_place_of_command(around),
+        Expected::Body => in_place_of_body(around),
         Expected::FilterWord => Some("a text is one filter, `filter NAME { .. }`"),
         Expected::Name if is_symbol(around.found, Symbol::LeftBrace) => Some(
             "give the filter a name",

@@ -1,11 +1,13 @@
 //! What is wrong with a refused source, in words.
 
 use crate::around::{
-    character_at, declared, is_ipv6, is_number, is_symbol, name_of, quoted, word_at,
+    character_at, declared, is_ipv6, is_number, is_prefix, is_sign, is_symbol, name_of, quoted,
+    word_at,
 };
 use crate::nearest::nearest_word;
 use crate::remedies::{
-    IPV6, in_place_of, in_place_of_character, in_place_of_found, in_place_of_name,
+    IPV6, in_place_of, in_place_of_character, in_place_of_found, in_place_of_lengths,
+    in_place_of_name,
 };
 use filter_parser::{Around, Expected, ParseFault};
 use filter_source::{Diagnosis, Refusal};
@@ -191,6 +193,15 @@ fn is_among(name: &str, names: &[&str]) -> bool {
     false
 }
 
+/// What to write in place of a word behind a prefix of a set.
+fn lengths_remedy(text: &[u8], expected: Expected, around: &Around) -> Option<&'static str> {
+    if expected == Expected::CommaOrBracket && is_prefix(around.last) {
+        in_place_of_lengths(name_of(text, around.found)?)
+    } else {
+        None
+    }
+}
+
 /// What to write in place of what stands where something else is expected.
 fn remedy_for(
     text: &[u8],
@@ -198,6 +209,9 @@ fn remedy_for(
     around: &Around,
     variables: &[&str],
 ) -> Option<&'static str> {
+    if let Some(remedy) = lengths_remedy(text, expected, around) {
+        return Some(remedy);
+    }
     match foreign(text, around.found, variables) {
         Some(remedy) => Some(remedy),
         None => match foreign(text, around.last, variables) {
@@ -257,6 +271,23 @@ fn is_in_capitals(alloc: Global, name: &str, variables: &[&str]) -> Result<bool,
     }
 }
 
+/// A sign where the `=` of an assignment is missing, and the name before it, as in `a += 1`.
+fn changed_name<'a>(
+    text: &'a [u8],
+    expected: Expected,
+    around: &Around,
+) -> Option<(&'a str, &'a str)> {
+    let name = around.last?;
+    let sign = around.found?;
+    if expected != Expected::Assign || !is_sign(sign.word) {
+        return None;
+    }
+    Some((
+        quoted(text, name.from, name.to)?,
+        quoted(text, sign.from, sign.to)?,
+    ))
+}
+
 /// What was expected in place of the token at a byte.
 fn unexpected(
     alloc: Global,
@@ -274,6 +305,9 @@ fn unexpected(
         if is_in_capitals(alloc, name, variables.as_slice())? {
             return format!(in alloc; "expected {expected}{found}: write it in lower case");
         }
+    }
+    if let Some((name, sign)) = changed_name(text, expected, around) {
+        return format!(in alloc; "expected {expected}{found}: write `{name} = {name} {sign} ..`");
     }
     match remedy_for(text, expected, around, variables.as_slice()) {
         Some(remedy) => format!(in alloc; "expected {expected}{found}: {remedy}"),
@@ -361,6 +395,13 @@ fn plain_kind_words(fault: TypeFault) -> &'static str {
     }
 }
 
+/// Whether a name is in capitals, as those that BIRD's `define` gives mostly are.
+fn is_constant(name: &str) -> bool {
+    let bytes = name.as_bytes();
+    bytes.iter().any(|byte| byte.is_ascii_uppercase())
+        && !bytes.iter().any(|byte| byte.is_ascii_lowercase())
+}
+
 /// What is wrong with a name that is no variable's.
 fn name_words(
     alloc: Global,
@@ -374,6 +415,9 @@ fn name_words(
         Some(near) => {
             format!(in alloc; "`{name}` is no variable and no attribute; did you mean `{near}`?")
         }
+        None if is_constant(name) => format!(in alloc;
+            "`{name}` is no variable: `ncroute import` puts in place what `define` names"
+        ),
         None => format!(in alloc;
             "`{name}` is no variable, and a route has only `net` and `rip_metric`"
         ),

@@ -1,5 +1,5 @@
 -- What the program does with a configuration of BIRD whose filters are imported. (This project's own choice.)
-use Rattle.std.specs.Prelude.{◌≡◌, ◌⊎◌, ◌||◌, ◌&&◌, ◌==◌, ◌-◌, ◌++◌, ℕ, nat_lt, Bool, true, false, not, if◌then◌else◌}
+use Rattle.std.specs.Prelude.{◌≡◌, ◌⊎◌, ◌||◌, ◌&&◌, ◌==◌, ◌-◌, ◌++◌, ℕ, nat_le, nat_lt, Bool, true, false, not, if◌then◌else◌}
 use Rattle.std.specs.Prelude.{is_some, List, [], ◌∷◌, Option, Some, None, Result, Ok, Err}
 use Rattle.std.specs.Prelude.{codes, length, map, slice_get, string_bytes, unwrap_or}
 use Rattle.std.specs.Option.{option_map}
@@ -73,6 +73,11 @@ outside_lines config from to last (word ∷ words) = outside_line config from to
 abbrev pub head_of : ConfigView → ℕ → ℕ → List Word → List ℕ
 head_of config from to words = origin_line (codes "# From ") config from ++ outside_lines config from to from words
 
+-- the same where these comments are not long, and otherwise where the filter begins alone
+abbrev pub head_for : ConfigView → ℕ → ℕ → List Word → List ℕ
+head_for config from to words =
+    if nat_le (length (head_of config from to words)) 8192 then head_of config from to words else origin_line (codes "# From ") config from
+
 -- A text is verified for domains of a size, and this is the line of its bounds.
 pub record IsVerifiedText (size : ℕ) (text line : List ℕ) : Type 0 where
   pub verified : VerifiedView
@@ -143,10 +148,10 @@ IsMadeOfWords size at words text origins made = KeepsWords size at words text or
 
 -- the text that is written for the words of a filter that begins at one place and ends at another, and the places from which its words come
 abbrev pub text_for : ConfigView → ℕ → ℕ → List Word → List ℕ
-text_for config from to words = text_of (head_of config from to words) words
+text_for config from to words = text_of (head_for config from to words) words
 
 abbrev pub origins_for : ConfigView → ℕ → ℕ → List Word → List Origin
-origins_for config from to words = origins_of (head_of config from to words) words
+origins_for config from to words = origins_of (head_for config from to words) words
 
 -- What came of a draft: none is written of one that is left out, and what is told is its reason, at the place of that.
 abbrev pub IsMadeBy : ConfigView → ℕ → ℕ → ℕ → Outcome → Made → Type 0

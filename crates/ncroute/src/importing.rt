@@ -6,7 +6,7 @@ ghost use Rattle.ncroute.specs.Importing.{AreWordsFor, ImportsConfig, ImportsCut
 ghost use Rattle.ncroute.specs.Importing.{ImportsParts, ImportsRead, ImportsSource, ImportsWords, IsMade};
 ghost use Rattle.ncroute.specs.Importing.{IsMadeOfText, IsMadeOfWords, IsRefusedText, IsToldFor};
 ghost use Rattle.ncroute.specs.Importing.{SavesFilter, SavesText, TellsEnd, TellsStrange, TellsWord, byte_line};
-ghost use Rattle.ncroute.specs.Importing.{end_words, ends_in_slash, fate_words, file_name, file_path, head_of};
+ghost use Rattle.ncroute.specs.Importing.{end_words, ends_in_slash, fate_words, file_name, file_path, head_for, head_of};
 ghost use Rattle.ncroute.specs.Importing.{is_outside, made_line, origin_line, origins_for, outside_line, path_words};
 ghost use Rattle.ncroute.specs.Importing.{place_from, slash_behind, strange_words, text_for, text_in};
 ghost use Rattle.ncroute.specs.Places.{config_of, place_of};
@@ -37,6 +37,9 @@ use filter_verifier::Verified;
 use line_protocol::write_text;
 use std::alloc::{AllocError, Global};
 use std::io::{Read, Write};
+
+/// The most bytes of the head of a filter's text that has more than one line.
+const HEAD_LIMIT: usize = 8_192;
 
 /// What is written of a filter, and what is told of it.
 #[derive(Drop)]
@@ -125,6 +128,24 @@ fn head_of(
     Ok(head)
 }
 
+/// The head of a filter's text. Where it would be long it has the place of the filter alone, so that no filter is too long for its head.
+fn head_for(
+    alloc: Global,
+    placed: &PlacedConfig<'_>,
+    draft: &Draft<'_>,
+    words: &[Word<'_>],
+) -> Result<Vec<u8>, AllocError>
+    ensures { IfOk result (λ head. head.items ≡ head_for placed.now draft.now.at draft.now.end words.now) }
+{
+    let whole = head_of(alloc, placed, draft, words)?;
+    if whole.len() <= HEAD_LIMIT {
+        return Ok(whole);
+    }
+    let mut head = Vec::new(alloc);
+    push_origin(alloc, &mut head, placed, b"# From ", draft.at)?;
+    Ok(head)
+}
+
 /// Adds a comment that tells a place of a configuration.
 fn push_origin(
     alloc: Global,
@@ -152,7 +173,7 @@ fn make_filter(
     ensures { IfOk result (IsMadeOfWords size draft.now.at words.now (text_for placed.now draft.now.at draft.now.end words.now)
         (origins_for placed.now draft.now.at draft.now.end words.now)) }
 {
-    let head = head_of(alloc, placed, draft, words)?;
+    let head = head_for(alloc, placed, draft, words)?;
     let written = write_filter(alloc, head.as_slice(), words)?;
     let fate = written.fate;
     match fate {

@@ -10,8 +10,8 @@ loop-at-init c depth =
     let words = c.args.words.now in
     subst (λ list. Becomes config depth words (list ++ words)) (sym c.new-done.ensures.items) (unchanged config depth words)
 
-pub push_defined-requires : goal.push_defined-requires
-push_defined-requires c = slice_get-get_or c.args.words.now c.loop-at.at _ c.loop-at-test.true
+pub push_defined-requires-clause-there : goal.push_defined-requires-clause-there
+push_defined-requires-clause-there c = slice_get-get_or c.args.words.now c.loop-at.at _ c.loop-at-test.true
 
 pub loop-at-preserved : goal.loop-at-preserved
 loop-at-preserved c =
