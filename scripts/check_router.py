@@ -31,9 +31,6 @@ MOST_TAKEN, MOST_MEMORY = (1 << 16) + (1 << 13), 4096
 # The least room for entries, and how many messages may wait for a neighbour that never reads. How often how many changes are told meanwhile.
 LEAST_ROOM, MOST_WAITING, BLOCKS, BLOCK = 2_048, 1_000, 2_000, 500
 
-# Seconds: what a router tells of a link whose files are closed has been told.
-MOMENT = 0.3
-
 # So many kilobytes of memory more than those of queues and entries are no matter.
 SLACK = 1_024
 
@@ -165,10 +162,11 @@ class Rows(FeedRows, SizeRows):
             with Run(self.program) as run:
                 self.close_behind(run, text[:count], "writes", "reads")
                 self.judge("its files are closed", run.lets_go(1))
-                # Where the router has a greeting to answer, it may find that nobody reads it, and tells nobody of that.
-                said = run.said("closed", MOMENT)
-                self.judge("says", ends in said or count >= 22 and not said, said)
+                # Where the router has a greeting to answer, it may find first that nobody reads it.
+                said = run.said("closed")
+                self.judge("says", ends in said or count >= 22 and "a line could not be written" in said, said)
                 self.serve_two(run)
+                self.judge("once", run.said("closed").count("closed") == 1, said)
                 self.end(run)
 
     def close_behind(self, run, text, *ends):
