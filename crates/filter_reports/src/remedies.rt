@@ -75,12 +75,12 @@ fn in_place_of_semicolon(around: Around) -> Option<&'static str> {
 }
 
 /// What to write where a value is missing behind a `=`.
-fn in_place_of_compared(found: Option<Token>) -> Option<&'static str> {
-    if is_symbol(found, Symbol::Equal) {
+fn in_place_of_compared(around: Around) -> Option<&'static str> {
+    if is_symbol(around.found, Symbol::Equal) {
         Some("compare by a single `=`")
-    } else if is_symbol(found, Symbol::Greater) {
+    } else if is_symbol(around.found, Symbol::Greater) {
         Some("write `>=`")
-    } else if is_symbol(found, Symbol::Less) {
+    } else if is_symbol(around.found, Symbol::Less) {
         Some("write `<=`")
     } else {
         None
@@ -96,7 +96,7 @@ fn is_pattern(around: Around) -> bool {
 /// What to write where a value is missing.
 fn in_place_of_operand(around: Around) -> Option<&'static str> {
     if is_symbol(around.last, Symbol::Equal) {
-        in_place_of_compared(around.found)
+        in_place_of_compared(around)
     } else if is_pattern(around) {
         Some("a pattern stands in `[ ]`, as in `net ~ [ 10.0.0.0/8+ ]`")
     } else {
@@ -114,12 +114,17 @@ fn in_place_of_body(around: Around) -> Option<&'static str> {
     }
 }
 
+/// Whether an `else` stands behind a command that has ended.
+fn is_late_else(around: Around) -> bool {
+    is_symbol(around.found, Symbol::Else) && is_symbol(around.last, Symbol::Semicolon)
+}
+
 /// What to write where the next command, or the end of all, is missing.
 fn in_place_of_command(around: Around) -> Option<&'static str> {
-    if is_symbol(around.found, Symbol::Else) && is_symbol(around.last, Symbol::Semicolon) {
-        Some("its `if` has ended: several commands of one stand in braces")
-    } else if begins_declaration(around.found) {
+    if begins_declaration(around.found) {
         Some("declare variables before the first command")
+    } else if is_late_else(around) {
+        Some("its `if` has ended: several commands of one stand in braces")
     } else {
         None
     }
