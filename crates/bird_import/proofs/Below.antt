@@ -53,9 +53,9 @@ most m n h = grind arith
 -- none of fewer does
 pub less_below : (passes : ℕ → Bool) (n m : ℕ) → m ≤ n → any_below passes n ≡ false → any_below passes m ≡ false
 unfolding any_below
-less_below passes zero m few none = subst (λ k. any_below passes k ≡ false) (omega (arith, few)) none
+less_below passes zero m few none = let same : zero ≡ m = omega (arith, few) in subst (λ k. any_below passes k ≡ false) same none
 less_below passes (suc n) m few none =
     elim (most m n (omega (arith, few))) [
       | inl fewer ↦ less_below passes n m fewer (or_none (any_below passes n) (passes n) none)
-      | inr same ↦ subst (λ k. any_below passes k ≡ false) (omega (arith, same)) none
+      | inr last ↦ let same : suc n ≡ m = omega (arith, last) in subst (λ k. any_below passes k ≡ false) same none
     ]

@@ -1,5 +1,5 @@
 -- Names that are noted, definition by definition.
-use Rattle.std.proofs.Common.{◌≡◌, ℕ, ◌+◌, ◌<◌, Bool, true, false, List, Option, Ordering, Some, if◌then◌else◌, Vec, Global, refl, sym, subst, ap, ◌∙◌, length, arith}
+use Rattle.std.proofs.Common.{◌≡◌, ℕ, ◌+◌, ◌<◌, Bool, true, false, List, [], Option, Ordering, Some, if◌then◌else◌, Vec, Global, refl, sym, subst, ap, ◌∙◌, length, arith}
 use Rattle.std.specs.Prelude.{◌≢◌, slice_get, unwrap_or}
 use Rattle.std.specs.BTreeMap.{BTreeMap, Updates, is_at}
 use Rattle.std.specs.Cmp.Lexicographic.{nat_list_eq_equiv, bytes_decides, slice_cmp}
@@ -63,6 +63,12 @@ pub noted : (m n : Table) (key : Key) (one : Found) (name : List ℕ) → key.it
 noted m n key one name same h other =
     subst (λ (text : List ℕ). found_of n other ≡ (if bytes_eq text other then one else found_of m other)) same
     (at_one m n key one other (bytes_eq key.items other) refl h)
+
+-- nothing is found in an empty table, and nothing is defined by no definition
+pub knows_none : (config : Config) (m : Table) → m.entries ≡ [] → Knows config 0 m
+knows_none config m none name =
+    subst (λ (entries : List (Key × Found)). IsFound config name 0 (unwrap_or (lookup (is_name name) entries) found.Never)) (sym none)
+    (λ j other below of. absurd (omega (arith, below)))
 
 module _ (config : Config) (n : ℕ) (definition : Definition) (is : slice_get config.definitions.now n ≡ Some definition) where
   -- the definition that follows is of another name

@@ -67,8 +67,8 @@ pub record IsWrapped (words : List Word) (k : ℕ) : Type 0 where
 -- a step is due at an index that puts no other words in: a constant without its parentheses, a `;`, a declaration, a test of the kind of a prefix,
 -- an operator of a chain, or what a function returns on a condition
 abbrev pub IsDue : List Word → ℕ → Type 0
-IsDue words k = IsWrapped words k ⊎ (WantsSemicolon words k
-    ⊎ (HasValue words k ⊎ (IsNamedAt (codes "type") words k ⊎ ((IsAt symbol.And words k ⊎ IsAt symbol.Or words k) ⊎ IsForeignAt (codes "return") words k))))
+IsDue words k = (IsWrapped words k ⊎ WantsSemicolon words k)
+    ⊎ (HasValue words k ⊎ (IsNamedAt (codes "type") words k ⊎ ((IsAt symbol.And words k ⊎ IsAt symbol.Or words k) ⊎ IsForeignAt (codes "return") words k)))
 
 -- among some words is `KIND set NAME`
 pub record HasSetVariable (name : List ℕ) (words : List Word) : Type 0 where

@@ -299,15 +299,21 @@ pub fn is_constant(kind: WordKind) -> bool
     matches!(kind, WordKind::Number | WordKind::Address(_))
 }
 
+/// Whether a member of a set may begin behind a word, or a further label.
+fn begins_member(kind: WordKind) -> bool
+    ensures { result ≡ spec.begins_member kind }
+{
+    matches!(
+        kind,
+        WordKind::Symbol(Symbol::Comma | Symbol::DotDot | Symbol::LeftBracket)
+    )
+}
+
 /// Whether a label or a member of a set may begin behind a word, and no command with a parenthesis.
 pub fn begins_constant(kind: WordKind) -> bool
     ensures { result ≡ spec.begins_constant kind }
 {
-    ends_command(kind)
-        || matches!(
-            kind,
-            WordKind::Symbol(Symbol::Comma | Symbol::DotDot | Symbol::LeftBracket)
-        )
+    ends_command(kind) || begins_member(kind)
 }
 
 /// Whether a label or a set goes on, or ends, with a word.

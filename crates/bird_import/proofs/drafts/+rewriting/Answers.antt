@@ -3,7 +3,7 @@ use Rattle.bird_import.specs.Scopes.{AreInScope}
 use Rattle.bird_import.specs.Steps.{BecomesWithin}
 use Rattle.bird_import.specs.Stuck.{AreApart, Halts, Hinder, Hinders}
 use Rattle.bird_import.proofs.Halted.{at_once, by_copy, by_hinders, by_refusal, by_steps, by_words, by_work, hinders_of, more_of_why, stuck_at}
-use Rattle.bird_import.proofs.Reached.{call_is_next, steps_on}
+use Rattle.bird_import.proofs.Reached.{call_is_next, no_step, steps_on}
 use Rattle.bird_import.proofs.drafts.+rewriting.Goals as goal
 
 pub next_call-returns-in-Err-clause-stuck : goal.next_call-returns-in-Err-clause-stuck
@@ -36,24 +36,31 @@ next_words-returns-in-None-clause-stuck t c =
     more_of_why (Hinders config words) (Halts config c.args.depth words) c.next_step.result (λ why is. by_hinders config c.args.depth words why is)
     c.next_step.ensures.stuck
 
+pub rewrite-returns-then-words-gt-WORD_LIMIT-clause-stuck : goal.rewrite-returns-then-words-gt-WORD_LIMIT-clause-stuck
+rewrite-returns-then-words-gt-WORD_LIMIT-clause-stuck t c =
+    let config = c.args.config.now in
+    let words = c.args.words.items in
+    by_words config c.args.depth 0 words words (no_step config.words.now (BecomesWithin config.words.now c.args.depth) words)
+    c.too_long.result c.too_long.ensures (omega arith)
+
 pub rewrite-returns-in-Some-clause-stuck : goal.rewrite-returns-in-Some-clause-stuck
 rewrite-returns-in-Some-clause-stuck t c =
-    at_once c.args.config.now c.args.depth c.args.words.items c.as_slice.result.now c.in-Some.reason.why c.as_slice.ensures.value c.in-Some.ensures.some
+    at_once c.args.config.now c.args.depth c.args.words.items c.as_slice-2.result.now c.in-Some.reason.why c.as_slice-2.ensures.value c.in-Some.ensures.some
 
 pub rewrite-returns-in-Done-clause-apart : goal.rewrite-returns-in-Done-clause-apart
 rewrite-returns-in-Done-clause-apart t c =
-    subst (λ list. AreApart c.args.config.now list) c.as_slice.ensures.value (c.first_of_two_meanings.ensures.none c.in_default.is)
+    subst (λ list. AreApart c.args.config.now list) c.as_slice-2.ensures.value (c.first_of_two_meanings.ensures.none c.in_default.is)
 
 pub rewrite-returns-in-Some-first_stray-clause-stuck : goal.rewrite-returns-in-Some-first_stray-clause-stuck
 rewrite-returns-in-Some-first_stray-clause-stuck t c =
-    let slice = c.as_slice-2.result.now in
+    let slice = c.as_slice-3.result.now in
     let why = c.in-Some-first_stray.reason.why in
-    at_once c.args.config.now c.args.depth c.args.words.items slice why c.as_slice-2.ensures.value
+    at_once c.args.config.now c.args.depth c.args.words.items slice why c.as_slice-3.ensures.value
     (hinders_of c.args.config.now slice why c.in-Some-first_stray.ensures.some)
 
 pub rewrite-returns-in-Done-clause-in_scope : goal.rewrite-returns-in-Done-clause-in_scope
 rewrite-returns-in-Done-clause-in_scope t c =
-    subst (λ list. AreInScope list) c.as_slice-2.ensures.value (c.first_stray.ensures.none c.in_default-first_stray.is)
+    subst (λ list. AreInScope list) c.as_slice-3.ensures.value (c.first_stray.ensures.none c.in_default-first_stray.is)
 
 pub rewrite-loop-made-init : goal.rewrite-loop-made-init
 rewrite-loop-made-init t c = let defined = c.in_ok-words.ensures c.args.depth in (defined.0, omega arith, defined.1)
@@ -69,7 +76,7 @@ rewrite-loop-made-preserved t c =
 pub rewrite-returns-then-all-gt-WORD_LIMIT-clause-stuck : goal.rewrite-returns-then-all-gt-WORD_LIMIT-clause-stuck
 rewrite-returns-then-all-gt-WORD_LIMIT-clause-stuck t c =
     by_words c.args.config.now c.args.depth c.loop-made.invariant.0 c.args.words.items c.loop-made.words.items c.loop-made.invariant.2
-    c.too_long.result c.too_long.ensures
+    c.too_long-then-all-gt-WORD_LIMIT.result c.too_long-then-all-gt-WORD_LIMIT.ensures
     (subst (λ list. 65536 < length list) c.as_slice-all.ensures.value c.if-all-gt-WORD_LIMIT.true)
 
 pub rewrite-returns-then-is_much-clause-stuck : goal.rewrite-returns-then-is_much-clause-stuck
