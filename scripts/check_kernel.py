@@ -27,7 +27,6 @@ import os
 import pathlib
 import random
 import re
-import shutil
 import signal
 import subprocess
 import sys
@@ -36,10 +35,10 @@ import time
 import traceback
 
 from lab import Topology
-from lib.counts import Counts
+from lib.counts import Counts, NotRun, lack_of
 from lib.processes import Process, awaited
 from lib.program import TOP, built
-from lib.spaces import NotMade, Spaces, Wire
+from lib.spaces import Spaces, Wire
 
 INSTALLER = str(TOP / "tools" / "ncroute-kernel")
 RING = "domain 4\nlink 0 1\nlink 1 2\nlink 2 3\nlink 0 3\n"
@@ -186,7 +185,7 @@ class Line(Wire):
     LOOP = 'while :; do rm -f "$0"; socat -t0.1 "PTY,link=$0,rawer,wait-slave" "$1"; rm -f "$0"; sleep 0.1; done'
 
     def join(self):
-        for end, way in enumerate(("TCP-LISTEN:7000,reuseaddr", f"TCP:{self.addresses[0]}:7000,connect-timeout=1")):
+        for end, way in enumerate((f"TCP-LISTEN:{self.port},reuseaddr", f"TCP:{self.addresses[0]}:{self.port},connect-timeout=1")):
             words = [*self.spaces.inside(self.ends[end]), "sh", "-c", self.LOOP, self.files[end], way]
             self.socats[end] = subprocess.Popen(words, stderr=subprocess.DEVNULL, start_new_session=True)
 
@@ -208,7 +207,7 @@ class Node:
         settings = ("ip_forward=1", "conf.all.rp_filter=0", "conf.default.rp_filter=0")
         done = ran(self.inside("sysctl", "-qw", *(f"net.ipv4.{it}" for it in settings)))
         if done.returncode:
-            raise NotMade(done.stderr.strip())
+            raise NotRun(done.stderr.strip())
 
     def inside(self, *words):
         return [*self.net.spaces.inside(self.number), *words]
@@ -496,11 +495,11 @@ def main():
     with contextlib.ExitStack() as stack:
         folder = stack.enter_context(tempfile.TemporaryDirectory())
         try:
-            if not shutil.which("ping"):
-                raise NotMade("there is no `ping` here")
+            if why := lack_of("ping"):
+                raise NotRun(why)
             spaces = stack.enter_context(Spaces(1))
-            spaces.can_make_interfaces()
-        except NotMade as why:
+            spaces.need_interfaces()
+        except NotRun as why:
             counts.skip("kernel", str(why))
             counts.finish()
         Alone(spaces, folder, counts).run()
