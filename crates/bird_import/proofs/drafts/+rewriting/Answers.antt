@@ -36,8 +36,8 @@ next_words-returns-in-None-clause-stuck t c =
     more_of_why (Hinders config words) (Halts config c.args.depth words) c.next_step.result (λ why is. by_hinders config c.args.depth words why is)
     c.next_step.ensures.stuck
 
-pub rewrite-returns-then-words-gt-WORD_LIMIT-clause-stuck : goal.rewrite-returns-then-words-gt-WORD_LIMIT-clause-stuck
-rewrite-returns-then-words-gt-WORD_LIMIT-clause-stuck t c =
+pub rewrite-returns-then-len-gt-WORD_LIMIT-clause-stuck : goal.rewrite-returns-then-len-gt-WORD_LIMIT-clause-stuck
+rewrite-returns-then-len-gt-WORD_LIMIT-clause-stuck t c =
     let config = c.args.config.now in
     let words = c.args.words.items in
     by_words config c.args.depth 0 words words (no_step config.words.now (BecomesWithin config.words.now c.args.depth) words)
