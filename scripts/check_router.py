@@ -169,6 +169,18 @@ class Rows(FeedRows, SizeRows):
                 self.judge("once", run.said("closed").count("closed") == 1, said)
                 self.end(run)
 
+    def row_hears_no_answer(self):
+        """Node 1 closes what it reads, and greets: nobody reads the answer, and people are told."""
+        with Run(self.program) as run:
+            one = run.neighbours[1]
+            one.open()
+            one.listen(one.greetings)
+            one.close_one("reads")
+            one.say(b"netchange 2 8 1 0 7 0\n")
+            self.judge("says", run.said("closed") == "link 1: a line could not be written: closed\n", run.said("closed"))
+            self.serve_two(run)
+            self.end(run)
+
     def close_behind(self, run, text, *ends):
         """Node 1 is greeted, says something, and closes its ends."""
         one = run.neighbours[1]
