@@ -52,7 +52,7 @@ MOMENT = 0.05
 DELAY = 1.0
 
 # Seconds of a processor that an idle router may take in a minute.
-IDLE_TIME = 0.15
+IDLE_TIME = 0.05
 
 # The neighbours of the largest domain, and the seconds of their HOLD; for how long they say that they are there.
 MOST_LINKS, SHORT_HOLD, ALIVE = 249, 3, 12
