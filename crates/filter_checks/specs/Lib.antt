@@ -6,6 +6,7 @@ pub mod Keywords
 pub mod Reading
 pub mod Files
 pub mod Tap
+pub mod Results
 pub mod Places
 pub mod Faults
 pub mod Testing

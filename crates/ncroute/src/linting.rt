@@ -91,6 +91,7 @@ fn lint_text<R: Read, W: Write, E: Write>(
 {
     match lint_named(
         alloc,
+        how.format,
         source,
         how.size,
         how.limit,

@@ -20,7 +20,7 @@ pub(crate) fn text_value(alloc: Global, bytes: &[u8]) -> Result<Value, AllocErro
 
 /// A text of these bytes, if there is one.
 pub(crate) fn text_or_null(alloc: Global, bytes: Option<&[u8]>) -> Result<Value, AllocError>
-    ensures { IfOk result (λ value. view value ≡ text_or_null (option_map (λ text. text.now) bytes)) }
+    ensures { IfOk result (λ value. view value ≡ text_or_null (option_map (λ text. text.now) bytes.entry)) }
 {
     match bytes {
         Some(bytes) => text_value(alloc, bytes),
