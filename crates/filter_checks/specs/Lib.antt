@@ -1,5 +1,6 @@
 -- What callers cite.
 pub mod PartLines
+pub mod PartReports
 pub mod Comparing
 pub mod Filters
 pub mod Keywords

@@ -7,6 +7,7 @@ mod keyword;
 mod laws;
 mod lines;
 mod part_lines;
+mod part_reports;
 mod place;
 mod reading;
 mod results;

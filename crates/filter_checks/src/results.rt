@@ -85,7 +85,12 @@ fn push_test_report(
 }
 
 /// Puts the reports on tests at the end of `out`.
-fn push_reports(alloc: Global, out: &mut Vec<u8>, name: &[u8], all: &[Ran]) -> Result<(), AllocError>
+fn push_reports(
+    alloc: Global,
+    out: &mut Vec<u8>,
+    name: &[u8],
+    all: &[Ran],
+) -> Result<(), AllocError>
     ensures { OnOk result (out.new.items ≡ out.old.items ++ flat_map (spec.test_report name.now) all.now) }
 {
     for ran in all {

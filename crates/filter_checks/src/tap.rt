@@ -24,7 +24,11 @@ fn result_word(checked: &Checked) -> &'static [u8]
 }
 
 /// Puts a route and its verdict at the end of `out`.
-pub(crate) fn push_found(alloc: Global, out: &mut Vec<u8>, found: &Counterexample) -> Result<(), AllocError>
+pub(crate) fn push_found(
+    alloc: Global,
+    out: &mut Vec<u8>,
+    found: &Counterexample,
+) -> Result<(), AllocError>
     ensures { OnOk result (out.new.items ≡ out.old.items ++ spec.found_text found.now) }
 {
     push_prefix(alloc, out, found.prefix)?;

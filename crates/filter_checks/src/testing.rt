@@ -152,14 +152,7 @@ fn report_of(
 {
     let tests = file.tests.as_slice();
     let all = run_all(alloc, code.code(), code.size(), limit, tests)?;
-    report_on(
-        alloc,
-        format,
-        before,
-        is_explained,
-        name,
-        all.as_slice(),
-    )
+    report_on(alloc, format, before, is_explained, name, all.as_slice())
 }
 
 /// Writes a report.

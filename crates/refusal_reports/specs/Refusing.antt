@@ -1,5 +1,5 @@
 -- How it is said that a source is refused. (This project's own choice.)
-use Rattle.std.specs.Prelude.{◌≡◌, ◌⊎◌, ℕ, Bool, List, Option, Some}
+use Rattle.std.specs.Prelude.{◌≡◌, ◌⊎◌, ℕ, Bool, List, Option, Some, None}
 use Rattle.std.specs.Io.KnownBytes.{Appends, Keeps}
 use Rattle.std.specs.Option.{option_map}
 use Rattle.filter_reports.specs.Naming.{IsCutTelling, Named, TellsOf}
@@ -52,3 +52,14 @@ abbrev pub CutsRefusing : StreamFault → Format → Bool → Named → Diagnosi
 CutsRefusing fault formats.Text is_explained source why held holds tells told =
     Keeps held holds × IsCutTelling fault is_explained source.name source.text why tells told
 CutsRefusing fault formats.Json is_explained source why held holds tells told = IsCutRefusal fault source why held holds × Keeps tells told
+
+-- The same of a source that is refused, if it is; otherwise nothing was told or written.
+abbrev pub RefusesIf : Format → Bool → Named → Option Diagnosis → Option (List ℕ) → Option (List ℕ) → Option (List ℕ) → Option (List ℕ) → Type 0
+RefusesIf format is_explained source None held holds tells told = Keeps held holds × Keeps tells told
+RefusesIf format is_explained source (Some why) held holds tells told = Refuses format is_explained source why held holds tells told
+
+abbrev pub CutsRefusingIf : StreamFault → Format → Bool → Named → Option Diagnosis → Option (List ℕ) → Option (List ℕ) → Option (List ℕ)
+    → Option (List ℕ) → Type 0
+CutsRefusingIf fault format is_explained source None held holds tells told = ⊥
+CutsRefusingIf fault format is_explained source (Some why) held holds tells told =
+    CutsRefusing fault format is_explained source why held holds tells told

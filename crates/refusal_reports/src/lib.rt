@@ -5,4 +5,4 @@ mod line;
 mod refusing;
 
 pub use line::refusal_report;
-pub use refusing::refuse;
+pub use refusing::{refuse, refuse_if};

@@ -2,7 +2,7 @@
 ghost use Rattle.std.specs.Prelude.{◌≡◌, IfErr, IfOk, OnOk, Some};
 ghost use Rattle.filter_reports.specs.Faults.{stream_fault};
 ghost use Rattle.filter_reports.specs.Naming.{named};
-ghost use Rattle.refusal_reports.specs.Refusing.{CutsRefusing, IsCutRefusal, Refuses, WritesRefusal};
+ghost use Rattle.refusal_reports.specs.Refusing.{CutsRefusing, CutsRefusingIf, IsCutRefusal, Refuses, RefusesIf, WritesRefusal};
 
 use crate::line::refusal_report;
 use filter_reports::{NamedText, ProgramFault, tell_refusal};
@@ -53,5 +53,26 @@ pub fn refuse<W: Write, E: Write>(
             is_explained,
         ),
         Format::Json => write_refusal(alloc, source, &told, writer),
+    }
+}
+
+/// Says so of a source that is refused, if it is.
+pub fn refuse_if<W: Write, E: Write>(
+    alloc: Global,
+    format: Format,
+    is_explained: bool,
+    source: &NamedText<'_>,
+    told: Option<Diagnosis>,
+    writer: &mut W,
+    errors: &mut E,
+) -> Result<(), ProgramFault>
+    ensures ok { OnOk result (RefusesIf format is_explained (named source.now) told (W.contents writer.old) (W.contents writer.new)
+        (E.contents errors.old) (E.contents errors.new)) }
+    ensures err { IfErr result (λ fault. CutsRefusingIf (stream_fault fault) format is_explained (named source.now) told
+        (W.contents writer.old) (W.contents writer.new) (E.contents errors.old) (E.contents errors.new)) }
+{
+    match told {
+        Some(told) => refuse(alloc, format, is_explained, source, told, writer, errors),
+        None => Ok(()),
     }
 }

@@ -70,12 +70,7 @@ fn case_end() -> &'static [u8]
 }
 
 /// Puts the beginning of a test's element at the end of `out`.
-fn push_named(
-    alloc: Global,
-    out: &mut Vec<u8>,
-    file: &[u8],
-    name: &[u8],
-) -> Result<(), AllocError>
+fn push_named(alloc: Global, out: &mut Vec<u8>, file: &[u8], name: &[u8]) -> Result<(), AllocError>
     ensures { OnOk result (out.new.items ≡ out.old.items ++ spec.named_case file.now name.now) }
 {
     out.extend_from_slice(before_file())?;

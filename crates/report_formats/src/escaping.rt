@@ -76,7 +76,11 @@ fn attribute_of(alloc: Global, bytes: &[u8]) -> Result<String, AllocError>
 }
 
 /// Puts some bytes at the end of `out`, as they stand within quotes.
-pub(crate) fn push_attribute(alloc: Global, out: &mut Vec<u8>, bytes: &[u8]) -> Result<(), AllocError>
+pub(crate) fn push_attribute(
+    alloc: Global,
+    out: &mut Vec<u8>,
+    bytes: &[u8],
+) -> Result<(), AllocError>
     ensures { OnOk result (out.new.items ≡ out.old.items ++ spec.attribute bytes.now) }
 {
     let text = attribute_of(alloc, bytes)?;
