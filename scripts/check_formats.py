@@ -35,7 +35,9 @@ FILTERS = [
     "filter f { if net ~ [ 10.0.0.0/8+, 8.0.0.0/5- ] then { rip_metric = rip_metric + 1; accept; } reject; }",
     "filter f { if rip_metric > 3 then reject; accept; }", "filter f { if net.ip.mask(24) = net.ip then ; accept; }", "filter f { accept",
 ]
-TESTS = ["10.1.0.0/16 4 -> accept 4", "10.1.0.0/16 4 -> reject", "every 10.0.0.0/8+ -> accept", "every 0.0.0.0/0+ -> reject", "0.0.0.0/0 16 -> accept"]
+TESTS = [
+    "10.1.0.0/16 4 -> accept 4", "10.1.0.0/16 4 -> reject", "every 10.0.0.0/8+ -> accept", "every 0.0.0.0/0+ -> reject", "0.0.0.0/0 16 -> accept",
+]
 
 
 def some_text(chance):
