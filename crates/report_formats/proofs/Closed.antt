@@ -34,7 +34,7 @@ encoded_high c h =
     let three = more (224 + c / 4096) _ (omega arith) lasts in
     let four = more (240 + c / 262144) _ (omega arith) (more (128 + (c / 4096) % 64) _ (omega arith) lasts) in
     subst (All IsClosed) (sym (cond-false _ _ _ not_one))
-    (by_test {All IsClosed} (ltb c 2048) _ _ two (by_test {All IsClosed} (ltb c 65536) _ _ three four))
+    (by_test {P = All IsClosed} (ltb c 2048) _ _ two (by_test {P = All IsClosed} (ltb c 65536) _ _ three four))
 
 encoded : (c : ℕ) → c ≢ 34 → c ≢ 60 → 32 ≤ c → All IsClosed (encode_utf8 c)
 encoded c no_quote no_bracket no_control = elim (cases_lt c 128) [
