@@ -1,8 +1,6 @@
 //! The line of a part of the routes.
-ghost use Rattle.std.specs.Prelude.{◌≡◌, ◌++◌, IfOk, OnOk, Some};
-ghost use Rattle.serde_json.specs.Read.{read};
+ghost use Rattle.std.specs.Prelude.{◌≡◌, ◌++◌, IfOk, OnOk};
 ghost use Rattle.serde_json.specs.View.{view};
-ghost use Rattle.serde_json.specs.Written.{compact_text};
 ghost use Rattle.report_formats.specs.Parts as spec;
 
 use crate::report::{Severity, severity_word};
@@ -50,10 +48,9 @@ fn value_of(alloc: Global, part: &PartReport<'_>) -> Result<Value, AllocError>
     })
 }
 
-/// Puts the line of a part at the end of `out`. Its text is JSON, and reads back as the object that it is of.
+/// Puts the line of a part at the end of `out`.
 pub fn push_part(alloc: Global, out: &mut Vec<u8>, part: &PartReport<'_>) -> Result<(), AllocError>
-    ensures line { OnOk result (out.new.items ≡ out.old.items ++ spec.part_line (spec.part_view part.now)) }
-    ensures reads_back { OnOk result (read (compact_text (spec.part_data (spec.part_view part.now))) ≡ Some (spec.part_data (spec.part_view part.now))) }
+    ensures { OnOk result (out.new.items ≡ out.old.items ++ spec.part_line (spec.part_view part.now)) }
 {
     let value = value_of(alloc, part)?;
     push_value(alloc, out, &value)

@@ -1,7 +1,6 @@
 //! Texts and numbers as values of JSON.
-ghost use Rattle.std.specs.Prelude.{◌≡◌, ◌≤◌, ◌++◌, IfOk, OnOk, Some, false, option_map};
+ghost use Rattle.std.specs.Prelude.{◌≡◌, ◌≤◌, ◌++◌, ◌∷◌, [], IfOk, OnOk, Some, false, option_map, string_bytes};
 ghost use Rattle.serde_json.specs.Data.{depth, string};
-ghost use Rattle.serde_json.specs.Read.{max_depth, read};
 ghost use Rattle.serde_json.specs.View.{view};
 ghost use Rattle.serde_json.specs.Written.{compact_text, has_float};
 ghost use Rattle.report_formats.specs.Lines.{json_line, readable};
@@ -39,12 +38,10 @@ pub(crate) fn number_or_null(number: Option<usize>) -> Value
     }
 }
 
-/// Puts the line of a value at the end of `out`. It has no floats, and its text reads back as the value.
+/// Puts the line of a value without floats at the end of `out`.
 pub(crate) fn push_value(alloc: Global, out: &mut Vec<u8>, value: &Value) -> Result<(), AllocError>
-    requires plain { has_float (view value.now) ≡ false }
-    requires shallow { depth (view value.now) ≤ max_depth }
-    ensures line { OnOk result (out.new.items ≡ out.old.items ++ json_line (view value.now)) }
-    ensures reads_back { OnOk result (read (compact_text (view value.now)) ≡ Some (view value.now)) }
+    requires { has_float (view value.now) ≡ false }
+    ensures { OnOk result (out.new.items ≡ out.old.items ++ json_line (view value.now)) }
 {
     let text = value.to_string(alloc)?;
     out.extend_from_slice(text.as_bytes())?;
