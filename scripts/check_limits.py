@@ -574,8 +574,9 @@ def undecided_filters(ncroute):
     if counted < 1 or (lines[-1], shown, status) != (b"undecided on %d parts" % counted, b"", 1 if lines[0].startswith(b"differ ") else 3):
         return f"wrote {lines[:1]} to {lines[-1:]}, and ended with {status}"
     never = b"filter f { if net.ip.mask(24) = net.ip && net.len > 32 then reject; accept; }"
-    wanted = b"0.filter: undecided: not all routes were tried, so W1, W2 and W8 were not looked for\n"
-    return differs(on_filters(ncroute, "lint --size 250 --limit 50000", [never]), (wanted, 3))
+    wanted = (b"0.filter: undecided: not all routes were tried, so W1, W2 and W8 were not looked for\n"
+              b"0.filter: undecided: not all metrics of all routes were tried, so W9 was not looked for\n")
+    return differs(on_filters(ncroute, "lint --order --size 250 --limit 50000", [never]), (wanted, 3))
 
 
 def padded_tests(ncroute):

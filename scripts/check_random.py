@@ -10,6 +10,8 @@ usage: NCROUTE=PATH scripts/check_random.py [SEED]     (PATH: the program as it 
   no more than the verifier says.
 - A filter has the same code however its tokens are laid out.
 - What `filter --why` and `filter --coverage` say of routes is what `filter` does with them, and fits what `lint` says of all routes.
+- `lint` warns that a filter does not keep the order of metrics just where a plain model finds that, which takes each metric of a route of each kind
+  through the filter; and what it shows of two metrics is what `filter` does with them.
 - `diff` of two filters says of each of some routes whether they do the same with it, and what each does: of a thousand pairs that look random, and
   of each filter of `tests/bird/` beside itself with one constant changed. The routes lie at the constants of both, at its parts, and anywhere.
 - A script is answered alike in whatever pieces it is read, with a line for each line that is not skipped.
@@ -28,6 +30,7 @@ import subprocess
 import sys
 import tempfile
 
+from domain_oracle import Filter
 from lib import bird
 from lib.counts import Counts
 from lib.prefixes import dotted, masked, number_of, parsed, written
@@ -35,7 +38,7 @@ from lib.program import built
 from lib.rows import FOLDER, rows_of
 from lib.tokens import tokens
 
-FILES, TEXTS, PAIRS, SCRIPTS, HISTORIES, SETS = 3000, 1500, 1000, 300, 300, 30
+FILES, TEXTS, PAIRS, ORDERS, SCRIPTS, HISTORIES, SETS = 3000, 1500, 1000, 1200, 300, 300, 30
 ROUTES, TOLD_ROUTES, COMPARED_ROUTES, COMPARED_CLASSES = 6, 60, 100, 4000
 
 # Opcodes without an operand, but for DIV (23), which would make most code unsafe. NET, METRIC and RECEIVED occur more than once.
@@ -59,11 +62,18 @@ LINES = [
     "# nothing\n", "\n",
 ]
 
+# How a filter ends, as the plain model reads it.
+ENDS = ("accept; ", "reject; ")
+
 # NET, MEMBER, JUMPIFNOT, ACCEPT and REJECT, after a set of one pattern; METRIC, INSET, JUMPIFNOT, ACCEPT and REJECT, after a set of ints of two
 # ranges. The first one's NET.
 CUT = [bytes.fromhex("4e4346310001000101000000080f1100051251006100017071"),
        bytes.fromhex("4e43463200000100020000000200000002000000040000000600051352006100017071")]
 NET = 17
+
+# Of a filter that does not keep the order of metrics: a route, the lesser metric and what becomes of it, and the same of the next one.
+DISORDER = re.compile(r".*: the order of metrics is not kept: of (\S+) metric (\d+) (becomes \d+|is rejected), "
+                      r"and (\d+) (becomes \d+|is rejected) \(W9\)")
 
 # A part that two filters differ on, or that is undecided: a pattern of prefixes, a range of metrics, and what each filter does there.
 PART = re.compile(r"(differ|undecided) ([\d.]+)/(\d+)\{(\d+),(\d+)\}, metrics (\d+)\.\.(\d+)(?:: (\w+(?: \d+)?) \| (\w+(?: \d+)?))?")
@@ -144,7 +154,7 @@ class Laws:
     """The laws, and what kept and broke them."""
 
     def __init__(self, ncroute, seed):
-        self.ncroute, self.seed, self.counts, self.pairs = ncroute, seed, Counts(), 0
+        self.ncroute, self.seed, self.counts, self.pairs, self.orders = ncroute, seed, Counts(), 0, [0, 0]
         self.bird = [block for path in bird.files() for block in bird.read(path)[1]]
         self.pool = concurrent.futures.ThreadPoolExecutor()
 
@@ -338,6 +348,31 @@ class Laws:
         wanted = [1] if any(part[0] == "differ" for part in parts) else [0] if not parts else [3] if are_all else [1, 3]
         return None if status in wanted else f"{old!r} and {new!r}: {told} and {status}"
 
+    # ---- the order of metrics
+
+    def order(self, number):
+        """What is wrong with what `lint` says of the order of metrics under a filter."""
+        numbers = self.numbers("order", number)
+        size = numbers.randint(2, 20)
+        text = f"filter f {{ {''.join(random_statement(numbers, size) for _ in range(numbers.randint(1, 4)))}{numbers.choice(ENDS)}}}"
+        lost = disorders(text, size)
+        self.orders[bool(lost)] += 1
+        with tempfile.NamedTemporaryFile(suffix=".filter") as file:
+            file.write(text.encode())
+            file.flush()
+            told = [line for line in self.run(f"lint --order --size {size} {file.name}", b"")[0] if not re.search(r"\(W[1-8]\)$", line)]
+            shown = DISORDER.fullmatch(told[0]) if len(told) == 1 else None
+            if bool(shown) != bool(told) or bool(shown) != bool(lost):
+                return f"{text!r}, size {size}: {told}, but the order is lost at {lost[:3]}"
+            if not shown:
+                return None
+            prefix, metric, lesser, greater, next_one = shown.groups()
+            answers = self.run(f"filter --size {size} {file.name}", f"{prefix} {metric}\n{prefix} {greater}\n".encode())[0]
+        model = [Filter(text).apply(parsed(prefix), at, size) for at in (int(metric), int(greater))]
+        fates = [answer.replace("accept", "becomes").replace("reject", "is rejected") for answer in answers]
+        is_shown = int(greater) == int(metric) + 1 < size and model[0] > model[1] and [lesser, next_one] == fates
+        return None if is_shown else f"{text!r}, size {size}: {told}, but {answers} and {model}"
+
     # ---- scripts and histories
 
     def pieced(self, script, most):
@@ -409,10 +444,12 @@ class Laws:
         self.damaged_files()
         self.code_files(size)
         self.texts(size)
-        for law, count in ((self.pair, PAIRS + len(self.bird)), (self.script, SCRIPTS), (self.history, HISTORIES), (self.patterns, SETS)):
+        for law, count in ((self.pair, PAIRS + len(self.bird)), (self.order, ORDERS), (self.script, SCRIPTS), (self.history, HISTORIES),
+                           (self.patterns, SETS)):
             for number, wrong in enumerate(self.pool.map(law, range(count))):
                 self.judge(law.__name__, number, wrong)
         self.judge("pairs", self.pairs, None if self.pairs > (PAIRS + len(self.bird)) // 2 else "few of them are verified")
+        self.judge("orders", ORDERS, None if min(self.orders) > ORDERS // 10 else f"kept and lost: {self.orders}")
 
 
 def refused_for(value):
@@ -493,6 +530,32 @@ def route_at(numbers, address, fixed, length, metric, size):
     length = min(max(length, 0), 32)
     own = masked(masked(address, fixed) | numbers.getrandbits(32) & ~masked(0xFFFFFFFF, fixed), length)
     return f"{dotted(own)}/{length}", min(max(metric, 0), size)
+
+
+def random_test(numbers, size):
+    """A test of a route, as the plain model reads it. Patterns tell prefixes apart by their first four bits alone."""
+    what = numbers.randrange(4)
+    if what == 0:
+        return f"net.len {numbers.choice('=<>')} {numbers.randrange(33)}"
+    if what == 1:
+        length = numbers.randrange(5)
+        return f"net ~ [{written(numbers.getrandbits(32), length)}+]"
+    return f"rip_metric {numbers.choice('=<>')} {numbers.randrange(size)}"
+
+
+def random_statement(numbers, size):
+    tests = "".join(f"if {random_test(numbers, size)} then " for _ in range(numbers.randrange(3)))
+    return tests + numbers.choice((*ENDS, f"rip_metric = rip_metric + {numbers.randint(1, 3)}; "))
+
+
+def disorders(text, size):
+    """Each route of a kind and each metric that comes to more than the next one, by the plain model."""
+    model, lengths = Filter(text), {*range(5)}
+    for constant in map(int, re.findall(r"net\.len . (\d+)", text)):
+        lengths |= {length for length in range(constant - 1, constant + 2) if length <= 32}
+    nets = {(masked(first << 28, length), length) for first in range(16) for length in lengths if length >= 0}
+    comes_to = {net: [model.apply(net, metric, size) for metric in range(size)] for net in sorted(nets)}
+    return [(net, metric) for net, all_metrics in comes_to.items() for metric in range(size - 1) if all_metrics[metric] > all_metrics[metric + 1]]
 
 
 def differs_otherwise(parts, are_all, prefix, metric, one, other):

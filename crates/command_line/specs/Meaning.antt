@@ -107,6 +107,7 @@ pub record IsLinting (given : List Row) (terminals : Terminals) (sources : List 
   pub limit : how.limit ≡ unwrap_or (number_of 64 (codes "limit") given) usual_limit
   pub allowed : map (λ copy. string_bytes copy) how.allowed.items ≡ words_of (codes "allow") given
   pub format : how.format ≡ format_of given
+  pub asks_order : how.asks_order ≡ is_set (codes "order") given
   pub is_explained : how.is_explained ≡ tells given terminals (list_any is_file sources)
 
 -- how `test` runs test files

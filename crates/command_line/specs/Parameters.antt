@@ -80,7 +80,8 @@ all_taken =
     ∷ takes command.Filter (codes "explain") When ∷ needs command.Filter (codes "file") Argument
     ∷ needs command.Import (codes "size") Number ∷ takes command.Import (codes "out") Text ∷ takes command.Import (codes "file") Argument
     ∷ needs command.Lint (codes "size") Number ∷ takes command.Lint (codes "limit") Count ∷ takes command.Lint (codes "allow") Codes
-    ∷ takes command.Lint (codes "format") Format ∷ takes command.Lint (codes "explain") When ∷ takes command.Lint (codes "file") Arguments
+    ∷ takes command.Lint (codes "order") Flag ∷ takes command.Lint (codes "format") Format ∷ takes command.Lint (codes "explain") When
+    ∷ takes command.Lint (codes "file") Arguments
     ∷ takes command.List (codes "size") Number ∷ takes command.List (codes "code") Flag ∷ takes command.List (codes "explain") When
     ∷ takes command.List (codes "file") Argument
     ∷ takes command.Test (codes "limit") Count ∷ takes command.Test (codes "format") TestFormat ∷ takes command.Test (codes "explain") When ∷ takes command.Test (codes "file") Arguments

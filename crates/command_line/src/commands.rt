@@ -158,7 +158,7 @@ static COMMANDS: [(&str, &str); 15] = [
 ];
 
 /// The options and arguments of each command, in the order in which its help shows them.
-static PARAMETERS: [(&str, Parameter); 61] = [
+static PARAMETERS: [(&str, Parameter); 62] = [
     ("check", SIZE),
     ("check", CODE),
     ("check", NAMES),
@@ -185,6 +185,7 @@ static PARAMETERS: [(&str, Parameter); 61] = [
     ("lint", SIZE),
     ("lint", LIMIT),
     ("lint", ALLOW),
+    ("lint", ORDER),
     ("lint", FORMAT),
     ("lint", EXPLAIN),
     ("lint", LINTED),
@@ -246,6 +247,15 @@ const ALLOW: Parameter = Parameter {
     value: "CODE",
     help: "Say no warning of this code, as W3; may be given many times",
     kind: ParameterKind::Codes,
+    is_required: false,
+};
+
+/// Whether filters keep the order of metrics is looked for.
+const ORDER: Parameter = Parameter {
+    name: "order",
+    value: "",
+    help: "Look for metrics whose order is not kept (W9), too, which may take long",
+    kind: ParameterKind::Flag,
     is_required: false,
 };
 

@@ -140,7 +140,7 @@ Each file is a filter; without one, standard input is. Each is verified first, a
 `ncroute check`. If it is refused, standard error says why. For each thing that is plainly
 wrong with a verified one, a line is printed:
   FILE:LINE:COL: WORDS (W2)
-W1, W2 and W8 are told by all routes of the domain, which are searched as by `ncroute diff`.
+W1, W2, W8 and W9 are told by all routes of the domain, which are searched as by `ncroute diff`.
   W1   a condition that is always true, or always false
   W2   a command that no route reaches
   W3   arithmetic that may wrap, by what the verifier knows of the numbers
@@ -149,7 +149,8 @@ W1, W2 and W8 are told by all routes of the domain, which are searched as by `nc
   W6   a variable that is never read
   W7   a metric that means unreachable, whatever the route
   W8   an assignment that would lower the metric on some route, which no filter can
-Where CLASSES are not enough for W1, W2 and W8, the line `FILE: undecided: ..` says so.
+  W9   metrics whose order is not kept: the lesser one of two comes to more; with --order
+Where CLASSES are not enough for W1, W2 and W8, or for W9, a line `FILE: undecided: ..` says so.
 A warning is left out where --allow names its code, or where the line that it is said of ends
 with a comment as `# lint: allow W3`.
 

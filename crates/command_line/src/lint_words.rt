@@ -6,7 +6,7 @@ ghost use Rattle.command_line.specs.declared.command_names.CommandName.TheVarian
 
 use crate::diff_words::USUAL_LIMIT;
 use crate::format_words::format_in;
-use crate::given::count_given;
+use crate::given::{count_given, is_given};
 use crate::requests::{Request, files_in, has_files, tells_in, values_of};
 use crate::terminals::Terminals;
 use clap::ArgMatches;
@@ -22,6 +22,8 @@ pub struct Linting {
     pub limit: u64,
     /// The codes of warnings that are not told.
     pub allowed: Vec<String>,
+    /// Whether the order of metrics is kept is looked for too.
+    pub asks_order: bool,
     /// How what is found is written.
     pub format: Format,
     /// A refusal is told in words too.
@@ -44,6 +46,7 @@ pub fn lint_in(
         size,
         limit: count_given(matches, "limit").unwrap_or(USUAL_LIMIT),
         allowed: values_of(alloc, matches, "allow")?,
+        asks_order: is_given(matches, "order"),
         format: format_in(matches),
         is_explained: tells_in(matches, terminals, has_files),
     };

@@ -37,7 +37,7 @@ impl Telling {
 static TELLINGS: [&str; 3] = ["auto", "always", "never"];
 
 /// The words of `--allow`.
-static CODES: [&str; 8] = ["W1", "W2", "W3", "W4", "W5", "W6", "W7", "W8"];
+static CODES: [&str; 9] = ["W1", "W2", "W3", "W4", "W5", "W6", "W7", "W8", "W9"];
 
 /// The words of `--format`.
 static FORMATS: [&str; 2] = ["text", "json"];

@@ -11,6 +11,7 @@ pub mod Joined
 pub mod Real
 pub mod Witness
 pub mod Expected
+pub mod Ordered
 pub mod Marking
 pub mod Reached
 pub mod Completed

@@ -4,6 +4,7 @@ pub mod Parts
 pub mod Answers
 pub mod Expectations
 pub mod Reaching
+pub mod Ordering
 -- What only bodies are proved against: classes of routes, and what symbols stand for.
 pub mod Classes
 pub mod Symbols

@@ -15,7 +15,7 @@ use Rattle.filter_lint.specs.declared.warning.Warning.{Warning}
 
 -- the codes of warnings
 unfoldable pub all_codes : List (List ℕ)
-all_codes = codes "W1" ∷ codes "W2" ∷ codes "W3" ∷ codes "W4" ∷ codes "W5" ∷ codes "W6" ∷ codes "W7" ∷ codes "W8" ∷ []
+all_codes = codes "W1" ∷ codes "W2" ∷ codes "W3" ∷ codes "W4" ∷ codes "W5" ∷ codes "W6" ∷ codes "W7" ∷ codes "W8" ∷ codes "W9" ∷ []
 
 -- a word is among some
 abbrev pub is_among : List (List ℕ) → List ℕ → Bool

@@ -7,6 +7,7 @@ pub mod WarningLines
 pub mod Arithmetic
 pub mod Commands
 pub mod Conditions
+pub mod Disorders
 pub mod Finding
 pub mod Hints
 pub mod HostBits

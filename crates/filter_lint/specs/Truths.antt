@@ -4,6 +4,7 @@ use Rattle.filter_code.specs.CodeView.{CodeView}
 use Rattle.filter_code.specs.Machine.{Config}
 use Rattle.filter_code.specs.declared.instruction.Instr.{Instr}
 use Rattle.filter_code.specs.declared.instruction.Instr.TheVariants as instr
+use Rattle.filter_diff.specs.Ordering.{IsDisorder}
 use Rattle.filter_diff.specs.Reaching.{AreOnTop, Comes, IsAlways, IsCondition, IsMax, IsNeverReached}
 use Rattle.prefix_patterns.specs.Matching.{Matches, PrefixPattern}
 use Rattle.filter_verifier.specs.InStates.{in_state}
@@ -73,6 +74,7 @@ IsSo program size at (cause.Covered number first second) = IsCovered program at 
 IsSo program size at cause.Unread = IsUnread program at
 IsSo program size at (cause.Unreachable bounds) = IsUnreachable program size at bounds
 IsSo program size at cause.NotLowered = IsNotLowered program size at
+IsSo program size at (cause.Disordered shown) = IsDisorder program size shown
 
 -- a warning is said at the byte of the text that its instruction comes from, and what it says is so
 pub record IsTrueOf (program : CodeView) (size : ℕ) (places : List ℕ) (warning : Warning) : Type 0 where

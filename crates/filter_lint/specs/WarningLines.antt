@@ -1,10 +1,13 @@
 -- The lines of warnings. (This project's own choice.)
-use Rattle.std.specs.Prelude.{ℕ, ◌==◌, Bool, true, false, ◌&&◌, if◌then◌else◌, List, [], ◌++◌, ◌∷◌, codes}
+use Rattle.std.specs.Prelude.{ℕ, ◌+◌, ◌==◌, Bool, true, false, ◌&&◌, if◌then◌else◌, List, [], ◌++◌, ◌∷◌, codes}
 use Rattle.std.specs.Prelude.{decimal, flat_map, length, slice_get, unwrap_or, Option, Some, None}
 use Rattle.prefix_patterns.specs.Bits.{address_length}
 use Rattle.prefix_patterns.specs.Matching.{PrefixPattern}
 use Rattle.prefix_patterns.specs.Spelling.{prefix_text}
 use Rattle.filter_tokens.specs.Lexemes.{covered}
+use Rattle.filter_code.specs.declared.outcome.Outcome.{Outcome}
+use Rattle.filter_code.specs.declared.outcome.Outcome.TheVariants as outcome
+use Rattle.filter_diff.specs.declared.ordering.Disorder.{Disorder}
 use Rattle.filter_reports.specs.Explanations.{message, position}
 use Rattle.filter_reports.specs.Places.{column_at, line_at}
 use Rattle.filter_reports.specs.Shown.{shown}
@@ -31,6 +34,7 @@ code_of (cause.Covered number inner outer) = codes "W4"
 code_of cause.Unread = codes "W6"
 code_of (cause.Unreachable bounds) = codes "W7"
 code_of cause.NotLowered = codes "W8"
+code_of (cause.Disordered shown) = codes "W9"
 
 -- what is true, or false
 abbrev pub subject_of : Site → List ℕ
@@ -126,6 +130,22 @@ unreachable_words bounds = codes "the metric is set to " ++ bounds_text bounds +
 unfoldable pub not_lowered_words : List ℕ
 not_lowered_words = codes "a filter cannot lower the metric: on some route that comes here the value is below the one received"
 
+-- what becomes of a metric, and of two of a route, of which the lesser one comes to more
+abbrev pub end_words : Outcome → List ℕ
+end_words (outcome.Accept after) = codes " becomes " ++ decimal after
+end_words outcome.Reject = codes " is rejected"
+end_words (outcome.Fault kind at) = codes " ends with a fault"
+
+abbrev pub fate_words : ℕ → Outcome → List ℕ
+fate_words metric end = decimal metric ++ end_words end
+
+abbrev pub fates_words : Disorder → List ℕ
+fates_words shown = fate_words shown.metric shown.lesser ++ codes ", and " ++ fate_words (shown.metric + 1) shown.next
+
+abbrev pub disordered_words : Disorder → List ℕ
+disordered_words shown =
+    codes "the order of metrics is not kept: of " ++ prefix_text shown.prefix ++ codes " metric " ++ fates_words shown
+
 -- what is said of a cause, in code with these sets
 abbrev pub words : List (List PrefixPattern) → Cause → List ℕ
 words sets (cause.Constant place value) = constant_words place value
@@ -135,6 +155,7 @@ words sets (cause.Covered number inner outer) = covered_words sets number inner 
 words sets cause.Unread = codes "this variable is never read"
 words sets (cause.Unreachable bounds) = unreachable_words bounds
 words sets cause.NotLowered = not_lowered_words
+words sets (cause.Disordered shown) = disordered_words shown
 
 -- the line of a warning: the name of the source as it is shown, the line and the column, what is said, and the code of the rule
 abbrev pub warning_line : List ℕ → List ℕ → List (List PrefixPattern) → Warning → List ℕ
@@ -159,6 +180,16 @@ undecided_line name = shown name ++ undecided_words
 abbrev pub undecided_text : List ℕ → Bool → List ℕ
 undecided_text name is_complete = if is_complete then [] else undecided_line name
 
+-- the line that says that not all metrics of all routes were tried
+unfoldable pub unordered_words : List ℕ
+unordered_words = codes ": undecided: not all metrics of all routes were tried, so W9 was not looked for" ++ 10 ∷ []
+
+abbrev pub unordered_line : List ℕ → List ℕ
+unordered_line name = shown name ++ unordered_words
+
+abbrev pub unordered_text : List ℕ → Bool → List ℕ
+unordered_text name is_ordered = if is_ordered then [] else unordered_line name
+
 -- what a report says of a warning
 abbrev pub warning_view : List ℕ → List ℕ → List (List PrefixPattern) → Warning → ReportView
 warning_view name text sets warning = record {
@@ -181,22 +212,25 @@ host_bits_view name text found = record {
   words = host_bits_words text found;
 }
 
--- and of a file of which not all routes were tried
+-- and of a file of which not all routes were tried, or not all metrics
 unfoldable pub not_tried_words : List ℕ
 not_tried_words = codes "not all routes were tried, so W1, W2 and W8 were not looked for"
 
-abbrev pub undecided_view : List ℕ → ReportView
-undecided_view name = record {
+unfoldable pub not_ordered_words : List ℕ
+not_ordered_words = codes "not all metrics of all routes were tried, so W9 was not looked for"
+
+abbrev pub undecided_view : List ℕ → List ℕ → ReportView
+undecided_view name words = record {
   severity = severity.Undecided;
   code = None;
   file = name;
   line = None;
   column = None;
-  words = not_tried_words;
+  words = words;
 }
 
-abbrev pub undecided_report : List ℕ → Bool → List ℕ
-undecided_report name is_complete = if is_complete then [] else report_line (undecided_view name)
+abbrev pub undecided_report : List ℕ → Bool → List ℕ → List ℕ
+undecided_report name is_complete words = if is_complete then [] else report_line (undecided_view name words)
 
 -- the line of each, as it is written
 abbrev pub warning_in : Format → List ℕ → List ℕ → List (List PrefixPattern) → Warning → List ℕ
@@ -209,13 +243,18 @@ host_bits_in formats.Json name text found = report_line (host_bits_view name tex
 
 abbrev pub undecided_in : Format → List ℕ → Bool → List ℕ
 undecided_in formats.Text name is_complete = undecided_text name is_complete
-undecided_in formats.Json name is_complete = undecided_report name is_complete
+undecided_in formats.Json name is_complete = undecided_report name is_complete not_tried_words
+
+abbrev pub unordered_in : Format → List ℕ → Bool → List ℕ
+unordered_in formats.Text name is_ordered = unordered_text name is_ordered
+unordered_in formats.Json name is_ordered = undecided_report name is_ordered not_ordered_words
 
 -- those of several prefixes with host bits, in order
 abbrev pub host_bits_text : Format → List ℕ → List ℕ → List HostBits → List ℕ
 host_bits_text format name text all = flat_map (host_bits_in format name text) all
 
--- the lines of the warnings of a text, of its prefixes with host bits, and a last one where not all routes were tried
-abbrev pub warnings_text : Format → List ℕ → List ℕ → List (List PrefixPattern) → List Warning → List HostBits → Bool → List ℕ
-warnings_text format name text sets warnings host_bits is_complete =
+-- the lines of the warnings of a text, of its prefixes with host bits, and last ones where not all routes were tried, or not all metrics
+abbrev pub warnings_text : Format → List ℕ → List ℕ → List (List PrefixPattern) → List Warning → List HostBits → Bool → Bool → List ℕ
+warnings_text format name text sets warnings host_bits is_complete is_ordered =
     flat_map (warning_in format name text sets) warnings ++ host_bits_text format name text host_bits ++ undecided_in format name is_complete
+    ++ unordered_in format name is_ordered

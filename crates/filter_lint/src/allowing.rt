@@ -39,6 +39,7 @@ fn is_code(word: &[u8]) -> bool
         || is_word(b"W6", word)
         || is_word(b"W7", word)
         || is_word(b"W8", word)
+        || is_word(b"W9", word)
 }
 
 /// Whether the words of a line are codes alone.

@@ -10,6 +10,7 @@ mod allowing;
 mod arithmetic;
 mod commands;
 mod conditions;
+mod disorders;
 mod finding;
 mod hints;
 mod host_bits;

@@ -1,5 +1,5 @@
 //! `ncroute lint`: what is plainly wrong with a filter that is verified.
-ghost use Rattle.std.specs.Prelude.{◌≡◌, ◌+◌, ◌≤◌, All, IfErr, IfOk, OnOk, length, true};
+ghost use Rattle.std.specs.Prelude.{◌≡◌, ◌+◌, ◌≤◌, ◌&&◌, All, IfErr, IfOk, OnOk, length, true};
 ghost use Rattle.std.specs.Io.KnownBytes.{Appends};
 ghost use Rattle.filter_reports.specs.Faults.{stream_fault};
 ghost use Rattle.filter_reports.specs.Naming.{named};
@@ -34,7 +34,7 @@ pub enum Linted {
     Refused,
     /// It is verified, all routes were tried, and so many warnings are said of it.
     Warned(usize),
-    /// It is verified, but not all routes were tried, which a line says. So many warnings are said of it, by rules that try no route.
+    /// It is verified, but not all routes were tried, or not all metrics, which a line says. So many warnings are said of it, by the other rules.
     Undecided(usize),
 }
 
@@ -63,12 +63,22 @@ fn warnings_of(
     text: &[u8],
     places: &[usize],
     limit: u64,
+    asks_order: bool,
 ) -> Result<Warnings, AllocError>
-    ensures found { IfOk result (AreFound verified.now.program text.now places.now verified.now.size) }
+    ensures found { IfOk result (AreFound verified.now.program text.now places.now verified.now.size asks_order) }
     ensures sound { IfOk result (λ all. All (IsTrueOf verified.now.program verified.now.size places.now) all.found.items) }
     ensures decided { IsEnough verified.now.size limit → IfOk result (λ all. all.is_complete ≡ true) }
+    ensures ordered { IsEnough verified.now.size limit → IfOk result (λ all. all.is_ordered ≡ true) }
 {
-    find_warnings(alloc, verified.code(), text, places, verified.size(), limit)
+    find_warnings(
+        alloc,
+        verified.code(),
+        text,
+        places,
+        verified.size(),
+        limit,
+        asks_order,
+    )
 }
 
 /// The lines of those warnings of a code that are told, and what comes of it.
@@ -82,9 +92,10 @@ fn report_on(
     host_bits: &[HostBits],
 ) -> Result<Report, AllocError>
     ensures lines { IfOk result (λ report. report.lines.items
-        ≡ warnings_text_of format source.now.name.now source.now.text.now verified.now.program.sets told.now host_bits.now all.now.is_complete) }
+        ≡ warnings_text_of format source.now.name.now source.now.text.now verified.now.program.sets told.now host_bits.now all.now.is_complete
+        all.now.is_ordered) }
     ensures comes_to { IfOk result (λ report. report.found
-        ≡ spec.linted_as all.now.is_complete (length told.now + length host_bits.now)) }
+        ≡ spec.linted_as (all.now.is_complete && all.now.is_ordered) (length told.now + length host_bits.now)) }
 {
     let lines = warnings_text(
         alloc,
@@ -95,10 +106,12 @@ fn report_on(
         told,
         host_bits,
         all.is_complete,
+        all.is_ordered,
     )?;
+    let is_decided = all.is_complete && all.is_ordered;
     Ok(Report {
         lines,
-        found: linted_as(all.is_complete, told.len() + host_bits.len()),
+        found: linted_as(is_decided, told.len() + host_bits.len()),
     })
 }
 
@@ -110,10 +123,11 @@ fn report_of(
     source: &NamedText<'_>,
     limit: u64,
     allowed: &[String],
+    asks_order: bool,
 ) -> Result<Report, AllocError>
     requires { IsTokenization placed.now.tokens.items 0 source.now.text.now }
-    ensures { IfOk result (λ report. spec.IsReport format placed.now.verified.program placed.now.verified.size limit allowed.now placed.now.places.items
-        (named source.now) report.lines.items report.found) }
+    ensures { IfOk result (λ report. spec.IsReport format placed.now.verified.program placed.now.verified.size limit allowed.now asks_order
+        placed.now.places.items (named source.now) report.lines.items report.found) }
 {
     let all = warnings_of(
         alloc,
@@ -121,6 +135,7 @@ fn report_of(
         source.text,
         placed.places.as_slice(),
         limit,
+        asks_order,
     )?;
     let host_bits = host_bits_among(alloc, placed.tokens.as_slice())?;
     let told = told_of(alloc, allowed, source.text, all.found.as_slice())?;
@@ -154,23 +169,24 @@ fn write_warnings<W: Write>(
     source: &NamedText<'_>,
     limit: u64,
     allowed: &[String],
+    asks_order: bool,
     writer: &mut W,
 ) -> Result<Linted, ProgramFault>
     requires { IsTokenization placed.now.tokens.items 0 source.now.text.now }
     ensures finished { IfOk result (spec.WritesWarnings format placed.now.verified.program placed.now.verified.size limit allowed.now
-        placed.now.places.items (named source.now) (W.contents writer.old) (W.contents writer.new)) }
+        asks_order placed.now.places.items (named source.now) (W.contents writer.old) (W.contents writer.new)) }
     ensures broken_off { IfErr result (λ fault. spec.CutsWarnings (stream_fault fault) format placed.now.verified.program placed.now.verified.size
-        limit allowed.now placed.now.places.items (named source.now) (W.contents writer.old) (W.contents writer.new)) }
+        limit allowed.now asks_order placed.now.places.items (named source.now) (W.contents writer.old) (W.contents writer.new)) }
 {
-    let report = report_of(alloc, format, placed, source, limit, allowed)?;
+    let report = report_of(alloc, format, placed, source, limit, allowed, asks_order)?;
     write_report(&report, writer)?;
     Ok(report.found)
 }
 
 /// Writes the warnings of the filter that a text spells, for domains of `size` nodes, a line for each, but for those whose codes are
-/// `allowed` and those that a comment of their line allows. At most `limit` classes of routes are tried; where these are not all, a line says
-/// so. A text that is refused is told on `errors` under its name, in words where `is_explained` says so, and nothing is written; where lines are
-/// JSON, one says why it is refused.
+/// `allowed` and those that a comment of their line allows. Whether the order of metrics is kept is looked for where `asks_order` says so. At most
+/// `limit` classes of routes are tried in each search; where these are not all, a line says so. A text that is refused is told on `errors` under
+/// its name, in words where `is_explained` says so, and nothing is written.
 pub fn lint_named<W: Write, E: Write>(
     alloc: Global,
     format: Format,
@@ -178,18 +194,21 @@ pub fn lint_named<W: Write, E: Write>(
     size: u32,
     limit: u64,
     allowed: &[String],
+    asks_order: bool,
     is_explained: bool,
     writer: &mut W,
     errors: &mut E,
 ) -> Result<Linted, ProgramFault>
-    ensures finished { IfOk result (spec.LintsNamed format size limit allowed.now is_explained (named source.now)
+    ensures finished { IfOk result (spec.LintsNamed format size limit allowed.now asks_order is_explained (named source.now)
         (W.contents writer.old) (W.contents writer.new) (E.contents errors.old) (E.contents errors.new)) }
-    ensures broken_off { IfErr result (λ fault. spec.LintsNamedOff (stream_fault fault) format size limit allowed.now is_explained (named source.now)
-        (W.contents writer.old) (W.contents writer.new) (E.contents errors.old) (E.contents errors.new)) }
+    ensures broken_off { IfErr result (λ fault. spec.LintsNamedOff (stream_fault fault) format size limit allowed.now asks_order is_explained
+        (named source.now) (W.contents writer.old) (W.contents writer.new) (E.contents errors.old) (E.contents errors.new)) }
 {
     match placed_code(alloc, source.text, size) {
         Ok(placed) => {
-            let found = write_warnings(alloc, format, &placed, source, limit, allowed, writer)?;
+            let found = write_warnings(
+                alloc, format, &placed, source, limit, allowed, asks_order, writer,
+            )?;
             Ok(found)
         }
         Err(Failure::Refused(told)) => {
@@ -215,7 +234,7 @@ pub fn warn_named<E: Write>(
 {
     match placed_code(alloc, source.text, size) {
         Ok(placed) => {
-            write_warnings(alloc, format, &placed, source, limit, &[], errors)?;
+            write_warnings(alloc, format, &placed, source, limit, &[], false, errors)?;
             Ok(())
         }
         Err(Failure::Refused(_)) => Ok(()),

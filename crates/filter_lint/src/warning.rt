@@ -1,6 +1,7 @@
 //! What is said of a filter.
 
 use crate::site::Site;
+use filter_diff::Disorder;
 
 /// An operation on ints whose result may be one that no int has.
 #[derive(Clone, Copy)]
@@ -39,6 +40,8 @@ pub enum Cause {
     Unreachable(Bounds),
     /// On some route that comes there the metric is set to less than was received, which leaves it as it was received.
     NotLowered,
+    /// Of two metrics of a route the lesser one comes to more than the other.
+    Disordered(Disorder),
 }
 
 /// A warning: the index of the instruction that it is said of, the byte of the text that the instruction comes from, and why.

@@ -7,7 +7,11 @@ ghost use Rattle.filter_lint.specs.WarningLines as spec;
 use crate::host_bits::{HostBits, bytes_of};
 use crate::site::Site;
 use crate::warning::{Bounds, Cause, Operation, Warning};
-use crate::warning_reports::{push_found, push_found_host_bits, push_found_undecided};
+use crate::warning_reports::{
+    push_found, push_found_host_bits, push_found_undecided, push_found_unordered,
+};
+use filter_code::Outcome;
+use filter_diff::Disorder;
 use filter_reports::{place_in, push_position, push_prefix, push_shown};
 use line_protocol::push_decimal;
 use prefix_patterns::{ADDRESS_LENGTH, Pattern, PatternSet};
@@ -27,6 +31,7 @@ impl Cause {
             Cause::Unread => b"W6",
             Cause::Unreachable(_) => b"W7",
             Cause::NotLowered => b"W8",
+            Cause::Disordered(_) => b"W9",
         }
     }
 }
@@ -285,6 +290,40 @@ fn not_lowered_words() -> &'static [u8]
     b"a filter cannot lower the metric: on some route that comes here the value is below the one received"
 }
 
+/// Puts what becomes of a metric at the end of `out`.
+fn push_fate(out: &mut Vec<u8>, metric: u64, outcome: Outcome) -> Result<(), AllocError>
+    ensures { OnOk result (out.new.items ≡ out.old.items ++ spec.fate_words metric outcome) }
+{
+    push_decimal(out, metric)?;
+    match outcome {
+        Outcome::Accept(after) => {
+            out.extend_from_slice(b" becomes ")?;
+            push_decimal(out, u64::from(after))
+        }
+        Outcome::Reject => out.extend_from_slice(b" is rejected"),
+        Outcome::Fault(_, _) => out.extend_from_slice(b" ends with a fault"),
+    }
+}
+
+/// Puts what becomes of two metrics at the end of `out`.
+fn push_fates(out: &mut Vec<u8>, shown: &Disorder) -> Result<(), AllocError>
+    ensures { OnOk result (out.new.items ≡ out.old.items ++ spec.fates_words shown.now) }
+{
+    push_fate(out, u64::from(shown.metric), shown.lesser)?;
+    out.extend_from_slice(b", and ")?;
+    push_fate(out, u64::from(shown.metric) + 1, shown.next)
+}
+
+/// Puts what is said of two metrics of a route, of which the lesser one comes to more, at the end of `out`.
+fn push_disordered(alloc: Global, out: &mut Vec<u8>, shown: &Disorder) -> Result<(), AllocError>
+    ensures { OnOk result (out.new.items ≡ out.old.items ++ spec.disordered_words shown.now) }
+{
+    out.extend_from_slice(b"the order of metrics is not kept: of ")?;
+    push_prefix(alloc, out, shown.prefix)?;
+    out.extend_from_slice(b" metric ")?;
+    push_fates(out, shown)
+}
+
 /// Puts what is said of a cause at the end of `out`.
 pub(crate) fn push_words(
     alloc: Global,
@@ -302,6 +341,7 @@ pub(crate) fn push_words(
         Cause::Unread => out.extend_from_slice(b"this variable is never read"),
         Cause::Unreachable(bounds) => push_unreachable(out, bounds),
         Cause::NotLowered => out.extend_from_slice(not_lowered_words()),
+        Cause::Disordered(shown) => push_disordered(alloc, out, &shown),
     }
 }
 
@@ -310,12 +350,12 @@ fn push_message(
     alloc: Global,
     out: &mut Vec<u8>,
     sets: &[PatternSet],
-    cause: Cause,
+    cause: &Cause,
 ) -> Result<(), AllocError>
-    ensures { OnOk result (out.new.items ≡ out.old.items ++ message (spec.words sets.now cause) (spec.code_of cause)) }
+    ensures { OnOk result (out.new.items ≡ out.old.items ++ message (spec.words sets.now cause.now) (spec.code_of cause.now)) }
 {
     out.extend_from_slice(b": ")?;
-    push_words(alloc, out, sets, cause)?;
+    push_words(alloc, out, sets, *cause)?;
     out.extend_from_slice(b" (")?;
     out.extend_from_slice(cause.code())?;
     out.extend_from_slice(b")\n")
@@ -335,7 +375,7 @@ pub(crate) fn push_warning(
     let place = place_in(text, warning.byte);
     push_shown(alloc, out, name)?;
     push_position(out, place.line, place.column)?;
-    push_message(alloc, out, sets, warning.cause)
+    push_message(alloc, out, sets, &warning.cause)
 }
 
 /// Puts what is said of a prefix with host bits at the end of `out`.
@@ -406,6 +446,30 @@ pub(crate) fn push_undecided(
     out.extend_from_slice(undecided_words())
 }
 
+/// What the line that says that not all pairs of metrics were tried says behind the name.
+#[tactic(auto, unfolding(crate::specs::WarningLines::unordered_words))]
+fn unordered_words() -> &'static [u8]
+    ensures { result.now ≡ spec.unordered_words }
+{
+    b": undecided: not all metrics of all routes were tried, so W9 was not looked for\n"
+}
+
+/// Puts that line at the end of `out`, where not all were tried.
+pub(crate) fn push_unordered(
+    alloc: Global,
+    out: &mut Vec<u8>,
+    name: &[u8],
+    is_ordered: bool,
+) -> Result<(), AllocError>
+    ensures { OnOk result (out.new.items ≡ out.old.items ++ spec.unordered_text name.now is_ordered) }
+{
+    if is_ordered {
+        return Ok(());
+    }
+    push_shown(alloc, out, name)?;
+    out.extend_from_slice(unordered_words())
+}
+
 /// Puts the lines of the warnings of a text at the end of `out`.
 fn push_warnings(
     alloc: Global,
@@ -456,7 +520,7 @@ pub(crate) fn host_bits_text(
     Ok(out)
 }
 
-/// The lines of the warnings of a text, of its prefixes with host bits, and a last one where not all routes were tried.
+/// The lines of the warnings of a text, of its prefixes with host bits, and last ones where not all routes were tried, or not all metrics.
 pub(crate) fn warnings_text(
     alloc: Global,
     format: Format,
@@ -466,12 +530,15 @@ pub(crate) fn warnings_text(
     warnings: &[Warning],
     host_bits: &[HostBits],
     is_complete: bool,
+    is_ordered: bool,
 ) -> Result<Vec<u8>, AllocError>
-    ensures { IfOk result (λ out. out.items ≡ spec.warnings_text format name.now text.now sets.now warnings.now host_bits.now is_complete) }
+    ensures { IfOk result (λ out. out.items
+        ≡ spec.warnings_text format name.now text.now sets.now warnings.now host_bits.now is_complete is_ordered) }
 {
     let mut out = Vec::new(alloc);
     push_warnings(alloc, &mut out, format, name, text, sets, warnings)?;
     push_all_host_bits(alloc, &mut out, format, name, text, host_bits)?;
     push_found_undecided(alloc, &mut out, format, name, is_complete)?;
+    push_found_unordered(alloc, &mut out, format, name, is_ordered)?;
     Ok(out)
 }

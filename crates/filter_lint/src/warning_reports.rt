@@ -6,7 +6,7 @@ ghost use Rattle.filter_lint.specs.WarningLines as spec;
 use crate::host_bits::HostBits;
 use crate::warning::{Cause, Warning};
 use crate::warning_lines::{
-    push_host_bits, push_host_bits_words, push_undecided, push_warning, push_words,
+    push_host_bits, push_host_bits_words, push_undecided, push_unordered, push_warning, push_words,
 };
 use filter_reports::place_in;
 use prefix_patterns::PatternSet;
@@ -127,14 +127,23 @@ fn not_tried_words() -> &'static [u8]
     b"not all routes were tried, so W1, W2 and W8 were not looked for"
 }
 
-/// Puts the report that says so at the end of `out`, where not all were.
+/// What is said of a file of which not all metrics were tried.
+#[tactic(auto, unfolding(crate::specs::WarningLines::not_ordered_words))]
+fn not_ordered_words() -> &'static [u8]
+    ensures { result.now ≡ spec.not_ordered_words }
+{
+    b"not all metrics of all routes were tried, so W9 was not looked for"
+}
+
+/// Puts the report that says so in these words at the end of `out`, where not all were.
 fn push_undecided_report(
     alloc: Global,
     out: &mut Vec<u8>,
     name: &[u8],
     is_complete: bool,
+    words: &[u8],
 ) -> Result<(), AllocError>
-    ensures { OnOk result (out.new.items ≡ out.old.items ++ spec.undecided_report name.now is_complete) }
+    ensures { OnOk result (out.new.items ≡ out.old.items ++ spec.undecided_report name.now is_complete words.now) }
 {
     if is_complete {
         return Ok(());
@@ -148,7 +157,7 @@ fn push_undecided_report(
             file: name,
             line: None,
             column: None,
-            words: not_tried_words(),
+            words,
         },
     )
 }
@@ -165,6 +174,22 @@ pub(crate) fn push_found_undecided(
 {
     match format {
         Format::Text => push_undecided(alloc, out, name, is_complete),
-        Format::Json => push_undecided_report(alloc, out, name, is_complete),
+        Format::Json => { push_undecided_report(alloc, out, name, is_complete, not_tried_words()) }
+    }
+}
+
+/// Puts what says that not all metrics were tried at the end of `out`, where not all were.
+pub(crate) fn push_found_unordered(
+    alloc: Global,
+    out: &mut Vec<u8>,
+    format: Format,
+    name: &[u8],
+    is_ordered: bool,
+) -> Result<(), AllocError>
+    ensures { OnOk result (out.new.items ≡ out.old.items ++ spec.unordered_in format name.now is_ordered) }
+{
+    match format {
+        Format::Text => push_unordered(alloc, out, name, is_ordered),
+        Format::Json => { push_undecided_report(alloc, out, name, is_ordered, not_ordered_words()) }
     }
 }

@@ -44,13 +44,15 @@ status_of_said said.Unknown = 3
 -- The warnings of a text were written, or its refusal told.
 pub record LintsText (how : Linting) (source : Named) (before after : Streams) (found : Said) : Type 0 where
   pub linted : Linted
-  pub named : LintsNamed how.format how.size how.limit how.allowed.items how.is_explained source before.holds after.holds before.tells after.tells linted
+  pub named : LintsNamed how.format how.size how.limit how.allowed.items how.asks_order how.is_explained source before.holds after.holds before.tells
+      after.tells linted
   pub judged : found ≡ said_of linted
   pub reads : after.reads ≡ before.reads
 
 -- A fault cut that.
 pub record CutsLintText (fault : StreamFault) (how : Linting) (source : Named) (before after : Streams) : Type 0 where
-  pub named : LintsNamedOff fault how.format how.size how.limit how.allowed.items how.is_explained source before.holds after.holds before.tells after.tells
+  pub named : LintsNamedOff fault how.format how.size how.limit how.allowed.items how.asks_order how.is_explained source before.holds after.holds
+      before.tells after.tells
   pub reads : after.reads ≡ before.reads
 
 -- which warnings are told of a filter where they are not asked for: where words are told, those of its prefixes with host bits

@@ -99,6 +99,7 @@ fn lint_text<R: Read, W: Write, E: Write>(
         how.size,
         how.limit,
         how.allowed.as_slice(),
+        how.asks_order,
         how.is_explained,
         &mut console.writer,
         &mut console.errors,

@@ -29,7 +29,7 @@ run_codes =
 
 -- of warnings
 abbrev pub lint_codes : List (List ℕ)
-lint_codes = codes "W1" ∷ codes "W2" ∷ codes "W3" ∷ codes "W4" ∷ codes "W5" ∷ codes "W6" ∷ codes "W7" ∷ codes "W8" ∷ []
+lint_codes = codes "W1" ∷ codes "W2" ∷ codes "W3" ∷ codes "W4" ∷ codes "W5" ∷ codes "W6" ∷ codes "W7" ∷ codes "W8" ∷ codes "W9" ∷ []
 
 -- all of them
 unfoldable pub all_codes : List (List ℕ)

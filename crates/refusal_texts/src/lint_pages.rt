@@ -2,7 +2,7 @@
 use crate::page::Page;
 
 /// A page for each code.
-pub static LINT_PAGES: [Page; 8] = [
+pub static LINT_PAGES: [Page; 9] = [
     Page {
         code: "W1",
         text: "\
@@ -105,6 +105,21 @@ Place: the name that is assigned
 On a route that came with metric 5 the metric stays 5, where BIRD would make it 3. Ask first, as in
 `if rip_metric < 3 then rip_metric = 3;`, or reject what came with more. All routes of a domain of this size
 were tried, so there is such a route.
+",
+    },
+    Page {
+        code: "W9",
+        text: "\
+W9: the order of metrics is not kept
+Place: the filter's first command
+
+    $ echo 'filter f { if rip_metric = 1 then reject; accept; }' | ncroute lint --order --size 16
+    <stdin>:1:15: the order of metrics is not kept: of 0.0.0.0/0 metric 1 is rejected, and 2 becomes 2 (W9)
+
+A lesser metric comes to more than a greater one, where a rejection counts as the most. With such a filter a new
+link, over which a route gets shorter, may cut others off, and make loops on the way there. Write tests of metrics
+so that what is nearer is never treated worse, as `if rip_metric > 7 then reject;`. It is said only where `--order`
+asks for it: the search compares each metric with the next one, and may take long.
 ",
     },
 ];

@@ -4,6 +4,9 @@ use Rattle.filter_diff.specs.Parts.{IsEnough}
 use Rattle.filter_diff.specs.Reaching.{NeverFaults}
 use Rattle.filter_lint.proofs.linting.warnings_of.Goals as goal
 
+pub returns-clause-ordered : goal.returns-clause-ordered
+returns-clause-ordered c enough = c.find_warnings.ensures.ordered (subst (λ (n : ℕ). IsEnough n c.args.limit) (sym c.size.ensures.value) enough)
+
 -- verified code never faults
 pub returns-clause-decided : goal.returns-clause-decided
 returns-clause-decided c enough =

@@ -20,16 +20,21 @@ returns-clause-found c =
       reach = c.in_ok-reached.reached;
       is_reach = same_reach c.code.result.now source.program c.size.result source.size c.as_slice.result.now (watched_places source)
           c.in_ok-reached.reached c.code.ensures c.size.ensures (c.as_slice.ensures.value ∙ c.in_ok-watched.ensures) c.in_ok-reached.ensures.found;
+      order = c.in_ok-order.order;
+      asked = c.in_ok-order.ensures.asked;
+      is_order = c.in_ok-order.ensures.found;
       found_is = c.in_ok-found.ensures;
       complete_is = refl;
+      ordered_is = c.is_told.ensures;
     }
 
 pub returns-clause-sound : goal.returns-clause-sound
 returns-clause-sound c =
     let source = c.args.source.now in
-    said_is_so source c.as_slice.result.now c.in_ok-reached.reached
+    said_is_so source c.as_slice.result.now c.in_ok-reached.reached c.in_ok-order.order
     (same_reach c.code.result.now source.program c.size.result source.size c.as_slice.result.now c.as_slice.result.now
     c.in_ok-reached.reached c.code.ensures c.size.ensures refl c.in_ok-reached.ensures.found)
+    c.in_ok-order.ensures.found
     c.in_ok-found.found.items c.in_ok-found.ensures
 
 pub returns-clause-decided : goal.returns-clause-decided
