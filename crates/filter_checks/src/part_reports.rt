@@ -2,7 +2,7 @@
 ghost use Rattle.std.specs.Prelude.{◌≡◌, ◌++◌, IfOk, OnOk, flat_map, option_map};
 ghost use Rattle.prefix_patterns.specs.Spelling.{prefix_text};
 ghost use Rattle.report_formats.specs.Reports.{report_line};
-ghost use Rattle.filter_checks.specs.PartLines.{ending_text, hidden_words, last_words, part_words};
+ghost use Rattle.filter_checks.specs.PartLines.{ending_text, part_words};
 ghost use Rattle.filter_checks.specs.PartReports as spec;
 
 use crate::part_lines::{

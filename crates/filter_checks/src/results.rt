@@ -2,7 +2,6 @@
 //!
 //! **JUnit's document has no counts at its head.** They are known at its end, and build servers count the tests themselves.
 ghost use Rattle.std.specs.Prelude.{◌≡◌, ◌+◌, ◌<◌, ◌^◌, ◌++◌, IfOk, OnOk, flat_map, length};
-ghost use Rattle.report_formats.specs.Reports.{report_line};
 ghost use Rattle.filter_checks.specs.Results as spec;
 
 use crate::tap::{all_lines, plan_line, push_found, skipped_line};

@@ -1,9 +1,8 @@
 //! The line of JSON that says why a source is refused.
-ghost use Rattle.std.specs.Prelude.{◌≡◌, ◌++◌, ℕ, List, IfOk, OnOk, option_map};
+ghost use Rattle.std.specs.Prelude.{◌≡◌, ℕ, List, IfOk, option_map};
 ghost use Rattle.filter_reports.specs.Explanations.{coded};
 ghost use Rattle.filter_reports.specs.Naming.{named};
 ghost use Rattle.filter_reports.specs.Places.{column_at, line_at};
-ghost use Rattle.filter_reports.specs.Ranges.{EndsInRange};
 ghost use Rattle.refusal_reports.specs.Refusing.{IsRefusalReport, refusal_view};
 ghost use Rattle.report_formats.specs.Reports.{report_line};
 
@@ -13,6 +12,7 @@ use report_formats::{Report, Severity, push_report};
 use std::alloc::{AllocError, Global};
 
 /// The words of a refusal without the code behind them, which a report has by itself.
+#[tactic(auto, using(crate::proofs::Coded::cut))]
 fn without_code<'a>(words: &'a [u8], code: &str) -> &'a [u8]
     ensures { (plain : List ℕ) → words.now ≡ coded plain code.now → result.now ≡ plain }
 {

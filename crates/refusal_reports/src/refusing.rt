@@ -1,5 +1,5 @@
 //! Where it is said that a source is refused.
-ghost use Rattle.std.specs.Prelude.{◌≡◌, IfErr, IfOk, OnOk, Some};
+ghost use Rattle.std.specs.Prelude.{IfErr, OnOk};
 ghost use Rattle.filter_reports.specs.Faults.{stream_fault};
 ghost use Rattle.filter_reports.specs.Naming.{named};
 ghost use Rattle.refusal_reports.specs.Refusing.{CutsRefusing, CutsRefusingIf, IsCutRefusal, Refuses, RefusesIf, WritesRefusal};
