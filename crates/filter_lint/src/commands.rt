@@ -89,7 +89,7 @@ pub(crate) fn unreached_commands(
     let mut found = Vec::new(alloc);
     let mut was_reached = true;
     for at in 0..source.instrs().len() {
-        push_found(&mut found, unreached_at(source, marks, at, was_reached))?;
+        push_found(&mut found, &unreached_at(source, marks, at, was_reached))?;
         was_reached = reached_up_to(source, marks, at, was_reached);
     }
     Ok(found)

@@ -7,12 +7,12 @@ use crate::warning::Warning;
 use std::alloc::{AllocError, Global};
 
 /// Puts a warning at the end of others, if there is one.
-pub(crate) fn push_found(out: &mut Vec<Warning>, found: Option<Warning>) -> Result<(), AllocError>
-    ensures { OnOk result (out.new.items ≡ out.old.items ++ option_to_list found) }
+pub(crate) fn push_found(out: &mut Vec<Warning>, found: &Option<Warning>) -> Result<(), AllocError>
+    ensures { OnOk result (out.new.items ≡ out.old.items ++ option_to_list found.now) }
 {
     match found {
         Some(warning) => {
-            out.push(warning)?;
+            out.push(*warning)?;
             Ok(())
         }
         None => Ok(()),
@@ -31,7 +31,7 @@ pub(crate) fn found_below<F: Fn(usize) -> Option<Warning>>(
 {
     let mut found = Vec::new(alloc);
     for at in 0..count {
-        push_found(&mut found, said(at))?;
+        push_found(&mut found, &said(at))?;
     }
     Ok(found)
 }

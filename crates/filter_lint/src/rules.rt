@@ -17,6 +17,7 @@ ghost use Rattle.filter_lint.specs.Truths.{IsTrueOf};
 use crate::commands::unreached_commands;
 use crate::conditions::constant_conditions;
 use crate::disorders::{disorder_of, is_told};
+use crate::finding::push_found;
 use crate::hints::push_hints;
 use crate::lowering::metrics_not_lowered;
 use crate::surveyed_filter::SurveyedFilter;
@@ -79,9 +80,7 @@ fn said_of(
     ensures { IfOk result (λ found. found.items ≡ spec.said_of source.now reached.now order.now) }
 {
     let mut found = said_on_routes(alloc, source, reached)?;
-    if let Some(warning) = disorder_of(source, order) {
-        found.push(warning)?;
-    }
+    push_found(&mut found, &disorder_of(source, order))?;
     push_hints(alloc, &mut found, source)?;
     Ok(found)
 }

@@ -1,7 +1,7 @@
 -- Where filters keep the order of metrics, so do the links between routers.
 use Rattle.std.proofs.Common.{◌≡◌, ℕ, ◌<◌, ◌≤◌, ◌+◌, nat_eq, length, Option, Some, None, refl, sym, ap, subst, arith}
 use Rattle.std.specs.Prelude.{IfSome}
-use Rattle.std.proofs.lemmas.Bool.{cond_both, eqb-false}
+use Rattle.std.proofs.lemmas.Bool.{cond_both, eqb-false, eqb-true}
 use Rattle.filter_code.specs.CodeView.{CodeView}
 use Rattle.filter_code.specs.Machine.{outcome_of}
 use Rattle.filter_code.specs.declared.outcome.Outcome.{Outcome}
@@ -14,7 +14,7 @@ use Rattle.netchange_core.specs.FilteredDistance.{distance_given, filtered_dista
 use Rattle.netchange_core.specs.OpeningView.{OpeningView}
 use Rattle.ordered_filters.specs.Filters.{HasOrderedFilters, IsFoundKept}
 use Rattle.prefix_patterns.specs.Bits.{address_length}
-use Rattle.routing_domain.specs.Domain.{Domain, IsInOrder, exported, imported, neighbour, topology}
+use Rattle.routing_domain.specs.Domain.{Domain, IsInOrder, exported, neighbour, topology}
 use Rattle.routing_domain.specs.Gains.{KeepsOrder}
 use Rattle.routing_domain.proofs.Increasing.{IsFarther, filtered_farther}
 
@@ -51,7 +51,7 @@ module _ (o : OpeningView) (v x y : ℕ) (fits : length (prefix_of o v) ≤ addr
       (λ apart.
       let below : y < o.size = omega (arith, limit, eqb-false y o.size apart) in
       cond_both (nat_eq x o.size) o.size near (λ z. z ≤ far)
-      (λ same. absurd (omega (arith, less, below, same)))
+      (λ same. absurd (omega (arith, less, below, eqb-true x o.size same)))
       (λ _. given_kept f.program keeps below))
 
 pub filters_keep_order : (d : Domain) → IsInOrder d → HasOrderedFilters d → (v : ℕ) → v < d.size → KeepsOrder (topology d v)
