@@ -155,7 +155,7 @@ fn is_absolute(name: &[u8]) -> bool
 }
 
 /// The path of a file of this name in the folder of another one.
-fn path_beside(alloc: Global, by: &str, name: &str) -> Result<String, AllocError>
+pub fn path_beside(alloc: Global, by: &str, name: &str) -> Result<String, AllocError>
     ensures { IfOk result (λ path. IsBeside by.now name.now (string_bytes path)) }
 {
     match by.rsplit_once('/') {
@@ -315,7 +315,7 @@ fn leave_out<R: Read, W: Write, E: Write>(
 
 /// What is said of a configuration that is longer than its limit.
 #[tactic(auto, unfolding(crate::specs::Including::long_config))]
-fn long_config() -> &'static str
+pub fn long_config() -> &'static str
     ensures { result.now ≡ long_config }
 {
     "longer than 16777216 bytes"

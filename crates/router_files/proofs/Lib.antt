@@ -1,0 +1,2 @@
+mod FirstLine
+mod Texts
