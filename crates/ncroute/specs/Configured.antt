@@ -1,5 +1,5 @@
 -- What the program does for `router`, with the options of a file, and its exit status. (This project's own choice.)
-use Rattle.std.specs.Prelude.{◌≡◌, ◌≢◌, ◌⊎◌, ◌<◌, ℕ, List, [], Option, Some, None, Result, Ok, String, length, string_bytes}
+use Rattle.std.specs.Prelude.{◌≡◌, ◌≢◌, ◌⊎◌, ℕ, List, [], Option, Some, None, Result, Ok, String, string_bytes}
 use Rattle.std.specs.Io.KnownBytes.{Appends}
 use Rattle.std.specs.declared.alloc.Global.{Global}
 use Rattle.std.specs.declared.io.Error.{Error}
@@ -8,7 +8,6 @@ use Rattle.filter_reports.specs.Faults.{stream_fault}
 use Rattle.filter_reports.specs.declared.fault.ProgramFault.{ProgramFault}
 use Rattle.filter_reports.specs.declared.fault.ProgramFault.TheVariants.{Stream}
 use Rattle.history_saver.specs.Folders.{FolderView}
-use Rattle.line_protocol.specs.Limits.{input_limit}
 use Rattle.line_protocol.specs.declared.faults.StreamFault.{StreamFault}
 use Rattle.line_protocol.specs.declared.faults.StreamFault.TheVariants.{Memory}
 use Rattle.router_files.specs.Files.{IsFileFault, StatementView, file_in}
@@ -20,10 +19,9 @@ use Rattle.ncroute.specs.Checked.{CutsWords, ServesWords}
 use Rattle.ncroute.specs.Ending.{fault_line}
 use Rattle.ncroute.specs.Gathering.{Fit, Gathers, IsClash, path_of}
 use Rattle.ncroute.specs.Inclusions.{IsBeside}
-use Rattle.ncroute.specs.Including.{ReadsText, SkipsText, long_config_line}
-use Rattle.ncroute.specs.Reading.{Reads, StopsReading}
+use Rattle.ncroute.specs.Including.{IsText, StopsText}
 use Rattle.ncroute.specs.Stated.{OriginView, no_file}
-use Rattle.ncroute.specs.Streaming.{CutsTelling, Streams}
+use Rattle.ncroute.specs.Streaming.{Streams}
 use Rattle.ncroute.specs.WrongLines.{clash_line, refused_line, wrong_of}
 use Rattle.ncroute.specs.declared.gathering.Clash.{Clash}
 
@@ -52,17 +50,6 @@ EndsBy Ends before after status =
 
 -- `opens name` says what may come of opening a file of this name.
 module _ (opens : List ℕ → Result (Option (List ℕ)) Error → Type 0) where
-  -- the text of a file, or none where it was not read, which standard error was told
-  abbrev pub IsOptions : Source → Option (List ℕ) → Streams → Streams → Type 0
-  IsOptions source None before after = SkipsText opens source before after
-  IsOptions source (Some text) before after = ReadsText opens source text before after
-
-  -- A fault kept it from being read or told of.
-  abbrev pub StopsOptions : StreamFault → Source → Streams → Streams → Type 0
-  StopsOptions fault source before after = StopsReading opens fault input_limit source before after
-      ⊎ ((text : List ℕ) × (mid : Streams) × Reads opens input_limit source text before mid × (input_limit < length text)
-      × CutsTelling fault (long_config_line source) mid after)
-
   -- `makes name` says what may come of making a folder of this name, and `keeps name` what one held when it was left.
   module _ (makes : List ℕ → Result (Option FolderView) Error → Type 0) (keeps : List ℕ → Option FolderView → Type 0) where
     -- What the command line and the lines of a file say together was done; or a line does not go together with others, or memory was refused,
@@ -104,15 +91,15 @@ module _ (opens : List ℕ → Result (Option (List ℕ)) Error → Type 0) wher
         → Streams → Streams → ℕ → Type 0
     DoesFile Does TellsLine name words before after status =
         ((source : Source) × (path_of source ≡ Some name)
-        × (((text : List ℕ) × (mid : Streams) × IsOptions source (Some text) before mid × Does text words mid after status)
-        ⊎ ((fault : ProgramFault) × (mid : Streams) × StopsOptions (stream_fault fault) source before mid
+        × (((text : List ℕ) × (mid : Streams) × IsText opens source (Some text) before mid × Does text words mid after status)
+        ⊎ ((fault : ProgramFault) × (mid : Streams) × StopsText opens (stream_fault fault) source before mid
         × EndsBy (λ told tells ended. TellsLine told tells (fault_line fault) × (ended ≡ 1)) mid after status)))
         ⊎ EndsBy (EndsByMemory TellsLine) before after status
 
     -- ... or it was not read, with status 1.
     unfoldable pub ServesFile : List ℕ → RouterWords → Streams → Streams → ℕ → Type 0
     ServesFile name words before after status = DoesFile (ServesText name) Appends name words before after status
-        ⊎ ((source : Source) × (path_of source ≡ Some name) × IsOptions source None before after × (status ≡ 1))
+        ⊎ ((source : Source) × (path_of source ≡ Some name) × IsText opens source None before after × (status ≡ 1))
 
     unfoldable pub CutsFile : StreamFault → List ℕ → RouterWords → Streams → Streams → ℕ → Type 0
     CutsFile cut name words before after status = DoesFile (CutsText cut name) (IsCut cut) name words before after status

@@ -5,25 +5,23 @@
 //!
 //! **A wrong line is a wrong word**, and ends with 2. A file that cannot be read ends with 1, as a filter does.
 ghost use Rattle.std.specs.Prelude.{◌<◌, ◌^◌, IfErr, IfOk, length};
-ghost use Rattle.std.specs.Option.{option_map};
 ghost use Rattle.std.specs.Io.KnownBytes.{Appends};
 ghost use Rattle.filter_reports.specs.Cuts.{IsCut};
 ghost use Rattle.filter_reports.specs.Faults.{stream_fault};
 ghost use Rattle.ncroute.specs.Configured as spec;
 ghost use Rattle.ncroute.specs.Stated.{origin_of};
 
-use crate::console::{Console, Loaded};
+use crate::console::Console;
 use crate::ending::{FAILED, fault_line};
 use crate::folders::HistoryFolders;
 use crate::gathering::{Clash, find_clash, gather};
-use crate::including::{long_config, path_beside};
+use crate::including::{path_beside, read_config};
 use crate::routing::{Untold, end_by_line, serve_words};
 use crate::stated::{Origin, no_file};
-use crate::texts::{Folder, name_of, tell_of};
+use crate::texts::Folder;
 use crate::wrong_lines::{clash_line, refused_line};
 use command_line::{RouterWords, Source};
 use filter_reports::ProgramFault;
-use line_protocol::INPUT_LIMIT;
 use router_daemon::LinkFolder;
 use router_files::{LineFault, WrongLine, read_statements};
 use std::alloc::Global;
@@ -35,36 +33,6 @@ use std::thread::Threads;
 
 /// The exit status where the words are wrong.
 const WRONG_WORDS: u8 = 2;
-
-/// Reads a file of options, of which there is none where it is not read, which people are told.
-fn read_options<F: Folder, R: Read, W: Write, E: Write>(
-    files: &F,
-    alloc: Global,
-    source: &Source,
-    console: &mut Console<R, W, E>,
-) -> Result<Option<Vec<u8>>, ProgramFault>
-    ensures read { IfOk result (λ found. spec.IsOptions (F.opens files.now) source.now (option_map (λ text. text.items) found)
-        console.old console.new) }
-    ensures stopped { IfErr result (λ fault. spec.StopsOptions (F.opens files.now) (stream_fault fault) source.now console.old console.new) }
-{
-    match console.read(files, alloc, source, INPUT_LIMIT) {
-        Loaded::Text(text) if text.len() <= INPUT_LIMIT => Ok(Some(text)),
-        Loaded::Text(_) => {
-            match tell_of(
-                alloc,
-                &mut console.errors,
-                name_of(source),
-                long_config(),
-                b" (E4)\n",
-            ) {
-                Ok(()) => Ok(None),
-                Err(fault) => Err(fault),
-            }
-        }
-        Loaded::Skipped => Ok(None),
-        Loaded::Stopped(fault) => Err(fault),
-    }
-}
 
 /// Ends where memory was refused: the exit status.
 fn end_by_memory<E: Write>(errors: &mut E) -> Result<u8, Untold>
@@ -252,7 +220,7 @@ where
         Ok(name) => Source::File(name),
         Err(_) => return end_by_memory(&mut console.errors),
     };
-    match read_options(rt, alloc, &source, console) {
+    match read_config(rt, alloc, &source, console) {
         Ok(Some(text)) => serve_text::<R, FI, FO, T, I, W, E>(
             rt,
             alloc,

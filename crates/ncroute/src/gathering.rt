@@ -218,7 +218,8 @@ fn add_stated(
     match text_in(statement) {
         Some(text) => {
             let text = String::from_str(alloc, text)?;
-            texts.push(text)
+            texts.push(text)?;
+            Ok(())
         }
         None => Ok(()),
     }
@@ -269,7 +270,8 @@ fn add_named(
         Said::Named { name, file } => {
             let name = String::from_str(alloc, name.as_str())?;
             let source = Source::File(String::from_str(alloc, file.as_str())?);
-            filters.push(NamedFile { name, source })
+            filters.push(NamedFile { name, source })?;
+            Ok(())
         }
         _ => Ok(()),
     }

@@ -28,7 +28,7 @@ fn push_form(out: &mut Vec<u8>, option: RouterOption) -> Result<(), AllocError>
 {
     out.extend_from_slice(b"the form is '")?;
     out.extend_from_slice(option.form().as_bytes())?;
-    out.push(b'\'')
+    out.extend_from_slice(b"'")
 }
 
 /// Adds why a line is refused.

@@ -3,7 +3,7 @@ ghost use Rattle.std.specs.Prelude.{◌≡◌, find};
 ghost use Rattle.router_files.specs.Options as spec;
 
 /// An option of a router.
-#[derive(Clone, Copy)]
+#[derive(Clone, Copy, Debug)]
 pub enum RouterOption {
     /// `size N`
     Size,
