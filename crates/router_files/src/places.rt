@@ -1,13 +1,12 @@
 //! Where the words of a line stand.
-ghost use Rattle.std.specs.Prelude.{◌≡◌, ◌≤◌, length};
+ghost use Rattle.std.specs.Prelude.{◌≡◌};
 ghost use Rattle.router_files.specs.Places as spec;
 
 use line_protocol::{next_word, trim_front_blanks};
 
 /// What follows the first word of a line.
 fn behind_first(line: &[u8]) -> &[u8]
-    ensures is { result.now ≡ spec.behind_first line.now }
-    ensures within { length result.now ≤ length line.now }
+    ensures { result.now ≡ spec.behind_first line.now }
 {
     match next_word(line) {
         Some((_, behind)) => behind,
