@@ -150,11 +150,7 @@ fn text_in(statement: &Statement) -> Option<&str>
 }
 
 /// The number of an option: that of the command line, or else that of the file.
-fn number_of(
-    given: Option<u32>,
-    statements: &[Statement],
-    option: RouterOption,
-) -> Option<u32>
+fn number_of(given: Option<u32>, statements: &[Statement], option: RouterOption) -> Option<u32>
     ensures { result ≡ spec.number_of given option (map statement_of statements.now) }
 {
     if given.is_some() {

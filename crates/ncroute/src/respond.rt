@@ -8,12 +8,12 @@ ghost use Rattle.ncroute.specs.Responding.{Responds};
 ghost use Rattle.ncroute.specs.Configured.{CutsConfigured, ServesConfigured};
 ghost use Rattle.ncroute.specs.Streaming.{TellsFront};
 
+use crate::configured::serve_router;
 use crate::console::Console;
 use crate::ending::{FAILED, end_by_fault};
 use crate::folders::HistoryFolders;
 use crate::network::serve_network;
 use crate::requests::{fault_status, serve};
-use crate::configured::serve_router;
 use crate::texts::Folder;
 use command_line::{Invocation, Request, RouterWords};
 use filter_reports::ProgramFault;

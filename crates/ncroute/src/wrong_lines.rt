@@ -6,8 +6,9 @@ ghost use Rattle.ncroute.specs.WrongLines as spec;
 use crate::gathering::{Clash, StatementFault};
 use crate::wrong_words::push_place;
 use line_protocol::push_decimal;
-use router_files::{LineFault, RouterOption, Statement, WrongLine};
-use router_files::{first_byte, second_byte, third_byte};
+use router_files::{
+    LineFault, RouterOption, Statement, WrongLine, first_byte, second_byte, third_byte,
+};
 use std::alloc::{AllocError, Global};
 
 /// The byte at which that begins which is refused.

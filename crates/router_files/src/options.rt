@@ -141,10 +141,7 @@ impl RouterOption {
     pub fn stands_once(&self) -> bool
         ensures { result ≡ stands_once self.now }
     {
-        matches!(
-            self.shape(),
-            Shape::Alone | Shape::Number | Shape::Folder
-        )
+        matches!(self.shape(), Shape::Alone | Shape::Number | Shape::Folder)
     }
 }
 

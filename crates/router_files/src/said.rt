@@ -166,11 +166,7 @@ fn pair_in(alloc: Global, node: &str, said: &str) -> Result<Said, LineFault>
 }
 
 /// A node, and what is said of it.
-fn pair_said(
-    alloc: Global,
-    option: RouterOption,
-    values: &[&str],
-) -> Result<Said, LineFault>
+fn pair_said(alloc: Global, option: RouterOption, values: &[&str]) -> Result<Said, LineFault>
     ensures { spec.IsSaid result (spec.pair_said option (map (λ value. value.now) values.now)) }
 {
     match values {
