@@ -1,6 +1,6 @@
 -- The options of a router that the command line says, with those that its file says. (This project's own choice.)
 use Rattle.std.specs.Prelude.{◌≡◌, ◌<◌, ℕ, Bool, true, false, ◌||◌, ◌++◌, List, [], ◌∷◌, Option, Some, None, if◌then◌else◌}
-use Rattle.std.specs.Prelude.{is_some, map, not, option_and_then, slice_get, string_bytes}
+use Rattle.std.specs.Prelude.{is_some, length, map, option_and_then, slice_get, string_bytes}
 use Rattle.std.specs.List.{flat_map, list_any}
 use Rattle.std.specs.Option.{option_map}
 use Rattle.std.specs.Str.{bytes_eq}
@@ -61,8 +61,7 @@ NoneWrongBefore words statements end =
     (n : ℕ) (statement : StatementView) → n < end → slice_get statements n ≡ Some statement → fault_of words statement ≡ None
 
 abbrev pub NoneWrong : RouterWords → List StatementView → Type 0
-NoneWrong words statements =
-    (n : ℕ) (statement : StatementView) → slice_get statements n ≡ Some statement → fault_of words statement ≡ None
+NoneWrong words statements = NoneWrongBefore words statements (length statements)
 
 -- this is the first that is
 abbrev pub IsFirstWrong : RouterWords → List StatementView → Clash → Type 0

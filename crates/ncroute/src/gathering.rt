@@ -213,8 +213,8 @@ fn add_stated(
     }
     match text_in(statement) {
         Some(text) => {
-            let text = String::from_str(alloc, text)?;
-            texts.push(text)?;
+            let copy = String::from_str(alloc, text)?;
+            texts.push(copy)?;
             Ok(())
         }
         None => Ok(()),
@@ -248,8 +248,8 @@ fn texts_of(
 {
     let mut texts = stated_texts(alloc, statements, option)?;
     for text in given {
-        let text = String::from_str(alloc, text.as_str())?;
-        texts.push(text)?;
+        let copy = String::from_str(alloc, text.as_str())?;
+        texts.push(copy)?;
     }
     Ok(texts)
 }
