@@ -2,11 +2,10 @@
 //!
 //! **What may be said once is said in one place.** A value of the command line does not replace that of the file: a router runs as its file says,
 //! and nobody has to look for the words with which it was started. What is said of several neighbours adds up.
-ghost use Rattle.std.specs.Prelude.{◌≡◌, ◌++◌, IfOk, MatchOption, OnOk, map, option_and_then, string_bytes};
+ghost use Rattle.std.specs.Prelude.{◌≡◌, ◌++◌, IfOk, MatchOption, OnOk, map, string_bytes};
 ghost use Rattle.std.specs.Option.{option_map};
 ghost use Rattle.std.specs.List.{flat_map};
 ghost use Rattle.router_files.specs.Files.{statement_of};
-ghost use Rattle.router_files.specs.Said.{view_of};
 ghost use Rattle.ncroute.specs.Gathering as spec;
 
 use crate::stated::{is_of, nth_stated};
