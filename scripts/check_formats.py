@@ -34,6 +34,8 @@ FILTERS = [
     "filter f { accept; }", "filter f { reject; }", "filter f { if net ~ [ 10.0.0.0/8{9,24} ] then reject; accept; }",
     "filter f { if net ~ [ 10.0.0.0/8+, 8.0.0.0/5- ] then { rip_metric = rip_metric + 1; accept; } reject; }",
     "filter f { if rip_metric > 3 then reject; accept; }", "filter f { if net.ip.mask(24) = net.ip then ; accept; }", "filter f { accept",
+    "filter f { if rip_metric < 5 then rip_metric = 5; accept; }",
+    "filter f { if net.len > 8 then { case rip_metric { 4..9: rip_metric = 9; 10: rip_metric = 11; } } accept; }",
 ]
 TESTS = [
     "10.1.0.0/16 4 -> accept 4", "10.1.0.0/16 4 -> reject", "every 10.0.0.0/8+ -> accept", "every 0.0.0.0/0+ -> reject", "0.0.0.0/0 16 -> accept",
