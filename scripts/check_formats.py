@@ -64,7 +64,7 @@ class Place:
 
     def reports(self, *words):
         """The objects that are written with `--format json`, what is told beside them, and the status."""
-        output, told, status = self.run(*words, "--format", "json")
+        output, told, status = self.run(words[0], "--format", "json", *words[1:])
         return [json.loads(line) for line in output.split("\n")[:-1]], told, status
 
 

@@ -1,6 +1,6 @@
 -- No byte of what stands within quotes ends it, begins an element or is a control character.
 use Rattle.std.proofs.Common.{◌≡◌, ◌≢◌, ℕ, ◌+◌, ◌/◌, ◌%◌, ◌<◌, ◌≤◌, Bool, true, false, cond, not, ◌&&◌, ◌||◌, ◌==◌, nat_eq, nat_lt, nat_le}
-use Rattle.std.proofs.Common.{List, [], ◌∷◌, ◌++◌, Option, Some, None, codes, inl, inr, refl, sym, ap, subst, ◌∙◌, arith, flat_map}
+use Rattle.std.proofs.Common.{List, [], ◌∷◌, Option, None, codes, inl, inr, refl, sym, ap, subst, ◌∙◌, arith, flat_map}
 use Rattle.std.specs.Char.{encode_utf8}
 use Rattle.std.specs.Prelude.{All, if◌then◌else◌}
 use Rattle.std.proofs.lemmas.Bool.{and_parts, cases_eq, cases_lt, cond-false, eq-eqb, leb-true, lt-ltb, ne_eqb, true≢false}
@@ -8,15 +8,15 @@ use Rattle.std.proofs.lemmas.Bool.Decides.{nat_tests}
 use Rattle.std.proofs.lemmas.List.Elements.{All-append, All-cons, All-nil}
 use Rattle.std.proofs.lemmas.Str.{encode_ascii}
 use lib.Dec.{ltb}
-use Rattle.report_formats.specs.Escaping.{IsClosed, entity_of, entity_or_kept, escaped, is_left_out, kept_character}
+use Rattle.report_formats.specs.Escaping.{IsClosed, entity_of, entity_or_kept, escaped, is_left_out}
 
 -- a byte of a character that is not ASCII
 high : (b : ℕ) → 128 ≤ b → IsClosed b
 high b h = record { is_no_quote = λ e. omega arith; is_no_bracket = λ e. omega arith; is_no_control = omega arith }
 
-by_test : {P : List ℕ → Type 0} (b : Bool) (xs ys : List ℕ) → P xs → P ys → P (cond b xs ys)
-by_test true xs ys p q = p
-by_test false xs ys p q = q
+by_test : (P : List ℕ → Type 0) (b : Bool) (xs ys : List ℕ) → P xs → P ys → P (cond b xs ys)
+by_test P true xs ys p q = p
+by_test P false xs ys p q = q
 
 one : (b : ℕ) → IsClosed b → All IsClosed (b ∷ [])
 one b h = All-cons IsClosed b [] h (All-nil IsClosed)
@@ -28,16 +28,20 @@ encoded_high : (c : ℕ) → 128 ≤ c → All IsClosed (encode_utf8 c)
 unfolding encode_utf8
 encoded_high c h =
     let not_one : ltb c 128 ≡ false = grind (arith, nat_tests) in
-    let last : All IsClosed ((128 + c % 64) ∷ []) = one _ (high _ (omega arith)) in
-    let lasts : All IsClosed ((128 + (c / 64) % 64) ∷ (128 + c % 64) ∷ []) = more _ _ (omega arith) last in
-    let two = more (192 + c / 64) _ (omega arith) last in
-    let three = more (224 + c / 4096) _ (omega arith) lasts in
-    let four = more (240 + c / 262144) _ (omega arith) (more (128 + (c / 4096) % 64) _ (omega arith) lasts) in
-    let is : encode_utf8 c ≡ cond (ltb c 2048) ((192 + c / 64) ∷ (128 + c % 64) ∷ [])
-    (cond (ltb c 65536) ((224 + c / 4096) ∷ (128 + (c / 64) % 64) ∷ (128 + c % 64) ∷ [])
-    ((240 + c / 262144) ∷ (128 + (c / 4096) % 64) ∷ (128 + (c / 64) % 64) ∷ (128 + c % 64) ∷ [])) =
+    let b : ℕ = 128 + c % 64 in
+    let a : ℕ = 128 + (c / 64) % 64 in
+    let d : ℕ = 128 + (c / 4096) % 64 in
+    let last : All IsClosed (b ∷ []) = one b (high b (omega arith)) in
+    let lasts : All IsClosed (a ∷ b ∷ []) = more a (b ∷ []) (omega arith) last in
+    let two : All IsClosed ((192 + c / 64) ∷ b ∷ []) = more (192 + c / 64) (b ∷ []) (omega arith) last in
+    let three : All IsClosed ((224 + c / 4096) ∷ a ∷ b ∷ []) = more (224 + c / 4096) (a ∷ b ∷ []) (omega arith) lasts in
+    let four : All IsClosed ((240 + c / 262144) ∷ d ∷ a ∷ b ∷ []) =
+    more (240 + c / 262144) (d ∷ a ∷ b ∷ []) (omega arith) (more d (a ∷ b ∷ []) (omega arith) lasts) in
+    let is : encode_utf8 c ≡ cond (ltb c 2048) ((192 + c / 64) ∷ b ∷ [])
+    (cond (ltb c 65536) ((224 + c / 4096) ∷ a ∷ b ∷ []) ((240 + c / 262144) ∷ d ∷ a ∷ b ∷ [])) =
     cond-false _ _ _ not_one in
-    subst (All IsClosed) (sym is) (by_test {P = All IsClosed} (ltb c 2048) _ _ two (by_test {P = All IsClosed} (ltb c 65536) _ _ three four))
+    subst (All IsClosed) (sym is)
+    (by_test (All IsClosed) (ltb c 2048) _ _ two (by_test (All IsClosed) (ltb c 65536) _ _ three four))
 
 encoded : (c : ℕ) → c ≢ 34 → c ≢ 60 → 32 ≤ c → All IsClosed (encode_utf8 c)
 encoded c no_quote no_bracket no_control = elim (cases_lt c 128) [
