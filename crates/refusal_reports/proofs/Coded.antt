@@ -10,12 +10,12 @@ front plain rest n is = subst (λ (m : ℕ). take m (plain ++ rest) ≡ plain) (
 rest_length : (code : List ℕ) → length (codes " (" ++ code ++ 41 ∷ []) ≡ length code + 3
 rest_length code = omega (arith, length-append code (41 ∷ []))
 
-words_length : (plain code : List ℕ) → length (coded plain code) ≡ length plain + (length code + 3)
-words_length plain code =
-    length-append plain (codes " (" ++ code ++ 41 ∷ []) ∙ ap (λ (n : ℕ). length plain + n) (rest_length code)
+behind : (plain rest words : List ℕ) (n k : ℕ) → words ≡ plain ++ rest → length rest ≡ k → n ≡ length words - k → take n words ≡ plain
+behind plain rest words n k is rest_is size =
+    let total : length words ≡ length plain + length rest = ap length is ∙ length-append plain rest in
+    let n_is : n ≡ length plain = omega (arith, size, total, rest_is) in
+    subst (λ (ws : List ℕ). take n ws ≡ plain) (sym is) (front plain rest n n_is)
 
 pub cut : (plain code words : List ℕ) (n : ℕ) → words ≡ coded plain code → n ≡ length words - (length code + 3) → take n words ≡ plain
 cut plain code words n is size =
-    let total : length words ≡ length plain + (length code + 3) = ap length is ∙ words_length plain code in
-    let n_is : n ≡ length plain = omega (arith, size, total) in
-    subst (λ (ws : List ℕ). take n ws ≡ plain) (sym is) (front plain (codes " (" ++ code ++ 41 ∷ []) n n_is)
+    behind plain (codes " (" ++ code ++ 41 ∷ []) words n (length code + 3) is (rest_length code) size
