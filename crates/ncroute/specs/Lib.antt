@@ -1,4 +1,5 @@
 -- What callers cite.
+pub mod CheckReports
 pub mod Checking
 pub mod Comparing
 pub mod Ending

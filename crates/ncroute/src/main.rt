@@ -6,6 +6,7 @@
 //! ends with the status alone.
 #![tactic(auto)]
 
+mod check_reports;
 mod checking;
 mod comparing;
 mod console;
