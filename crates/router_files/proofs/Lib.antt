@@ -1,0 +1,4 @@
+mod FirstLine
+mod Rows
+mod Statements
+mod Texts
