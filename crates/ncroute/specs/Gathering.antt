@@ -31,7 +31,9 @@ says words option.Queue = is_some words.queue
 says words option.Retry = is_some words.retry
 says words option.Hold = is_some words.hold
 says words option.Segments = is_some words.segments
+says words option.Settle = is_some words.settle
 says words option.Save = is_some words.save
+says words option.Routes = is_some words.routes
 says words option.Stay = words.stays
 says words option.Prefix = false
 says words option.Filter = false
@@ -147,6 +149,9 @@ pub record Gathers (words : RouterWords) (statements : List StatementView) (all 
   pub save : option_map (λ text. string_bytes text) all.save
       ≡ text_of (option_map (λ text. string_bytes text) words.save) option.Save statements
   pub segments : all.segments ≡ number_of words.segments option.Segments statements
+  pub routes : option_map (λ text. string_bytes text) all.routes
+      ≡ text_of (option_map (λ text. string_bytes text) words.routes) option.Routes statements
+  pub settle : all.settle ≡ number_of words.settle option.Settle statements
   pub stays : all.stays ≡ (words.stays || is_some (nth_stated option.Stay 0 statements))
   pub prefixes : map (λ text. string_bytes text) all.prefixes.items
       ≡ texts_of option.Prefix statements (map (λ text. string_bytes text) words.prefixes.items)

@@ -54,7 +54,9 @@ fn says(words: &RouterWords, option: RouterOption) -> bool
         RouterOption::Retry => words.retry.is_some(),
         RouterOption::Hold => words.hold.is_some(),
         RouterOption::Segments => words.segments.is_some(),
+        RouterOption::Settle => words.settle.is_some(),
         RouterOption::Save => words.save.is_some(),
+        RouterOption::Routes => words.routes.is_some(),
         RouterOption::Stay => words.stays,
         RouterOption::Prefix
         | RouterOption::Filter
@@ -330,6 +332,8 @@ pub fn gather(
         hold: number_of(words.hold, statements, RouterOption::Hold),
         save: text_of(alloc, &words.save, statements, RouterOption::Save)?,
         segments: number_of(words.segments, statements, RouterOption::Segments),
+        routes: text_of(alloc, &words.routes, statements, RouterOption::Routes)?,
+        settle: number_of(words.settle, statements, RouterOption::Settle),
         stays: words.stays || nth_stated(statements, RouterOption::Stay, 0).is_some(),
         prefixes: texts_of(
             alloc,

@@ -4,7 +4,7 @@ use Rattle.std.specs.Str.{bytes_eq}
 use Rattle.router_files.specs.declared.options.RouterOption.{RouterOption}
 use Rattle.router_files.specs.declared.options.RouterOption.TheVariants as option
 use Rattle.router_files.specs.declared.options.Shape.{Shape}
-use Rattle.router_files.specs.declared.options.Shape.TheVariants.{Alone, Number, Folder, Pair, Named, Files}
+use Rattle.router_files.specs.declared.options.Shape.TheVariants.{Alone, Number, Path, Pair, Named, Files}
 
 -- their names: those of the command line, without the dashes
 abbrev pub name_of : RouterOption → List ℕ
@@ -15,7 +15,9 @@ name_of option.Queue = codes "queue"
 name_of option.Retry = codes "retry"
 name_of option.Hold = codes "hold"
 name_of option.Segments = codes "segments"
+name_of option.Settle = codes "settle"
 name_of option.Save = codes "save"
+name_of option.Routes = codes "routes"
 name_of option.Stay = codes "stay"
 name_of option.Prefix = codes "prefix"
 name_of option.Filter = codes "filter"
@@ -32,7 +34,9 @@ form_of option.Queue = codes "queue MESSAGES"
 form_of option.Retry = codes "retry SECONDS"
 form_of option.Hold = codes "hold SECONDS"
 form_of option.Segments = codes "segments COUNT"
+form_of option.Settle = codes "settle SECONDS"
 form_of option.Save = codes "save FOLDER"
+form_of option.Routes = codes "routes FILE"
 form_of option.Stay = codes "stay"
 form_of option.Prefix = codes "prefix V PREFIX"
 form_of option.Filter = codes "filter NAME FILE"
@@ -49,7 +53,9 @@ shape_of option.Queue = Number
 shape_of option.Retry = Number
 shape_of option.Hold = Number
 shape_of option.Segments = Number
-shape_of option.Save = Folder
+shape_of option.Settle = Number
+shape_of option.Save = Path
+shape_of option.Routes = Path
 shape_of option.Stay = Alone
 shape_of option.Prefix = Pair
 shape_of option.Filter = Named
@@ -61,7 +67,7 @@ shape_of option.Link = Files
 abbrev pub is_single : Shape → Bool
 is_single Alone = true
 is_single Number = true
-is_single Folder = true
+is_single Path = true
 is_single Pair = false
 is_single Named = false
 is_single Files = false
@@ -72,8 +78,8 @@ stands_once option = is_single (shape_of option)
 -- all of them
 abbrev pub options : List RouterOption
 options =
-    option.Size ∷ option.Node ∷ option.Limit ∷ option.Queue ∷ option.Retry ∷ option.Hold ∷ option.Segments ∷ option.Save ∷ option.Stay
-    ∷ option.Prefix ∷ option.Filter ∷ option.Import ∷ option.Export ∷ option.Link ∷ []
+    option.Size ∷ option.Node ∷ option.Limit ∷ option.Queue ∷ option.Retry ∷ option.Hold ∷ option.Segments ∷ option.Settle ∷ option.Save
+    ∷ option.Routes ∷ option.Stay ∷ option.Prefix ∷ option.Filter ∷ option.Import ∷ option.Export ∷ option.Link ∷ []
 
 -- an option has a name
 abbrev pub is_named : List ℕ → RouterOption → Bool

@@ -68,9 +68,9 @@ abbrev pub number_said : RouterOption → List (List ℕ) → Reading
 number_said option (value ∷ []) = number_of value
 number_said option _ = Err (fault.Form option)
 
-abbrev pub folder_said : List ℕ → RouterOption → List (List ℕ) → Reading
-folder_said folder option (name ∷ []) = Ok (Text (path_of folder name))
-folder_said folder option _ = Err (fault.Form option)
+abbrev pub path_said : List ℕ → RouterOption → List (List ℕ) → Reading
+path_said folder option (name ∷ []) = Ok (Text (path_of folder name))
+path_said folder option _ = Err (fault.Form option)
 
 -- `V=PREFIX` and `W=NAME`
 abbrev pub joined : List ℕ → List ℕ → List ℕ
@@ -109,7 +109,7 @@ files_said folder option _ = Err (fault.Form option)
 abbrev pub said_as : Shape → List ℕ → RouterOption → List (List ℕ) → Reading
 said_as shape.Alone folder option values = given_said option values
 said_as shape.Number folder option values = number_said option values
-said_as shape.Folder folder option values = folder_said folder option values
+said_as shape.Path folder option values = path_said folder option values
 said_as shape.Pair folder option values = pair_said option values
 said_as shape.Named folder option values = named_said folder option values
 said_as shape.Files folder option values = files_said folder option values

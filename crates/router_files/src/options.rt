@@ -19,8 +19,12 @@ pub enum RouterOption {
     Hold,
     /// `segments COUNT`
     Segments,
+    /// `settle SECONDS`
+    Settle,
     /// `save FOLDER`
     Save,
+    /// `routes FILE`
+    Routes,
     /// `stay`
     Stay,
     /// `prefix V PREFIX`
@@ -42,8 +46,8 @@ pub enum Shape {
     Alone,
     /// A number.
     Number,
-    /// The name of a folder.
-    Folder,
+    /// The name of a folder or file.
+    Path,
     /// A node, and what is said of it.
     Pair,
     /// The name of a filter, and of the file of its text.
@@ -53,7 +57,7 @@ pub enum Shape {
 }
 
 /// All of them.
-static OPTIONS: [RouterOption; 14] = [
+static OPTIONS: [RouterOption; 16] = [
     RouterOption::Size,
     RouterOption::Node,
     RouterOption::Limit,
@@ -61,7 +65,9 @@ static OPTIONS: [RouterOption; 14] = [
     RouterOption::Retry,
     RouterOption::Hold,
     RouterOption::Segments,
+    RouterOption::Settle,
     RouterOption::Save,
+    RouterOption::Routes,
     RouterOption::Stay,
     RouterOption::Prefix,
     RouterOption::Filter,
@@ -85,7 +91,9 @@ impl RouterOption {
             RouterOption::Retry => "retry",
             RouterOption::Hold => "hold",
             RouterOption::Segments => "segments",
+            RouterOption::Settle => "settle",
             RouterOption::Save => "save",
+            RouterOption::Routes => "routes",
             RouterOption::Stay => "stay",
             RouterOption::Prefix => "prefix",
             RouterOption::Filter => "filter",
@@ -107,7 +115,9 @@ impl RouterOption {
             RouterOption::Retry => "retry SECONDS",
             RouterOption::Hold => "hold SECONDS",
             RouterOption::Segments => "segments COUNT",
+            RouterOption::Settle => "settle SECONDS",
             RouterOption::Save => "save FOLDER",
+            RouterOption::Routes => "routes FILE",
             RouterOption::Stay => "stay",
             RouterOption::Prefix => "prefix V PREFIX",
             RouterOption::Filter => "filter NAME FILE",
@@ -128,8 +138,9 @@ impl RouterOption {
             | RouterOption::Queue
             | RouterOption::Retry
             | RouterOption::Hold
-            | RouterOption::Segments => Shape::Number,
-            RouterOption::Save => Shape::Folder,
+            | RouterOption::Segments
+            | RouterOption::Settle => Shape::Number,
+            RouterOption::Save | RouterOption::Routes => Shape::Path,
             RouterOption::Stay => Shape::Alone,
             RouterOption::Prefix | RouterOption::Import | RouterOption::Export => Shape::Pair,
             RouterOption::Filter => Shape::Named,
@@ -141,7 +152,7 @@ impl RouterOption {
     pub fn stands_once(&self) -> bool
         ensures { result ≡ stands_once self.now }
     {
-        matches!(self.shape(), Shape::Alone | Shape::Number | Shape::Folder)
+        matches!(self.shape(), Shape::Alone | Shape::Number | Shape::Path)
     }
 }
 

@@ -130,14 +130,14 @@ fn number_said(option: RouterOption, values: &[&str]) -> Result<Said, LineFault>
     }
 }
 
-/// The name of a folder alone.
-fn folder_said(
+/// The name of a folder or file alone.
+fn path_said(
     alloc: Global,
     folder: &str,
     option: RouterOption,
     values: &[&str],
 ) -> Result<Said, LineFault>
-    ensures { spec.IsSaid result (spec.folder_said folder.now option (map (λ value. value.now) values.now)) }
+    ensures { spec.IsSaid result (spec.path_said folder.now option (map (λ value. value.now) values.now)) }
 {
     match values {
         [name] => Ok(Said::Text(path_of(alloc, folder, name)?)),
@@ -259,7 +259,7 @@ pub(crate) fn said_of(
     match option.shape() {
         Shape::Alone => given_said(option, values),
         Shape::Number => number_said(option, values),
-        Shape::Folder => folder_said(alloc, folder, option, values),
+        Shape::Path => path_said(alloc, folder, option, values),
         Shape::Pair => pair_said(alloc, option, values),
         Shape::Named => named_said(alloc, folder, option, values),
         Shape::Files => files_said(alloc, folder, option, values),

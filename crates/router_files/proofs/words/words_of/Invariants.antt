@@ -8,7 +8,7 @@ use Rattle.router_files.proofs.words.words_of.Given as goal
 -- the words so far are no comment, and are text
 abbrev pub invariant-loop-word : goal.invariant-loop-word
 invariant-loop-word l = record {
-  words : words_in l.line ≡ map (λ word. word.now) l.words.items ++ before_comment (words l.rest);
+  before : words_in l.line ≡ map (λ word. word.now) l.words.items ++ before_comment (words l.rest);
   texts : list_all is_utf8 (words_in l.line) ≡ list_all is_utf8 (before_comment (words l.rest));
 }
 
