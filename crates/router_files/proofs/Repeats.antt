@@ -47,8 +47,8 @@ none_more statements n later is inside none found k one below got =
     elim (below_or_at k n below) [
       | inl earlier ↦ none k one earlier got
       | inr same ↦
-        let here : slice_get (map statement_of statements) n ≡ Some one = subst (λ (m : ℕ). slice_get (map statement_of statements) m ≡ Some one) same got in
-        let one_is : statement_of later ≡ one = same_view _ _ (sym (view_at statements n later is inside) ∙ here) in
-        subst (λ (m : ℕ). first_said (map statement_of statements) m one ≡ None) (sym same)
-        (subst (λ (s : StatementView). first_said (map statement_of statements) n s ≡ None) one_is (first_of statements n later None found))
+          let here : slice_get (map statement_of statements) n ≡ Some one = subst (λ (m : ℕ). slice_get (map statement_of statements) m ≡ Some one) same got in
+          let one_is : statement_of later ≡ one = same_view _ _ (sym (view_at statements n later is inside) ∙ here) in
+          subst (λ (m : ℕ). first_said (map statement_of statements) m one ≡ None) (sym same)
+          (subst (λ (s : StatementView). first_said (map statement_of statements) n s ≡ None) one_is (first_of statements n later None found))
     ]

@@ -1,5 +1,5 @@
 -- Worked rows: what lines of a router's file say.
-use Rattle.std.proofs.Common.{◌≡◌, [], ◌∷◌, ◌++◌, Some, None, Ok, Err, refl}
+use Rattle.std.proofs.Common.{◌≡◌, Some, None, Ok, Err, refl}
 use Rattle.std.specs.Prelude.{codes}
 use Rattle.prefix_patterns.specs.Number.{decimal_value}
 use Rattle.prefix_patterns.specs.Reading.{number_in}
@@ -17,6 +17,10 @@ number = refl
 alone : words_read (codes "etc/") (words_in (codes "stay")) ≡ Ok (Some (option.Stay, Given))
 unfolding option_in
 alone = refl
+
+routes : words_read (codes "etc/") (words_in (codes "routes feed")) ≡ Ok (Some (option.Routes, Text (codes "etc/feed")))
+unfolding option_in
+routes = refl
 
 comment : words_read (codes "etc/") (words_in (codes " # stay")) ≡ Ok None
 comment = refl

@@ -1,6 +1,6 @@
 -- What a line of a router's file says of its option, and why it is refused. (This project's own choice.)
-use Rattle.std.specs.Prelude.{◌≡◌, ◌≢◌, ℕ, Bool, true, false, ◌==◌, ◌++◌, List, [], ◌∷◌, Option, Some, None, Result, Ok, Err}
-use Rattle.std.specs.Prelude.{if◌then◌else◌, is_some, not, string_bytes}
+use Rattle.std.specs.Prelude.{◌≡◌, ◌≢◌, ℕ, Bool, false, ◌==◌, ◌++◌, List, [], ◌∷◌, Option, Some, None, Result, Ok, Err}
+use Rattle.std.specs.Prelude.{if◌then◌else◌, is_some, string_bytes}
 use Rattle.std.specs.List.{list_any}
 use Rattle.line_protocol.specs.Limits.{number_limit}
 use Rattle.prefix_patterns.specs.Reading.{number_in}
