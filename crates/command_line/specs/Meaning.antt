@@ -167,10 +167,12 @@ pub record IsRunning (given : List Row) (terminals : Terminals) (has_files : Boo
   pub save : option_map (λ copy. string_bytes copy) how.save ≡ word_of (codes "save") given
   pub filters : AreFilters given how.filters.items
 
--- what the words of `router` say; the parser of words accepts none without the two numbers
+-- what the words of `router` say; a file may say the rest
 pub record IsRouting (given : List Row) (words : RouterWords) : Type 0 where
-  pub size : words.size ≡ unwrap_or (number_of 32 (codes "size") given) 0
-  pub node : words.node ≡ unwrap_or (number_of 32 (codes "node") given) 0
+  pub config : option_map (λ copy. string_bytes copy) words.config ≡ word_of (codes "config") given
+  pub checks : words.checks ≡ is_set (codes "check") given
+  pub size : words.size ≡ number_of 32 (codes "size") given
+  pub node : words.node ≡ number_of 32 (codes "node") given
   pub limit : words.limit ≡ number_of 32 (codes "limit") given
   pub queue : words.queue ≡ number_of 32 (codes "queue") given
   pub retry : words.retry ≡ number_of 32 (codes "retry") given

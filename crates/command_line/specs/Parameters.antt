@@ -89,7 +89,8 @@ all_taken =
     ∷ takes command.Rewrite (codes "old") Flag
     ∷ takes command.Domain (codes "explain") When ∷ takes command.Domain (codes "file") Argument
     ∷ takes command.Replay (codes "file") Arguments
-    ∷ needs command.Router (codes "size") Number ∷ needs command.Router (codes "node") Number ∷ takes command.Router (codes "limit") Number
+    ∷ takes command.Router (codes "config") Text ∷ takes command.Router (codes "check") Flag
+    ∷ takes command.Router (codes "size") Number ∷ takes command.Router (codes "node") Number ∷ takes command.Router (codes "limit") Number
     ∷ takes command.Router (codes "queue") Number ∷ takes command.Router (codes "retry") Number ∷ takes command.Router (codes "hold") Number
     ∷ takes command.Router (codes "prefix") Texts
     ∷ takes command.Router (codes "filter") Texts ∷ takes command.Router (codes "import") Texts ∷ takes command.Router (codes "export") Texts

@@ -158,7 +158,7 @@ static COMMANDS: [(&str, &str); 15] = [
 ];
 
 /// The options and arguments of each command, in the order in which its help shows them.
-static PARAMETERS: [(&str, Parameter); 64] = [
+static PARAMETERS: [(&str, Parameter); 66] = [
     ("check", SIZE),
     ("check", CODE),
     ("check", NAMES),
@@ -202,6 +202,8 @@ static PARAMETERS: [(&str, Parameter); 64] = [
     ("domain", EXPLAIN),
     ("domain", SCRIPT),
     ("replay", REPLAYED),
+    ("router", CONFIG),
+    ("router", CHECK),
     ("router", ROUTER_SIZE),
     ("router", NODE),
     ("router", ROOM),
@@ -468,13 +470,31 @@ const REPLAYED: Parameter = Parameter {
     is_required: false,
 };
 
+/// The file in which a router's options are.
+const CONFIG: Parameter = Parameter {
+    name: "config",
+    value: "FILE",
+    help: "Read options from FILE too, one a line without dashes, as `link 1 in out`",
+    kind: ParameterKind::Text,
+    is_required: false,
+};
+
+/// A router is not started.
+const CHECK: Parameter = Parameter {
+    name: "check",
+    value: "",
+    help: "Read the options and verify the filters, say what is wrong with them, and start nothing",
+    kind: ParameterKind::Flag,
+    is_required: false,
+};
+
 /// The number of nodes of a router's domain.
 const ROUTER_SIZE: Parameter = Parameter {
     name: "size",
     value: "N",
     help: "The number of nodes of the routing domain (2 to 250)",
     kind: ParameterKind::Number,
-    is_required: true,
+    is_required: false,
 };
 
 /// The node that a router is.
@@ -483,7 +503,7 @@ const NODE: Parameter = Parameter {
     value: "ME",
     help: "The node that the router is, below N",
     kind: ParameterKind::Number,
-    is_required: true,
+    is_required: false,
 };
 
 /// How many entries of its history a router has room for.

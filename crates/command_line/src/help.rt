@@ -332,14 +332,18 @@ Standard input has the operator's commands, as `ncroute run` answers them, witho
 `network`, `prefix`, `recv` and `take`. `up`, and `down` of a node with a link, are refused
 as O9. `quit` ends the router, and so does the end of standard input without --stay.
 
+A line of the FILE of --config says an option without its dashes, with blanks between its
+parts: `size 4`, `link 1 in out`, `filter near near.filter`, `stay`. Names of files count from
+the folder of FILE. A word that begins with # begins a comment.
+
 The last entries of the history are kept in memory. With --save all of them are in FOLDER, or
 the last ones with --segments, and one that is not saved yet is not forgotten.
 
 Example, in two terminals after `mkfifo a b`:
   ncroute router --size 2 --node 0 --link 1=a,b
   ncroute router --size 2 --node 1 --link 0=b,a
-The exit status is 0; 1 if a filter was refused, FOLDER was not made, or a fault ended the run
-or the saving; 2 if the command line is wrong.
+The exit status is 0; 1 if a filter or FILE was not read, a filter was refused, FOLDER was not
+made, or a fault ended the run or the saving; 2 if the command line or FILE is wrong.
 ";
 
 /// Of `run`.
