@@ -16,6 +16,9 @@ behind plain rest words n k is rest_is size =
     let n_is : n ≡ length plain = omega (arith, size, total, rest_is) in
     subst (λ (ws : List ℕ). take n ws ≡ plain) (sym is) (front plain rest n n_is)
 
+shape : (plain code : List ℕ) → coded plain code ≡ plain ++ (codes " (" ++ code ++ 41 ∷ [])
+shape plain code = search
+
 pub cut : (plain code words : List ℕ) (n : ℕ) → words ≡ coded plain code → n ≡ length words - (length code + 3) → take n words ≡ plain
 cut plain code words n is size =
-    behind plain (codes " (" ++ code ++ 41 ∷ []) words n (length code + 3) is (rest_length code) size
+    behind plain (codes " (" ++ code ++ 41 ∷ []) words n (length code + 3) (is ∙ shape plain code) (rest_length code) size
