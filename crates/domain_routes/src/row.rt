@@ -1,6 +1,6 @@
 //! What a plan has between a node and all others.
 
-ghost use Rattle.std.specs.Prelude.{◌≡◌, ◌<◌, IfOk, Some, length, replicate, slice_index_or, slice_set};
+ghost use Rattle.std.specs.Prelude.{◌≡◌, ◌<◌, IfOk, None, Some, length, replicate, slice_index_or, slice_set};
 ghost use Rattle.domain_routes.specs.PlanView.{stranger};
 
 use crate::peer::Peer;
@@ -36,6 +36,17 @@ impl Row {
         Ok(Row { peers })
     }
 
+    /// The same again.
+    pub(crate) fn copy(&self, alloc: Global) -> Result<Row, AllocError>
+        ensures { IfOk result (λ r. r ≡ self.now) }
+    {
+        let mut peers = Vec::with_capacity(alloc, self.peers.len())?;
+        for peer in &self.peers {
+            peers.push(peer.copy()?)?;
+        }
+        Ok(Row { peers })
+    }
+
     /// A node as this one has it.
     pub(crate) fn peer(&self, node: u16) -> &Peer
         requires { node < length self.now }
@@ -66,5 +77,20 @@ impl Row {
         ensures { self.new ≡ slice_set self.old node (record (slice_index_or self.old node stranger) { exports = Some filter.value }) }
     {
         self.peers[usize::from(node)].set_exports(filter);
+    }
+    /// What a node tells passes no filter from now on.
+    pub(crate) fn drop_imports(&mut self, node: u16)
+        requires { node < length self.old }
+        ensures { self.new ≡ slice_set self.old node (record (slice_index_or self.old node stranger) { imports = None }) }
+    {
+        self.peers[usize::from(node)].drop_imports();
+    }
+
+    /// What a node is told passes no filter from now on.
+    pub(crate) fn drop_exports(&mut self, node: u16)
+        requires { node < length self.old }
+        ensures { self.new ≡ slice_set self.old node (record (slice_index_or self.old node stranger) { exports = None }) }
+    {
+        self.peers[usize::from(node)].drop_exports();
     }
 }
