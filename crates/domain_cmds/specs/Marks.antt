@@ -1,20 +1,16 @@
 -- What holds of a domain's script between any two lines. (This project's own choice.)
 use Rattle.std.specs.Prelude.{◌≡◌, ℕ, false, List, IfSome, Option, None, Some}
 use Rattle.domain_routes.specs.PlanView.{IsPlan, PlanView}
-use Rattle.domain_routes.specs.Still.{BetweenView, IsBetween, IsSince}
+use Rattle.domain_routes.specs.Still.{BetweenView, StaysBetween}
 use Rattle.domain_routes.specs.declared.best.Best.{Best}
 use Rattle.domain_cmds.specs.Rests.{AreAllRoutes}
 use Rattle.domain_cmds.specs.State.{PlanningView, filter_named}
 
--- These are all routes of a plan as it was. Two plans are noted between which it lay, and the plan that it has become lies.
+-- these are all routes of a plan as it was; two plans are noted between which it stayed since, and the plan is what it has become
 pub record AreMarked (all : List (List Best)) (between : BetweenView) (plan : PlanView) : Type 0 where
   pub before : PlanView
   pub routes : AreAllRoutes before all
-  pub most : IsPlan between.most
-  pub least : IsPlan between.least
-  pub size : between.least.size ≡ between.most.size
-  pub since : IsSince between before
-  pub now : IsBetween between plan
+  pub stays : StaysBetween between before plan
 
 -- both are noted at a `mark`, or neither is
 abbrev pub AreNoted : Option (List (List Best)) → Option BetweenView → PlanView → Type 0

@@ -1,5 +1,5 @@
 -- Which distances stand still while a plan changes: what two plans say alike between which it stays.
-use Rattle.std.specs.Prelude.{◌≡◌, ◌≢◌, ◌⊎◌, ℕ, suc, zero, ◌<◌, ◌==◌, ◌&&◌, min, if◌then◌else◌, Bool, true, false, List, Option, None, Some}
+use Rattle.std.specs.Prelude.{◌≡◌, ◌⊎◌, ℕ, suc, zero, ◌==◌, ◌&&◌, min, if◌then◌else◌, Bool, true, false, List, Option, None, Some}
 use Rattle.filter_verifier.specs.VerifiedView.{VerifiedView}
 use Rattle.routing_domain.specs.Failures.{Loose}
 use Rattle.domain_routes.specs.Edits.{linking, unfiltered}
@@ -34,15 +34,6 @@ after_links_below (suc n) plan u b = if is_linked plan u n then after_link u n (
 
 abbrev pub after_anew : PlanView → ℕ → BetweenView → BetweenView
 after_anew plan u b = after_links_below plan.size plan u b
-
--- two nodes of both plans, and not the same
-pub record AreBoth (b : BetweenView) (u w : ℕ) : Type 0 where
-  pub most : IsPlan b.most
-  pub least : IsPlan b.least
-  pub size : b.least.size ≡ b.most.size
-  pub from : u < b.most.size
-  pub to : w < b.most.size
-  pub apart : u ≢ w
 
 -- ---- which plans lie between them
 
@@ -94,6 +85,14 @@ pub record IsBetween (b : BetweenView) (p : PlanView) : Type 0 where
 pub record IsSince (b : BetweenView) (p : PlanView) : Type 0 where
   pub between : IsBetween b p
   pub least : HasFewerLinks p b.least
+
+-- both of them are plans, between which a plan stayed that was the first and is the second
+pub record StaysBetween (b : BetweenView) (p q : PlanView) : Type 0 where
+  pub most : IsPlan b.most
+  pub least : IsPlan b.least
+  pub size : b.least.size ≡ b.most.size
+  pub since : IsSince b p
+  pub now : IsBetween b q
 
 -- ---- what both say alike
 

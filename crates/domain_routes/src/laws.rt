@@ -7,7 +7,7 @@ ghost use Rattle.domain_routes.specs.OfDomain.{IsPlanOf};
 ghost use Rattle.domain_routes.specs.PlanView.{IsPlan, PeerView, PlanView, is_linked, peer};
 ghost use Rattle.domain_routes.specs.Reach.{greatest, phases_to_rest};
 ghost use Rattle.domain_routes.specs.Routes.{AreRoutes, route_at};
-ghost use Rattle.domain_routes.specs.Still.{AreBoth, BetweenView, IsBetween, IsSince, after_anew, after_filter, after_link, loose_between, one_below};
+ghost use Rattle.domain_routes.specs.Still.{BetweenView, IsSince, StaysBetween, after_anew, after_filter, after_link, loose_between, one_below};
 ghost use Rattle.domain_routes.specs.Still.{still_between, unchanged};
 ghost use Rattle.netchange_core.specs.Best.{best, distance};
 ghost use Rattle.domain_routes.specs.Topology.{topology};
@@ -87,15 +87,14 @@ pub fn reach_bounds_phases()
 /// A plan stays between two others, whatever is done to it: links are made and cut, filters are set, and nodes begin anew; and so does the plan as it
 /// was at first.
 pub fn plans_stay_between()
-    ensures begins { (p : PlanView) → IsSince (unchanged p) p }
-    ensures link { (b : BetweenView) → (linked : Bool) → (p q : PlanView) → (u w : ℕ) → AreBoth b u w → IsPlan q → IsSince b p → IsBetween b q →
-        IsSince (after_link u w b) p × IsBetween (after_link u w b) (linking linked u w q) }
-    ensures import { (b : BetweenView) → (f : VerifiedView) → (p q : PlanView) → (u w : ℕ) → AreBoth b u w → IsPlan q → IsSince b p → IsBetween b q →
-        IsSince (after_filter u w b) p × IsBetween (after_filter u w b) (importing f u w q) }
-    ensures export { (b : BetweenView) → (f : VerifiedView) → (p q : PlanView) → (u w : ℕ) → AreBoth b u w → IsPlan q → IsSince b p → IsBetween b q →
-        IsSince (after_filter u w b) p × IsBetween (after_filter u w b) (exporting f w u q) }
-    ensures anew { (b : BetweenView) → (p q : PlanView) → (u : ℕ) → IsPlan b.most → IsPlan b.least → b.least.size ≡ b.most.size → IsPlan q → u < q.size →
-        IsSince b p → IsBetween b q → IsSince (after_anew q u b) p × IsBetween (after_anew q u b) q }
+    ensures begins { (p : PlanView) → IsPlan p → StaysBetween (unchanged p) p p }
+    ensures link { (b : BetweenView) → (linked : Bool) → (p q : PlanView) → (u w : ℕ) → StaysBetween b p q → IsPlan q → u < q.size → w < q.size → u ≢ w →
+        StaysBetween (after_link u w b) p (linking linked u w q) }
+    ensures import { (b : BetweenView) → (f : VerifiedView) → (p q : PlanView) → (u w : ℕ) → StaysBetween b p q → IsPlan q → u < q.size → w < q.size → u ≢ w →
+        StaysBetween (after_filter u w b) p (importing f u w q) }
+    ensures export { (b : BetweenView) → (f : VerifiedView) → (p q : PlanView) → (u w : ℕ) → StaysBetween b p q → IsPlan q → u < q.size → w < q.size → u ≢ w →
+        StaysBetween (after_filter u w b) p (exporting f w u q) }
+    ensures anew { (b : BetweenView) → (p q : PlanView) → (u : ℕ) → StaysBetween b p q → IsPlan q → u < q.size → StaysBetween (after_anew q u b) p q }
 {}
 
 /// What is near stands still. Take the routes to a destination in the two plans between which a plan stayed since a moment. There is a greatest bound
