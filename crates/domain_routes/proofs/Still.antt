@@ -502,10 +502,10 @@ pub record Happened (b : BetweenView) (p : PlanView) (v : ℕ) (most least : Lis
   pub happen : HappenAll count (loose_between b) n m
 
 module _ (b : BetweenView) (p : PlanView) (v : ℕ) (most least : List Best) (n m : Network) (h : Happened b p v most least n m) where
-  dist_all : ℕ → ℕ
+  abbrev pub dist_all : ℕ → ℕ
   dist_all u = (route_at b.most.size most u).dist
 
-  dist_none : ℕ → ℕ
+  abbrev pub dist_none : ℕ → ℕ
   dist_none u = (route_at b.least.size least u).dist
 
   top_domain : AreAlike (topology b.most v) (with_all (domain_topology n.domain v) (loose_between b))

@@ -59,8 +59,8 @@ fn make_plan(alloc: Global, opening: Opening) -> Result<Plan, AllocError>
 }
 
 /// The same rows again.
-fn copy_rows(alloc: Global, rows: &Vec<Row>) -> Result<Vec<Row>, AllocError>
-    ensures { IfOk result (λ r. r.items ≡ rows.now.items) }
+fn copy_rows(alloc: Global, rows: &[Row]) -> Result<Vec<Row>, AllocError>
+    ensures { IfOk result (λ copies. copies.items ≡ rows.now) }
 {
     let mut copies = Vec::with_capacity(alloc, rows.len())?;
     for row in rows {
@@ -88,7 +88,7 @@ impl Plan {
         ensures { IfOk result (λ p. p ≡ self.now) }
     {
         let opening = self.opening.copy(alloc)?;
-        let rows = copy_rows(alloc, &self.rows)?;
+        let rows = copy_rows(alloc, self.rows.as_slice())?;
         Ok(Plan { opening, rows })
     }
 

@@ -24,6 +24,17 @@ impl Model for Row {
     ghost view = { λ r. r.peers.items };
 }
 
+/// The same nodes again.
+fn copy_peers(alloc: Global, peers: &[Peer]) -> Result<Vec<Peer>, AllocError>
+    ensures { IfOk result (λ copies. copies.items ≡ peers.now) }
+{
+    let mut copies = Vec::with_capacity(alloc, peers.len())?;
+    for peer in peers {
+        copies.push(peer.copy()?)?;
+    }
+    Ok(copies)
+}
+
 impl Row {
     /// A row without links and filters.
     pub(crate) fn strangers(alloc: Global, size: u16) -> Result<Row, AllocError>
@@ -40,11 +51,9 @@ impl Row {
     pub(crate) fn copy(&self, alloc: Global) -> Result<Row, AllocError>
         ensures { IfOk result (λ r. r ≡ self.now) }
     {
-        let mut peers = Vec::with_capacity(alloc, self.peers.len())?;
-        for peer in &self.peers {
-            peers.push(peer.copy()?)?;
-        }
-        Ok(Row { peers })
+        Ok(Row {
+            peers: copy_peers(alloc, self.peers.as_slice())?,
+        })
     }
 
     /// A node as this one has it.
