@@ -7,7 +7,6 @@ use Rattle.filter_verifier.specs.VerifiedView.{VerifiedView}
 use Rattle.netchange_core.specs.Best.{best, distance}
 use Rattle.netchange_core.specs.FilteredDistance.{filtered_distance}
 use Rattle.netchange_core.specs.OpeningView.{OpeningView}
-use Rattle.netchange_core.specs.declared.reply.Via.{Via}
 use Rattle.routing_domain.proofs.Watching.{IsFar, far_distance, far_from, far_via}
 use Rattle.routing_domain.specs.Domain.{Domain, IsInOrder, topology as domain_topology}
 use Rattle.routing_domain.specs.Failures.{AreOneBelow, HappenAll, IsLoose, Loose, with_all, with_none}

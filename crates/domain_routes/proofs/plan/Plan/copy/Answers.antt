@@ -1,5 +1,5 @@
 -- The copy of a plan is one.
-use Rattle.std.proofs.Common.{◌≡◌, ◌∙◌, List, sym, subst, ap}
+use Rattle.std.proofs.Common.{◌∙◌, List, sym, subst, ap}
 use Rattle.netchange_core.specs.OpeningView.{OpeningView}
 use Rattle.domain_routes.specs.PlanView.{IsPlan, PeerView}
 use Rattle.domain_routes.proofs.plan.Plan.copy.Goals as goal
