@@ -3,8 +3,8 @@
 
 usage: scripts/check_domains.py [SCRIPTS [SEED]]        (100 scripts; NCROUTE=PATH: the program; without it, the sources as they are, by `rt try`)
 
-A script has 2 to 9 nodes and 20 to 80 lines: links, cuts, filters, nodes that begin anew, questions about rest, `settle`, and now and then a node or a
-name that is none.
+A script has 2 to 9 nodes and 20 to 80 lines: links, cuts, filters, nodes that begin anew, questions about rest, `settle`, and now and then a node or
+a name that is none.
 Of `load` only the first word of the answer is compared: the slow program verifies no filter. Before each `settle` stands `reach`, and more rounds
 than it says phases are a failure. A script that the two answer differently is written to
 standard error with its number, and the exit status is 1.

@@ -14,8 +14,8 @@ things are looked at, each in a copy:
 - limits: import filters let through nothing beyond a metric. After one phase more than that each distance is that of rest, and after one more
   nothing waits.
 - failures far away: some links come and go, some routers begin anew, with the filters that they had or others, and some filters are replaced, and
-  messages are lost anywhere. No distance below K changes where K is the least distance on which the state of rest with all of that and the one with nothing of it differ, nor a next hop
-  that both have.
+  messages are lost anywhere. No distance below K changes where K is the least distance on which the state of rest with all of that and the one with
+  nothing of it differ, nor a next hop that both have.
 
 In a domain of its own whose filters keep order links are added, while messages are sent, received and left out: no distance rises, and what is
 forwarded arrives. The same with any filters shows that it needs them.
