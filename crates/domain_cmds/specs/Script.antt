@@ -165,6 +165,7 @@ IsToldReach plan answer = (all : List (List Best)) × AreAllRoutes plan all × (
 
 -- ---- `mark` and `changes`
 
+-- all routes are noted, and that nothing was done to the plan yet
 abbrev pub marking : List (List Best) → PlanningView → PlanningView
 marking all p = record p { begun = true; marked = Some all; since = Some (unchanged p.plan) }
 
@@ -211,7 +212,7 @@ AnswersQuestion (question.Route u v) plan marked since number answer = IsToldRou
 AnswersQuestion (question.Path u v) plan marked since number answer = IsToldPath plan number u v answer
 AnswersQuestion (question.Table u) plan marked since number answer = IsToldTable plan number u answer
 AnswersQuestion (question.Draw v) plan marked since number answer = IsToldDrawing plan number v answer
-AnswersQuestion (question.DrawChanges v) plan marked since number answer = IsToldFelt plan marked since number v answer
+AnswersQuestion (question.DrawChanges v) plan marked since number answer = IsToldFelt plan since number v answer
 AnswersQuestion question.Reach plan marked since number answer = IsToldReach plan answer
 AnswersQuestion question.Changes plan marked since number answer = IsToldChanges plan marked since answer
 AnswersQuestion question.Failures plan marked since number answer = IsToldFailures plan (all_links plan) answer
