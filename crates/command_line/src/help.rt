@@ -252,6 +252,7 @@ The input is commands, one a line. Empty lines and lines that begin with # are s
   link U W, cut U W      U and W are neighbours from now on, or no more
   import U W NAME        the filter of what U hears from W
   export U W NAME        the filter of what U tells W
+  anew U                 all links of U are cut and made again
   route U V              U's route to V when the domain is at rest
   path U V               the nodes on the way
   table U                all routes of U
@@ -261,18 +262,20 @@ The input is commands, one a line. Empty lines and lines that begin with # are s
   mark                   remember all routes
   changes                the routes that are not what they were at the last mark, and
                          which distances stand still while the changes happen
+  failures [nodes]       what the failure of each link, or node, changes by itself
   settle                 have the routers exchange messages until none is left
 
 Each command is answered on standard output before more input is read:
-  ok                     domain, prefix, link, cut, import, export, mark
+  ok                     domain, prefix, link, cut, import, export, anew, mark
   verified BUDGET DEPTH  load, code
   route D local, route D via W, route D none
   path U .. V, path none
   table V:D:W V:D ..     to V at distance D through W
   reach LONGEST PHASES   a phase is over when all came in that waited at its start
   changes U:V ..         of U to V
-  .. still V:K ..        where links were made alone, or cut alone: to V no distance
-                         below K changes while they come and go; to others none
+  .. still V:K ..        while all that was done since the mark happens, and again: to
+                         V no distance below K changes; to others none
+  failures COUNT         and as many lines: link U W, or node U, and what changes
   settled ROUNDS COUNT   COUNT messages were heard
   digraph { .. }         draw
   refused CODE AT        the command was refused, and no route changed:
