@@ -1,5 +1,5 @@
 -- What stands before a code that is behind some words.
-use Rattle.std.proofs.Common.{◌≡◌, ℕ, ◌+◌, ◌-◌, List, [], ◌∷◌, ◌++◌, codes, length, take, ap, sym, subst, ◌∙◌, arith, length-append}
+use Rattle.std.proofs.Common.{◌≡◌, ℕ, ◌+◌, ◌-◌, List, [], ◌∷◌, ◌++◌, codes, length, take, ap, sym, subst, ◌∙◌, append_assoc, arith, length-append}
 use Rattle.std.proofs.Math.Seq.{take-append_seam}
 use Rattle.filter_reports.specs.Explanations.{coded}
 
@@ -17,7 +17,8 @@ behind plain rest words n k is rest_is size =
     subst (λ (ws : List ℕ). take n ws ≡ plain) (sym is) (front plain rest n n_is)
 
 shape : (plain code : List ℕ) → coded plain code ≡ plain ++ (codes " (" ++ code ++ 41 ∷ [])
-shape plain code = search
+shape plain code =
+    ap (λ (l : List ℕ). l ++ 41 ∷ []) (append_assoc plain (codes " (") code) ∙ append_assoc plain (codes " (" ++ code) (41 ∷ [])
 
 pub cut : (plain code words : List ℕ) (n : ℕ) → words ≡ coded plain code → n ≡ length words - (length code + 3) → take n words ≡ plain
 cut plain code words n is size =
