@@ -110,8 +110,8 @@ class Words {
   }
 
   failed({ links, nodes }) {
-    const names = [...links.map((link) => `link ${this.link(link)}`), ...nodes.map((node) => `node ${node}`)];
-    return names.length < 2 ? `the ${names[0]}` : `${names.slice(0, -1).map((name) => `the ${name}`).join(", ")} and the ${names.at(-1)}`;
+    const names = [...links.map((link) => `the link ${this.link(link)}`), ...nodes.map((node) => `node ${node}`)];
+    return [...(names.length > 1 ? [names.slice(0, -1).join(", ")] : []), names.at(-1)].join(" and ");
   }
 
   ifFails(failed) {
@@ -300,11 +300,12 @@ class Page {
       return { looks: [lost ? "lost" : changes.length ? "changed" : ""], form: lost ? "square" : "circle", count: changes.length || "", words };
     }
     const { lost, changed } = domain.data.failures.nodes[node];
-    return { looks: lost ? ["harmful"] : [], form: lost ? "diamond" : "circle", words: `${name}: if it fails, ${this.costs(changed, lost)}` };
+    const looks = lost ? ["harmful"] : domain.neighbours[node].length ? [] : ["apart"];
+    return { looks, form: lost ? "diamond" : "circle", words: `${name}: if it fails, ${this.costs(changed, lost)}` };
   }
 
   costs(changed, lost) {
-    return `${counted(changed, "route changes", "routes change")}, ${lost ? counted(lost, "pair is cut off", "pairs are cut off") : "none is lost"}`;
+    return `${counted(changed, "route changes", "routes change")}, ${lost ? counted(lost, "is lost", "are lost") : "none is lost"}`;
   }
 
   // A node as one that has a route to the chosen one.
@@ -374,7 +375,7 @@ class Page {
     const entries = [];
     if (view.node === null && !found) {
       entries.push([line("link"), "link: the wider, the more routes change where it fails"], [line("link harmful"), "its failure cuts nodes off"],
-        [symbol("harmful", "diamond"), "the failure of this node cuts others off from one another"]);
+        [symbol("harmful", "diamond"), "the failure of this node cuts others off from one another"], [symbol("apart", "circle"), "has no links"]);
     }
     if (found) {
       entries.push([line("", "path", { class: "cross", d: cross([0, 0], 6) }), "has failed"]);
@@ -406,7 +407,7 @@ class Page {
     const nameOf = (it) => (it.link ? words.link(it.place) : `${it.place}`);
     this.failureTable = new Table("What each failure changes, by itself", [
       { name: "Fails", key: (it) => it.place, show: (it) => button(nameOf(it), (event) => this.fail(failing(it), event.shiftKey), { className: "go" }) },
-      { ...figure("Lost", "lost", "from so many nodes to another there is no way any more"), look: (it) => (it.lost ? "is-lost" : "") },
+      { ...figure("Lost", "lost", "so many routes are lost"), key: (it) => it.lost * domain.size ** 2 + it.changed, look: (it) => (it.lost ? "is-lost" : "") },
       figure("Changed", "changed", "so many routes have another distance or next hop"),
       figure("Moved", "moved", "to so many nodes some distance is another"),
       figure("Rounds", "rounds", "after so many rounds all is told, at most"),
@@ -420,12 +421,14 @@ class Page {
       { name: "Before", key: (it) => it.before[0], show: (it) => words.route(it.before) },
       { name: "After", key: (it) => it.after[0], show: (it) => words.route(it.after), look: (it) => (domain.isLost(it) ? "is-lost" : "is-changed") },
     ], { column: 0, isDown: false });
+    const isOther = ({ before, after }) => !words.isSame(before, after);
     const routes = (name, word) => ({
       name, key: (it) => it[word].after[0], show: (it) => words.routes(it[word].before, it[word].after),
-      look: ({ [word]: it }) => (words.isSame(it.before, it.after) ? "" : domain.isLost(it) ? "is-lost" : "is-changed"),
+      look: ({ [word]: it }) => (!isOther(it) ? "" : domain.isLost(it) ? "is-lost" : "is-changed"),
     });
     this.routeTable = new Table("Its table, and who reaches it through whom", [
-      { name: "Node", key: (it) => it.node, show: (it) => this.nodeButton(it.node) },
+      // Nodes with a route that is another come first.
+      { name: "Node", key: (it) => (isOther(it.out) || isOther(it.back) ? it.node - domain.size : it.node), show: (it) => this.nodeButton(it.node) },
       { name: "Prefix", key: (it) => addressOf(domain.data.prefixes[it.node].split("/")[0]), show: (it) => domain.data.prefixes[it.node] },
       routes("Route to it", "out"), routes("Its route here", "back"),
     ], { column: 0, isDown: false });
@@ -470,13 +473,15 @@ class Page {
     ];
   }
 
+  // Which single failures cut nodes off. Where there are many, the table beside says which.
   harmful(kind, buttons) {
-    const many = kind === "link" ? "links, whose failure cuts nodes off" : "nodes, whose failure cuts others off from one another";
-    const one = many.replace("s,", ",");
+    const harm = kind === "link" ? "cuts nodes off" : "cuts others off from one another";
     if (!buttons.length) {
-      return make("p", {}, `No ${one.replace(",", " is there")}: no single failure of a ${kind} does harm.`);
+      return make("p", {}, `No failure of a single ${kind} ${harm}.`);
     }
-    return make("div", {}, make("p", {}, `${counted(buttons.length, one, many)}:`), make("p", { className: "buttons" }, ...buttons));
+    const text = `The failure of ${buttons.length === 1 ? `one ${kind}` : `each of ${buttons.length} ${kind}s`} ${harm}`;
+    const isMany = buttons.length > FOUND_AT_MOST;
+    return make("p", {}, `${text}${isMany ? "." : ":"}`, ...(isMany ? [] : buttons));
   }
 
   failureDetail() {
@@ -489,7 +494,7 @@ class Page {
       button("Mend all", () => this.go({ ...view, failed: NOTHING })),
     ];
     const facts = [
-      ["Routes that change", counts.changed], ["Pairs of nodes that are cut off", counts.lost], ["Nodes to which some distance is another", counts.moved],
+      ["Routes that change", counts.changed], ["Routes that are lost", counts.lost], ["Nodes to which some distance is another", counts.moved],
       ["Rounds until all is told, at most", counts.rounds], ["Distance below which nothing moves", counts.still === domain.size ? "none moves" : counts.still],
     ];
     const list = make("dl", {}, ...facts.map(([term, fact]) => make("div", {}, make("dt", {}, term), make("dd", {}, fact.toLocaleString("en")))));
@@ -568,11 +573,11 @@ class Page {
       (used === number ? [make("li", {}, `${link.link[end]} ${word}${word === "exports" ? " to " : " from "}${link.link[1 - end]}: `, this.linkButton(place))] : []))));
     const effects = filter.effects.map(({ distances, nodes }) => make("li", {}, `${this.words.nodes(nodes)}: ${this.words.effect(distances)}`));
     return make("details", { id: `filter-${number}` },
-      make("summary", {}, make("strong", {}, filter.name), ` line ${filter.line}, on ${counted(uses.length, "end")} of links`),
+      make("summary", {}, make("strong", {}, filter.name), `, line ${filter.line}, used ${counted(uses.length, "time")}`),
       make("pre", {}, filter.text ?? "(a code file)"),
       make("p", {}, `At most ${counted(filter.budget, "step")}, ${counted(filter.depth, "operand")}. What it makes of distances to`),
       make("ul", { className: "plain" }, ...effects),
-      make("details", {}, make("summary", {}, `Where it is used: ${counted(uses.length, "end")} of links`), make("ul", { className: "plain" }, ...uses)),
+      make("details", {}, make("summary", {}, `Where it is used: ${counted(uses.length, "time")}`), make("ul", { className: "plain" }, ...uses)),
       make("details", {}, make("summary", {}, "Its code"), make("pre", {}, filter.listing.join("\n"))));
   }
 

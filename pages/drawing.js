@@ -9,6 +9,13 @@ const MANY = 100;
 const WIDE = 64;
 const NARROW = 38;
 
+// How far apart the nodes of a map are pushed, and how much room each has on the whole.
+const APART = 38;
+const ROOM = 5500;
+
+// So many points of the screen a unit of the whole picture has, at most.
+const LARGEST = 1.4;
+
 // How often the places of a map are improved, and nodes that overlap pushed apart.
 const ROUNDS = 80;
 const PUSHES = 40;
@@ -86,7 +93,14 @@ function mapOf(domain, part) {
   for (let round = 0; round < ROUNDS; round++) {
     places = places.map((place, i) => drawnTo(places, place, far[i], i));
   }
-  return places;
+  return turned(part, places);
+}
+
+// The same turned over, so that lesser nodes stand to the left and at the top.
+function turned(part, places) {
+  const middle = part.reduce((sum, node) => sum + node, 0) / part.length;
+  const signs = [0, 1].map((axis) => Math.sign(places.reduce((sum, place, i) => sum + place[axis] * (part[i] - middle), 0)) || 1);
+  return places.map(([x, y]) => [x * signs[0], y * signs[1]]);
 }
 
 // Where the others would have a node: each at its distance in the direction in which the node is, and near ones count more.
@@ -102,6 +116,13 @@ function drawnTo(places, [x, y], far, node) {
     }
   });
   return [sumX / weights, sumY / weights];
+}
+
+// A map at the scale of a picture: nodes are as far apart as is said for each link, or farther, so that all of them have room.
+function roomy(places, spacing) {
+  const { width, height } = boxOf(places, 1);
+  const scale = Math.max(spacing, Math.sqrt((places.length * ROOM) / (width * height)));
+  return pushApart(places.map(([x, y]) => [x * scale, y * scale]), APART);
 }
 
 // Pushes nodes apart that are too close.
@@ -155,8 +176,8 @@ function layersOf(domain, part, root, spacing) {
   let y = 0;
   for (const layer of layers) {
     const rows = Math.ceil(layer.length / most);
-    layer.forEach((node, i) => places.set(node, [(i - (layer.length - 1) / 2) * (spacing / rows), y + (i % rows) * spacing * 0.6]));
-    y += spacing * (1 + 0.6 * (rows - 1));
+    layer.forEach((node, i) => places.set(node, [(i - (layer.length - 1) / 2) * (spacing / rows), y + (i % rows) * spacing * 0.95]));
+    y += spacing * (1.3 + 0.95 * (rows - 1));
   }
   return part.map((node) => places.get(node));
 }
@@ -236,7 +257,7 @@ function layOut(domain, shown, layout, root) {
     if (layout === "layers") {
       return layersOf(domain, part, part.includes(root) ? root : mostLinked(domain, part), spacing);
     }
-    return pushApart(mapOf(domain, part).map(([x, y]) => [x * spacing, y * spacing]), spacing * 0.8);
+    return roomy(mapOf(domain, part), spacing);
   });
   if (alone.length) {
     blocks.push(blockOf(alone.length, spacing * 0.8, Math.max(8, Math.ceil(Math.sqrt(alone.length) * 2))));
@@ -320,7 +341,8 @@ class Drawing {
     });
     const frames = boxes.map(({ name, box }) => this.frameElement(name, box));
     this.svg.replaceChildren(...frames, ...this.links.values(), this.marks, ...this.nodes.values());
-    this.whole = boxOf([...places.values(), ...boxes.flatMap(({ box }) => [[box.x, box.y - 12], [box.x + box.width, box.y + box.height]])], spacing);
+    const corners = boxes.flatMap(({ box }) => [[box.x, box.y - 12], [box.x + box.width, box.y + box.height]]);
+    this.whole = this.widened(boxOf([...places.values(), ...corners], spacing));
     this.look(this.whole);
     this.setFocus(this.nodes.has(this.focused) ? this.focused : this.shown[0]);
   }
@@ -346,7 +368,7 @@ class Drawing {
     const folded = this.into.filter((host) => host === node).length - 1;
     const element = svgElement("g", { class: "node", "data-node": node, transform: `translate(${x} ${y})`, role: "button", tabindex: -1 },
       svgElement("title"), svgElement("path", { class: "shape" }), svgElement("text", { class: "number", dy: "0.35em" }, String(node)),
-      svgElement("text", { class: "under", y: this.radius + 9 }), svgElement("text", { class: "count", x: this.radius - 2, y: -this.radius + 2 }),
+      svgElement("text", { class: "under", x: this.radius * 0.75, y: this.radius + 6 }), svgElement("text", { class: "count", x: this.radius - 2, y: -this.radius + 2 }),
       svgElement("text", { class: "prefix", y: -this.radius - 4 }, this.domain.data.prefixes[node]));
     if (folded) {
       const badge = svgElement("g", { class: "folded", transform: `translate(${-this.radius} ${this.radius - 2})`, "aria-hidden": "true" },
@@ -401,6 +423,12 @@ class Drawing {
     this.window = { x, y, width, height };
     this.svg.setAttribute("viewBox", `${x} ${y} ${width} ${height}`);
     this.svg.classList.toggle("near", this.scale() > 1.25 && this.scale() > this.scaleOf(this.whole) * 1.05);
+  }
+
+  // A box with more around it, where a picture of few nodes would be drawn too large.
+  widened({ x, y, width, height }) {
+    const [more, higher] = [Math.max(0, this.svg.clientWidth / LARGEST - width), Math.max(0, this.svg.clientHeight / LARGEST - height)];
+    return { x: x - more / 2, y: y - higher / 2, width: width + more, height: height + higher };
   }
 
   // How many points of the screen a unit of the picture has.
