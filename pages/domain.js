@@ -5,174 +5,7 @@
 
 "use strict";
 
-// So many rows of a table are shown at first: a failure may change 60,000 routes.
-const FIRST_ROWS = 200;
-
 const FOUND_AT_MOST = 12;
-
-// The form of an arrow between two nodes in words.
-const LINKED = "\u2013";
-
-// ---- elements
-
-function byId(id) {
-  return document.getElementById(id);
-}
-
-// An element with its properties and what is in it: elements, and texts, which are set as such.
-function make(name, properties = {}, ...content) {
-  const element = document.createElement(name);
-  for (const [key, value] of Object.entries(properties)) {
-    if (key in element) {
-      element[key] = value;
-    } else {
-      element.setAttribute(key, value);
-    }
-  }
-  element.append(...content.filter((part) => part !== null).map((part) => (part instanceof Node ? part : document.createTextNode(part))));
-  return element;
-}
-
-function button(text, action, properties = {}) {
-  const element = make("button", { type: "button", ...properties }, text);
-  element.addEventListener("click", action);
-  return element;
-}
-
-function counted(count, one, many = `${one}s`) {
-  return `${count.toLocaleString("en")} ${count === 1 ? one : many}`;
-}
-
-// A table. Each column has a name, what it shows of a row, by what it is sorted, and whether it is of numbers; `order` is the column by which it is
-// sorted and whether the greatest stands first, and stays so where the table is made again.
-class Table {
-  constructor(caption, columns, order) {
-    Object.assign(this, { columns, order, rows: [], limit: FIRST_ROWS, isChosen: () => false });
-    this.body = make("tbody");
-    this.heads = columns.map((column, number) => make("th", { scope: "col" }, button(column.name, () => this.sortBy(number), { title: column.title ?? "" })));
-    this.more = make("p", { className: "more" });
-    const table = make("table", {}, make("caption", {}, caption), make("thead", {}, make("tr", {}, ...this.heads)), this.body);
-    this.element = make("div", { className: "table" }, table, this.more);
-  }
-
-  sortBy(number) {
-    const isSame = this.order.column === number;
-    this.order = { column: number, isDown: isSame ? !this.order.isDown : Boolean(this.columns[number].isNumber) };
-    this.show(this.rows);
-  }
-
-  sorted() {
-    const { key } = this.columns[this.order.column];
-    const sign = this.order.isDown ? -1 : 1;
-    const compared = (a, b) => (a < b ? -1 : a > b ? 1 : 0);
-    return this.rows.map((row, place) => [row, key(row), place])
-      .sort((a, b) => sign * compared(a[1], b[1]) || a[2] - b[2]).map(([row]) => row);
-  }
-
-  show(rows) {
-    this.rows = rows;
-    this.heads.forEach((head, number) => {
-      const { column, isDown } = this.order;
-      head.setAttribute("aria-sort", column !== number ? "none" : isDown ? "descending" : "ascending");
-    });
-    this.body.replaceChildren(...this.sorted().slice(0, this.limit).map((row) => this.rowElement(row)));
-    this.more.hidden = rows.length <= this.limit;
-    this.more.replaceChildren(`${FIRST_ROWS} of ${counted(rows.length, "row")}. `, button("Show all", () => {
-      this.limit = Infinity;
-      this.show(this.rows);
-    }));
-    return this.element;
-  }
-
-  rowElement(row) {
-    const cells = this.columns.map((column, number) => {
-      const shown = column.show(row);
-      const className = [column.isNumber ? "figure" : "", column.look?.(row) ?? ""].join(" ").trim();
-      return number ? make("td", { className }, shown) : make("th", { scope: "row", className }, shown);
-    });
-    const element = make("tr", {}, ...cells);
-    if (this.isChosen(row)) {
-      element.setAttribute("aria-selected", "true");
-    }
-    return element;
-  }
-}
-
-// ---- what is said in words
-
-class Words {
-  constructor(domain) {
-    this.domain = domain;
-  }
-
-  link(link) {
-    return this.domain.links[link].join(LINKED);
-  }
-
-  failed({ links, nodes }) {
-    const names = [...links.map((link) => `the link ${this.link(link)}`), ...nodes.map((node) => `node ${node}`)];
-    return [...(names.length > 1 ? [names.slice(0, -1).join(", ")] : []), names.at(-1)].join(" and ");
-  }
-
-  ifFails(failed) {
-    const isOne = failed.links.length + failed.nodes.length === 1;
-    return `If ${this.failed(failed)} ${isOne ? "fails" : "fail"}`;
-  }
-
-  // A route: how far it is, and through whom.
-  route([distance, via]) {
-    return distance === this.domain.size ? "none" : via === null ? "here" : `${distance} via ${via}`;
-  }
-
-  routes(before, after) {
-    return this.isSame(before, after) ? this.route(before) : `${this.route(before)} \u2192 ${this.route(after)}`;
-  }
-
-  isSame(before, after) {
-    return before[0] === after[0] && before[1] === after[1];
-  }
-
-  // What a filter makes of distances, in runs of those that become as much more, or the same.
-  effect(distances) {
-    const { size } = this.domain;
-    const runs = [];
-    distances.forEach((to, from) => {
-      const last = runs.at(-1);
-      const isMore = last && to < size && last.to.at(-1) < size && to - from === last.to.at(-1) - (from - 1);
-      const isAsMuch = last && to === last.to.at(-1) && (last.to.length === 1 || last.to[0] === to);
-      if (isMore && (last.to.length === 1 || last.to[0] !== last.to.at(-1)) || isAsMuch) {
-        last.to.push(to);
-      } else {
-        runs.push({ from, to: [to] });
-      }
-    });
-    return runs.map(({ from, to }) => {
-      const range = to.length === 1 ? `${from}` : `${from}\u2013${from + to.length - 1}`;
-      const more = to[0] - from;
-      const isSum = to.length === 1 || to[0] !== to.at(-1);
-      const becomes = to[0] === size ? "rejected" : !isSum ? `become ${to[0]}` : more === 0 ? "kept" : `+${more}`;
-      return `${range} ${becomes}`;
-    }).join(", ");
-  }
-
-  nodes(nodes) {
-    return nodes.length === this.domain.size ? "all nodes" : `${nodes.length === 1 ? "node" : "nodes"} ${ranges(nodes)}`;
-  }
-}
-
-// Numbers in ascending order, those that follow one another as a range.
-function ranges(numbers) {
-  const found = [];
-  for (const number of numbers) {
-    const last = found.at(-1);
-    if (last && last[1] === number - 1) {
-      last[1] = number;
-    } else {
-      found.push([number, number]);
-    }
-  }
-  return found.map(([first, last]) => (first === last ? `${first}` : `${first}\u2013${last}`)).join(", ");
-}
 
 // ---- what is chosen
 
@@ -321,7 +154,8 @@ class Page {
       looks.push("still");
     }
     const distance = ([number]) => (number === domain.size ? "none" : `${number}`);
-    const under = before[0] === after[0] ? (isNone ? "" : distance(after)) : `${distance(before)}\u2192${distance(after)}`;
+    const kept = `${looks.includes("still") ? "=" : ""}${distance(after)}`;
+    const under = before[0] !== after[0] ? `${distance(before)}\u2192${distance(after)}` : isNone ? "" : kept;
     const told = node === view.node ? "chosen" : `its route to node ${view.node}: ${words.routes(before, after)}`;
     return { looks, form: isLost ? "square" : "circle", under, words: `${name}: ${told}` };
   }
@@ -365,20 +199,18 @@ class Page {
 
   showLegend() {
     const { found, view } = this;
-    const symbol = (looks, form) => {
-      const node = svgElement("g", { class: `node ${looks}` }, svgElement("path", { class: "shape", d: outline(form, 7) }));
-      return svgElement("svg", { viewBox: "-11 -11 22 22", class: "symbol", "aria-hidden": "true" }, node);
-    };
-    const line = (looks, element = "line", attributes = { x1: -10, x2: 10, y1: 0, y2: 0, class: "wire", "stroke-width": 3 }) =>
-      svgElement("svg", { viewBox: "-11 -11 22 22", class: "symbol", "aria-hidden": "true" }, svgElement("g", { class: looks }, svgElement(element, attributes)));
-    const path = (looks) => line("", "path", { class: `arrow ${looks}`, d: arrow([-14, 0], [14, 0], 3) });
+    const sign = (looks, element, attributes) => svgElement("svg", { viewBox: "-11 -11 22 22", class: "symbol", "aria-hidden": "true" },
+      svgElement("g", { class: looks }, svgElement(element, attributes)));
+    const symbol = (looks, form) => sign(`node ${looks}`, "path", { class: "shape", d: outline(form, 7) });
+    const line = (looks) => sign(looks, "line", { x1: -10, x2: 10, y1: 0, y2: 0, class: "wire", "stroke-width": 3 });
+    const path = (looks) => sign("", "path", { class: `arrow ${looks}`, d: arrow([-14, 0], [14, 0], 3) });
     const entries = [];
     if (view.node === null && !found) {
       entries.push([line("link"), "link: the wider, the more routes change where it fails"], [line("link harmful"), "its failure cuts nodes off"],
         [symbol("harmful", "diamond"), "the failure of this node cuts others off from one another"], [symbol("apart", "circle"), "has no links"]);
     }
     if (found) {
-      entries.push([line("", "path", { class: "cross", d: cross([0, 0], 6) }), "has failed"]);
+      entries.push([sign("", "path", { class: "cross", d: cross([0, 0], 6) }), "has failed"]);
     }
     if (view.node !== null) {
       entries.push([symbol("chosen", "circle"), "chosen"], [path(""), "next hop to it; the distance stands under each node"]);
@@ -390,12 +222,12 @@ class Page {
     if (found && view.node !== null) {
       entries.push([path("changed"), "next hop of a route that is another"], [path("before"), "next hop before"]);
       if (!view.failed.nodes.length) {
-        entries.push([symbol("still", "circle"), "keeps its route, however often the link comes and goes"]);
+        entries.push([symbol("still", "circle"), "with =: keeps its route, however often what fails comes and goes"]);
       }
     } else if (view.node !== null) {
       entries.push([symbol("apart", "circle"), "has no route to it"]);
     }
-    byId("legend").replaceChildren(...entries.map(([sign, text]) => make("li", {}, sign, text)));
+    byId("legend").replaceChildren(...entries.map((entry) => make("li", {}, ...entry)));
   }
 
   // ---- the tables
@@ -406,8 +238,12 @@ class Page {
     const failing = (it) => (it.link ? { links: [it.place], nodes: [] } : { links: [], nodes: [it.place] });
     const nameOf = (it) => (it.link ? words.link(it.place) : `${it.place}`);
     this.failureTable = new Table("What each failure changes, by itself", [
-      { name: "Fails", key: (it) => it.place, show: (it) => button(nameOf(it), (event) => this.fail(failing(it), event.shiftKey), { className: "go" }) },
-      { ...figure("Lost", "lost", "so many routes are lost"), key: (it) => it.lost * domain.size ** 2 + it.changed, look: (it) => (it.lost ? "is-lost" : "") },
+      { name: "Fails", key: (it) => it.place, show: (it) => this.failButton(nameOf(it), failing(it)) },
+      // Of those by which as many are lost the one that changes most comes first.
+      {
+        ...figure("Lost", "lost", "so many routes are lost"),
+        key: (it) => it.lost * domain.size ** 2 + it.changed, look: (it) => (it.lost ? "is-lost" : ""),
+      },
       figure("Changed", "changed", "so many routes have another distance or next hop"),
       figure("Moved", "moved", "to so many nodes some distance is another"),
       figure("Rounds", "rounds", "after so many rounds all is told, at most"),
@@ -439,7 +275,16 @@ class Page {
   }
 
   linkButton(link) {
-    return button(this.words.link(link), (event) => this.fail({ links: [link], nodes: [] }, event.shiftKey), { className: "go", title: "What if it fails?" });
+    return this.failButton(this.words.link(link), { links: [link], nodes: [] });
+  }
+
+  failButton(text, failing) {
+    return button(text, (event) => this.fail(failing, event.shiftKey), { className: "go", title: "What if it fails?" });
+  }
+
+  // A button that mends what has failed.
+  mendButton(kind, name, failed) {
+    return button(`${name} \u00d7`, () => this.fail(failed, true), { "aria-label": `mend the ${kind} ${name}` });
   }
 
   failureRows() {
@@ -469,7 +314,7 @@ class Page {
       make("h2", {}, "At a glance"),
       make("p", {}, `The longest route has a distance of ${longest}. From nothing, all is told after at most ${counted(phases, "round")}.`),
       this.harmful("link", harmfulLinks), this.harmful("node", harmfulNodes),
-      make("p", { className: "hint" }, "Choose a link to see what its failure changes, and a node to see its routes. With Shift a click has one more fail."),
+      make("p", { className: "hint" }, "Choose a link to see what its failure changes, and a node to see its routes. With Shift one more fails."),
     ];
   }
 
@@ -489,20 +334,22 @@ class Page {
     const { counts, failed } = found;
     const name = words.ifFails(failed);
     const chips = [
-      ...failed.links.map((link) => button(`${words.link(link)} \u00d7`, () => this.fail({ links: [link], nodes: [] }, true), { "aria-label": `mend the link ${words.link(link)}` })),
-      ...failed.nodes.map((node) => button(`${node} \u00d7`, () => this.fail({ links: [], nodes: [node] }, true), { "aria-label": `mend the node ${node}` })),
+      ...failed.links.map((link) => this.mendButton("link", words.link(link), { links: [link], nodes: [] })),
+      ...failed.nodes.map((node) => this.mendButton("node", `${node}`, { links: [], nodes: [node] })),
       button("Mend all", () => this.go({ ...view, failed: NOTHING })),
     ];
     const facts = [
       ["Routes that change", counts.changed], ["Routes that are lost", counts.lost], ["Nodes to which some distance is another", counts.moved],
-      ["Rounds until all is told, at most", counts.rounds], ["Distance below which nothing moves", counts.still === domain.size ? "none moves" : counts.still],
+      ["Rounds until all is told, at most", counts.rounds],
+      ["Distance below which nothing moves", counts.still === domain.size ? "none moves" : counts.still],
     ];
     const list = make("dl", {}, ...facts.map(([term, fact]) => make("div", {}, make("dt", {}, term), make("dd", {}, fact.toLocaleString("en")))));
     const isOf = (it) => view.node === null || it.from === view.node || it.to === view.node;
     const changes = found.changes.filter(isOf);
     const parts = [make("h2", {}, name), make("p", { className: "buttons" }, ...chips), list];
     if (domain.differs(found)) {
-      parts.unshift(make("p", { className: "alarm", role: "alert" }, "The program says other numbers of this failure than this page finds. Do not trust the page."));
+      const alarm = "The program says other numbers of this failure than this page finds. Do not trust the page.";
+      parts.unshift(make("p", { className: "alarm", role: "alert" }, alarm));
     }
     if (failed.links.length === 1 && !failed.nodes.length) {
       parts.push(this.linkFilters(failed.links[0]));
@@ -532,8 +379,8 @@ class Page {
     const { link: [u, w], exports, imports } = this.domain.data.links[link];
     const named = (filter) => (filter === null ? [] : [this.filterButton(filter)]);
     const way = (from, to, told, received) => {
-      const passes = [...named(told).flatMap((it) => ["export ", it]), ...named(received).flatMap((it) => [told === null ? "import " : ", import ", it])];
-      return make("li", {}, `What ${from} tells ${to}: `, ...(passes.length ? passes : ["no filter"]));
+      const passes = [...named(told).flatMap((it) => [" export ", it]), ...named(received).flatMap((it) => [" import ", it])];
+      return make("li", {}, `What ${from} tells ${to}:`, ...(passes.length ? passes : [" no filter"]));
     };
     return make("ul", { className: "plain" }, way(u, w, exports[0], imports[1]), way(w, u, exports[1], imports[0]));
   }
@@ -549,12 +396,13 @@ class Page {
       const pair = (from, to) => ({ before: domain.tables[from][to], after: (found ?? domain).tables[from][to] });
       return { node: other, out: pair(node, other), back: pair(other, node) };
     });
-    const links = domain.neighbours[node].map((it) => this.linkButton(it.link));
+    const links = domain.neighbours[node].flatMap((it) => [this.linkButton(it.link), " "]);
     this.routeTable.limit = FIRST_ROWS;
     return [
       make("h2", {}, `Node ${node}`),
-      make("p", {}, `${domain.data.prefixes[node]}, ${links.length ? `${counted(links.length, "link")}: ` : "no links"}`, ...links.flatMap((it) => [it, " "])),
-      make("p", { className: "buttons" }, button("What if it fails?", () => this.fail({ links: [], nodes: [node] })), button("Close", () => this.choose(null))),
+      make("p", {}, `${domain.data.prefixes[node]}, ${counted(links.length / 2, "link")} `, ...links),
+      make("p", { className: "buttons" },
+        button("What if it fails?", () => this.fail({ links: [], nodes: [node] })), button("Close", () => this.choose(null))),
       this.routeTable.show(rows),
     ];
   }
@@ -569,8 +417,10 @@ class Page {
 
   filterElement(filter, number) {
     const { data } = this.domain;
-    const uses = data.links.flatMap((link, place) => ["exports", "imports"].flatMap((word) => link[word].flatMap((used, end) =>
-      (used === number ? [make("li", {}, `${link.link[end]} ${word}${word === "exports" ? " to " : " from "}${link.link[1 - end]}: `, this.linkButton(place))] : []))));
+    const use = (it, place, word, end) =>
+      make("li", {}, `${it.link[end]} ${word} ${word === "exports" ? "to" : "from"} ${it.link[1 - end]}: `, this.linkButton(place));
+    const uses = data.links.flatMap((it, place) => ["exports", "imports"].flatMap((word) =>
+      it[word].flatMap((used, end) => (used === number ? [use(it, place, word, end)] : []))));
     const effects = filter.effects.map(({ distances, nodes }) => make("li", {}, `${this.words.nodes(nodes)}: ${this.words.effect(distances)}`));
     return make("details", { id: `filter-${number}` },
       make("summary", {}, make("strong", {}, filter.name), `, line ${filter.line}, used ${counted(uses.length, "time")}`),
@@ -590,21 +440,23 @@ class Page {
 
   // ---- search
 
-  // What a text finds: a node by its number, nodes by a part of their prefix or an address in it, links by both ends, filters by a part of their name.
+  // What a text finds: a node by its number, nodes by a part of their prefix or by an address in it, links by both ends, and filters by a part of
+  // their name.
   search(text) {
-    const { data, links, size } = this.domain;
+    const { data, links } = this.domain;
     const sought = text.trim().toLowerCase();
     if (!sought) {
       return [];
     }
     const ends = sought.match(/^(\d+)\s*[-\u2013 ]\s*(\d*)$/);
-    const nodes = data.prefixes.map((prefix, node) => ({ node, rank: rankOf(sought, node, prefix) })).filter((it) => it.rank > 0);
+    const ranked = data.prefixes.map((prefix, node) => ({ node, prefix, rank: rankOf(sought, node, prefix) })).filter((it) => it.rank > 0);
+    ranked.sort((a, b) => b.rank - a.rank || a.node - b.node);
     const isLink = ([u, w]) => [[u, w], [w, u]].some(([a, b]) => `${a}` === ends[1] && `${b}`.startsWith(ends[2]));
     const pairs = ends ? links.flatMap((pair, link) => (isLink(pair) ? [link] : [])) : [];
     const named = data.filters.flatMap((filter, number) => (filter.name.toLowerCase().includes(sought) ? [number] : []));
     return [
       ...pairs.map((link) => [`link ${this.words.link(link)}`, () => this.fail({ links: [link], nodes: [] })]),
-      ...nodes.sort((a, b) => b.rank - a.rank || a.node - b.node).slice(0, size).map(({ node }) => [`node ${node}, ${data.prefixes[node]}`, () => this.choose(node)]),
+      ...ranked.map(({ node, prefix }) => [`node ${node}, ${prefix}`, () => this.choose(node)]),
       ...named.map((number) => [`filter ${data.filters[number].name}, line ${data.filters[number].line}`, () => this.showFilter(number)]),
     ].slice(0, FOUND_AT_MOST);
   }
@@ -612,11 +464,13 @@ class Page {
   showFound() {
     const found = this.search(byId("search").value);
     const isNothing = byId("search").value.trim() && !found.length;
-    byId("found").replaceChildren(...(isNothing ? [make("li", {}, "nothing is found")] : found.map(([text, action]) => make("li", {}, button(text, () => {
+    const foundButton = (text, action) => button(text, () => {
       byId("search").value = "";
       this.showFound();
       action();
-    })))));
+    });
+    const entries = isNothing ? ["nothing is found"] : found.map(([text, action]) => foundButton(text, action));
+    byId("found").replaceChildren(...entries.map((entry) => make("li", {}, entry)));
   }
 
   // ---- what happens
@@ -649,13 +503,18 @@ class Page {
     byId("search").addEventListener("input", () => this.showFound());
     byId("search").addEventListener("keydown", (event) => {
       if (event.key === "Enter") {
+        // What is chosen may take the focus; it is not to be told of the key, too.
+        event.preventDefault();
         byId("found").querySelector("button")?.click();
       }
     });
     byId("theme").addEventListener("click", () => setTheme(document.documentElement.dataset.theme === "dark" ? "light" : "dark"));
     document.addEventListener("keydown", (event) => this.key(event));
+    // On paper nothing can be opened, so the texts of filters are.
+    window.addEventListener("beforeprint", () => byId("filter-list").querySelectorAll(":scope > details").forEach((it) => {
+      it.open = true;
+    }));
     window.addEventListener("popstate", () => this.show(readAddress(this.domain, location.hash)));
-    window.addEventListener("hashchange", () => this.show(readAddress(this.domain, location.hash)));
   }
 
   showKind(kind) {
@@ -673,10 +532,10 @@ class Page {
       this.showFound();
       this.go({ failed: NOTHING, node: null });
     } else if (!isTyping && !event.ctrlKey && !event.metaKey && !event.altKey) {
-      const keys = { "/": () => byId("search").focus(), "+": () => byId("closer").click(), "-": () => byId("farther").click(), 0: () => byId("whole").click() };
-      if (Object.hasOwn(keys, event.key)) {
+      const named = { "/": "search", "+": "closer", "-": "farther", 0: "whole" };
+      if (Object.hasOwn(named, event.key)) {
         event.preventDefault();
-        keys[event.key]();
+        byId(named[event.key])[event.key === "/" ? "focus" : "click"]();
       }
     }
   }

@@ -358,7 +358,8 @@ class Drawing {
   linkElement(link) {
     const [[x1, y1], [x2, y2]] = this.domain.links[link].map((node) => this.places.get(node));
     const wire = svgElement("line", { x1, y1, x2, y2, class: "wire" });
-    const element = svgElement("g", { class: "link", "data-link": link }, wire, svgElement("line", { x1, y1, x2, y2, class: "reach" }), svgElement("title"));
+    const reach = svgElement("line", { x1, y1, x2, y2, class: "reach" });
+    const element = svgElement("g", { class: "link", "data-link": link }, wire, reach, svgElement("title"));
     element.addEventListener("click", (event) => this.hooks.link(link, event));
     return element;
   }
@@ -368,7 +369,8 @@ class Drawing {
     const folded = this.into.filter((host) => host === node).length - 1;
     const element = svgElement("g", { class: "node", "data-node": node, transform: `translate(${x} ${y})`, role: "button", tabindex: -1 },
       svgElement("title"), svgElement("path", { class: "shape" }), svgElement("text", { class: "number", dy: "0.35em" }, String(node)),
-      svgElement("text", { class: "under", x: this.radius * 0.75, y: this.radius + 6 }), svgElement("text", { class: "count", x: this.radius - 2, y: -this.radius + 2 }),
+      svgElement("text", { class: "under", x: this.radius * 0.75, y: this.radius + 6 }),
+      svgElement("text", { class: "count", x: this.radius - 2, y: -this.radius + 2 }),
       svgElement("text", { class: "prefix", y: -this.radius - 4 }, this.domain.data.prefixes[node]));
     if (folded) {
       const badge = svgElement("g", { class: "folded", transform: `translate(${-this.radius} ${this.radius - 2})`, "aria-hidden": "true" },

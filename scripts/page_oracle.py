@@ -20,7 +20,7 @@ from lib.program import TOP, built
 PAGES = TOP / "pages"
 
 # The files of the script of a page, in the order in which they stand in it.
-SCRIPTS = ("routes.js", "drawing.js", "domain.js")
+SCRIPTS = ("routes.js", "drawing.js", "tables.js", "words.js", "domain.js")
 
 
 def asked(program, command, text):

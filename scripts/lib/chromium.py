@@ -17,7 +17,10 @@ FLAGS = ("--headless", "--no-sandbox", "--disable-gpu", "--disable-dev-shm-usage
          "--disable-background-networking", "--disable-component-update", "--remote-debugging-pipe")
 
 # The keys that are pressed, with what they type and their numbers.
-KEYS = {"Enter": ("\r", 13), "Escape": ("", 27), "Tab": ("", 9), "ArrowLeft": ("", 37), "ArrowUp": ("", 38), "ArrowRight": ("", 39), "ArrowDown": ("", 40)}
+KEYS = {
+    "Enter": ("\r", 13), "Escape": ("", 27), "Tab": ("", 9),
+    "ArrowLeft": ("", 37), "ArrowUp": ("", 38), "ArrowRight": ("", 39), "ArrowDown": ("", 40),
+}
 
 
 class Chromium:
