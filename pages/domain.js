@@ -150,7 +150,7 @@ class Page {
     const isNone = after[0] === domain.size;
     const isChanged = !words.isSame(before, after);
     const looks = [node === view.node ? "chosen" : isLost ? "lost" : isChanged ? "changed" : isNone ? "apart" : ""];
-    if (found && this.isStill(node)) {
+    if (found && node !== view.node && this.isStill(node)) {
       looks.push("still");
     }
     const distance = ([number]) => (number === domain.size ? "none" : `${number}`);
@@ -423,11 +423,11 @@ class Page {
       it[word].flatMap((used, end) => (used === number ? [use(it, place, word, end)] : []))));
     const effects = filter.effects.map(({ distances, nodes }) => make("li", {}, `${this.words.nodes(nodes)}: ${this.words.effect(distances)}`));
     return make("details", { id: `filter-${number}` },
-      make("summary", {}, make("strong", {}, filter.name), `, line ${filter.line}, used ${counted(uses.length, "time")}`),
+      make("summary", {}, make("strong", {}, filter.name), `, line ${filter.line}, ${uses.length ? `used ${counted(uses.length, "time")}` : "not used"}`),
       make("pre", {}, filter.text ?? "(a code file)"),
       make("p", {}, `At most ${counted(filter.budget, "step")}, ${counted(filter.depth, "operand")}. What it makes of distances to`),
       make("ul", { className: "plain" }, ...effects),
-      make("details", {}, make("summary", {}, `Where it is used: ${counted(uses.length, "time")}`), make("ul", { className: "plain" }, ...uses)),
+      uses.length ? make("details", {}, make("summary", {}, "Where it is used"), make("ul", { className: "plain" }, ...uses)) : null,
       make("details", {}, make("summary", {}, "Its code"), make("pre", {}, filter.listing.join("\n"))));
   }
 

@@ -263,6 +263,14 @@ def changes_of(place, data, *cuts):
     return [(u, v) for u, v in pairs if before[u][v] != after[u][v]]
 
 
+def still_nodes(place, data, node, *cuts):
+    """The other nodes that keep their routes to a node however often links come and go: in a picture of the changes they are not red."""
+    script = [*script_of(data), "mark", *cuts, f"draw {node} changes"]
+    said = page_oracle.asked(place.program, ["domain"], "\n".join(script).encode())[-1]
+    looks = re.findall(r"(\d+) \[([^]]*)\];", said)[:data["size"]]
+    return [int(other) for other, look in looks if "color=red" not in look and int(other) != node]
+
+
 def in_words(data, route):
     return "none" if route[0] == data["size"] else "here" if route[1] is None else f"{route[0]} via {route[1]}"
 
@@ -274,6 +282,9 @@ def routes_of_node(place, data, node, *cuts):
     def both(u, v):
         texts = [in_words(data, tables[u][v]) for tables in (before, after)]
         return texts[0] if before[u][v] == after[u][v] else " \u2192 ".join(texts)
+    still = still_nodes(place, data, node, *cuts)
+    shown = sorted(place.run("[...document.querySelectorAll('#map .node.still')].map((it) => Number(it.dataset.node))"))
+    place.expect(f"who keeps a route to node {node}, {cuts}", shown == still, f"{shown} and {still}")
     wanted = sorted([str(other), data["prefixes"][other], both(node, other), both(other, node)] for other in range(data["size"]) if other != node)
     shown = place.run("[...document.querySelectorAll('#detail tbody tr')].map((row) => [...row.cells].map((cell) => cell.textContent))")
     place.expect(f"the routes of node {node}, {cuts}", sorted(shown) == wanted, f"{sorted(shown)} and {wanted}")
