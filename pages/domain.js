@@ -422,8 +422,9 @@ class Page {
     const uses = data.links.flatMap((it, place) => ["exports", "imports"].flatMap((word) =>
       it[word].flatMap((used, end) => (used === number ? [use(it, place, word, end)] : []))));
     const effects = filter.effects.map(({ distances, nodes }) => make("li", {}, `${this.words.nodes(nodes)}: ${this.words.effect(distances)}`));
+    const used = uses.length ? `used ${counted(uses.length, "time")}` : "not used";
     return make("details", { id: `filter-${number}` },
-      make("summary", {}, make("strong", {}, filter.name), `, line ${filter.line}, ${uses.length ? `used ${counted(uses.length, "time")}` : "not used"}`),
+      make("summary", {}, make("strong", {}, filter.name), `, line ${filter.line}, ${used}`),
       make("pre", {}, filter.text ?? "(a code file)"),
       make("p", {}, `At most ${counted(filter.budget, "step")}, ${counted(filter.depth, "operand")}. What it makes of distances to`),
       make("ul", { className: "plain" }, ...effects),

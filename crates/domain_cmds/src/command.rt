@@ -61,6 +61,8 @@ pub enum Command<'a> {
     },
     /// `mark`: remembers all routes.
     Mark,
+    /// `json`: the whole domain, for programs.
+    Json,
     /// A question.
     Ask(Question),
 }

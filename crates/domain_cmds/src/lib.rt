@@ -24,6 +24,7 @@ mod fault;
 mod felt;
 mod filters;
 mod laws;
+mod origins;
 mod planning;
 mod playing;
 mod reach;
@@ -33,6 +34,7 @@ mod routes;
 mod still;
 mod text;
 mod verb;
+mod whole;
 mod without;
 
 pub use command::{Command, DomainSize, Question};

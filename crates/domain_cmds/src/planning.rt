@@ -7,9 +7,11 @@ use crate::asking::answer_question;
 use crate::command::{Command, DomainSize, Question};
 use crate::fault::StateFault;
 use crate::filters::Filters;
+use crate::origins::Origins;
 use crate::playing::{Change, Playing};
 use crate::resting::RestingPlan;
 use crate::routes::Column;
+use crate::whole::push_whole;
 use domain_routes::{Plan, Since};
 use filter_source::Diagnosis;
 use line_protocol::LineReply;
@@ -26,6 +28,8 @@ pub(crate) struct Planning {
     domain: RestingPlan,
     /// The filter of each name.
     filters: Filters,
+    /// Where they come from, and where they are used.
+    origins: Origins,
     /// A command came after which prefixes stay.
     begun: bool,
     /// All routes at rest at the last `mark`.
@@ -89,6 +93,7 @@ impl Planning {
         Ok(Planning {
             domain: RestingPlan::new(plan),
             filters: Filters::new(alloc, size.nodes),
+            origins: Origins::new(alloc),
             begun: false,
             marked: None,
             since: Since::Anything,
@@ -149,6 +154,7 @@ impl Planning {
                 name,
             } => self.use_filter(number, direction, u, w, name, out),
             Command::Mark => self.mark(alloc, out),
+            Command::Json => self.answer_json(alloc, out),
             Command::Ask(question) => self.ask(alloc, number, question, out),
         }
     }
@@ -186,7 +192,13 @@ impl Planning {
         ensures ok { IfOk result (Answers (λ answer. spec.AnswersLoad (gives source.entry) (lacks source.entry) self.old number name.now answer self.new) out.old.items out.new.items) }
         ensures err { OnErr result (StartsWith out.new.items out.old.items) }
     {
-        self.filters.load(alloc, number, name, source, out)
+        let reply = self.filters.load(alloc, number, name, source, out)?;
+        if reply == LineReply::Answered
+            && let Some(filter) = self.filters.get(name)?
+        {
+            self.origins.note(alloc, number, name, source, filter)?;
+        }
+        Ok(reply)
     }
 
     /// Answers `link` and `cut`: two nodes are neighbours from now on, or no more.
@@ -236,6 +248,7 @@ impl Planning {
         }
         let played = Arc::try_clone(&filter)?;
         self.playing.note(Change::Filter(direction, u, w, played))?;
+        self.origins.note_use(direction, u, w, name)?;
         self.domain.set_filter(direction, u, w, filter);
         self.since = Since::Anything;
         confirm(out)
@@ -263,6 +276,14 @@ impl Planning {
             number,
             out,
         )
+    }
+
+    /// Answers `json`: the whole domain, for programs.
+    fn answer_json(&mut self, alloc: Global, out: &mut Vec<u8>) -> Result<LineReply, AllocError> {
+        self.begun = true;
+        push_whole(alloc, out, &mut self.domain, &self.origins)?;
+        out.push(b'\n')?;
+        Ok(LineReply::Answered)
     }
 
     /// Answers `mark`: remembers all routes at rest.

@@ -39,10 +39,12 @@ pub enum Verb {
     Failures,
     /// `settle`
     Settle,
+    /// `json`
+    Json,
 }
 
 /// All of them.
-pub static VERBS: [Verb; 17] = [
+pub static VERBS: [Verb; 18] = [
     Verb::Domain,
     Verb::Prefix,
     Verb::Load,
@@ -60,6 +62,7 @@ pub static VERBS: [Verb; 17] = [
     Verb::Changes,
     Verb::Failures,
     Verb::Settle,
+    Verb::Json,
 ];
 
 impl Verb {
@@ -87,6 +90,7 @@ impl Verb {
             Verb::Changes => "changes",
             Verb::Failures => "failures",
             Verb::Settle => "settle",
+            Verb::Json => "json",
         }
     }
 }
