@@ -7,10 +7,10 @@ const SVG = "http://www.w3.org/2000/svg";
 // How far apart the nodes of a picture are, at least; many are closer, so that a number is still read where all of them are seen.
 const MANY = 100;
 const WIDE = 64;
-const NARROW = 38;
+const NARROW = 45;
 
-// How far apart the nodes of a map are pushed, and how much room each has on the whole.
-const APART = 38;
+// How far apart the nodes of a map are pushed, as a share of that, and how much room each has on the whole.
+const APART = 0.85;
 const ROOM = 5500;
 
 // So many points of the screen a unit of the whole picture has, at most.
@@ -122,7 +122,7 @@ function drawnTo(places, [x, y], far, node) {
 function roomy(places, spacing) {
   const { width, height } = boxOf(places, 1);
   const scale = Math.max(spacing, Math.sqrt((places.length * ROOM) / (width * height)));
-  return pushApart(places.map(([x, y]) => [x * scale, y * scale]), APART);
+  return pushApart(places.map(([x, y]) => [x * scale, y * scale]), spacing * APART);
 }
 
 // Pushes nodes apart that are too close.

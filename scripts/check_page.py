@@ -14,6 +14,7 @@ import subprocess
 import sys
 import tempfile
 
+import make_shell
 import page_oracle
 from check_domains import FILTERS, NAMES
 from lib.chromium import Chromium
@@ -50,6 +51,10 @@ def sources(counts):
         found = re.findall(r"\w+://[^\s\"'`]+", source)
         counts.expect(f"{name} names nothing elsewhere", set(found) <= {"http://www.w3.org/2000/svg"}, found)
         counts.expect(f"{name} is in whole lines", source.endswith("\n") and "\t" not in source and max(map(len, source.split("\n"))) <= 150)
+    shell = (TOP / "crates" / "domain_reports" / "src" / "shell.rt").read_text(encoding="utf-8")
+    counts.expect("the program has this page: make_shell.py writes it", shell == make_shell.source())
+    ends = [name for name, source in text.items() if "</s" in source.lower() and not name.endswith(".html")]
+    counts.expect("no script or style ends its element", not ends, ends)
     counts.expect("each script is joined", sorted(page_oracle.SCRIPTS) == sorted(name for name in text if name.endswith(".js")))
     contrasts(counts, text["domain.css"])
 
@@ -164,7 +169,12 @@ def by_program(place, name, script, data):
     said = page_oracle.asked(place.program, ["domain"], script.rstrip(b"\n") + b"\njson\n")[-1]
     if not said.startswith("{"):
         return place.counts.skip(f"{name}: json", "this program writes no JSON of a domain")
-    return place.expect(f"{name}: json", json.loads(said) == data and said == page_oracle.in_json(data))
+    place.expect(f"{name}: json", json.loads(said) == data and said == page_oracle.in_json(data))
+    (place.folder / "script").write_bytes(script)
+    (place.folder / "out.html").unlink(missing_ok=True)
+    ran = subprocess.run([place.program, "domain", "script", "--page", "out.html"], cwd=place.folder, capture_output=True)
+    is_same = ran.returncode == 0 and (place.folder / "out.html").read_text(encoding="utf-8") == page_oracle.page("script", data)
+    return place.expect(f"{name}: page", is_same, ran.stderr)
 
 
 def nodes_have_room(place, name):

@@ -196,6 +196,7 @@ static PARAMETERS: [(&str, Parameter); 60] = [
     ("eval", EXPLAIN),
     ("rewrite", OLD),
     ("domain", EXPLAIN),
+    ("domain", PAGE),
     ("domain", SCRIPT),
     ("replay", REPLAYED),
     ("router", ROUTER_SIZE),
@@ -443,6 +444,15 @@ const REPLAYED: Parameter = Parameter {
     value: "FILE",
     help: "The text of a history, or its segments in order, in place of standard input; - is standard input",
     kind: ParameterKind::Arguments,
+    is_required: false,
+};
+
+/// The file of the page of a domain.
+const PAGE: Parameter = Parameter {
+    name: "page",
+    value: "OUT",
+    help: "Write a page for a browser to OUT, which must not be there yet: the domain as it is behind the last command",
+    kind: ParameterKind::Text,
     is_required: false,
 };
 

@@ -262,6 +262,7 @@ The input is commands, one a line. Empty lines and lines that begin with # are s
   changes                the routes that are not what they were at the last mark, and
                          which distances stand still while the changes happen
   settle                 have the routers exchange messages until none is left
+  json                   the whole domain and all failures on a line, for programs
 
 Each command is answered on standard output before more input is read:
   ok                     domain, prefix, link, cut, import, export, mark

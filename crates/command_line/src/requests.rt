@@ -157,6 +157,15 @@ pub enum Request {
         /// Where its text is.
         source: Source,
     },
+    /// Carry out the script of a domain, and write its page.
+    Page {
+        /// Where its commands are.
+        source: Source,
+        /// Why a line is refused is told in words too.
+        is_explained: bool,
+        /// The name of the new file of the page.
+        page: String,
+    },
     /// Import the filters of a configuration of BIRD.
     Import {
         /// How they are imported.
@@ -477,9 +486,16 @@ pub fn domain_in(
     ensures { IfOk result (AskFor command.Domain (given_in matches.now) terminals) }
 {
     let (source, is_explained) = told_source(alloc, matches, terminals)?;
-    Ok(Request::Script {
-        engine: Engine::Domain,
-        source,
-        is_explained,
-    })
+    match text_in(alloc, matches, "page")? {
+        Some(page) => Ok(Request::Page {
+            source,
+            is_explained,
+            page,
+        }),
+        None => Ok(Request::Script {
+            engine: Engine::Domain,
+            source,
+            is_explained,
+        }),
+    }
 }

@@ -65,6 +65,7 @@ fn count_of(request: &Request) -> usize
         }
         Request::Import { source, .. }
         | Request::List { source, .. }
+        | Request::Page { source, .. }
         | Request::Script { source, .. } => input_in(source),
         Request::Filter { source, .. } => input_in(source).saturating_add(1),
         Request::Eval { .. } | Request::Rewrite { .. } => 1,

@@ -8,6 +8,7 @@ use crate::planning::Planning;
 use crate::read::read_command;
 use line_protocol::{LineReply, Service, StreamFault, answer_lines};
 use operator_cmds::{CommandFault, Nobody, RefusedLine, Watch, confirm, refuse};
+use serde_json::Value;
 use std::alloc::{AllocError, Global};
 use std::io::{Read, Write};
 
@@ -55,6 +56,14 @@ impl Engine {
         Engine { planning: None }
     }
 
+    /// The domain as programs read it, once it is set up.
+    pub(crate) fn value(&mut self, alloc: Global) -> Result<Option<Value>, AllocError> {
+        match &mut self.planning {
+            Some(planning) => Ok(Some(planning.value(alloc)?)),
+            None => Ok(None),
+        }
+    }
+
     /// A line that this script refused, and what the script knows.
     fn refused_line<'a>(
         &'a self,
@@ -99,11 +108,11 @@ impl Engine {
 
 /// A domain's script and who watches it.
 #[derive(Drop)]
-struct Watched<S: Watch + Drop> {
+pub(crate) struct Watched<S: Watch + Drop> {
     /// The script.
-    engine: Engine,
+    pub(crate) engine: Engine,
     /// Who watches it.
-    watcher: S,
+    pub(crate) watcher: S,
 }
 
 impl<S: Watch + Drop> Service for Watched<S> {

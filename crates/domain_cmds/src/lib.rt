@@ -25,6 +25,7 @@ mod felt;
 mod filters;
 mod laws;
 mod origins;
+mod paged;
 mod planning;
 mod playing;
 mod reach;
@@ -39,5 +40,6 @@ mod without;
 
 pub use command::{Command, DomainSize, Question};
 pub use engine::{run_domain, run_watched_domain};
+pub use paged::{Paged, run_paged_domain};
 pub use laws::{failures_stand_still_as_cuts, marks_are_of_a_plan};
 pub use read::read_command;

@@ -11,12 +11,14 @@ use crate::origins::Origins;
 use crate::playing::{Change, Playing};
 use crate::resting::RestingPlan;
 use crate::routes::Column;
-use crate::whole::push_whole;
+use crate::whole::value_of;
+use domain_reports::push_line;
 use domain_routes::{Plan, Since};
 use filter_source::Diagnosis;
 use line_protocol::LineReply;
 use operator_cmds::{Direction, FilterSource, NamedFilters, confirm, default_prefixes, refuse};
 use prefix_patterns::Prefix;
+use serde_json::Value;
 use std::alloc::{AllocError, Global};
 use std::marker::Model;
 use std::sync::Arc;
@@ -281,9 +283,13 @@ impl Planning {
     /// Answers `json`: the whole domain, for programs.
     fn answer_json(&mut self, alloc: Global, out: &mut Vec<u8>) -> Result<LineReply, AllocError> {
         self.begun = true;
-        push_whole(alloc, out, &mut self.domain, &self.origins)?;
-        out.push(b'\n')?;
+        push_line(alloc, out, &self.value(alloc)?)?;
         Ok(LineReply::Answered)
+    }
+
+    /// The domain as programs read it.
+    pub(crate) fn value(&mut self, alloc: Global) -> Result<Value, AllocError> {
+        value_of(alloc, &mut self.domain, &self.origins)
     }
 
     /// Answers `mark`: remembers all routes at rest.

@@ -1,4 +1,4 @@
-//! The answer to `json`: a domain, its routes at rest and its failures, for programs.
+//! A domain, its routes at rest and its failures, as programs read them.
 
 use crate::failure::{Failing, Failure};
 use crate::failures::{link_failures, node_failures};
@@ -8,7 +8,7 @@ use crate::resting::RestingPlan;
 use crate::routes::{Column, route_of};
 use domain_reports::{
     Effect, FailureReport, Fails, FilterReport, LinkReport, WholeReport, failure_value, filter_value,
-    link_value, push_line, route_value, text_value, whole_value,
+    link_value, route_value, text_value, whole_value,
 };
 use domain_routes::Plan;
 use filter_reports::push_prefix;
@@ -195,13 +195,12 @@ fn failure_values(alloc: Global, failures: &[Failure]) -> Result<Vec<Value>, All
     Ok(values)
 }
 
-/// Adds the line of a domain, but for its end.
-pub(crate) fn push_whole(
+/// A domain as programs read it.
+pub(crate) fn value_of(
     alloc: Global,
-    out: &mut Vec<u8>,
     domain: &mut RestingPlan,
     origins: &Origins,
-) -> Result<(), AllocError> {
+) -> Result<Value, AllocError> {
     let all = domain.all_routes(alloc)?;
     let by_link = link_failures(alloc, domain, all.as_slice())?;
     let by_node = node_failures(alloc, domain, all.as_slice())?;
@@ -217,6 +216,5 @@ pub(crate) fn push_whole(
         link_failures: failure_values(alloc, by_link.as_slice())?,
         node_failures: failure_values(alloc, by_node.as_slice())?,
     };
-    let value = whole_value(alloc, whole)?;
-    push_line(alloc, out, &value)
+    whole_value(alloc, whole)
 }

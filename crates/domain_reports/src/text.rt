@@ -48,8 +48,10 @@ pub(crate) fn lines_value(alloc: Global, text: &[u8]) -> Result<Value, AllocErro
     Ok(Value::Array(list))
 }
 
-/// Puts a value at the end of `out`, as a line without its end.
+/// Puts a value at the end of `out`, as a line.
 pub fn push_line(alloc: Global, out: &mut Vec<u8>, value: &Value) -> Result<(), AllocError> {
     let text = value.to_string(alloc)?;
-    out.extend_from_slice(text.as_bytes())
+    out.extend_from_slice(text.as_bytes())?;
+    out.push(b'\n')?;
+    Ok(())
 }

@@ -20,6 +20,7 @@ mod lines;
 mod linting;
 mod loading;
 mod network;
+mod paging;
 mod placed;
 mod planning;
 mod replay;

@@ -17,6 +17,7 @@ use crate::guided::guide_source;
 use crate::importing::import_source;
 use crate::joined::guide_sources;
 use crate::linting::lint_sources;
+use crate::paging::page_source;
 use crate::script::{run_source, script_fault};
 use crate::segments::replay_sources;
 use crate::testing::test_sources;
@@ -173,6 +174,11 @@ fn answer<F: Folder, R: Read, W: Write, E: Write>(
             source,
             console,
         ),
+        Request::Page {
+            source,
+            is_explained,
+            page,
+        } => page_source(files, alloc, source, *is_explained, page.as_str(), console),
         Request::Replay { sources } => replay_sources(files, alloc, sources.as_slice(), console),
         Request::Rewrite { is_old } => rewrite(alloc, *is_old, console),
         Request::Run { how, source } => guide_source(files, alloc, how, source, console),
@@ -206,6 +212,7 @@ pub fn fault_status(request: &Request) -> u8
         | Request::Filter { .. }
         | Request::Lint { .. }
         | Request::List { .. }
+        | Request::Page { .. }
         | Request::Replay { .. }
         | Request::Test { .. } => FAULT,
         Request::Script { engine, .. } => script_fault(*engine),
