@@ -1,6 +1,6 @@
 #!/usr/bin/env python3
-"""Draws the pictures of pages in docs/: `office_page.png`, the office of two providers of examples/office.domain before a link fails there, as its page
-shows the failure of the link to provider A.
+"""Draws the pictures of pages in docs/: `office_page.png`, the office of two providers of examples/office.domain before a link fails there, as its
+page shows the failure of the link to provider A.
 
 usage: NCROUTE=PATH scripts/picture_pages.py [FOLDER]        (PATH: the program; FOLDER: for the pictures in place of docs/)
 """
