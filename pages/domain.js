@@ -5,6 +5,7 @@
 
 "use strict";
 
+// So many things a search finds, or are named in a line, at most.
 const FOUND_AT_MOST = 12;
 
 // ---- what is chosen
@@ -344,8 +345,6 @@ class Page {
       ["Distance below which nothing moves", counts.still === domain.size ? "none moves" : counts.still],
     ];
     const list = make("dl", {}, ...facts.map(([term, fact]) => make("div", {}, make("dt", {}, term), make("dd", {}, fact.toLocaleString("en")))));
-    const isOf = (it) => view.node === null || it.from === view.node || it.to === view.node;
-    const changes = found.changes.filter(isOf);
     const parts = [make("h2", {}, name), make("p", { className: "buttons" }, ...chips), list];
     if (domain.differs(found)) {
       const alarm = "The program says other numbers of this failure than this page finds. Do not trust the page.";
@@ -356,9 +355,9 @@ class Page {
     }
     if (view.node !== null) {
       parts.push(make("p", {}, this.bound()));
-    } else if (changes.length) {
+    } else if (found.changes.length) {
       this.changeTable.limit = FIRST_ROWS;
-      parts.push(this.changeTable.show(changes));
+      parts.push(this.changeTable.show(found.changes));
     }
     return parts;
   }

@@ -414,6 +414,22 @@ def folded(place):
 # ---- routes that the page finds, and those of the program
 
 
+# What is said of each effect of a domain's filters.
+EFFECTS = "((data) => data.filters.map((it) => it.effects.map(({ distances }) => new Words(new Domain(data)).effect(distances))))"
+
+
+def distances_of(words, size):
+    """The distances that words say, such as `0-2 kept, 3-4 +2, 5 become 9, 6-7 rejected`."""
+    found = []
+    for run in words.split(", "):
+        range_of, _, becomes = run.partition(" ")
+        first, _, last = range_of.partition("\u2013")
+        for distance in range(int(first), int(last or first) + 1):
+            more = {"kept": distance, "rejected": size}
+            found.append(more[becomes] if becomes in more else distance + int(becomes) if becomes[0] == "+" else int(becomes.removeprefix("become ")))
+    return found
+
+
 # The tables of a domain without some links and nodes, for many choices of these.
 TABLES = """((data, all) => {
   const domain = new Domain(data);
@@ -445,6 +461,10 @@ def failures(place, number, seed):
         gone = [pair for place_of, pair in enumerate(links) if place_of in cut or set(pair) & set(nodes)]
         wanted = tables_after(place, data, *(f"cut {u} {w}" for u, w in gone))
         place.expect(f"domain {number} without {gone}", tables == wanted, f"{script}: {tables} and {wanted}")
+    for known, words in zip(data["filters"], place.run(f"{EFFECTS}({json.dumps(data)})")):
+        effects = [effect["distances"] for effect in known["effects"]]
+        told = [distances_of(it, size) for it in words]
+        place.expect(f"domain {number}: what filter {known['name']} makes of distances", told == effects, f"{words} and {effects}")
     differing = place.run(f"{DIFFERING}({json.dumps(data)})")
     place.expect(f"domain {number}: the numbers of its failures", differing == [], f"{script}: {differing}")
 

@@ -37,8 +37,9 @@ class Domain:
         self.size, self.prefixes, self.links, self.filters, self.named, self.uses = 0, [], set(), [], {}, {}
         answers = iter(asked(program, ["domain"], script))
         for number, line in enumerate(script.decode(errors="replace").split("\n"), 1):
-            words = line.split(None, 2)
-            if words and not line.startswith("#"):
+            line = line.removesuffix("\r")
+            words = re.split(r"[ \t]+", line.lstrip(" \t"), maxsplit=2)
+            if line and not line.startswith("#"):
                 answer = next(answers)
                 if answer.startswith("failures "):
                     for _ in range(int(answer.split()[1])):
@@ -55,9 +56,9 @@ class Domain:
             self.prefixes[int(words[1])] = cleared(words[2].strip())
         elif verb in ("load", "code"):
             self.named[words[1]] = len(self.filters)
-            self.filters.append(self.filter(number, verb, words[1], words[2].rstrip("\r"), answer))
+            self.filters.append(self.filter(number, verb, words[1], words[2], answer))
         elif verb in ("link", "cut"):
-            (self.links.add if verb == "link" else self.links.discard)(tuple(sorted(map(int, words[1:]))))
+            (self.links.add if verb == "link" else self.links.discard)(tuple(sorted(map(int, words[1:3]))))
         elif verb in ("import", "export"):
             w, name = words[2].split()
             self.uses[verb, int(words[1]), int(w)] = self.named[name]

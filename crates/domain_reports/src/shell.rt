@@ -6,7 +6,7 @@ pub(crate) const BEFORE_FILE: &str = "\
 <html lang=\"en\">\n\
 <head>\n\
 <meta charset=\"utf-8\">\n\
-<meta http-equiv=\"Content-Security-Policy\" content=\"default-src 'none'; style-src 'sha256-hGBoFaj6LxwtcBiL14NZpebgQF7cTQ7CLXG9m7uzWUY='; script-src 'sha256-0mcvDwvQH2LiXanuwMIfzz6URkg/1QxDrTZbOOHufFM='\">\n\
+<meta http-equiv=\"Content-Security-Policy\" content=\"default-src 'none'; style-src 'sha256-hGBoFaj6LxwtcBiL14NZpebgQF7cTQ7CLXG9m7uzWUY='; script-src 'sha256-ARGfUv/ty7pMC5dN9A4g/6pg3IBz/V8BAQPYH8XtkvI='\">\n\
 <meta name=\"viewport\" content=\"width=device-width, initial-scale=1\">\n\
 <title>Routing domain</title>\n\
 <style>\n\
@@ -1164,6 +1164,7 @@ function ranges(numbers) {\n\
 \n\
 \"use strict\";\n\
 \n\
+// So many things a search finds, or are named in a line, at most.\n\
 const FOUND_AT_MOST = 12;\n\
 \n\
 // ---- what is chosen\n\
@@ -1503,8 +1504,6 @@ class Page {\n\
 \x20     [\"Distance below which nothing moves\", counts.still === domain.size ? \"none moves\" : counts.still],\n\
 \x20   ];\n\
 \x20   const list = make(\"dl\", {}, ...facts.map(([term, fact]) => make(\"div\", {}, make(\"dt\", {}, term), make(\"dd\", {}, fact.toLocaleString(\"en\")))));\n\
-\x20   const isOf = (it) => view.node === null || it.from === view.node || it.to === view.node;\n\
-\x20   const changes = found.changes.filter(isOf);\n\
 \x20   const parts = [make(\"h2\", {}, name), make(\"p\", { className: \"buttons\" }, ...chips), list];\n\
 \x20   if (domain.differs(found)) {\n\
 \x20     const alarm = \"The program says other numbers of this failure than this page finds. Do not trust the page.\";\n\
@@ -1515,9 +1514,9 @@ class Page {\n\
 \x20   }\n\
 \x20   if (view.node !== null) {\n\
 \x20     parts.push(make(\"p\", {}, this.bound()));\n\
-\x20   } else if (changes.length) {\n\
+\x20   } else if (found.changes.length) {\n\
 \x20     this.changeTable.limit = FIRST_ROWS;\n\
-\x20     parts.push(this.changeTable.show(changes));\n\
+\x20     parts.push(this.changeTable.show(found.changes));\n\
 \x20   }\n\
 \x20   return parts;\n\
 \x20 }\n\
