@@ -444,8 +444,9 @@ def random_domain(numbers):
     yield from (f"prefix {v} 10.{v % 4}.{v}.0/24" for v in range(size) if numbers.randrange(4) == 0)
     yield from (f"load {name} filter f {{ {numbers.choice(FILTERS)} }}" for name in NAMES)
     yield from (f"link {u} {w}" for u, w in itertools.combinations(range(size), 2) if numbers.randrange(5) < 2)
-    yield from (f"{numbers.choice(('import', 'export'))} {u} {w} {numbers.choice(NAMES)}"
-                for u, w in itertools.permutations(range(size), 2) if numbers.randrange(3) == 0)
+    # A route may pass two filters on its way over a link.
+    yield from (f"{kind} {u} {w} {numbers.choice(NAMES)}"
+                for kind in ("import", "export") for u, w in itertools.permutations(range(size), 2) if numbers.randrange(3) == 0)
 
 
 def failures(place, number, seed):
