@@ -40,6 +40,6 @@ mod without;
 
 pub use command::{Command, DomainSize, Question};
 pub use engine::{run_domain, run_watched_domain};
-pub use paged::{Paged, run_paged_domain};
 pub use laws::{failures_stand_still_as_cuts, marks_are_of_a_plan};
+pub use paged::{Paged, run_paged_domain};
 pub use read::read_command;

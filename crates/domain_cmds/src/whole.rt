@@ -7,8 +7,8 @@ use crate::reach::{longest, phases_to_rest};
 use crate::resting::RestingPlan;
 use crate::routes::{Column, route_of};
 use domain_reports::{
-    Effect, FailureReport, Fails, FilterReport, LinkReport, WholeReport, failure_value, filter_value,
-    link_value, route_value, text_value, whole_value,
+    Effect, Fails, FailureReport, FilterReport, LinkReport, WholeReport, failure_value,
+    filter_value, link_value, route_value, text_value, whole_value,
 };
 use domain_routes::Plan;
 use filter_reports::push_prefix;
