@@ -80,7 +80,7 @@ def contrasts(counts, style):
         colours = dict(re.findall(r"--([\w-]+): (#\w{6});", block))
         pairs = [(text, ground, 4.5) for text in ("text", "quiet", "accent", "changed", "lost", "still") for ground in ("ground", "panel")]
         pairs += [("changed", "changed-ground", 4.5), ("lost", "lost-ground", 4.5), ("text", "lost-ground", 4.5), ("text", "changed-ground", 4.5)]
-        pairs += [("ground", "accent", 4.5), ("wire", "ground", 2.9)]
+        pairs += [("ground", "accent", 4.5), ("wire", "ground", 3)]
         for text, ground, least in pairs:
             found = contrast(colours[text], colours[ground])
             counts.expect(f"{theme}: {text} on {ground}", found >= least, f"{found:.2f}")
