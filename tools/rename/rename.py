@@ -122,6 +122,9 @@ class Tree:
             if self.before[was] != text:
                 with open(f"{self.root}/{path}", "w", encoding="utf-8", newline="") as file:
                     file.write(text)
+        for folder, _, _ in os.walk(f"{self.root}/crates", topdown=False):
+            if "/out/" not in folder and not os.listdir(folder):
+                os.rmdir(folder)
 
 
 def crate_of(path):
@@ -352,7 +355,9 @@ def takes_from(kind, text, name):
     code = code_only("rt" if kind == "edit" else kind, text)
     for found in re.finditer(r"Rattle\.(\w+)((?:\.\w+)*)(?:\.\{([^}]*)\})?", code):
         listed = found.group(3)
-        if (listed is not None and whole(name).search(listed)) or (listed is None and found.group(2).endswith(f".{name}")):
+        path = found.group(2).split(".")
+        is_its_path = name in path and path[1:3] == ["specs", "declared"]
+        if is_its_path or (listed is not None and whole(name).search(listed)) or (listed is None and path[-1] == name):
             crates.add(found.group(1))
     for found in re.finditer(r"\buse (\w+)::[^;]*;", code):
         if whole(name).search(found.group()) and found.group(1) != "Rattle":
@@ -374,8 +379,8 @@ def enum_blocks(code):
     return blocks
 
 
-def keeps_variant(kind):
-    """Which places have a variant of an enum by this name, and not the type."""
+def keeps_variant(kind, crate=None):
+    """Which places have a variant of an enum by this name, or a module of another crate, and not the type."""
     cache = {}
 
     def keep(code, start, end):
@@ -387,12 +392,16 @@ def keeps_variant(kind):
             if not found:
                 return False
             line = code[code.rfind("\n", 0, start) + 1:start]
-            return not re.search(r"Rattle(\.\w+)*\.$", line) and found.group(1)[0].islower()
+            of = re.search(r"Rattle\.(\w+)(\.\w+)*\.$", line)
+            if of:
+                return crate is not None and of.group(1) != crate
+            return found.group(1)[0].islower()
         if re.search(r"[A-Z]\w*::$", before):
             return True
         line = code[code.rfind("\n", 0, start) + 1:start]
-        if re.search(r"Rattle(\.\w+)*\.$", line):
-            return False
+        of = re.search(r"Rattle\.(\w+)(\.\w+)*\.$", line)
+        if of:
+            return crate is not None and of.group(1) != crate
         if re.search(r"[a-z_]\w*\.$", before):
             return True
         if id(code) not in cache:
@@ -432,7 +441,7 @@ def rename_public(tree, crate, old, new, refused, how=""):
         elif mine and others:
             mixed.append(f"{path}: takes `{old}` from {', '.join(sorted(others))} too")
         elif mine:
-            changed = renamed(kind, text, pattern, new, bare, keeps_variant(kind))
+            changed = renamed(kind, text, pattern, new, bare, keeps_variant(kind, crate))
             if changed != text:
                 todo[path] = changed
     if todo:
