@@ -23,7 +23,7 @@ mod waits;
 use accounts::{Account, Counts};
 use callers::{measure_mutex, measure_passes};
 use endless::measure_endless;
-use input::Input;
+use input::BenchInput;
 use line_protocol::answer_lines;
 use machines::measure_machine;
 use prefix_patterns::read_number;
@@ -40,8 +40,8 @@ fn is_machine(part: &str) -> bool {
 }
 
 /// What is on standard input, for a machine or for a router.
-fn given(rt: &HostRuntime, is_for_machine: bool) -> Option<Input> {
-    let mut input = Input::new(rt.alloc(), is_for_machine);
+fn given(rt: &HostRuntime, is_for_machine: bool) -> Option<BenchInput> {
+    let mut input = BenchInput::new(rt.alloc(), is_for_machine);
     match answer_lines(rt.alloc(), &mut rt.stdin(), &mut io::writer(rt), &mut input) {
         Ok(0) => Some(input),
         _ => None,
@@ -49,7 +49,7 @@ fn given(rt: &HostRuntime, is_for_machine: bool) -> Option<Input> {
 }
 
 /// What the words of the command line ask for: a part, the rounds, and what is on standard input.
-fn asked(rt: &HostRuntime) -> Option<(String, u32, Input)> {
+fn asked(rt: &HostRuntime) -> Option<(String, u32, BenchInput)> {
     let mut words = env::args(rt).ok()?;
     let _program = words.next()?;
     let part = words.next()?;
@@ -96,7 +96,7 @@ fn measured<R: Threads + Wait + Clock + Sync>(
     alloc: Global,
     part: &str,
     rounds: u32,
-    input: Input,
+    input: BenchInput,
 ) -> Option<Counts> {
     if is_machine(part) {
         return measure_machine(alloc, input, part == "verified", rounds);

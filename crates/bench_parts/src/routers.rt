@@ -3,7 +3,7 @@
 ghost use Rattle.std.specs.Prelude.{◌≡◌, IfSome, []};
 
 use crate::accounts::Account;
-use crate::input::{Input, Step};
+use crate::input::{BenchInput, BenchStep};
 use crate::waits::now;
 use netchange_core::{Event, Opening, Reply, Tables};
 use prefix_patterns::{Ip, Prefix};
@@ -33,13 +33,13 @@ impl Answering for Journal {
 /// What is to be done: the events of an input, those of its round so many times. If asked to, the time of each call is taken.
 #[derive(Drop)]
 pub struct Work {
-    pub input: Input,
+    pub input: BenchInput,
     pub rounds: u32,
     pub is_timed: bool,
 }
 
 /// The opening that an input asks for. The prefix of each node is `10.V.0.0/16`.
-pub fn opening_of(alloc: Global, input: &Input) -> Option<Opening> {
+pub fn opening_of(alloc: Global, input: &BenchInput) -> Option<Opening> {
     let mut prefixes = Vec::new(alloc);
     for node in 0..input.size {
         let address = u32::from_be_bytes([10, node.to_be_bytes()[1], 0, 0]);
@@ -60,7 +60,7 @@ fn answer_all<R: Clock, A: Answering>(
     rt: &R,
     answering: &mut A,
     work: &Work,
-    steps: &[Step],
+    steps: &[BenchStep],
     account: &mut Account,
 ) -> Option<()> {
     for step in steps {

@@ -37,7 +37,7 @@ pub view_chain : (x : Expr) (first : Box Expr Global) (more : Vec (ℕ × Op × 
     → view x ≡ chain_of (view y) (view_more ys)
 view_chain x first more y ys is is_first is_more =
     ap view (is ∙ sym (e.rolls-Chain first more))
-    ∙ fold-roll-Expr ExprView view_expr_step (Expr-F.Chain first more)
+    ∙ fold-roll-Expr ExprView view_expr_step (Expr-F.OperandChain first more)
     ∙ ap (λ z. chain_of (view z) (view_more more.items)) (sym is_first)
     ∙ ap (λ zs. chain_of (view y) (view_more zs)) (sym is_more)
 

@@ -19,4 +19,4 @@ pub mod Stuck
 pub mod Texts
 pub mod Unassigned
 -- What only the bodies of this crate are proved against.
-pub mod Drafts
+pub mod Conversions

@@ -12,7 +12,7 @@ use crate::functions::{Decision, decision_of, function_of, is_between, value_of}
 use crate::items::{Item, ItemKind};
 use crate::reason::{Reason, Why, unwritten};
 use crate::rules::split;
-use crate::step::{Call, Plan, Rule, enclosed, planned, push_parts};
+use crate::step::{Call, NextStep, Rule, enclosed, planned, push_parts};
 use crate::word::{
     Word, begins_command, closing, find_outside, is_at, is_before, is_foreign_at, is_name_at,
     word_at,
@@ -139,16 +139,16 @@ fn decided<'a>(
     at: usize,
 ) -> Result<Vec<Word<'a>>, AllocError> {
     let (open, close) = (
-        Word::made(Symbol::LeftParen, at),
-        Word::made(Symbol::RightParen, at),
+        Word::of_symbol(Symbol::LeftParen, at),
+        Word::of_symbol(Symbol::RightParen, at),
     );
-    let stop = Word::made(Symbol::Semicolon, at).after(b"");
+    let stop = Word::of_symbol(Symbol::Semicolon, at).after(b"");
     let (negation, operator) = if made.answer.is(Symbol::True) {
         (None, Symbol::Or)
     } else {
-        (Some(Word::made(Symbol::Not, at)), Symbol::And)
+        (Some(Word::of_symbol(Symbol::Not, at)), Symbol::And)
     };
-    let middle = [close, Word::made(operator, at), open];
+    let middle = [close, Word::of_symbol(operator, at), open];
     let mut words = Vec::from_slice(alloc, &[command])?;
     words.extend_from_slice(negation.as_slice())?;
     push_parts(
@@ -212,22 +212,22 @@ fn decide<'a>(
     made: Decision<'_, 'a>,
     at: usize,
     to: usize,
-) -> Result<Plan<'a>, AllocError>
+) -> Result<NextStep<'a>, AllocError>
     ensures { IfOk result (λ plan. IfSome (why_of_plan plan) (Hinder words.now)) }
 {
     let (Some(head), Some(command)) = (word_at(words, at), first_return(words, at)) else {
-        return Ok(Plan::Done);
+        return Ok(NextStep::Done);
     };
     let written = decided(alloc, made, command, head.at);
     planned(Rule::Returned, at, to, written, unwritten(command.at))
 }
 
 /// Writes the first two commands of a function as one that return one value or another by a condition.
-pub fn plan_return<'a>(alloc: Global, words: &[Word<'a>]) -> Result<Plan<'a>, AllocError>
+pub fn plan_return<'a>(alloc: Global, words: &[Word<'a>]) -> Result<NextStep<'a>, AllocError>
     ensures { IfOk result (λ plan. IfSome (why_of_plan plan) (Hinder words.now)) }
 {
     if !is_foreign_at(words, 0, b"function") {
-        return Ok(Plan::Done);
+        return Ok(NextStep::Done);
     }
     for at in 0..words.len() {
         if is_at(words, at, Symbol::If) {
@@ -236,7 +236,7 @@ pub fn plan_return<'a>(alloc: Global, words: &[Word<'a>]) -> Result<Plan<'a>, Al
             }
         }
     }
-    Ok(Plan::Done)
+    Ok(NextStep::Done)
 }
 
 /// What stands for a call.

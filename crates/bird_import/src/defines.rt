@@ -12,14 +12,14 @@ ghost use Rattle.bird_import.specs.Indices.{IsNameAt};
 ghost use Rattle.bird_import.specs.Reasons.{IsVariable, IsVariableAt, why_of_plan};
 ghost use Rattle.bird_import.specs.Rules.{IsDefined, IsPlaced};
 ghost use Rattle.bird_import.specs.Steps.{Becomes};
-ghost use Rattle.bird_import.specs.Drafts.{IsDefinedHere};
+ghost use Rattle.bird_import.specs.Conversions.{IsDefinedHere};
 ghost use Rattle.bird_import.specs.Stuck.{AreApart, Hinders, IsDefinedName, IsDefinition, IsFound, IsUsed, StandsBefore};
 
 use crate::config::Config;
 use crate::items::Definition;
 use crate::reason::{Reason, Why};
 use crate::rules::{is_defined, is_kind, is_one_operand};
-use crate::step::{Plan, Rule, Step, enclosed, joined};
+use crate::step::{NextStep, Rule, RewriteStep, enclosed, joined};
 use crate::word::{
     Word, WordKind, is_at, is_before, is_foreign_at, is_name_at, is_named_at, kind_at, word_at,
 };
@@ -104,7 +104,7 @@ fn may_be_defined(words: &[Word<'_>], at: usize) -> bool
 
 /// What a name is defined as.
 #[derive(Clone, Copy)]
-enum Found {
+enum NameDefinition {
     /// By this definition.
     Once(Definition),
     /// By two of them.
@@ -114,21 +114,21 @@ enum Found {
 }
 
 /// What is found of a name with a further definition of it.
-fn found_again(found: Found, definition: Definition) -> Found
-    ensures first { found ≡ Found.Never → result ≡ Found.Once definition }
-    ensures second { found ≢ Found.Never → result ≡ Found.Twice }
+fn found_again(found: NameDefinition, definition: Definition) -> NameDefinition
+    ensures first { found ≡ NameDefinition.Never → result ≡ NameDefinition.Once definition }
+    ensures second { found ≢ NameDefinition.Never → result ≡ NameDefinition.Twice }
 {
     match found {
-        Found::Never => Found::Once(definition),
-        Found::Once(_) | Found::Twice => Found::Twice,
+        NameDefinition::Never => NameDefinition::Once(definition),
+        NameDefinition::Once(_) | NameDefinition::Twice => NameDefinition::Twice,
     }
 }
 
 /// The definition of a name.
-fn look_up(config: &Config<'_>, name: &[u8]) -> Found
+fn look_up(config: &Config<'_>, name: &[u8]) -> NameDefinition
     ensures { IsFound config.now name.now (length config.now.definitions.now) result }
 {
-    let mut found = Found::Never;
+    let mut found = NameDefinition::Never;
     for definition in config.definitions {
         if is_named_at(config.words, definition.name, name) {
             found = found_again(found, *definition);
@@ -249,14 +249,14 @@ fn place<'a>(
     definition: Definition,
     word: Word<'a>,
     at: usize,
-) -> Result<Plan<'a>, AllocError>
+) -> Result<NextStep<'a>, AllocError>
     requires used { IsUsed word.bytes.now word words.now }
     requires defined { (i : ℕ) × (i < length config.now.definitions.now) × IsDefinition config.now word.bytes.now i definition }
     ensures { IfOk result (λ plan. IfSome (why_of_plan plan) (Hinders config.now words.now)) }
 {
     let is_in_brackets = open_brackets(words, at) > 0;
     match value_for(config, words, definition, word, at, is_in_brackets) {
-        Ok(value) => Ok(Plan::Step(Step {
+        Ok(value) => Ok(NextStep::Step(RewriteStep {
             rule: Rule::Defined,
             origin: definition.name.saturating_sub(1),
             from: at,
@@ -267,7 +267,7 @@ fn place<'a>(
                 why: Why::Unknown(word.bytes),
             },
         })),
-        Err(why) => Ok(Plan::Stuck(Reason { at: word.at, why })),
+        Err(why) => Ok(NextStep::Stuck(Reason { at: word.at, why })),
     }
 }
 
@@ -276,7 +276,7 @@ pub fn plan_definition<'a>(
     alloc: Global,
     config: &Config<'a>,
     words: &[Word<'a>],
-) -> Result<Plan<'a>, AllocError>
+) -> Result<NextStep<'a>, AllocError>
     ensures { IfOk result (λ plan. IfSome (why_of_plan plan) (Hinders config.now words.now)) }
 {
     for at in 0..words.len() {
@@ -287,15 +287,15 @@ pub fn plan_definition<'a>(
             continue;
         };
         match look_up(config, word.bytes) {
-            Found::Never => {}
-            Found::Once(definition) => return place(alloc, config, words, definition, word, at),
-            Found::Twice => return Ok(Plan::Stuck(Reason {
+            NameDefinition::Never => {}
+            NameDefinition::Once(definition) => return place(alloc, config, words, definition, word, at),
+            NameDefinition::Twice => return Ok(NextStep::Stuck(Reason {
                 at: word.at,
                 why: Why::DefinedTwice(word.bytes),
             })),
         }
     }
-    Ok(Plan::Done)
+    Ok(NextStep::Done)
 }
 
 /// What a name at an index is defined as, as it stands in its place, if it is defined and that can stand there.
@@ -313,7 +313,7 @@ fn value_at<'a>(
     if !may_be_defined(words, at) {
         return Ok(None);
     }
-    let Found::Once(definition) = look_up(config, word.bytes) else {
+    let NameDefinition::Once(definition) = look_up(config, word.bytes) else {
         return Ok(None);
     };
     let Ok(value) = value_for(config, words, definition, word, at, is_in_brackets) else {

@@ -66,7 +66,7 @@ impl<'a> Word<'a> {
     ghost use Rattle.bird_import.specs.Rules.{IsForeign, IsNamed, IsSame};
 
     /// A keyword or punctuator that is put in beside a place.
-    pub fn made(symbol: Symbol, at: usize) -> Word<'a>
+    pub fn of_symbol(symbol: Symbol, at: usize) -> Word<'a>
         ensures { result.kind ≡ kind.Symbol symbol }
     {
         Word {

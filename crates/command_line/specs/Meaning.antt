@@ -32,7 +32,7 @@ use Rattle.command_line.specs.declared.requests.Request.{Request}
 use Rattle.command_line.specs.declared.requests.Request.TheVariants as request
 use Rattle.command_line.specs.declared.requests.RouteReport.{RouteReport}
 use Rattle.command_line.specs.declared.requests.RouteReport.TheVariants.{Verdicts, Reasons, Coverage}
-use Rattle.command_line.specs.declared.requests.Running.{Running}
+use Rattle.command_line.specs.declared.requests.RunOptions.{RunOptions}
 use Rattle.command_line.specs.declared.requests.Source.{Source}
 use Rattle.command_line.specs.declared.requests.Trying.{Trying}
 use Rattle.command_line.specs.declared.router_words.RouterWords.{RouterWords}
@@ -65,7 +65,7 @@ pub record IsChecking (given : List Row) (terminals : Terminals) (has_files : Bo
   pub is_quiet : how.is_quiet ≡ is_set (codes "quiet") given
   pub warning_limit : how.warning_limit ≡ (if is_set (codes "warn") given then Some usual_limit else None)
   pub is_explained : how.is_explained ≡ tells given terminals has_files
-  pub is_told : how.is_told ≡ (has_files
+  pub tells_people : how.tells_people ≡ (has_files
       || (how.is_explained || (how.has_names || (how.is_quiet || is_some how.warning_limit))))
 
 -- the words say this size: none is meant where none is said
@@ -138,7 +138,7 @@ abbrev pub names_several : List Row → Bool
 names_several given = nat_lt 1 (length (words_of file given))
 
 -- how `run` carries a script out, of which some is in files or none is
-pub record IsRunning (given : List Row) (terminals : Terminals) (has_files : Bool) (how : Running) : Type 0 where
+pub record IsRunning (given : List Row) (terminals : Terminals) (has_files : Bool) (how : RunOptions) : Type 0 where
   pub is_explained : how.is_explained ≡ tells given terminals has_files
   pub stops : how.stops ≡ is_set (codes "stop") given
   pub save : option_map (λ copy. string_bytes copy) how.save ≡ word_of (codes "save") given
@@ -168,23 +168,23 @@ abbrev pub Sets : CommandName → List Row → Terminals → Request → Type 0
 Sets command.Check given terminals (request.Check how sources) =
     SaysSize given how.size × IsChecking given terminals (list_any is_file sources.items) how
 Sets command.Diff given terminals (request.Diff how old new) = SaysSize given how.size × (how ≡ comparing_of given terminals how.size)
-Sets command.Domain given terminals (request.Script engine.Domain source is_told) = is_told ≡ tells given terminals (is_file source)
-Sets command.Eval given terminals (request.Eval is_told) = is_told ≡ tells given terminals false
+Sets command.Domain given terminals (request.Script engine.Domain source tells_people) = tells_people ≡ tells given terminals (is_file source)
+Sets command.Eval given terminals (request.Eval tells_people) = tells_people ≡ tells given terminals false
 Sets command.Explain given terminals (request.Explain page) = IsPage (explained given) (string_bytes page)
 Sets command.Filter given terminals (request.Filter how source) =
     IsTrying given terminals how × (names_file given ≡ true) × (asks_twice given ≡ false)
 Sets command.Import given terminals (request.Import how source) = IsImporting given how
 Sets command.Lint given terminals (request.Lint how sources) = IsLinting given terminals sources.items how
-Sets command.List given terminals (request.List size is_code source is_told) = (size ≡ number_of 32 (codes "size") given)
-    × (is_code ≡ is_set (codes "code") given) × (is_told ≡ tells given terminals (is_file source))
+Sets command.List given terminals (request.List size is_code source tells_people) = (size ≡ number_of 32 (codes "size") given)
+    × (is_code ≡ is_set (codes "code") given) × (tells_people ≡ tells given terminals (is_file source))
 Sets command.Replay given terminals (request.Replay sources) = ⊤
 Sets command.Rewrite given terminals (request.Rewrite is_old) = is_old ≡ is_set (codes "old") given
 Sets command.Run given terminals (request.Run how source) =
     IsRunning given terminals (is_file source) how × (asks_for_more given ≡ true) × (names_several given ≡ false)
 Sets command.Run given terminals (request.RunJoined how sources) =
     IsRunning given terminals (list_any is_file sources.items) how × (names_several given ≡ true)
-Sets command.Run given terminals (request.Script engine.Router source is_told) =
-    (is_told ≡ tells given terminals (is_file source)) × (asks_for_more given ≡ false) × (names_several given ≡ false)
+Sets command.Run given terminals (request.Script engine.Router source tells_people) =
+    (tells_people ≡ tells given terminals (is_file source)) × (asks_for_more given ≡ false) × (names_several given ≡ false)
 Sets command.Test given terminals (request.Test how sources) = how ≡ testing_of given terminals sources.items
 Sets _ given terminals _ = ⊥
 

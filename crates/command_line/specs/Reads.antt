@@ -59,7 +59,7 @@ filter_sources filters = map (λ named. named.source) filters
 abbrev pub sources_of : Request → List Source
 sources_of (request.Check how sources) = sources.items
 sources_of (request.Diff how old new) = old ∷ new ∷ []
-sources_of (request.Eval is_told) = Input ∷ []
+sources_of (request.Eval tells_people) = Input ∷ []
 sources_of (request.Explain page) = []
 sources_of (request.List size is_code source is_explained) = source ∷ []
 sources_of (request.Filter how source) = source ∷ Input ∷ []

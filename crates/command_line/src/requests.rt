@@ -53,7 +53,7 @@ pub struct Checking {
     /// A source is a code file in hexadecimal, and not a filter's text.
     pub is_code: bool,
     /// A refusal is told on standard error, by the name of its source or in words.
-    pub is_told: bool,
+    pub tells_people: bool,
     /// It is told in words.
     pub is_explained: bool,
     /// The name of its source stands before each line of a report.
@@ -90,7 +90,7 @@ pub struct Trying {
 
 /// How a router's script is carried out, where more is asked for than its answers.
 #[derive(Drop)]
-pub struct Running {
+pub struct RunOptions {
     /// A refusal is told in words too.
     pub is_explained: bool,
     /// The script ends at its first refused line.
@@ -132,7 +132,7 @@ pub enum Request {
     /// Take the routes of standard input through the code in its first line.
     Eval {
         /// Why a line is refused is told in words too.
-        is_told: bool,
+        tells_people: bool,
     },
     /// Say what a code means.
     Explain {
@@ -184,14 +184,14 @@ pub enum Request {
     /// Carry out the script of a router, and keep its history or end at its first refused line.
     Run {
         /// How it is carried out.
-        how: Running,
+        how: RunOptions,
         /// Where its commands are.
         source: Source,
     },
     /// Carry out the script of a router that several sources are, one after another.
     RunJoined {
         /// How it is carried out.
-        how: Running,
+        how: RunOptions,
         /// Where its commands are, in order.
         sources: Vec<Source>,
     },
@@ -288,7 +288,7 @@ pub fn tells_in(matches: &ArgMatches<'_>, terminals: Terminals, has_files: bool)
 }
 
 /// The source that the words of a command name, which takes one, and whether its refusal is told in words.
-pub fn told_source(
+pub fn explained_source(
     alloc: Global,
     matches: &ArgMatches<'_>,
     terminals: Terminals,
@@ -325,7 +325,7 @@ fn checking_in(
     telling_if_asked(Checking {
         size,
         is_code: is_given(matches, "code"),
-        is_told: has_files,
+        tells_people: has_files,
         is_explained: tells_in(matches, terminals, has_files),
         has_names: is_given(matches, "names"),
         is_quiet: is_given(matches, "quiet"),
@@ -336,7 +336,7 @@ fn checking_in(
 /// Where only the report on standard input is asked for, as by a program, its refusal is not told on standard error as well.
 fn telling_if_asked(how: Checking) -> Checking
     ensures { result ≡ record how {
-      is_told = how.is_told || (how.is_explained || (how.has_names || (how.is_quiet || is_some how.warning_limit)));
+      tells_people = how.tells_people || (how.is_explained || (how.has_names || (how.is_quiet || is_some how.warning_limit)));
     } }
 {
     let asks_for_more = how.is_explained
@@ -344,7 +344,7 @@ fn telling_if_asked(how: Checking) -> Checking
         || how.is_quiet
         || how.warning_limit.is_some();
     Checking {
-        is_told: how.is_told || asks_for_more,
+        tells_people: how.tells_people || asks_for_more,
         ..how
     }
 }
@@ -369,7 +369,7 @@ pub fn eval_in(matches: &ArgMatches<'_>, terminals: Terminals) -> Request
     ensures { AskFor command.Eval (given_in matches.now) terminals result }
 {
     Request::Eval {
-        is_told: tells_in(matches, terminals, false),
+        tells_people: tells_in(matches, terminals, false),
     }
 }
 
@@ -426,7 +426,7 @@ pub fn list_in(
 ) -> Result<Request, AllocError>
     ensures { IfOk result (AskFor command.List (given_in matches.now) terminals) }
 {
-    let (source, is_explained) = told_source(alloc, matches, terminals)?;
+    let (source, is_explained) = explained_source(alloc, matches, terminals)?;
     Ok(Request::List {
         size: number_given(matches, "size"),
         is_code: is_given(matches, "code"),
@@ -476,7 +476,7 @@ pub fn domain_in(
 ) -> Result<Request, AllocError>
     ensures { IfOk result (AskFor command.Domain (given_in matches.now) terminals) }
 {
-    let (source, is_explained) = told_source(alloc, matches, terminals)?;
+    let (source, is_explained) = explained_source(alloc, matches, terminals)?;
     Ok(Request::Script {
         engine: Engine::Domain,
         source,

@@ -8,7 +8,7 @@ ghost use Rattle.command_line.specs.declared.command_names.CommandName.TheVarian
 use crate::filter_words::{NamedFile, WrongFilter, filters_given};
 use crate::given::{is_given, word_given, words_given};
 use crate::requests::{
-    Engine, Request, Running, files_in, has_files, one_source, tells_in, text_in, told_source,
+    Engine, Request, RunOptions, files_in, has_files, one_source, tells_in, text_in, explained_source,
 };
 use crate::terminals::Terminals;
 use clap::ArgMatches;
@@ -37,12 +37,12 @@ fn running_in(
     terminals: Terminals,
     has_files: bool,
     filters: Vec<NamedFile>,
-) -> Result<Running, AllocError>
+) -> Result<RunOptions, AllocError>
     requires { spec.AreFilters (given_in matches.now) filters.items }
     ensures sets { IfOk result (spec.IsRunning (given_in matches.now) terminals has_files) }
     ensures filters { IfOk result (λ how. how.filters.items ≡ filters.items) }
 {
-    Ok(Running {
+    Ok(RunOptions {
         is_explained: tells_in(matches, terminals, has_files),
         stops: is_given(matches, "stop"),
         save: text_in(alloc, matches, "save")?,
@@ -95,7 +95,7 @@ fn answered_in(
     requires one { spec.names_several (given_in matches.now) ≡ false }
     ensures { IfOk result (spec.AskFor command.Run (given_in matches.now) terminals) }
 {
-    let (source, is_explained) = told_source(alloc, matches, terminals)?;
+    let (source, is_explained) = explained_source(alloc, matches, terminals)?;
     Ok(Request::Script {
         engine: Engine::Router,
         source,

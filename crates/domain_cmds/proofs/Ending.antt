@@ -16,7 +16,7 @@ use Rattle.domain_cmds.specs.Script.{AnswersLine}
 use Rattle.domain_cmds.specs.State.{PlanningView, filter_named}
 use Rattle.domain_cmds.specs.declared.command.Question.{Question}
 use Rattle.domain_cmds.specs.declared.command.Question.TheVariants as question
-use Rattle.domain_cmds.specs.declared.fault.StateFault.{StateFault}
+use Rattle.domain_cmds.specs.declared.fault.DomainStateFault.{DomainStateFault}
 use Rattle.operator_cmds.proofs.Unended.{GoesOn, either, like, source}
 
 module _ (answer : Answer) where
@@ -26,7 +26,7 @@ module _ (answer : Answer) where
   by_name (Some f) plan p number u w after h =
       either (Script.are_a_pair p.plan.size u w) _ _ (λ q. like answer _ q.0 refl) (λ q. like answer _ q.0 refl) h
 
-  unless : (why : Option StateFault) (done : Since) (plan : PlanView) (p : PlanningView) (number : ℕ) (after : PlanningView)
+  unless : (why : Option DomainStateFault) (done : Since) (plan : PlanView) (p : PlanningView) (number : ℕ) (after : PlanningView)
       → Script.PlansUnless why done plan p number answer after → GoesOn answer
   unless None done plan p number after h = like answer _ h.0 refl
   unless (Some why) done plan p number after h = like answer _ h.0 refl
@@ -42,12 +42,12 @@ module _ (answer : Answer) where
   prefixed p number node bits after h = either p.begun _ _ (λ q. like answer _ q.0 refl)
       (λ q. either (nat_lt node p.plan.size) _ _ (λ r. like answer _ r.0 refl) (λ r. like answer _ r.0 refl) q) h
 
-  told_of : (plan : PlanView) (number u v : ℕ) (IsTold : List Best → Answer → Type 0)
-      → ((routes : List Best) → IsTold routes answer → GoesOn answer) → Script.IsToldOfRoutes plan number u v IsTold answer → GoesOn answer
-  told_of plan number u v IsTold f h =
+  told_of : (plan : PlanView) (number u v : ℕ) (IsAnswer : List Best → Answer → Type 0)
+      → ((routes : List Best) → IsAnswer routes answer → GoesOn answer) → Script.IsAnswerOfRoutes plan number u v IsAnswer answer → GoesOn answer
+  told_of plan number u v IsAnswer f h =
       either (nat_lt u plan.size && nat_lt v plan.size) _ _ (λ q. f q.0 q.2) (λ q. like answer _ q refl) h
 
-  settled : (number : ℕ) → Script.IsToldSettled number answer → GoesOn answer
+  settled : (number : ℕ) → Script.IsSettledAnswer number answer → GoesOn answer
   settled number (inl (rounds, messages, few, h)) = like answer _ h refl
   settled number (inr h) = like answer _ h refl
 

@@ -30,7 +30,7 @@ use Rattle.domain_cmds.specs.Script
 use Rattle.domain_cmds.specs.Script.{AnswersLine, new_planning}
 use Rattle.domain_cmds.specs.Sizes.{is_size}
 use Rattle.domain_cmds.specs.State.{PlanningView, filter_named}
-use Rattle.domain_cmds.specs.declared.fault.StateFault.{StateFault}
+use Rattle.domain_cmds.specs.declared.fault.DomainStateFault.{DomainStateFault}
 use Rattle.domain_cmds.proofs.Filling.{answered_fit}
 use Rattle.domain_cmds.proofs.Setting.{fits_size}
 
@@ -145,7 +145,7 @@ module _ (p : PlanningView) (m : IsMarked p) where
       (λ pair q. subst IsMarked (sym q.1) (fitting way f u w (from_is p.plan.size u w pair) (to_is p.plan.size u w pair) fits))
       (λ _ q. subst IsMarked (sym q.1) begun) h
 
-  unless : (why : Option StateFault) (wanted : Bool) (number u w : ℕ) (answer : Answer) (after : PlanningView) → IsLink p.plan u w
+  unless : (why : Option DomainStateFault) (wanted : Bool) (number u w : ℕ) (answer : Answer) (after : PlanningView) → IsLink p.plan u w
       → Script.PlansUnless why (after_link wanted p.since) (linking wanted u w p.plan) p number answer after → IsMarked after
   unless None wanted number u w answer after l h = subst IsMarked (sym h.1) (linked wanted u w l)
   unless (Some why) wanted number u w answer after l h = subst IsMarked (sym h.1) begun

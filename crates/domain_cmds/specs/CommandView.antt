@@ -1,8 +1,8 @@
 -- What a contract sees of a command. (The commands are this project's own choice.)
 use Rattle.std.specs.Prelude.{ℕ, Bool, List}
 use Rattle.operator_cmds.specs.declared.event.Direction.{Direction}
-use Rattle.domain_cmds.specs.declared.command.Command.{Command}
-use Rattle.domain_cmds.specs.declared.command.Command.TheVariants as command
+use Rattle.domain_cmds.specs.declared.command.DomainCommand.{DomainCommand}
+use Rattle.domain_cmds.specs.declared.command.DomainCommand.TheVariants as command
 use Rattle.domain_cmds.specs.declared.command.Question.{Question}
 
 -- names, texts and files are lists of bytes, and a prefix is its bits
@@ -22,7 +22,7 @@ pub data CommandView : Type 0 where
   Mark : CommandView
   Ask : Question → CommandView
 
-abbrev pub view_of : Command → CommandView
+abbrev pub view_of : DomainCommand → CommandView
 view_of (command.Domain size) = Domain size.nodes
 view_of (command.Prefix node prefix) = Prefix node prefix
 view_of (command.Load name text) = Load name.now text.now

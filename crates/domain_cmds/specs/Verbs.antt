@@ -1,12 +1,12 @@
 -- The first words of commands. (This project's own choice.)
 use Rattle.std.specs.Prelude.{ℕ, Bool, List, [], ◌∷◌, Option, find, codes}
 use Rattle.std.specs.Str.{bytes_eq}
-use Rattle.domain_cmds.specs.declared.verb.Verb.{Verb}
-use Rattle.domain_cmds.specs.declared.verb.Verb.TheVariants.{Domain, Prefix, Load, Code, Link, Cut, Import, Export}
-use Rattle.domain_cmds.specs.declared.verb.Verb.TheVariants.{Route, Path, Table, Draw, Reach, Mark, Changes, Failures, Settle}
+use Rattle.domain_cmds.specs.declared.verb.DomainVerb.{DomainVerb}
+use Rattle.domain_cmds.specs.declared.verb.DomainVerb.TheVariants.{Domain, Prefix, Load, Code, Link, Cut, Import, Export}
+use Rattle.domain_cmds.specs.declared.verb.DomainVerb.TheVariants.{Route, Path, Table, Draw, Reach, Mark, Changes, Failures, Settle}
 
 -- how each is written
-abbrev pub verb_text : Verb → List ℕ
+abbrev pub verb_text : DomainVerb → List ℕ
 verb_text Domain = codes "domain"
 verb_text Prefix = codes "prefix"
 verb_text Load = codes "load"
@@ -26,14 +26,14 @@ verb_text Failures = codes "failures"
 verb_text Settle = codes "settle"
 
 -- all of them
-abbrev pub verbs : List Verb
+abbrev pub verbs : List DomainVerb
 verbs =
     Domain ∷ Prefix ∷ Load ∷ Code ∷ Link ∷ Cut ∷ Import ∷ Export ∷ Route ∷ Path ∷ Table ∷ Draw ∷ Reach ∷ Mark ∷ Changes ∷ Failures ∷ Settle ∷ []
 
 -- whether a verb is written so
-abbrev pub is_spelled : List ℕ → Verb → Bool
+abbrev pub is_spelled : List ℕ → DomainVerb → Bool
 is_spelled word verb = bytes_eq (verb_text verb) word
 
 -- the verb that is written so
-unfoldable pub verb_in : List ℕ → Option Verb
+unfoldable pub verb_in : List ℕ → Option DomainVerb
 verb_in word = find (is_spelled word) verbs

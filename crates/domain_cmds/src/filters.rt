@@ -26,7 +26,7 @@ pub(crate) struct Filters {
     /// The filter of each name.
     named: NamedFilters,
     /// What is told of the last filter that was refused.
-    told: Option<Diagnosis>,
+    diagnosis: Option<Diagnosis>,
 }
 
 impl Model for Filters {
@@ -48,7 +48,7 @@ impl Filters {
         Filters {
             size,
             named: BTreeMap::new(alloc),
-            told: None,
+            diagnosis: None,
         }
     }
 
@@ -73,7 +73,7 @@ impl Filters {
             name,
             source,
             self.size,
-            &mut self.told,
+            &mut self.diagnosis,
             out,
         )
     }
@@ -86,8 +86,8 @@ impl Filters {
     }
 
     /// What is told of the last filter that was refused.
-    pub(crate) fn told(&self) -> Option<Diagnosis> {
-        self.told
+    pub(crate) fn diagnosis(&self) -> Option<Diagnosis> {
+        self.diagnosis
     }
 
     /// The filter of a name.

@@ -35,7 +35,7 @@ mod text;
 mod verb;
 mod without;
 
-pub use command::{Command, DomainSize, Question};
+pub use command::{DomainCommand, DomainSize, Question};
 pub use engine::{run_domain, run_watched_domain};
 pub use laws::{failures_stand_still_as_cuts, marks_are_of_a_plan};
 pub use read::read_command;

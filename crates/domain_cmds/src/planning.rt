@@ -4,8 +4,8 @@ ghost use Rattle.std.specs.Io.{StartsWith};
 ghost use Rattle.domain_cmds.specs.Script as spec;
 
 use crate::asking::answer_question;
-use crate::command::{Command, DomainSize, Question};
-use crate::fault::StateFault;
+use crate::command::{DomainCommand, DomainSize, Question};
+use crate::fault::DomainStateFault;
 use crate::filters::Filters;
 use crate::playing::{Change, Playing};
 use crate::resting::RestingPlan;
@@ -56,12 +56,12 @@ impl Model for Planning {
 }
 
 /// Why two nodes that have a link, or none, are not to have one, or none.
-fn link_fault(is_linked: bool, linked: bool) -> Option<StateFault>
+fn link_fault(is_linked: bool, linked: bool) -> Option<DomainStateFault>
     ensures { result ≡ spec.link_fault is_linked linked }
 {
     match (is_linked, linked) {
-        (true, true) => Some(StateFault::Linked),
-        (false, false) => Some(StateFault::Apart),
+        (true, true) => Some(DomainStateFault::Linked),
+        (false, false) => Some(DomainStateFault::Apart),
         _ => None,
     }
 }
@@ -111,8 +111,8 @@ impl Planning {
     }
 
     /// What is told of the last filter that was refused.
-    pub(crate) fn told(&self) -> Option<Diagnosis> {
-        self.filters.told()
+    pub(crate) fn diagnosis(&self) -> Option<Diagnosis> {
+        self.filters.diagnosis()
     }
 
     /// Carries out a command, and answers it.
@@ -120,19 +120,19 @@ impl Planning {
         &mut self,
         alloc: Global,
         number: u32,
-        command: Command<'_>,
+        command: DomainCommand<'_>,
         out: &mut Vec<u8>,
     ) -> Result<LineReply, AllocError>
         ensures ok { IfOk result (Answers (λ answer. spec.AnswersPlanned self.old number (view_of command.entry) answer self.new) out.old.items out.new.items) }
         ensures err { OnErr result (StartsWith out.new.items out.old.items) }
     {
         match command {
-            Command::Domain(_) => refuse(out, StateFault::TooLate.code(), u64::from(number)),
-            Command::Prefix { node, prefix } => self.set_prefix(number, node, prefix, out),
-            Command::Load { name, text } => {
+            DomainCommand::Domain(_) => refuse(out, DomainStateFault::TooLate.code(), u64::from(number)),
+            DomainCommand::Prefix { node, prefix } => self.set_prefix(number, node, prefix, out),
+            DomainCommand::Load { name, text } => {
                 self.load(alloc, number, name, FilterSource::Text(text), out)
             }
-            Command::Code { name, bytes } => {
+            DomainCommand::Code { name, bytes } => {
                 self.load(
                     alloc,
                     number,
@@ -141,15 +141,15 @@ impl Planning {
                     out,
                 )
             }
-            Command::Link { linked, u, w } => self.set_linked(number, u, w, linked, out),
-            Command::Use {
+            DomainCommand::Link { linked, u, w } => self.set_linked(number, u, w, linked, out),
+            DomainCommand::Use {
                 direction,
                 u,
                 w,
                 name,
             } => self.use_filter(number, direction, u, w, name, out),
-            Command::Mark => self.mark(alloc, out),
-            Command::Ask(question) => self.ask(alloc, number, question, out),
+            DomainCommand::Mark => self.mark(alloc, out),
+            DomainCommand::Ask(question) => self.ask(alloc, number, question, out),
         }
     }
 
@@ -165,10 +165,10 @@ impl Planning {
         ensures err { OnErr result (StartsWith out.new.items out.old.items) }
     {
         if self.begun {
-            return refuse(out, StateFault::TooLate.code(), u64::from(number));
+            return refuse(out, DomainStateFault::TooLate.code(), u64::from(number));
         }
         if node >= self.size() {
-            return refuse(out, StateFault::NoSuchNode.code(), u64::from(number));
+            return refuse(out, DomainStateFault::NoSuchNode.code(), u64::from(number));
         }
         self.domain.set_prefix(node, prefix);
         confirm(out)
@@ -203,7 +203,7 @@ impl Planning {
     {
         self.begun = true;
         if !are_a_pair(self.size(), u, w) {
-            return refuse(out, StateFault::BadNode.code(), u64::from(number));
+            return refuse(out, DomainStateFault::BadNode.code(), u64::from(number));
         }
         if let Some(why) = link_fault(self.domain.plan().is_linked(u, w), linked) {
             return refuse(out, why.code(), u64::from(number));
@@ -228,11 +228,11 @@ impl Planning {
         ensures err { OnErr result (StartsWith out.new.items out.old.items) }
     {
         let Some(filter) = self.filters.get(name)? else {
-            return refuse(out, StateFault::UnknownFilter.code(), u64::from(number));
+            return refuse(out, DomainStateFault::UnknownFilter.code(), u64::from(number));
         };
         self.begun = true;
         if !are_a_pair(self.size(), u, w) {
-            return refuse(out, StateFault::BadNode.code(), u64::from(number));
+            return refuse(out, DomainStateFault::BadNode.code(), u64::from(number));
         }
         let played = Arc::try_clone(&filter)?;
         self.playing.note(Change::Filter(direction, u, w, played))?;

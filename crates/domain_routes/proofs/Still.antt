@@ -21,7 +21,7 @@ use Rattle.domain_routes.specs.OfDomain.{IsPlanOf}
 use Rattle.domain_routes.specs.PlanView.{IsPlan, PeerView, PlanView, is_linked, opening_of, peer}
 use Rattle.domain_routes.specs.Routes.{AreRoutes, route_at}
 use Rattle.domain_routes.specs.Still.{HasFewerLinks, IsSince, after_link, is_one_way, is_other, least_below, lesser_of_two, loose_between, one_below}
-use Rattle.domain_routes.specs.Topology.{toll, topology}
+use Rattle.domain_routes.specs.Topology.{filtered, topology}
 use Rattle.domain_routes.proofs.Linking.{IsLink, cases_ends, linked_here, linked_there, linking_keeps}
 use Rattle.domain_routes.proofs.OfDomain.{AreAlike, alike, goes_alike, rest_alike, same_filtered_distance}
 
@@ -165,7 +165,7 @@ with_less false true h = never (h refl)
 with_less false false h = refl
 
 -- the same filters make the same tolls
-pub same_toll : (p q : PlanView) → HasFewerLinks p q → (v u w x : ℕ) → toll q v u w x ≡ toll p v u w x
+pub same_toll : (p q : PlanView) → HasFewerLinks p q → (v u w x : ℕ) → filtered q v u w x ≡ filtered p v u w x
 same_toll p q f v u w x =
     same_filtered_distance (opening_of q) (opening_of p) f.size f.prefixes (peer q u w).imports v
     (filtered_distance (opening_of q) (peer q w u).exports v x)
@@ -183,14 +183,14 @@ module _ (p q : PlanView) (v : ℕ) where
   cut_all f = record {
     size = refl;
     linked = λ u w _ _. all_the_same (is_linked p u w) (is_linked q u w) (f.linked u w);
-    toll = λ u w x _ _. refl;
+    filtered = λ u w x _ _. refl;
   }
 
   cut_none : HasFewerLinks p q → AreAlike (topology q v) (with_none (topology p v) loose)
   cut_none f = record {
     size = f.size;
     linked = λ u w _ _. with_less (is_linked p u w) (is_linked q u w) (f.linked u w);
-    toll = λ u w x _ _. same_toll p q f v u w x;
+    filtered = λ u w x _ _. same_toll p q f v u w x;
   }
 
   -- links were made
@@ -198,14 +198,14 @@ module _ (p q : PlanView) (v : ℕ) where
   made_all f = record {
     size = sym f.size;
     linked = λ u w _ _. with_more (is_linked p u w) (is_linked q u w) (f.linked u w);
-    toll = λ u w x _ _. sym (same_toll q p f v u w x);
+    filtered = λ u w x _ _. sym (same_toll q p f v u w x);
   }
 
   made_none : HasFewerLinks q p → AreAlike (topology p v) (with_none (topology p v) loose)
   made_none f = record {
     size = refl;
     linked = λ u w _ _. with_the_same (is_linked p u w) (is_linked q u w) (f.linked u w);
-    toll = λ u w x _ _. refl;
+    filtered = λ u w x _ _. refl;
   }
 
 -- so it is in a domain with the links and filters of a plan
@@ -213,21 +213,21 @@ all_alike : (m n : Topology) (loose : Loose) → AreAlike m n → AreAlike (with
 all_alike m n loose s = record {
   size = s.size;
   linked = λ u w short within. ap (λ (b : Bool). if loose.links u w then true else b) (s.linked u w short within);
-  toll = λ u w x short within. ap (λ y. if loose.filters u w then x else y) (s.toll u w x short within);
+  filtered = λ u w x short within. ap (λ y. if loose.filters u w then x else y) (s.filtered u w x short within);
 }
 
 none_alike : (m n : Topology) (loose : Loose) → AreAlike m n → AreAlike (with_none m loose) (with_none n loose)
 none_alike m n loose s = record {
   size = s.size;
   linked = λ u w short within. ap (λ (b : Bool). if loose.links u w then false else b) (s.linked u w short within);
-  toll = λ u w x short within. s.toll u w x short within;
+  filtered = λ u w x short within. s.filtered u w x short within;
 }
 
 alike_on : (m n o : Topology) → AreAlike m n → AreAlike n o → AreAlike m o
 alike_on m n o one next = record {
   size = one.size ∙ next.size;
   linked = λ u w short within. one.linked u w short within ∙ next.linked u w (omega (arith, short, one.size)) (omega (arith, within, one.size));
-  toll = λ u w x short within. one.toll u w x short within ∙ next.toll u w x (omega (arith, short, one.size)) (omega (arith, within, one.size));
+  filtered = λ u w x short within. one.filtered u w x short within ∙ next.filtered u w x (omega (arith, short, one.size)) (omega (arith, within, one.size));
 }
 
 is_loose : (p q : PlanView) → IsPlan p → IsPlan q → IsLoose (loose_between p q)

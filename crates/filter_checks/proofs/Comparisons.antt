@@ -32,20 +32,20 @@ parts_cut fault old new size limit parts text shown held holds is same text_is a
 judged : (size : ℕ) (text : List ℕ) (r : Result VerifiedView Diagnosis) → MatchResult r (IsVerifiedOf size text) (IsDiagnosis size false text)
     → IsJudged size text (result_err r)
 judged size text (Ok v) h = (h.filter, is_filter size text v h)
-judged size text (Err told) h = h
+judged size text (Err diagnosis) h = h
 
-pub second_refused : (size : ℕ) (old new : Named) (v : VerifiedView) (told : Diagnosis) → IsVerifiedOf size old.text v
-    → IsDiagnosis size false new.text told → AreRefused size old new None (Some told)
-second_refused size old new v told is_v h = record {
+pub second_refused : (size : ℕ) (old new : Named) (v : VerifiedView) (diagnosis : Diagnosis) → IsVerifiedOf size old.text v
+    → IsDiagnosis size false new.text diagnosis → AreRefused size old new None (Some diagnosis)
+second_refused size old new v diagnosis is_v h = record {
   old_judged = (is_v.filter, is_filter size old.text v is_v);
   new_judged = h;
   refused = λ first second. cc;
 }
 
-pub first_refused : (size : ℕ) (old new : Named) (told : Diagnosis) (r : Result VerifiedView Diagnosis) (after : Option Diagnosis)
-    → after ≡ result_err r → IsDiagnosis size false old.text told
-    → MatchResult r (IsVerifiedOf size new.text) (IsDiagnosis size false new.text) → AreRefused size old new (Some told) after
-first_refused size old new told r after is h g = record {
+pub first_refused : (size : ℕ) (old new : Named) (diagnosis : Diagnosis) (r : Result VerifiedView Diagnosis) (after : Option Diagnosis)
+    → after ≡ result_err r → IsDiagnosis size false old.text diagnosis
+    → MatchResult r (IsVerifiedOf size new.text) (IsDiagnosis size false new.text) → AreRefused size old new (Some diagnosis) after
+first_refused size old new diagnosis r after is h g = record {
   old_judged = h;
   new_judged = subst (IsJudged size new.text) (sym is) (judged size new.text r g);
   refused = λ first. absurd (let no : ⊥ = cc in no);
@@ -83,15 +83,15 @@ module _ (size limit : ℕ) (is_explained : Bool) (old new : Named) where
         ))
 
   -- one of them is refused
-  module _ (before after : Option Diagnosis) (are : AreRefused size old new before after) (held tells told : Option (List ℕ)) where
+  module _ (before after : Option Diagnosis) (are : AreRefused size old new before after) (held stderr_before stderr_after : Option (List ℕ)) where
     pub refused_told : (r : Result Compared ProgramFault)
-        → IfOk r (λ end. (end ≡ compared.Refused) × TellsBoth is_explained old new before after tells told)
-        → IfOk r (ComparesNamed size limit is_explained old new held held tells told)
+        → IfOk r (λ end. (end ≡ compared.Refused) × TellsBoth is_explained old new before after stderr_before stderr_after)
+        → IfOk r (ComparesNamed size limit is_explained old new held held stderr_before stderr_after)
     refused_told (Ok end) h = inl (h.0, keeps_self held, before, after, are, h.1)
     refused_told (Err fault) h = tt
 
     pub refused_cut : (r : Result Compared ProgramFault)
-        → IfErr r (λ fault. IsCutTellingBoth (stream_fault fault) is_explained old new before after tells told)
-        → IfErr r (λ fault. ComparesNamedOff (stream_fault fault) size limit is_explained old new held held tells told)
+        → IfErr r (λ fault. IsCutTellingBoth (stream_fault fault) is_explained old new before after stderr_before stderr_after)
+        → IfErr r (λ fault. ComparesNamedOff (stream_fault fault) size limit is_explained old new held held stderr_before stderr_after)
     refused_cut (Ok end) h = tt
     refused_cut (Err fault) h = inr (inl (keeps_self held, before, after, are, h))

@@ -5,7 +5,7 @@ ghost use Rattle.filter_checks.specs.Keywords as spec;
 
 /// A word that says what follows it.
 #[derive(Clone, Copy)]
-pub(crate) enum Keyword {
+pub(crate) enum TestKeyword {
     /// `filter`
     Filter,
     /// `size`
@@ -23,17 +23,17 @@ pub(crate) enum Keyword {
 }
 
 /// All of them.
-static KEYWORDS: [Keyword; 7] = [
-    Keyword::Filter,
-    Keyword::Size,
-    Keyword::Every,
-    Keyword::Metric,
-    Keyword::Arrow,
-    Keyword::Accept,
-    Keyword::Reject,
+static KEYWORDS: [TestKeyword; 7] = [
+    TestKeyword::Filter,
+    TestKeyword::Size,
+    TestKeyword::Every,
+    TestKeyword::Metric,
+    TestKeyword::Arrow,
+    TestKeyword::Accept,
+    TestKeyword::Reject,
 ];
 
-impl Keyword {
+impl TestKeyword {
     ghost use Rattle.filter_checks.specs.Keywords.{keyword_text};
 
     /// How it is written.
@@ -41,27 +41,27 @@ impl Keyword {
         ensures { result.now ≡ keyword_text self.now }
     {
         match self {
-            Keyword::Filter => "filter",
-            Keyword::Size => "size",
-            Keyword::Every => "every",
-            Keyword::Metric => "metric",
-            Keyword::Arrow => "->",
-            Keyword::Accept => "accept",
-            Keyword::Reject => "reject",
+            TestKeyword::Filter => "filter",
+            TestKeyword::Size => "size",
+            TestKeyword::Every => "every",
+            TestKeyword::Metric => "metric",
+            TestKeyword::Arrow => "->",
+            TestKeyword::Accept => "accept",
+            TestKeyword::Reject => "reject",
         }
     }
 }
 
 /// The keyword that is written so.
 #[tactic(auto, unfolding(crate::specs::Keywords::keyword_in))]
-pub(crate) fn find_keyword(word: &[u8]) -> Option<Keyword>
+pub(crate) fn find_keyword(word: &[u8]) -> Option<TestKeyword>
     ensures { spec.keyword_in word.now ≡ result }
 {
     first_spelled(&KEYWORDS, word)
 }
 
 /// The first of the keywords that is written so.
-fn first_spelled(keywords: &[Keyword], word: &[u8]) -> Option<Keyword>
+fn first_spelled(keywords: &[TestKeyword], word: &[u8]) -> Option<TestKeyword>
     ensures { find (spec.is_spelled word.now) keywords.now ≡ result }
 {
     for keyword in keywords {
@@ -74,7 +74,7 @@ fn first_spelled(keywords: &[Keyword], word: &[u8]) -> Option<Keyword>
 
 /// Whether a word is `every`.
 pub(crate) fn is_every(word: &[u8]) -> bool
-    ensures { result ≡ bytes_eq (spec.keyword_text Keyword.Every) word.now }
+    ensures { result ≡ bytes_eq (spec.keyword_text TestKeyword.Every) word.now }
 {
-    Keyword::Every.text().as_bytes() == word
+    TestKeyword::Every.text().as_bytes() == word
 }

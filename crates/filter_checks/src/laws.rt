@@ -57,14 +57,14 @@ pub fn shown_routes_are_of_filters()
 /// Two texts of which `compare_named` answers `Same` spell filters of one meaning: the two say the same of every route in a domain of the
 /// size. Where it answers `Differ` they do not say the same of every route.
 pub fn compared_filters_mean_the_same()
-    ensures same { (size limit : ℕ) (is_explained : Bool) (old new : Named) (held holds tells told : Option (List ℕ))
-        → ComparesNamed size limit is_explained old new held holds tells told compared.Same
+    ensures same { (size limit : ℕ) (is_explained : Bool) (old new : Named) (held holds stderr_before stderr_after : Option (List ℕ))
+        → ComparesNamed size limit is_explained old new held holds stderr_before stderr_after compared.Same
         → (f : FilterView) × (g : FilterView) × IsText old.text f × IsText new.text g
         × ((route : RouteView) → IsRouteOf size route → meaning f route ≡ meaning g route) }
-    ensures differ { (size limit : ℕ) (is_explained : Bool) (old new : Named) (held holds tells told : Option (List ℕ))
-        → ComparesNamed size limit is_explained old new held holds tells told compared.Differ
+    ensures differ { (size limit : ℕ) (is_explained : Bool) (old new : Named) (held holds stderr_before stderr_after : Option (List ℕ))
+        → ComparesNamed size limit is_explained old new held holds stderr_before stderr_after compared.Differ
         → (f : FilterView) × (g : FilterView) × IsText old.text f × IsText new.text g
         × (route : RouteView) × IsRouteOf size route × (meaning f route ≢ meaning g route) }
-    ensures decided { (size limit : ℕ) (is_explained : Bool) (old new : Named) (held holds tells told : Option (List ℕ)) → IsEnough size limit
-        → ComparesNamed size limit is_explained old new held holds tells told compared.Undecided → ⊥ }
+    ensures decided { (size limit : ℕ) (is_explained : Bool) (old new : Named) (held holds stderr_before stderr_after : Option (List ℕ)) → IsEnough size limit
+        → ComparesNamed size limit is_explained old new held holds stderr_before stderr_after compared.Undecided → ⊥ }
 {}

@@ -23,4 +23,4 @@ pub use part_lines::{parts_text, push_outcome};
 pub use place::path_beside;
 pub use tap::{plan_line, skipped_line};
 pub use test_file::{Test, TestFile, TestFileFault, read_tests};
-pub use testing::{Failures, Ran, Tested, test_named};
+pub use testing::{Failures, RanTest, Tested, test_named};

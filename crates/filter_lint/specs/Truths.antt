@@ -10,9 +10,9 @@ use Rattle.prefix_patterns.specs.Matching.{Matches, PrefixPattern}
 use Rattle.filter_verifier.specs.InStates.{in_state}
 use Rattle.filter_lint.specs.Arithmetic.{may_wrap, operation_of}
 use Rattle.filter_lint.specs.Known.{top_one, top_two}
-use Rattle.filter_lint.specs.declared.warning.Bounds.{Bounds}
-use Rattle.filter_lint.specs.declared.warning.Cause.{Cause}
-use Rattle.filter_lint.specs.declared.warning.Cause.TheVariants as cause
+use Rattle.filter_lint.specs.declared.warning.ValueBounds.{ValueBounds}
+use Rattle.filter_lint.specs.declared.warning.WarningCause.{WarningCause}
+use Rattle.filter_lint.specs.declared.warning.WarningCause.TheVariants as cause
 use Rattle.filter_lint.specs.declared.warning.Operation.{Operation}
 use Rattle.filter_lint.specs.declared.warning.Warning.{Warning}
 
@@ -24,7 +24,7 @@ pub record IsConstant (program : CodeView) (size at : ℕ) (truth : Bool) : Type
   pub some : Comes program size at come
 
 -- an operation that may wrap, by the ranges that the verifier knows of its operands
-pub record MayWrap (program : CodeView) (size at : ℕ) (what : Operation) (left right : Bounds) : Type 0 where
+pub record MayWrap (program : CodeView) (size at : ℕ) (what : Operation) (left right : ValueBounds) : Type 0 where
   pub i : Instr
   pub there : slice_get program.instrs at ≡ Some i
   pub is_operation : operation_of i ≡ Some what
@@ -39,7 +39,7 @@ pub record IsUnread (program : CodeView) (at : ℕ) : Type 0 where
   pub unread : (k : ℕ) → slice_get program.instrs k ≢ Some (instr.Load number)
 
 -- an instruction that sets the metric to what is at least the size, by the range that the verifier knows of it
-pub record IsUnreachable (program : CodeView) (size at : ℕ) (bounds : Bounds) : Type 0 where
+pub record IsUnreachable (program : CodeView) (size at : ℕ) (bounds : ValueBounds) : Type 0 where
   pub sets : slice_get program.instrs at ≡ Some instr.SetMetric
   pub known : top_one (in_state program size at) ≡ Some bounds
   pub large : size ≤ bounds.low
@@ -66,7 +66,7 @@ pub record IsNotLowered (program : CodeView) (size at : ℕ) : Type 0 where
   pub above : AreOnTop true come
 
 -- why a warning is said is so
-abbrev pub IsSo : CodeView → ℕ → ℕ → Cause → Type 0
+abbrev pub IsSo : CodeView → ℕ → ℕ → WarningCause → Type 0
 IsSo program size at (cause.Constant place truth) = IsConstant program size at truth
 IsSo program size at cause.Unreached = IsNeverReached program size at
 IsSo program size at (cause.Wraps what left right) = MayWrap program size at what left right

@@ -66,23 +66,23 @@ number_text None = []
 number_text (Some number) = 58 ∷ decimal number
 
 -- what is said in some words under a code, by the byte of the text at which it stands
-abbrev pub told_at : List ℕ → Option ℕ → List ℕ → List ℕ → List ℕ → Option ℕ → List ℕ
-told_at name number text words code None = shown name ++ number_text number ++ message words code
-told_at name number text words code (Some at) =
+abbrev pub explained_at : List ℕ → Option ℕ → List ℕ → List ℕ → List ℕ → Option ℕ → List ℕ
+explained_at name number text words code None = shown name ++ number_text number ++ message words code
+explained_at name number text words code (Some at) =
     shown name ++ position (unwrap_or number (line_at text at)) (column_at text at) ++ message words code
     ++ excerpt (behind_last_feed (take at text)) (before_first_feed (drop at text))
 
 -- the same of a refusal
 abbrev pub explanation : List ℕ → Option ℕ → List ℕ → List ℕ → Refusal → Option ℕ → List ℕ
-explanation name number text words why byte = told_at name number text words (refusal_code why) byte
+explanation name number text words why byte = explained_at name number text words (refusal_code why) byte
 
 -- what people are told of a refusal where no place is told: words that end with the range which is told, and its code
 abbrev pub AreRefusalWords : Diagnosis → List ℕ → Type 0
-AreRefusalWords told out = (words : List ℕ) × EndsInRange told words × (out ≡ coded words (refusal_code told.refusal))
+AreRefusalWords diagnosis out = (words : List ℕ) × EndsInRange diagnosis words × (out ≡ coded words (refusal_code diagnosis.refusal))
 
 -- what people are told of a refusal of a source: words that end with the range which is told, where the refusal is shown
 abbrev pub IsExplanation : List ℕ → List ℕ → Diagnosis → List ℕ → Type 0
-IsExplanation name text told out = (words : List ℕ) × EndsInRange told words × (out ≡ explanation name None text words told.refusal told.byte)
+IsExplanation name text diagnosis out = (words : List ℕ) × EndsInRange diagnosis words × (out ≡ explanation name None text words diagnosis.refusal diagnosis.byte)
 
 -- the byte of a line that is this byte of the source with which the line ends; a byte behind the end is taken for the end
 abbrev pub byte_of_line : List ℕ → List ℕ → ℕ → ℕ
@@ -90,5 +90,5 @@ byte_of_line line source at = length line - length source + min at (length sourc
 
 -- what people are told of a refusal of the source with which the line of a number ends
 abbrev pub IsLineExplanation : List ℕ → ℕ → List ℕ → List ℕ → Diagnosis → List ℕ → Type 0
-IsLineExplanation name number line source told out = (words : List ℕ) × EndsInRange told words
-    × (out ≡ explanation name (Some number) line words told.refusal (option_map (byte_of_line line source) told.byte))
+IsLineExplanation name number line source diagnosis out = (words : List ℕ) × EndsInRange diagnosis words
+    × (out ≡ explanation name (Some number) line words diagnosis.refusal (option_map (byte_of_line line source) diagnosis.byte))

@@ -25,4 +25,4 @@ range_text why (Some range) = codes ": it is " ++ decimal range.low ++ codes "..
 
 -- some words as they are shown, and then the range that is told, if there is one
 abbrev pub EndsInRange : Diagnosis → List ℕ → Type 0
-EndsInRange told words = (plain : List ℕ) × (words ≡ shown plain ++ range_text told.refusal told.range)
+EndsInRange diagnosis words = (plain : List ℕ) × (words ≡ shown plain ++ range_text diagnosis.refusal diagnosis.range)

@@ -11,11 +11,11 @@ use Rattle.filter_reports.specs.Explanations.{IsExplanation}
 -- before and holds now.
 abbrev pub Explains : List ℕ → List ℕ → Option Diagnosis → Option (List ℕ) → Option (List ℕ) → Type 0
 Explains name text None held holds = Keeps held holds
-Explains name text (Some told) held holds = (out : List ℕ) × IsExplanation name text told out × Appends held holds out
+Explains name text (Some diagnosis) held holds = (out : List ℕ) × IsExplanation name text diagnosis out × Appends held holds out
 
 -- A fault kept an explanation from being told whole: nothing was told for want of memory, or it was cut.
 abbrev pub IsCutExplanation : StreamFault → List ℕ → List ℕ → Diagnosis → Option (List ℕ) → Option (List ℕ) → Type 0
-IsCutExplanation Read name text told held holds = ⊥
-IsCutExplanation Write name text told held holds = (out : List ℕ) × IsExplanation name text told out × AppendsFront held holds out
-IsCutExplanation Memory name text told held holds = Appends held holds []
-IsCutExplanation TooLong name text told held holds = ⊥
+IsCutExplanation Read name text diagnosis held holds = ⊥
+IsCutExplanation Write name text diagnosis held holds = (out : List ℕ) × IsExplanation name text diagnosis out × AppendsFront held holds out
+IsCutExplanation Memory name text diagnosis held holds = Appends held holds []
+IsCutExplanation TooLong name text diagnosis held holds = ⊥

@@ -20,13 +20,13 @@
 ghost use Rattle.std.specs.Prelude.{◌≡◌, ◌++◌, None, Some, IfOk, OnOk, unwrap_or};
 ghost use Rattle.std.specs.Option.{option_map};
 ghost use Rattle.filter_reports.specs.Explanations.{AreRefusalWords, IsExplanation, IsLineExplanation, blanks_for};
-ghost use Rattle.filter_reports.specs.Explanations.{byte_of_line, dots_for, excerpt, excerpt_of, told_at};
+ghost use Rattle.filter_reports.specs.Explanations.{byte_of_line, dots_for, excerpt, excerpt_of, explained_at};
 ghost use Rattle.filter_reports.specs.Explanations.{coded, end_within, explanation, first_of, front_within};
 ghost use Rattle.filter_reports.specs.Explanations.{is_long, last_of, message, number_text, position};
 
 use crate::place::place_in;
 use crate::shown::{columns_of, push_characters, push_indent, push_shown, shown_characters};
-use crate::told_words::told_words;
+use crate::diagnosis_words::diagnosis_words;
 use filter_source::{Diagnosis, Refusal};
 use line_protocol::push_decimal;
 use std::alloc::{AllocError, Global};
@@ -200,7 +200,7 @@ pub fn tell_at(
     code: &str,
     byte: Option<usize>,
 ) -> Result<Vec<u8>, AllocError>
-    ensures { IfOk result (λ out. out.items ≡ told_at name.now number text.now words.now code.now byte) }
+    ensures { IfOk result (λ out. out.items ≡ explained_at name.now number text.now words.now code.now byte) }
 {
     let mut out = Vec::new(alloc);
     push_shown(alloc, &mut out, name)?;
@@ -245,12 +245,12 @@ fn line_in(number: Option<u32>, line: usize) -> usize
 }
 
 /// Why a source is refused, for people, where its place is told elsewhere: `WORDS (CODE)`.
-pub fn refusal_words(alloc: Global, text: &[u8], told: &Diagnosis) -> Result<Vec<u8>, AllocError>
-    ensures { IfOk result (λ out. AreRefusalWords told.now out.items) }
+pub fn refusal_words(alloc: Global, text: &[u8], diagnosis: &Diagnosis) -> Result<Vec<u8>, AllocError>
+    ensures { IfOk result (λ out. AreRefusalWords diagnosis.now out.items) }
 {
-    let words = told_words(alloc, text, told)?;
+    let words = diagnosis_words(alloc, text, diagnosis)?;
     let mut out = Vec::new(alloc);
-    push_coded(&mut out, words.as_slice(), told.refusal.code())?;
+    push_coded(&mut out, words.as_slice(), diagnosis.refusal.code())?;
     Ok(out)
 }
 
@@ -260,19 +260,19 @@ pub fn explain(
     alloc: Global,
     name: &[u8],
     text: &[u8],
-    told: &Diagnosis,
+    diagnosis: &Diagnosis,
 ) -> Result<Vec<u8>, AllocError>
-    ensures { IfOk result (λ out. IsExplanation name.now text.now told.now out.items) }
+    ensures { IfOk result (λ out. IsExplanation name.now text.now diagnosis.now out.items) }
 {
-    let words = told_words(alloc, text, told)?;
+    let words = diagnosis_words(alloc, text, diagnosis)?;
     explain_in(
         alloc,
         name,
         None,
         text,
         words.as_slice(),
-        told.refusal,
-        told.byte,
+        diagnosis.refusal,
+        diagnosis.byte,
     )
 }
 
@@ -294,19 +294,19 @@ pub fn explain_line(
     number: u32,
     line: &[u8],
     source: &[u8],
-    told: &Diagnosis,
+    diagnosis: &Diagnosis,
 ) -> Result<Vec<u8>, AllocError>
-    ensures { IfOk result (λ out. IsLineExplanation name.now number line.now source.now told.now out.items) }
+    ensures { IfOk result (λ out. IsLineExplanation name.now number line.now source.now diagnosis.now out.items) }
 {
-    let words = told_words(alloc, source, told)?;
-    let byte = byte_of_line(line, source, told.byte);
+    let words = diagnosis_words(alloc, source, diagnosis)?;
+    let byte = byte_of_line(line, source, diagnosis.byte);
     explain_in(
         alloc,
         name,
         Some(number),
         line,
         words.as_slice(),
-        told.refusal,
+        diagnosis.refusal,
         byte,
     )
 }

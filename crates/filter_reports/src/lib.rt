@@ -33,7 +33,7 @@ mod report;
 mod rewrite;
 mod shown;
 mod spelling;
-mod told_words;
+mod diagnosis_words;
 mod words;
 
 pub use check::{Checked, check_text, code_of, write_report};
@@ -47,7 +47,7 @@ pub use listing::write_listing;
 pub use named::{check_named, list_named, tell, tell_refusal};
 pub use named_text::NamedText;
 pub use nearest::nearest_word;
-pub use place::{Place, place_in};
+pub use place::{TextPlace, place_in};
 pub use placed::{PlacedCode, placed_code, verified_filter};
 pub use position::{Position, Positions};
 pub use refusal::write_refusal;

@@ -6,7 +6,7 @@ ghost use Rattle.filter_reports.specs.Places.{begins_character, behind_last_feed
 
 /// A place in a text, and the line that it is in.
 #[derive(Clone, Copy)]
-pub struct Place<'a> {
+pub struct TextPlace<'a> {
     /// The number of its line, counted from 1.
     pub line: usize,
     /// Its number among the characters of its line, counted from 1. A tab is one character.
@@ -65,7 +65,7 @@ fn count_characters(text: &[u8]) -> usize
 }
 
 /// The place of a byte of a text. A place behind the end is taken for the end.
-pub fn place_in(text: &[u8], at: usize) -> Place<'_>
+pub fn place_in(text: &[u8], at: usize) -> TextPlace<'_>
     ensures line { result.line ≡ line_at text.now at }
     ensures column { result.column ≡ column_at text.now at }
     ensures before { result.before.now ≡ behind_last_feed (take at text.now) }
@@ -73,7 +73,7 @@ pub fn place_in(text: &[u8], at: usize) -> Place<'_>
 {
     let (front, back) = text.split_at(at.min(text.len()));
     let before = behind_last_feed(front);
-    Place {
+    TextPlace {
         line: count_feeds(front) + 1,
         column: count_characters(before) + 1,
         before,

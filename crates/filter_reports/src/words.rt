@@ -30,15 +30,15 @@ const BYTE_ORDER_MARK: &[u8] = b"\xef\xbb\xbf";
 const CODE_LINE: &[u8] = b"code ";
 
 /// What is wrong with a source.
-pub(crate) fn words_of(alloc: Global, text: &[u8], told: &Diagnosis) -> Result<String, AllocError> {
-    match told.refusal {
-        Refusal::Parse(fault) => parse_words(alloc, text, fault, &told.around),
-        Refusal::Typing(fault) => kind_words(alloc, text, fault, &told.around),
-        Refusal::Verify(fault) => code_words(alloc, fault, told.byte.is_some()),
+pub(crate) fn words_of(alloc: Global, text: &[u8], diagnosis: &Diagnosis) -> Result<String, AllocError> {
+    match diagnosis.refusal {
+        Refusal::Parse(fault) => parse_words(alloc, text, fault, &diagnosis.around),
+        Refusal::Typing(fault) => kind_words(alloc, text, fault, &diagnosis.around),
+        Refusal::Verify(fault) => code_words(alloc, fault, diagnosis.byte.is_some()),
         Refusal::Hexadecimal if text.starts_with(CODE_LINE) => {
-            format!(in alloc; "{}: leave out the word `code`", told.refusal)
+            format!(in alloc; "{}: leave out the word `code`", diagnosis.refusal)
         }
-        _ => format!(in alloc; "{}", told.refusal),
+        _ => format!(in alloc; "{}", diagnosis.refusal),
     }
 }
 

@@ -1,6 +1,6 @@
 pub mod Sources
 pub mod Tested
-pub mod Untold
+pub mod Unreported
 mod Beside
 mod Chained
 mod FileNames
@@ -12,7 +12,7 @@ mod Imported
 mod JoinedRead
 mod Linted
 mod Loaded
-mod MadeTexts
+mod ResultTexts
 mod PlanAdded
 mod Routed
 mod Taken

@@ -6,8 +6,8 @@ use Rattle.operator_cmds.specs.Stages.{Empty, StageView}
 use Rattle.router_operator.specs.OperatorView.{Names, filter_of}
 use Rattle.script_runs.proofs.Named.{naming_keeps}
 use Rattle.script_runs.specs.Naming.{AreNamed}
-use Rattle.script_runs.specs.declared.naming.NamedFilter.{NamedFilter}
-use Rattle.script_runs.specs.declared.naming.Unfit.{Unfit}
+use Rattle.script_runs.specs.declared.filter_naming.NamedFilter.{NamedFilter}
+use Rattle.script_runs.specs.declared.filter_naming.Unfit.{Unfit}
 use Rattle.ncroute.specs.Loading.{AreLoaded, AreUnfit, script_with}
 
 module _ (size : ℕ) (given : List NamedFilter) (found : Option Unfit) (first script : ScriptView) (begins : first ≡ fresh)

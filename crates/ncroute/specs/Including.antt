@@ -11,7 +11,7 @@ use Rattle.bird_import.specs.declared.includes.Include.{Include}
 use Rattle.command_line.specs.declared.requests.Source.{Source}
 use Rattle.ncroute.specs.Inclusions.{IsLeft, IsLookedFor, last_file}
 use Rattle.ncroute.specs.Places.{ConfigView, FileView, place_in, view_of}
-use Rattle.ncroute.specs.Reading.{Reads, SkipsUnread, name_of, told_line}
+use Rattle.ncroute.specs.Reading.{Reads, SkipsUnread, name_of, notice_line}
 use Rattle.ncroute.specs.Streaming.{Streams, Tells, Writes}
 
 -- how deep files include files at most, as in BIRD
@@ -81,7 +81,7 @@ unfoldable pub long_config : List ℕ
 long_config = codes "longer than 16777216 bytes"
 
 abbrev pub long_config_line : Source → List ℕ
-long_config_line source = told_line (name_of source) long_config (codes " (E4)" ++ 10 ∷ [])
+long_config_line source = notice_line (name_of source) long_config (codes " (E4)" ++ 10 ∷ [])
 
 -- A text is taken, if it is within the limit; and otherwise standard error was told that it is not.
 abbrev pub TakesWithin : Source → List ℕ → Option (List ℕ) → Streams → Streams → Type 0

@@ -5,8 +5,8 @@ use Rattle.std.specs.declared.io.Error.{Error}
 use Rattle.line_protocol.specs.Limits.{input_limit}
 use Rattle.line_protocol.specs.Lines.{is_line_feed}
 use Rattle.line_protocol.specs.declared.faults.StreamFault.{StreamFault}
-use Rattle.script_runs.specs.declared.naming.NamedFilter.{NamedFilter}
-use Rattle.command_line.specs.declared.requests.Running.{Running}
+use Rattle.script_runs.specs.declared.filter_naming.NamedFilter.{NamedFilter}
+use Rattle.command_line.specs.declared.requests.RunOptions.{RunOptions}
 use Rattle.command_line.specs.declared.requests.Source.{Source}
 use Rattle.ncroute.specs.Filters.{ReadsThem, SkipsFilter, StopsAtFault}
 use Rattle.ncroute.specs.Guiding.{GuidesScript, StopsGuided}
@@ -77,7 +77,7 @@ module _ (opens : List ℕ → Result (Option (List ℕ)) Error → Type 0) wher
 module _ (creates : List ℕ → Result (Option (List ℕ)) Error → Type 0) (leaves : List ℕ → Option (List ℕ) → Type 0)
     (opens : List ℕ → Result (Option (List ℕ)) Error → Type 0) where
   -- The sources were read, and the script that they are was carried out; or one of them was not read, and no line was answered.
-  unfoldable pub RunsTexts : Running → List NamedFilter → List Source → Streams → Streams → ℕ → Type 0
+  unfoldable pub RunsTexts : RunOptions → List NamedFilter → List Source → Streams → Streams → ℕ → Type 0
   RunsTexts how filters sources before after status =
       ((script : List ℕ) × (mid : Streams) × JoinsThem opens sources script before mid
       × GuidesScript creates leaves how filters (Some script) mid after status)
@@ -85,7 +85,7 @@ module _ (creates : List ℕ → Result (Option (List ℕ)) Error → Type 0) (l
       × TellsUnread source why before.tells after.tells × (after.holds ≡ before.holds) × (status ≡ 1))
 
   -- A fault ended it.
-  unfoldable pub StopsTexts : StreamFault → Running → List NamedFilter → List Source → Streams → Streams → Type 0
+  unfoldable pub StopsTexts : StreamFault → RunOptions → List NamedFilter → List Source → Streams → Streams → Type 0
   StopsTexts fault how filters sources before after =
       ((script : List ℕ) × (mid : Streams) × JoinsThem opens sources script before mid
       × StopsGuided creates leaves fault how filters (Some script) mid after)
@@ -94,14 +94,14 @@ module _ (creates : List ℕ → Result (Option (List ℕ)) Error → Type 0) (l
 
   -- The filters were read, in order, then the sources, and then the script was carried out; or one of them was not read, and no line was
   -- answered.
-  unfoldable pub RunsJoined : Running → List Source → Streams → Streams → ℕ → Type 0
+  unfoldable pub RunsJoined : RunOptions → List Source → Streams → Streams → ℕ → Type 0
   RunsJoined how sources before after status =
       ((filters : List NamedFilter) × (mid : Streams) × ReadsThem opens how.filters.items filters before mid
       × RunsTexts how filters sources mid after status)
       ⊎ (SkipsFilter opens how.filters.items before after × (status ≡ 1))
 
   -- A fault ended it.
-  unfoldable pub StopsJoined : StreamFault → Running → List Source → Streams → Streams → Type 0
+  unfoldable pub StopsJoined : StreamFault → RunOptions → List Source → Streams → Streams → Type 0
   StopsJoined fault how sources before after = StopsAtFault opens fault how.filters.items before after
       ⊎ ((filters : List NamedFilter) × (mid : Streams) × ReadsThem opens how.filters.items filters before mid
       × StopsTexts fault how filters sources mid after)

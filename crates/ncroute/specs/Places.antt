@@ -7,7 +7,7 @@ use Rattle.filter_reports.specs.Shown.{shown}
 use Rattle.command_line.specs.declared.requests.Source.{Source}
 use Rattle.command_line.specs.declared.requests.Source.TheVariants.{Input, File}
 use Rattle.ncroute.specs.Reading.{name_of}
-use Rattle.ncroute.specs.declared.including.File.{File as OpenedFile}
+use Rattle.ncroute.specs.declared.including.ConfigFile.{ConfigFile as OpenedFile}
 use Rattle.ncroute.specs.declared.including.Stretch.{Stretch}
 use Rattle.ncroute.specs.declared.including.Whole.{Whole}
 

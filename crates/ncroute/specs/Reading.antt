@@ -24,30 +24,30 @@ name_of Input = codes "<stdin>"
 name_of (File name) = string_bytes name
 
 -- a line that tells something of what has a name: the name as it is shown, what is said, shown in the same way, and a code
-abbrev pub told_line : List ℕ → List ℕ → List ℕ → List ℕ
-told_line name words code = shown name ++ codes ": " ++ shown words ++ code
+abbrev pub notice_line : List ℕ → List ℕ → List ℕ → List ℕ
+notice_line name words code = shown name ++ codes ": " ++ shown words ++ code
 
 -- the line that tells that a source was not read, with its name as it is shown and the words of the reason
 abbrev pub unread_line : Source → List ℕ → List ℕ
-unread_line source words = told_line (name_of source) words (codes " (E1)" ++ 10 ∷ [])
+unread_line source words = notice_line (name_of source) words (codes " (E1)" ++ 10 ∷ [])
 
 -- the line that tells that the text of a filter is longer than its limit
 unfoldable pub long_words : List ℕ
 long_words = codes "longer than 1048576 bytes"
 
 abbrev pub long_line : Source → List ℕ
-long_line source = told_line (name_of source) long_words (codes " (E4)" ++ 10 ∷ [])
+long_line source = notice_line (name_of source) long_words (codes " (E4)" ++ 10 ∷ [])
 
 -- the line that tells that a file was not made, with its name as it is shown and the words of the reason
-abbrev pub unmade_line : List ℕ → List ℕ → List ℕ
-unmade_line name words = told_line name words (codes " (E2)" ++ 10 ∷ [])
+abbrev pub uncreated_line : List ℕ → List ℕ → List ℕ
+uncreated_line name words = notice_line name words (codes " (E2)" ++ 10 ∷ [])
 
 -- the line that tells that a new file did not get the whole text
 unfoldable pub unwritten_words : List ℕ
 unwritten_words = codes "could not be written to its end"
 
 abbrev pub unwritten_line : List ℕ → List ℕ
-unwritten_line name = told_line name unwritten_words (codes " (E2)" ++ 10 ∷ [])
+unwritten_line name = notice_line name unwritten_words (codes " (E2)" ++ 10 ∷ [])
 
 -- A text is all that standard input had, or goes one byte beyond a limit. `known` is what it had, `left` what it has now.
 abbrev pub ReadsInput : ℕ → List ℕ → Option (List ℕ) → Option (List ℕ) → Type 0
@@ -78,19 +78,19 @@ LeavesInput limit unread.Input known left = ConsumesAtMost (limit + 1) known lef
 LeavesInput limit unread.Memory known left = ConsumesAtMost (limit + 1) known left
 LeavesInput limit unread.TooLong known left = ⊥
 
--- Standard error was told that a source was not read: of a file with a reason, and of a filter that is too long with its limit. `told` is what it held, `tells` what it holds now.
+-- Standard error was told that a source was not read: of a file with a reason, and of a filter that is too long with its limit. `stderr_before` is what it held, `stderr_after` what it holds now.
 abbrev pub TellsUnread : Source → Unread → Option (List ℕ) → Option (List ℕ) → Type 0
-TellsUnread source (unread.Broken reason) told tells = (words : List ℕ) × Appends told tells (unread_line source words)
-TellsUnread source unread.Input told tells = ⊥
-TellsUnread source unread.Memory told tells = ⊥
-TellsUnread source unread.TooLong told tells = Appends told tells (long_line source)
+TellsUnread source (unread.Broken reason) stderr_before stderr_after = (words : List ℕ) × Appends stderr_before stderr_after (unread_line source words)
+TellsUnread source unread.Input stderr_before stderr_after = ⊥
+TellsUnread source unread.Memory stderr_before stderr_after = ⊥
+TellsUnread source unread.TooLong stderr_before stderr_after = Appends stderr_before stderr_after (long_line source)
 
 -- It was not told, or not whole, and this is the fault that comes of it: standard input that fails is E1, and refused memory is E3.
 abbrev pub StopsTelling : StreamFault → Source → Unread → Option (List ℕ) → Option (List ℕ) → Type 0
-StopsTelling ended source (unread.Broken reason) told tells = (words : List ℕ) × IsCut ended told tells (unread_line source words)
-StopsTelling ended source unread.Input told tells = (ended ≡ fault.Read) × (tells ≡ told)
-StopsTelling ended source unread.Memory told tells = (ended ≡ fault.Memory) × (tells ≡ told)
-StopsTelling ended source unread.TooLong told tells = IsCut ended told tells (long_line source)
+StopsTelling ended source (unread.Broken reason) stderr_before stderr_after = (words : List ℕ) × IsCut ended stderr_before stderr_after (unread_line source words)
+StopsTelling ended source unread.Input stderr_before stderr_after = (ended ≡ fault.Read) × (stderr_after ≡ stderr_before)
+StopsTelling ended source unread.Memory stderr_before stderr_after = (ended ≡ fault.Memory) × (stderr_after ≡ stderr_before)
+StopsTelling ended source unread.TooLong stderr_before stderr_after = IsCut ended stderr_before stderr_after (long_line source)
 
 -- a text that was read goes at most one byte beyond its limit
 abbrev pub IsWithin : ℕ → Loaded → Type 0

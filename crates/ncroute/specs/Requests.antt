@@ -9,7 +9,7 @@ use Rattle.filter_reports.specs.Faults.{stream_fault}
 use Rattle.filter_reports.specs.Rewriting.{Rewrites, RewritesOff}
 use Rattle.filter_reports.specs.declared.fault.ProgramFault.{ProgramFault}
 use Rattle.filter_reports.specs.Naming.{ListsNamed, ListsNamedOff}
-use Rattle.route_answers.specs.ToldRoutes.{IsQuiet}
+use Rattle.route_answers.specs.WatchedRoutes.{IsQuiet}
 use Rattle.line_protocol.specs.declared.faults.StreamFault.{StreamFault}
 use Rattle.command_line.specs.declared.requests.Request.{Request}
 use Rattle.command_line.specs.declared.requests.Request.TheVariants as request
@@ -30,16 +30,16 @@ use Rattle.ncroute.specs.Trying.{StopsFilter, TriesFilter}
 
 -- Code and routes were answered to the end of the input. Standard error got nothing, but where words about lines are wanted: what it got
 -- of these is left open.
-pub record EvaluatesTold (is_told : Bool) (before after : Streams) (status : ℕ) : Type 0 where
+pub record EvaluatesLines (tells_people : Bool) (before after : Streams) (status : ℕ) : Type 0 where
   pub refused : ℕ
   pub evaluated : IfSome before.reads (λ input. Evaluates input after.reads before.holds after.holds refused)
-  pub quiet : IsQuiet is_told before.tells after.tells
+  pub quiet : IsQuiet tells_people before.tells after.tells
   pub ends : status ≡ status_of refused
 
 -- A fault ended that.
-pub record StopsEvaluating (fault : StreamFault) (is_told : Bool) (before after : Streams) : Type 0 where
+pub record StopsEvaluating (fault : StreamFault) (tells_people : Bool) (before after : Streams) : Type 0 where
   pub broken_off : IfSome before.reads (λ input. Breaks fault input after.reads before.holds after.holds)
-  pub quiet : IsQuiet is_told before.tells after.tells
+  pub quiet : IsQuiet tells_people before.tells after.tells
 
 -- A code file was written in its other form, or refused.
 pub record RewritesInput (is_old : Bool) (before after : Streams) (status : ℕ) : Type 0 where
@@ -70,7 +70,7 @@ pub record StopsList (fault : StreamFault) (size : Option ℕ) (is_code : Bool) 
 abbrev pub fault_status : Request → ℕ
 fault_status (request.Check how sources) = 1
 fault_status (request.Diff how old new) = 3
-fault_status (request.Eval is_told) = 1
+fault_status (request.Eval tells_people) = 1
 fault_status (request.Explain page) = 1
 fault_status (request.Import how source) = 1
 fault_status (request.List size is_code source is_explained) = 3
@@ -105,7 +105,7 @@ module _ (opens : List ℕ → Result (Option (List ℕ)) Error → Type 0) wher
     abbrev pub Answers : Request → Streams → Streams → ℕ → Type 0
     Answers (request.Check how sources) before after status = ChecksAll opens how sources.items before after status
     Answers (request.Diff how old new) before after status = ComparesSources opens how old new before after status
-    Answers (request.Eval is_told) before after status = EvaluatesTold is_told before after status
+    Answers (request.Eval tells_people) before after status = EvaluatesLines tells_people before after status
     Answers (request.Explain page) before after status = Writes (string_bytes page) before after × (status ≡ 0)
     Answers (request.Import how source) before after status = ImportsSource creates leaves opens how source before after status
     Answers (request.List size is_code source is_explained) before after status =
@@ -123,7 +123,7 @@ module _ (opens : List ℕ → Result (Option (List ℕ)) Error → Type 0) wher
     abbrev pub StopsAnswer : StreamFault → Request → Streams → Streams → Type 0
     StopsAnswer fault (request.Check how sources) before after = ChecksSome opens fault how sources.items before after
     StopsAnswer fault (request.Diff how old new) before after = StopsComparing opens fault how old new before after
-    StopsAnswer fault (request.Eval is_told) before after = StopsEvaluating fault is_told before after
+    StopsAnswer fault (request.Eval tells_people) before after = StopsEvaluating fault tells_people before after
     StopsAnswer fault (request.Explain page) before after = CutsWriting fault (string_bytes page) before after
     StopsAnswer fault (request.Import how source) before after = ⊤
     StopsAnswer fault (request.List size is_code source is_explained) before after = StopsListing fault size is_code source before after

@@ -39,7 +39,7 @@ IsLeftOff Domain fault input left held holds = domain.IsBrokenOff fault input le
 
 -- Standard error is told nothing, but where people asked for words: what is told of the filters that are refused is left open.
 abbrev pub IsQuiet : Bool → Option (List ℕ) → Option (List ℕ) → Type 0
-IsQuiet is_explained told tells = (is_explained ≡ true) ⊎ (tells ≡ told)
+IsQuiet is_explained stderr_before stderr_after = (is_explained ≡ true) ⊎ (stderr_after ≡ stderr_before)
 
 -- the exit status where a fault of the machine ends a script: 1 where `run` always had it, and otherwise one of its own, so that it
 -- differs from a refusal

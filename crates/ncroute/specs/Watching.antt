@@ -35,6 +35,6 @@ kind_of engine.Router = kind.Router
 kind_of engine.Domain = kind.Domain
 
 -- Nothing more is told; or the words for a refused line of a script that people know by a name are, or a front of them.
-abbrev pub IsToldOf : List ℕ → RefusedLine → Option (List ℕ) → Option (List ℕ) → Type 0
-IsToldOf name refused before after = (after ≡ before)
-    ⊎ ((words : List ℕ) × Tells name refused.number refused.line.now refused.answer.now refused.told (Some words) × AppendsFront before after words)
+abbrev pub IsReported : List ℕ → RefusedLine → Option (List ℕ) → Option (List ℕ) → Type 0
+IsReported name refused before after = (after ≡ before)
+    ⊎ ((words : List ℕ) × Tells name refused.number refused.line.now refused.answer.now refused.diagnosis (Some words) × AppendsFront before after words)

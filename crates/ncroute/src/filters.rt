@@ -2,7 +2,7 @@
 ghost use Rattle.std.specs.Option.{option_map};
 ghost use Rattle.std.specs.Prelude.{◌≡◌, [], ◌∷◌, ◌++◌, IfErr, IfOk, OnOk, slice_get};
 ghost use Rattle.filter_reports.specs.Faults.{stream_fault};
-ghost use Rattle.script_runs.specs.declared.naming.NamedFilter.{NamedFilter as TheFilter};
+ghost use Rattle.script_runs.specs.declared.filter_naming.NamedFilter.{NamedFilter as TheFilter};
 ghost use Rattle.ncroute.specs.Filters.{AreLoaded, IsCutFilter, IsCutUnfit, LeavesFilter, ReadsFilter};
 ghost use Rattle.ncroute.specs.Filters.{ReadsFilters, StopsAtFilter, TellsOfFilter, TellsUnfit};
 
@@ -155,17 +155,17 @@ fn tell_filter<E: Write>(
     alloc: Global,
     errors: &mut E,
     filter: Option<&NamedFilter>,
-    told: &Diagnosis,
+    diagnosis: &Diagnosis,
 ) -> Result<(), ProgramFault>
-    ensures ok { OnOk result (TellsOfFilter (option_map (λ filter. filter.now) filter.entry) told.now
+    ensures ok { OnOk result (TellsOfFilter (option_map (λ filter. filter.now) filter.entry) diagnosis.now
         (E.contents errors.old) (E.contents errors.new)) }
-    ensures err { IfErr result (λ fault. IsCutFilter (stream_fault fault) (option_map (λ filter. filter.now) filter.entry) told.now
+    ensures err { IfErr result (λ fault. IsCutFilter (stream_fault fault) (option_map (λ filter. filter.now) filter.entry) diagnosis.now
         (E.contents errors.old) (E.contents errors.new)) }
 {
     match filter {
         Some(filter) => {
             let (origin, text) = (filter.origin.as_slice(), filter.text.as_slice());
-            tell(alloc, errors, origin, text, told)
+            tell(alloc, errors, origin, text, diagnosis)
         }
         None => Ok(()),
     }
@@ -185,7 +185,7 @@ pub fn tell_unfit<E: Write>(
         None => Ok(()),
         Some(unfit) => {
             let filter = filter_at(filters, unfit.index);
-            tell_filter(alloc, errors, filter, &unfit.told)
+            tell_filter(alloc, errors, filter, &unfit.diagnosis)
         }
     }
 }

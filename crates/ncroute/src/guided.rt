@@ -5,18 +5,18 @@ ghost use Rattle.ncroute.specs.Guiding.{EndsSaved, GuidesScript, IsCutLoss, Runs
 ghost use Rattle.ncroute.specs.Guiding.{StopsSaved, TellsLoss};
 ghost use Rattle.ncroute.specs.Scripts.{IsQuiet, TakesLines, text_of};
 ghost use Rattle.script_runs.specs.Faults.{stream_of};
-ghost use Rattle.script_runs.specs.Running.{IsSaved, IsSavedInPart};
+ghost use Rattle.script_runs.specs.RunOptions.{IsSaved, IsSavedInPart};
 
 use crate::console::{Console, Loaded};
 use crate::ending::{FAILED, status_of};
 use crate::filters::{LoadedFilters, read_given, tell_unfit};
 use crate::script::Lines;
-use crate::texts::{Folder, name_of, tell_unmade, tell_unwritten};
+use crate::texts::{Folder, name_of, tell_uncreated, tell_unwritten};
 use crate::watcher::{Guide, ScriptPart, whole};
-use command_line::{Running, Source};
+use command_line::{RunOptions, Source};
 use filter_reports::ProgramFault;
 use line_protocol::{INPUT_LIMIT, StreamFault};
-use operator_cmds::Nobody;
+use operator_cmds::NoWatcher;
 use script_runs::{NamedFilter, SavingFault, Unfit, run_saved_script};
 use std::alloc::Global;
 use std::io::{self, Read, Write};
@@ -25,7 +25,7 @@ use std::io::{self, Read, Write};
 /// the filter that is refused, if one is.
 fn answer<R: Read, W: Write, V: Write + Drop, E: Write>(
     alloc: Global,
-    how: &Running,
+    how: &RunOptions,
     parts: &[ScriptPart<'_>],
     filters: &[NamedFilter],
     saver: V,
@@ -51,14 +51,14 @@ fn answer<R: Read, W: Write, V: Write + Drop, E: Write>(
         };
         run_saved_script(alloc, reader, writer, saver, guide, filters, stops)
     } else {
-        run_saved_script(alloc, reader, writer, saver, Nobody, filters, stops)
+        run_saved_script(alloc, reader, writer, saver, NoWatcher, filters, stops)
     }
 }
 
 /// Answers lines as `answer` does, wherever they come from.
 fn answer_lines<R: Read, W: Write, V: Write + Drop, E: Write>(
     alloc: Global,
-    how: &Running,
+    how: &RunOptions,
     parts: &[ScriptPart<'_>],
     filters: &[NamedFilter],
     saver: V,
@@ -119,7 +119,7 @@ fn tell_loss<E: Write>(
 /// Carries out a script whose history goes to a saver. Returns the exit status, and the saver.
 fn save_to<R: Read, W: Write, V: Write + Drop, E: Write>(
     alloc: Global,
-    how: &Running,
+    how: &RunOptions,
     parts: &[ScriptPart<'_>],
     filters: &[NamedFilter],
     saver: V,
@@ -150,7 +150,7 @@ fn save_to<R: Read, W: Write, V: Write + Drop, E: Write>(
 pub fn guide_script<F: Folder, R: Read, W: Write, E: Write>(
     files: &F,
     alloc: Global,
-    how: &Running,
+    how: &RunOptions,
     parts: &[ScriptPart<'_>],
     filters: &[NamedFilter],
     lines: Lines<'_>,
@@ -169,7 +169,7 @@ pub fn guide_script<F: Folder, R: Read, W: Write, E: Write>(
                 ended
             }
             Err(error) => {
-                tell_unmade(alloc, &mut console.errors, file.as_str(), &error)?;
+                tell_uncreated(alloc, &mut console.errors, file.as_str(), &error)?;
                 Ok(FAILED)
             }
         },
@@ -182,7 +182,7 @@ pub fn guide_script<F: Folder, R: Read, W: Write, E: Write>(
 fn guide_named<F: Folder, R: Read, W: Write, E: Write>(
     files: &F,
     alloc: Global,
-    how: &Running,
+    how: &RunOptions,
     filters: &[NamedFilter],
     source: &Source,
     console: &mut Console<R, W, E>,
@@ -223,7 +223,7 @@ fn guide_named<F: Folder, R: Read, W: Write, E: Write>(
 pub fn guide_source<F: Folder, R: Read, W: Write, E: Write>(
     files: &F,
     alloc: Global,
-    how: &Running,
+    how: &RunOptions,
     source: &Source,
     console: &mut Console<R, W, E>,
 ) -> Result<u8, ProgramFault>

@@ -25,7 +25,7 @@ const INCLUDE_DEPTH: u8 = 8;
 
 /// A file of a configuration.
 #[derive(Drop)]
-pub struct File {
+pub struct ConfigFile {
     /// Where it is.
     pub source: Source,
     /// Its text.
@@ -51,7 +51,7 @@ pub struct Whole {
     /// Where the text comes from, in order.
     pub stretches: Vec<Stretch>,
     /// The files.
-    pub files: Vec<File>,
+    pub files: Vec<ConfigFile>,
     /// The indexes of the files that are being read, each of which includes the next one.
     open: Vec<usize>,
     /// Something of it was not read.
@@ -85,7 +85,7 @@ pub fn stretch_of(whole: &Whole, byte: usize) -> Option<Stretch>
 fn push_file_place(
     alloc: Global,
     out: &mut Vec<u8>,
-    file: Option<&File>,
+    file: Option<&ConfigFile>,
     at: usize,
 ) -> Result<(), AllocError>
     ensures { OnOk result (out.new.items ≡ out.old.items ++ place_in (option_map (λ file. file_of file.now) file.entry) at) }
@@ -180,7 +180,7 @@ fn included_path(alloc: Global, by: &Source, name: &str) -> Result<String, Alloc
 }
 
 /// Whether the file of an index was opened by this path.
-fn has_path(files: &[File], index: usize, path: &str) -> bool
+fn has_path(files: &[ConfigFile], index: usize, path: &str) -> bool
     ensures { result ≡ has_path path.now (slice_get (map file_of files.now) index) }
 {
     match files.get(index) {
@@ -248,7 +248,7 @@ fn inclusion_of(alloc: Global, whole: &Whole, name: &[u8]) -> Result<Inclusion, 
 }
 
 /// The last of the files that are being read.
-fn last_file(whole: &Whole) -> Option<&File>
+fn last_file(whole: &Whole) -> Option<&ConfigFile>
     ensures { option_map (λ file. file_of file.now) result ≡ last_file (config_of whole.now) }
 {
     match whole.open.last() {
@@ -382,7 +382,7 @@ fn open_file(
 {
     let index = whole.files.len();
     let text = Vec::from_slice(alloc, text)?;
-    whole.files.push(File { source, text })?;
+    whole.files.push(ConfigFile { source, text })?;
     whole.open.push(index)?;
     Ok(index)
 }

@@ -16,7 +16,7 @@ use crate::guided::guide_script;
 use crate::script::Lines;
 use crate::texts::{Folder, Unread, name_of, read_source, tell_unread};
 use crate::watcher::ScriptPart;
-use command_line::{Running, Source};
+use command_line::{RunOptions, Source};
 use filter_reports::{ProgramFault, place_in};
 use line_protocol::INPUT_LIMIT;
 use script_runs::NamedFilter;
@@ -145,7 +145,7 @@ fn read_texts<'a, F: Folder, R: Read>(
 fn guide_texts<F: Folder, R: Read, W: Write, E: Write>(
     files: &F,
     alloc: Global,
-    how: &Running,
+    how: &RunOptions,
     filters: &[NamedFilter],
     sources: &[Source],
     console: &mut Console<R, W, E>,
@@ -181,7 +181,7 @@ fn guide_texts<F: Folder, R: Read, W: Write, E: Write>(
 pub fn guide_sources<F: Folder, R: Read, W: Write, E: Write>(
     files: &F,
     alloc: Global,
-    how: &Running,
+    how: &RunOptions,
     sources: &[Source],
     console: &mut Console<R, W, E>,
 ) -> Result<u8, ProgramFault>

@@ -126,13 +126,13 @@ pub fn report_on<W: Write, E: Write>(
     writer: &mut W,
     errors: &mut E,
 ) -> Result<Checked, ProgramFault>
-    ensures finished { IfOk result (λ checked. ReportsOn how.is_told how name.now text.now
+    ensures finished { IfOk result (λ checked. ReportsOn how.tells_people how name.now text.now
         (W.contents writer.old) (W.contents writer.new) (E.contents errors.old) (E.contents errors.new) checked.diagnosis) }
     ensures tokens { IfOk result (λ checked. AreTokensUnlessRefused checked.diagnosis how.is_code text.now checked.tokens.items) }
-    ensures cut { IfErr result (λ fault. CutsReport how.is_told (stream_fault fault) how name.now text.now
+    ensures cut { IfErr result (λ fault. CutsReport how.tells_people (stream_fault fault) how name.now text.now
         (W.contents writer.old) (W.contents writer.new) (E.contents errors.old) (E.contents errors.new)) }
 {
-    if how.is_told {
+    if how.tells_people {
         return check_named(
             alloc,
             text,

@@ -12,7 +12,7 @@ use crate::filters::{read_filters, tell_unfit};
 use crate::texts::{Folder, tell_unread};
 use command_line::NamedFile;
 use filter_reports::ProgramFault;
-use router_daemon::Filters;
+use router_daemon::VerifiedFilters;
 use router_script::Script;
 use script_runs::{NamedFilter, Unfit, name_filters};
 use std::alloc::{AllocError, Global};
@@ -23,7 +23,7 @@ fn verify_filters(
     alloc: Global,
     given: &[NamedFilter],
     size: u16,
-) -> Result<Result<Filters, Unfit>, AllocError>
+) -> Result<Result<VerifiedFilters, Unfit>, AllocError>
     ensures { IfOk result (λ verified. MatchResult verified (λ filters. spec.AreLoaded size given.now filters.entries)
         (spec.AreUnfit size given.now)) }
 {
@@ -40,7 +40,7 @@ fn verify_given<E: Write>(
     given: &[NamedFilter],
     size: u16,
     errors: &mut E,
-) -> Result<Option<Filters>, ProgramFault>
+) -> Result<Option<VerifiedFilters>, ProgramFault>
     ensures finished { IfOk result (λ filters. MatchOption filters
         (spec.TellsOfUnfit size given.now (E.contents errors.old) (E.contents errors.new))
         (λ filters. spec.AreLoaded size given.now filters.entries × (E.contents errors.new ≡ E.contents errors.old))) }
@@ -66,7 +66,7 @@ pub fn load_filters<F: Folder, R: Read, E: Write>(
     size: u16,
     reader: &mut R,
     errors: &mut E,
-) -> Result<Option<Filters>, ProgramFault>
+) -> Result<Option<VerifiedFilters>, ProgramFault>
     ensures finished { IfOk result (λ filters. MatchOption filters
         (spec.LacksFilters (F.opens files.now) named.now size (R.remaining reader.old) (R.remaining reader.new)
         (E.contents errors.old) (E.contents errors.new))

@@ -2,7 +2,7 @@
 ghost use Rattle.std.specs.Prelude.{◌≡◌, ◌++◌, IfOk, OnOk, map, slice_get};
 ghost use Rattle.ncroute.specs.Places.{config_of, file_of, place_in, texts_of};
 
-use crate::including::{File, Whole, stretch_of};
+use crate::including::{ConfigFile, Whole, stretch_of};
 use crate::texts::name_of;
 use filter_reports::{Positions, push_position, push_shown};
 use std::alloc::{AllocError, Global};
@@ -29,7 +29,7 @@ impl<'a> Model for PlacedConfig<'a> {
 }
 
 /// The positions of files.
-fn positions_of(alloc: Global, files: &[File]) -> Result<Vec<Positions<'_>>, AllocError>
+fn positions_of(alloc: Global, files: &[ConfigFile]) -> Result<Vec<Positions<'_>>, AllocError>
     ensures { IfOk result (λ all. all.items ≡ texts_of (map file_of files.now)) }
 {
     let mut all = Vec::with_capacity(alloc, files.len())?;

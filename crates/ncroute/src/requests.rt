@@ -4,7 +4,7 @@
 //! words are, and 3 that this is undecided, or not known since something was not read. What is wrong counts before what is undecided.
 ghost use Rattle.std.specs.Prelude.{◌≡◌, IfErr, IfOk};
 ghost use Rattle.filter_reports.specs.Faults.{stream_fault};
-ghost use Rattle.ncroute.specs.Requests.{Answers, EvaluatesTold, FailsToReport, ListsSource, ListsText};
+ghost use Rattle.ncroute.specs.Requests.{Answers, EvaluatesLines, FailsToReport, ListsSource, ListsText};
 ghost use Rattle.ncroute.specs.Requests.{RewritesInput, Serves, StopsAnswer, StopsEvaluating};
 ghost use Rattle.ncroute.specs.Requests.{StopsList, StopsListing, StopsRewriting, fault_status};
 ghost use Rattle.ncroute.specs.Streaming.{CutsWriting, Writes};
@@ -31,18 +31,18 @@ use std::alloc::Global;
 use std::io::{Read, Write};
 
 /// Takes the routes of standard input through the code in its first line, and returns the exit status. Why a line is refused is told in
-/// words where `is_told` says so.
+/// words where `tells_people` says so.
 fn evaluate<R: Read, W: Write, E: Write>(
     alloc: Global,
-    is_told: bool,
+    tells_people: bool,
     console: &mut Console<R, W, E>,
 ) -> Result<u8, ProgramFault>
-    ensures finished { IfOk result (EvaluatesTold is_told console.old console.new) }
-    ensures stopped { IfErr result (λ fault. StopsEvaluating (stream_fault fault) is_told console.old console.new) }
+    ensures finished { IfOk result (EvaluatesLines tells_people console.old console.new) }
+    ensures stopped { IfErr result (λ fault. StopsEvaluating (stream_fault fault) tells_people console.old console.new) }
 {
     let routes = Routes {
         name: name_of(&Source::Input),
-        is_told,
+        tells_people,
     };
     match eval_named(
         alloc,
@@ -152,7 +152,7 @@ fn answer<F: Folder, R: Read, W: Write, E: Write>(
             check_sources(files, alloc, *how, sources.as_slice(), console)
         }
         Request::Diff { how, old, new } => compare_sources(files, alloc, *how, old, new, console),
-        Request::Eval { is_told } => evaluate(alloc, *is_told, console),
+        Request::Eval { tells_people } => evaluate(alloc, *tells_people, console),
         Request::Explain { page } => show(page.as_str(), console),
         Request::Filter { how, source } => try_filter(files, alloc, *how, source, console),
         Request::Import { how, source } => import_source(files, alloc, how, source, console),

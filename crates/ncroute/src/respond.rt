@@ -84,7 +84,7 @@ where
 {
     match serve_router::<R, FI, FO, T, I, W, E>(rt, alloc, words, console, voice) {
         Ok(status) => status,
-        Err(untold) => untold.status,
+        Err(unreported) => unreported.status,
     }
 }
 

@@ -24,7 +24,7 @@ use crate::ending::{FAILED, fault_line};
 use crate::folders::HistoryFolders;
 use crate::loading::load_filters;
 use crate::planning::{PlanFault, is_memory, plan_of};
-use crate::texts::{Folder, tell_unmade, write_line};
+use crate::texts::{Folder, tell_uncreated, write_line};
 use crate::wrong_words::wrong_line;
 use command_line::RouterWords;
 use filter_reports::ProgramFault;
@@ -58,7 +58,7 @@ enum SetupFault<'a> {
 
 /// The exit status of a router that ended with a line which people were not told, or not whole.
 #[derive(Clone, Copy)]
-pub struct Untold {
+pub struct Unreported {
     /// The exit status.
     pub status: u8,
     /// Why the line was not told: memory was refused, or standard error did not take it.
@@ -66,27 +66,27 @@ pub struct Untold {
 }
 
 /// Tells people the line with which a router ends: the exit status.
-fn end_by_line<E: Write>(errors: &mut E, status: u8, line: &[u8]) -> Result<u8, Untold>
+fn end_by_line<E: Write>(errors: &mut E, status: u8, line: &[u8]) -> Result<u8, Unreported>
     ensures told { IfOk result (λ ended. (ended ≡ status) × Appends (E.contents errors.old) (E.contents errors.new) line.now) }
-    ensures cut { IfErr result (λ untold. (untold.status ≡ status)
-        × IsCut (stream_fault untold.why) (E.contents errors.old) (E.contents errors.new) line.now) }
+    ensures cut { IfErr result (λ unreported. (unreported.status ≡ status)
+        × IsCut (stream_fault unreported.why) (E.contents errors.old) (E.contents errors.new) line.now) }
 {
     match write_line(errors, line) {
         Ok(()) => Ok(status),
-        Err(why) => Err(Untold { status, why }),
+        Err(why) => Err(Unreported { status, why }),
     }
 }
 
 /// Tells people what is wrong with the words: the exit status.
-fn end_by_words<E: Write>(alloc: Global, errors: &mut E, fault: PlanFault<'_>) -> Result<u8, Untold>
+fn end_by_words<E: Write>(alloc: Global, errors: &mut E, fault: PlanFault<'_>) -> Result<u8, Unreported>
     ensures told { IfOk result (λ ended. (ended ≡ 2)
         × Appends (E.contents errors.old) (E.contents errors.new) (wrong_line fault.entry)) }
-    ensures cut { IfErr result (λ untold. (untold.status ≡ 2)
-        × IsCut (stream_fault untold.why) (E.contents errors.old) (E.contents errors.new) (wrong_line fault.entry)) }
+    ensures cut { IfErr result (λ unreported. (unreported.status ≡ 2)
+        × IsCut (stream_fault unreported.why) (E.contents errors.old) (E.contents errors.new) (wrong_line fault.entry)) }
 {
     match wrong_line(alloc, fault) {
         Ok(line) => end_by_line(errors, WRONG_WORDS, line.as_slice()),
-        Err(_) => Err(Untold {
+        Err(_) => Err(Unreported {
             status: WRONG_WORDS,
             why: ProgramFault::MEMORY,
         }),
@@ -94,11 +94,11 @@ fn end_by_words<E: Write>(alloc: Global, errors: &mut E, fault: PlanFault<'_>) -
 }
 
 /// Tells people what kept a router from being set up: the exit status.
-fn end_unset<E: Write>(alloc: Global, errors: &mut E, fault: SetupFault<'_>) -> Result<u8, Untold>
+fn end_unset<E: Write>(alloc: Global, errors: &mut E, fault: SetupFault<'_>) -> Result<u8, Unreported>
     ensures told { IfOk result (λ ended. (ended ≡ spec.setup_status fault.entry)
         × Appends (E.contents errors.old) (E.contents errors.new) (spec.setup_line fault.entry)) }
-    ensures cut { IfErr result (λ untold. (untold.status ≡ spec.setup_status fault.entry)
-        × IsCut (stream_fault untold.why) (E.contents errors.old) (E.contents errors.new) (spec.setup_line fault.entry)) }
+    ensures cut { IfErr result (λ unreported. (unreported.status ≡ spec.setup_status fault.entry)
+        × IsCut (stream_fault unreported.why) (E.contents errors.old) (E.contents errors.new) (spec.setup_line fault.entry)) }
 {
     match fault {
         SetupFault::Words(fault) => end_by_words(alloc, errors, fault),
@@ -133,10 +133,10 @@ fn router_line(fault: DaemonFault) -> &'static str
 }
 
 /// Tells people of the fault that ended a router: the exit status.
-fn end_by_fault<E: Write>(errors: &mut E, fault: DaemonFault) -> Result<u8, Untold>
+fn end_by_fault<E: Write>(errors: &mut E, fault: DaemonFault) -> Result<u8, Unreported>
     ensures told { IfOk result (λ ended. (ended ≡ 1) × Appends (E.contents errors.old) (E.contents errors.new) (spec.router_line fault)) }
-    ensures cut { IfErr result (λ untold. (untold.status ≡ 1)
-        × IsCut (stream_fault untold.why) (E.contents errors.old) (E.contents errors.new) (spec.router_line fault)) }
+    ensures cut { IfErr result (λ unreported. (unreported.status ≡ 1)
+        × IsCut (stream_fault unreported.why) (E.contents errors.old) (E.contents errors.new) (spec.router_line fault)) }
 {
     end_by_line(errors, FAILED, router_line(fault).as_bytes())
 }
@@ -160,7 +160,7 @@ fn make_save<F: HistoryFolders, E: Write>(
         None => Ok(Some(None)),
         Some(name) => match files.make(alloc, name.as_str()) {
             Ok(folder) => Ok(Some(Some(folder))),
-            Err(why) => match tell_unmade(alloc, errors, name.as_str(), &why) {
+            Err(why) => match tell_uncreated(alloc, errors, name.as_str(), &why) {
                 Ok(()) => Ok(None),
                 Err(fault) => Err(fault),
             },
@@ -296,14 +296,14 @@ fn run_setting<
     feed: Option<FeedFile<'_>>,
     console: &mut Console<I, W, E>,
     voice: T,
-) -> Result<u8, Untold>
+) -> Result<u8, Unreported>
 where
     R::Segments: Send + 'static,
     requires { IfSome setting.save (λ segments. spec.IsEmpty (R.Segments.holds segments)) }
     ensures finished { IfOk result (spec.RunsPlan (R.keeps rt.now) save.now setting.plan setting.filters.entries
         (option_map (λ segments. R.Segments.holds segments) setting.save) console.old console.new) }
-    ensures untold { IfErr result (λ untold. spec.CutsPlan (stream_fault untold.why) setting.plan setting.filters.entries
-        console.old console.new untold.status) }
+    ensures unreported { IfErr result (λ unreported. spec.CutsPlan (stream_fault unreported.why) setting.plan setting.filters.entries
+        console.old console.new unreported.status) }
 {
     match run_router::<R, FI, FO, R, R::Segments, T, I, W>(
         rt,
@@ -351,12 +351,12 @@ pub fn serve_router<
     words: &RouterWords,
     console: &mut Console<I, W, E>,
     voice: T,
-) -> Result<u8, Untold>
+) -> Result<u8, Unreported>
 where
     R::Segments: Send + 'static,
     ensures served { IfOk result (spec.ServesRouter (R.opens rt.now) (R.makes rt.now) (R.keeps rt.now) words.now console.old console.new) }
-    ensures untold { IfErr result (λ untold. spec.CutsRouter (R.opens rt.now) (R.makes rt.now) (R.keeps rt.now) (stream_fault untold.why) words.now
-        console.old console.new untold.status) }
+    ensures unreported { IfErr result (λ unreported. spec.CutsRouter (R.opens rt.now) (R.makes rt.now) (R.keeps rt.now) (stream_fault unreported.why) words.now
+        console.old console.new unreported.status) }
 {
     match set_up(rt, alloc, words, console) {
         Ok(Some(setting)) => run_setting::<R, FI, FO, T, I, W, E>(

@@ -5,8 +5,8 @@ ghost use Rattle.std.specs.declared.io.Error.{Error as TheError};
 ghost use Rattle.filter_reports.specs.Cuts.{IsCut};
 ghost use Rattle.filter_reports.specs.Faults.{stream_fault};
 ghost use Rattle.ncroute.specs.Reading.{IsCause, IsOfFile, IsRead, IsUnread, LeavesFile, LeavesInput, ReadsFile, ReadsInput, ReadsWhole};
-ghost use Rattle.ncroute.specs.Reading.{StopsTelling, TellsUnread, long_line, long_words, name_of, told_line};
-ghost use Rattle.ncroute.specs.Reading.{unmade_line, unread_line, unwritten_line, unwritten_words};
+ghost use Rattle.ncroute.specs.Reading.{StopsTelling, TellsUnread, long_line, long_words, name_of, notice_line};
+ghost use Rattle.ncroute.specs.Reading.{uncreated_line, unread_line, unwritten_line, unwritten_words};
 
 use command_line::Source;
 use filter_reports::{ProgramFault, push_shown};
@@ -203,8 +203,8 @@ fn reason_in(words: &str) -> &str {
 }
 
 /// The line that tells something of what has a name: what is said, with its code behind it.
-fn told_line(alloc: Global, name: &[u8], words: &str, code: &[u8]) -> Result<Vec<u8>, AllocError>
-    ensures { IfOk result (λ line. line.items ≡ told_line name.now words.now code.now) }
+fn notice_line(alloc: Global, name: &[u8], words: &str, code: &[u8]) -> Result<Vec<u8>, AllocError>
+    ensures { IfOk result (λ line. line.items ≡ notice_line name.now words.now code.now) }
 {
     let mut line = Vec::new(alloc);
     push_shown(alloc, &mut line, name)?;
@@ -231,11 +231,11 @@ pub fn tell_of<E: Write>(
     words: &str,
     code: &[u8],
 ) -> Result<(), ProgramFault>
-    ensures ok { OnOk result (Appends (E.contents errors.old) (E.contents errors.new) (told_line name.now words.now code.now)) }
+    ensures ok { OnOk result (Appends (E.contents errors.old) (E.contents errors.new) (notice_line name.now words.now code.now)) }
     ensures err { IfErr result (λ fault.
-        IsCut (stream_fault fault) (E.contents errors.old) (E.contents errors.new) (told_line name.now words.now code.now)) }
+        IsCut (stream_fault fault) (E.contents errors.old) (E.contents errors.new) (notice_line name.now words.now code.now)) }
 {
-    let line = told_line(alloc, name, words, code)?;
+    let line = notice_line(alloc, name, words, code)?;
     write_line(errors, line.as_slice())
 }
 
@@ -248,25 +248,25 @@ fn tell_reason<E: Write>(
     code: &[u8],
 ) -> Result<(), ProgramFault>
     ensures ok { OnOk result ((words : List ℕ)
-        × Appends (E.contents errors.old) (E.contents errors.new) (told_line name.now words code.now)) }
+        × Appends (E.contents errors.old) (E.contents errors.new) (notice_line name.now words code.now)) }
     ensures err { IfErr result (λ fault. (words : List ℕ)
-        × IsCut (stream_fault fault) (E.contents errors.old) (E.contents errors.new) (told_line name.now words code.now)) }
+        × IsCut (stream_fault fault) (E.contents errors.old) (E.contents errors.new) (notice_line name.now words code.now)) }
 {
     let words = format!(in alloc; "{error}")?;
     tell_of(alloc, errors, name, reason_in(words.as_str()), code)
 }
 
 /// Tells on `errors` that a file was not made, and the reason in the error.
-pub fn tell_unmade<E: Write>(
+pub fn tell_uncreated<E: Write>(
     alloc: Global,
     errors: &mut E,
     name: &str,
     error: &Error,
 ) -> Result<(), ProgramFault>
     ensures ok { OnOk result ((words : List ℕ)
-        × Appends (E.contents errors.old) (E.contents errors.new) (unmade_line name.now words)) }
+        × Appends (E.contents errors.old) (E.contents errors.new) (uncreated_line name.now words)) }
     ensures err { IfErr result (λ fault. (words : List ℕ)
-        × IsCut (stream_fault fault) (E.contents errors.old) (E.contents errors.new) (unmade_line name.now words)) }
+        × IsCut (stream_fault fault) (E.contents errors.old) (E.contents errors.new) (uncreated_line name.now words)) }
 {
     tell_reason(alloc, errors, name.as_bytes(), error, b" (E2)\n")
 }

@@ -1,7 +1,7 @@
 //! Who watches a script: people are told in words why a line is refused, and where a script ends.
 ghost use Rattle.std.specs.Prelude.{◌≡◌, ◌++◌, ◌∷◌, IfOk, codes, decimal};
 ghost use Rattle.filter_reports.specs.Shown.{shown};
-ghost use Rattle.ncroute.specs.Watching.{IsToldOf, kind_of, name_in, number_in, part_of, stopped_line};
+ghost use Rattle.ncroute.specs.Watching.{IsReported, kind_of, name_in, number_in, part_of, stopped_line};
 
 use command_line::Engine;
 use filter_reports::push_shown;
@@ -38,7 +38,7 @@ fn tell_refused<E: Write>(
     refused: &RefusedLine<'_>,
     errors: &mut E,
 )
-    ensures { IsToldOf name.now refused.now (E.contents errors.old) (E.contents errors.new) }
+    ensures { IsReported name.now refused.now (E.contents errors.old) (E.contents errors.new) }
 {
     if let Ok(Some(words)) = explain_refused(alloc, kind, name, refused) {
         let _ = write_text(errors, words.as_slice());

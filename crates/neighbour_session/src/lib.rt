@@ -2,7 +2,7 @@
 #![tactic(auto)]
 
 mod calls;
-mod crew;
+mod guard;
 mod ends;
 mod finish;
 mod greeting;
@@ -12,7 +12,7 @@ mod waiting;
 mod write;
 
 pub use calls::{enter_down, enter_up};
-pub use crew::{Crew, Leaver, READER};
+pub use guard::{SessionGuard, EndedGuard, READER};
 pub use ends::{GreetingFault, SessionEnd};
 pub use finish::end_session;
 pub use greeting::{Domain, Ears, meet};

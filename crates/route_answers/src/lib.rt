@@ -10,7 +10,7 @@ mod laws;
 mod line_fault;
 mod route_line;
 mod route_words;
-mod told_routes;
+mod watched_routes;
 mod verdict_line;
 mod watch;
 
@@ -22,5 +22,5 @@ pub use laws::{
 };
 pub use line_fault::LineFault;
 pub use route_line::read_route;
-pub use told_routes::{Routes, eval_named, filter_named};
-pub use watch::{Nobody, RefusedRoute, WatchRoutes, WhyRefused};
+pub use watched_routes::{Routes, eval_named, filter_named};
+pub use watch::{NoRouteWatcher, RefusedRoute, WatchRoutes, WhyRefused};

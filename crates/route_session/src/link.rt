@@ -28,13 +28,13 @@ pub struct LinkFault;
 
 /// A link to a neighbour, which brings messages and takes messages.
 ///
-/// A contract sees what a link tells of itself, as a `Told`: the messages that it handed out, those that it was given, the first that
+/// A contract sees what a link tells of itself, as a `LinkTrace`: the messages that it handed out, those that it was given, the first that
 /// it did not take, how often it answered that no message was there, whether it answered that it has ended, how often it failed, and
 /// whether it is closed. A link keeps count of what it tells, and no clause speaks of what it does not tell.
 pub trait Link {
-    ghost use Rattle.route_session.specs.Told.{Told, closed};
+    ghost use Rattle.route_session.specs.LinkTrace.{LinkTrace, closed};
 
-    ghost told: { Self → Told };
+    ghost trace: { Self → LinkTrace };
 
     ghost use Rattle.route_session.specs.Links.{Received, Sent};
 

@@ -10,5 +10,5 @@ pub mod Retries
 pub mod Sessions
 pub mod Sets
 pub mod Stations
-pub mod Told
+pub mod Notices
 pub mod Uses

@@ -18,8 +18,8 @@ abbrev pub script_of : Script → ScriptView
 script_of script = record { stage = stage_of script.stage; filters = filter_at script.filters }
 
 -- what is told of the last filter that it refused, which no answer names
-abbrev pub told_of : Script → Option Diagnosis
-told_of script = script.told
+abbrev pub diagnosis_of : Script → Option Diagnosis
+diagnosis_of script = script.diagnosis
 
 -- what the first event will open the journal with, as long as there was none: the opening, and the most entries
 abbrev pub setting_in : StageView → Option (OpeningView × ℕ)

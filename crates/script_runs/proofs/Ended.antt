@@ -18,7 +18,7 @@ use Rattle.script_runs.specs.Running.{IsSaved, IsSavedInPart, IsSavedUntil}
 use Rattle.script_runs.specs.Saved.{AnswersSaved, SavedView, SavesMore, saved_text, whole_text}
 use Rattle.script_runs.specs.Stopping.{AnswersStopping}
 use Rattle.script_runs.specs.declared.fault.SavingFault.{SavingFault}
-use Rattle.script_runs.specs.declared.naming.NamedFilter.{NamedFilter}
+use Rattle.script_runs.specs.declared.filter_naming.NamedFilter.{NamedFilter}
 
 either : (b : Bool) {P Q R : Type 0} → (P → R) → (Q → R) → MatchBool b P Q → R
 either true f g h = f h

@@ -14,10 +14,10 @@ use Rattle.line_protocol.specs.declared.answers.LineReply.{LineReply}
 use Rattle.operator_cmds.specs.Replies.{Answers}
 use Rattle.operator_cmds.specs.Script.{AnswersLine, GivesText, IsTextDiagnosis, IsVerified, Names, ScriptView}
 use Rattle.operator_cmds.specs.Stages.{size_in}
-use Rattle.script_runs.specs.Naming.{AnswersPrepared, AreNamed, GetNames, GetsName, Prepares, PreparedView, size_set_up, told_unless}
+use Rattle.script_runs.specs.Naming.{AnswersPrepared, AreNamed, GetNames, GetsName, Prepares, PreparedView, size_set_up, answer_unless}
 use Rattle.script_runs.specs.News.{IsFailureAt, Tells}
-use Rattle.script_runs.specs.declared.naming.NamedFilter.{NamedFilter}
-use Rattle.script_runs.specs.declared.naming.Unfit.{Unfit}
+use Rattle.script_runs.specs.declared.filter_naming.NamedFilter.{NamedFilter}
+use Rattle.script_runs.specs.declared.filter_naming.Unfit.{Unfit}
 
 -- one more gets its name
 one_more : (size : ℕ) (xs : List NamedFilter) (x : NamedFilter) (a b c : ScriptView) → GetNames size xs a b → GetsName size x b c
@@ -44,12 +44,12 @@ naming_keeps size xs None a b h = names_keep size xs a b h
 naming_keeps size xs (Some unfit) a b h = names_keep size (take unfit.index xs) a b h.1
 
 -- The answer that was written stays, or it is taken back.
-pub told_answer : (unfit : Option Unfit) (begun : ℕ) (reply given : LineReply) (old text new : List ℕ) → begun ≡ length old
+pub prepared_answer : (unfit : Option Unfit) (begun : ℕ) (reply given : LineReply) (old text new : List ℕ) → begun ≡ length old
     → Tells unfit begun reply (old ++ text) new given
-    → (t : List ℕ) × (new ≡ old ++ t) × (record { text = t; reply = given } ≡ told_unless unfit (record { text = text; reply = reply }))
-told_answer None begun reply given old text new is (kept, same) =
+    → (t : List ℕ) × (new ≡ old ++ t) × (record { text = t; reply = given } ≡ answer_unless unfit (record { text = text; reply = reply }))
+prepared_answer None begun reply given old text new is (kept, same) =
     (text, kept, ap (λ (r : LineReply). record { text = text; reply = r }) same)
-told_answer (Some unfit) begun reply given old text new is (cut, over) = (
+prepared_answer (Some unfit) begun reply given old text new is (cut, over) = (
   [],
   cut ∙ ap (λ n. take n (old ++ text)) is ∙ take-append_seam old text ∙ sym (append-nil old),
   ap (λ (r : LineReply). record { text = []; reply = r }) over,
@@ -93,7 +93,7 @@ prepared before after mid number line text reply size begun earlier later old wr
     tt
 prepared before after mid number line text reply size begun earlier later old written new (Ok given) is_begun was is set wrote answers named kept tells =
     let told : Answer = record { text = text; reply = reply } in
-    let (t, grown, same) = told_answer after.unfit begun reply given old text new is_begun
+    let (t, grown, same) = prepared_answer after.unfit begun reply given old text new is_begun
     (subst (λ (w : List ℕ). Tells after.unfit begun reply w new given) wrote tells) in
     let set_up : size_set_up (size_in before.script.stage) (size_in mid.stage) ≡ Some size =
     ap (λ (o : Option ℕ). size_set_up o (size_in mid.stage)) (sym was) ∙ ap (λ (o : Option ℕ). size_set_up earlier o) (sym is) ∙ set in (

@@ -5,8 +5,8 @@ use Rattle.line_protocol.specs.Answers.{Answer}
 use Rattle.line_protocol.specs.declared.answers.LineReply.TheVariants.{Ended}
 use Rattle.operator_cmds.specs.Script.{AnswersLine, GivesText, IsTextDiagnosis, IsVerified, Names, ScriptView, fresh}
 use Rattle.operator_cmds.specs.Stages.{size_in}
-use Rattle.script_runs.specs.declared.naming.NamedFilter.{NamedFilter}
-use Rattle.script_runs.specs.declared.naming.Unfit.{Unfit}
+use Rattle.script_runs.specs.declared.filter_naming.NamedFilter.{NamedFilter}
+use Rattle.script_runs.specs.declared.filter_naming.Unfit.{Unfit}
 
 -- a script, the filters that it was started with, and the first of them that was refused, if one was
 pub record PreparedView : Type 0 where
@@ -32,7 +32,7 @@ GetNames size (named ∷ more) before after =
 -- this one is refused for domains of this size, and what is told of it is told of its text
 abbrev pub IsUnfit : ℕ → List NamedFilter → Unfit → Type 0
 IsUnfit size filters unfit = (named : NamedFilter) × (slice_get filters unfit.index ≡ Some named)
-    × IsTextDiagnosis named.text.items size unfit.told
+    × IsTextDiagnosis named.text.items size unfit.diagnosis
 
 -- all of them get their names; or this one is the first that is refused, and those before it get theirs
 abbrev pub AreNamed : ℕ → List NamedFilter → Option Unfit → ScriptView → ScriptView → Type 0
@@ -46,15 +46,15 @@ size_set_up None later = later
 size_set_up (Some size) later = None
 
 -- the answer to the line that set the domain up; where a filter is refused nothing is answered, and the script ends
-abbrev pub told_unless : Option Unfit → Answer → Answer
-told_unless None told = told
-told_unless (Some unfit) told = record { text = []; reply = Ended }
+abbrev pub answer_unless : Option Unfit → Answer → Answer
+answer_unless None told = told
+answer_unless (Some unfit) told = record { text = []; reply = Ended }
 
 -- what becomes of a line that a script answered so, which left it as `mid`, by the size of the domain that it set up
 abbrev pub Prepares : Option ℕ → PreparedView → ScriptView → Answer → Answer → PreparedView → Type 0
 Prepares None before mid told answer after = (after.script ≡ mid) × (after.unfit ≡ before.unfit) × (answer ≡ told)
 Prepares (Some size) before mid told answer after =
-    AreNamed size before.filters after.unfit mid after.script × (answer ≡ told_unless after.unfit told)
+    AreNamed size before.filters after.unfit mid after.script × (answer ≡ answer_unless after.unfit told)
 
 -- A line is answered as any script answers it. The one that sets the domain up gives each filter its name; where one of them is refused,
 -- it has no answer, and the script ends.

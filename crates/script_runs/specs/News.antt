@@ -9,7 +9,7 @@ use Rattle.line_protocol.specs.declared.answers.LineReply.TheVariants.{Ended}
 use Rattle.operator_cmds.specs.Stages.{StageView, Empty, Setting, Open}
 use Rattle.route_history.specs.JournalView.{JournalView}
 use Rattle.route_history.specs.declared.entry.Entry.{Entry}
-use Rattle.script_runs.specs.declared.naming.Unfit.{Unfit}
+use Rattle.script_runs.specs.declared.filter_naming.Unfit.{Unfit}
 
 -- how many entries there are, if the journal is open
 abbrev pub count_in : StageView → Option ℕ
@@ -46,5 +46,5 @@ Tells (Some unfit) begun reply before after given = (after ≡ take begun before
 
 -- the filter at a place that was not verified is refused; refused memory is no refusal
 abbrev pub IsFailureAt : ℕ → Failure → Option Unfit → Type 0
-IsFailureAt index (failure.Refused told) unfit = unfit ≡ Some (record { index = index; told = told })
+IsFailureAt index (failure.Refused diagnosis) unfit = unfit ≡ Some (record { index = index; diagnosis = diagnosis })
 IsFailureAt index failure.Memory unfit = ⊥

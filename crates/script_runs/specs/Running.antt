@@ -8,8 +8,8 @@ use Rattle.line_protocol.specs.declared.faults.StreamFault.TheVariants.{Read, Wr
 use Rattle.script_runs.specs.Naming.{PreparedView, fresh_with}
 use Rattle.script_runs.specs.Saved.{saved_text, whole_text}
 use Rattle.script_runs.specs.Stopping.{AnswersStopping}
-use Rattle.script_runs.specs.declared.naming.NamedFilter.{NamedFilter}
-use Rattle.script_runs.specs.declared.naming.Unfit.{Unfit}
+use Rattle.script_runs.specs.declared.filter_naming.NamedFilter.{NamedFilter}
+use Rattle.script_runs.specs.declared.filter_naming.Unfit.{Unfit}
 
 -- A script that was started with filters was answered to its end, or to the refused line that ended it, or to the line that set up a domain
 -- for which one of the filters is refused; `unfit` is that filter. What its saver got is the text of the whole history, which has an opening once a

@@ -7,9 +7,9 @@
 #![tactic(auto)]
 
 mod fault;
-mod naming;
+mod filter_naming;
 mod saving;
 
 pub use fault::SavingFault;
-pub use naming::{NamedFilter, Unfit, name_filters};
+pub use filter_naming::{NamedFilter, Unfit, name_filters};
 pub use saving::run_saved_script;

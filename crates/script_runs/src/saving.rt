@@ -23,7 +23,7 @@ ghost use Rattle.script_runs.specs.State.{prepared_of};
 ghost use Rattle.script_runs.specs.Stopping as stopping;
 
 use crate::fault::SavingFault;
-use crate::naming::{NamedFilter, Prepared, Unfit};
+use crate::filter_naming::{NamedFilter, Prepared, Unfit};
 use history_file::{write_entry, write_opening};
 use line_protocol::{LineReply, Service, StreamFault, answer_lines, write_text};
 use netchange_core::Opening;
@@ -235,14 +235,14 @@ impl<'a, V: Write + Drop, S: Watch + Drop> Saving<'a, V, S> {
                 Ok(()) => Ok(refused),
                 Err(fault) => Err(fault),
             },
-            Err(fault) => Err(told_fault(fault, is_broken)),
+            Err(fault) => Err(saving_fault(fault, is_broken)),
         };
         (told, saver, prepared.unfit)
     }
 }
 
 /// What is told of a fault that ended the lines of a run. A line for which the saver failed was given up as one is for which memory is refused.
-fn told_fault(fault: ScriptFault, is_broken: bool) -> SavingFault
+fn saving_fault(fault: ScriptFault, is_broken: bool) -> SavingFault
     ensures { stream_of result ≡ fault }
 {
     match fault {

@@ -14,7 +14,7 @@ mod channels;
 #[cfg(test)]
 mod code_tests;
 #[cfg(test)]
-mod crews;
+mod session_groups;
 #[cfg(test)]
 mod embedding_tests;
 #[cfg(test)]

@@ -4,7 +4,7 @@ use crate::line_tests::Echo;
 use crate::memory::Answered;
 use crate::streams::{Pieces, Sink};
 use line_protocol::{StreamFault, answer_lines};
-use operator_cmds::Nobody;
+use operator_cmds::NoWatcher;
 use router_script::run_script;
 use script_runs::{SavingFault, run_saved_script};
 use std::alloc::Global;
@@ -64,7 +64,7 @@ pub fn saved(alloc: Global) -> Answered {
         &mut reader,
         &mut out,
         saver,
-        Nobody,
+        NoWatcher,
         &[],
         false,
     );

@@ -2,7 +2,7 @@
 
 use crate::asserts::{RouterHost, done, must};
 use crate::callers::{Caller, Way, close, open, opening};
-use crate::crews::{Auditor, Crew};
+use crate::session_groups::{Auditor, SessionGroup};
 use crate::gates::OpenGate;
 use crate::histories::must_replay;
 use crate::memory::Answered;
@@ -111,31 +111,31 @@ impl Auditor<MemoryLink> for Memory {
 }
 
 /// A reader of session 1 with two messages, and a writer of it.
-fn crew<'a, R: RouterHost>(rt: &R, caller: Caller<'a>) -> Crew<'a, MemoryLink> {
-    let mut crew = Crew::of(rt, caller);
+fn group<'a, R: RouterHost>(rt: &R, caller: Caller<'a>) -> SessionGroup<'a, MemoryLink> {
+    let mut group = SessionGroup::of(rt, caller);
     let heard = done(rt, HEARD.to_vec(rt.alloc()));
-    crew.add(
+    group.add(
         rt,
         Role::Reader,
         1,
         MemoryLink::new(rt.alloc(), heard, None),
     );
     let silent = Vec::new(rt.alloc());
-    crew.add(
+    group.add(
         rt,
         Role::Writer,
         1,
         MemoryLink::new(rt.alloc(), silent, None),
     );
-    crew
+    group
 }
 
 /// Runs a reader and a writer. Where they are not run the router still answers.
 fn run<R: RouterHost>(rt: &R, mut caller: Caller<'_>) -> Answered {
     caller.bring_up(rt, 1);
-    let crew = crew(rt, caller.split(rt, 1_000));
+    let group = group(rt, caller.split(rt, 1_000));
     let mut memory = Memory { was_there: true };
-    match crew.run(rt, &OpenGate, 3, &mut memory) {
+    match group.run(rt, &OpenGate, 3, &mut memory) {
         Ok(shares) => {
             must(rt, shares == 1_000, "the passes have all shares");
             if memory.was_there {

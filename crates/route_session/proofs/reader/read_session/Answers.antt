@@ -4,7 +4,7 @@ use Rattle.route_session.specs.declared.ends.Cause.TheVariants as cause
 use Rattle.route_session.specs.declared.link.Got.TheVariants as got
 use Rattle.route_session.specs.Calls.{receive, stale}
 use Rattle.route_session.specs.Links.{Received}
-use Rattle.route_session.specs.Told.{Told}
+use Rattle.route_session.specs.LinkTrace.{LinkTrace}
 use Rattle.route_session.proofs.Gaining.{called}
 use Rattle.route_session.proofs.Reading.{begins_reading, ends_refused, ends_stale, reads_on, reads_nothing}
 use Rattle.route_session.proofs.Turning.{no_turn_read, read_cut_off, read_held_back, read_message, read_nothing, read_so_far}
@@ -110,7 +110,7 @@ returns-in-Ok-Ended-clause-turns g c =
     rw c.ended.ensures
     (read_cut_off (g.G.Gate.may_answer c.args.gate.now c.args.job) c.args.turns c.loop-turn.turn c.loop-turn.entered (g.L.Link.told c.args.link.now)
     (g.L.Link.told c.loop-turn.link) (g.L.Link.told c.recv.new.self) cause.LinkEnded refl within c.loop-turn.invariant.turned (search rules)
-    (ap (λ (w : Told). w.nothings) end))
+    (ap (λ (w : LinkTrace). w.nothings) end))
 
 pub returns-in-Err-clause-turns : goal.returns-in-Err-clause-turns
 returns-in-Err-clause-turns g c =
@@ -120,7 +120,7 @@ returns-in-Err-clause-turns g c =
     rw c.ended-in-Err.ensures
     (read_cut_off (g.G.Gate.may_answer c.args.gate.now c.args.job) c.args.turns c.loop-turn.turn c.loop-turn.entered (g.L.Link.told c.args.link.now)
     (g.L.Link.told c.loop-turn.link) (g.L.Link.told c.recv.new.self) cause.LinkFault refl within c.loop-turn.invariant.turned (search rules)
-    (ap (λ (w : Told). w.nothings) fault.1.only))
+    (ap (λ (w : LinkTrace). w.nothings) fault.1.only))
 
 pub returns-then-is_stale-clause-turns : goal.returns-then-is_stale-clause-turns
 returns-then-is_stale-clause-turns g c =
@@ -141,7 +141,7 @@ returns-in-Err-Full-clause-turns g c =
     rw c.ended-in-Err-Full.ensures
     (read_cut_off (g.G.Gate.may_answer c.args.gate.now c.args.job) c.args.turns c.loop-turn.turn c.loop-turn.entered (g.L.Link.told c.args.link.now)
     (g.L.Link.told c.loop-turn.link) (g.L.Link.told c.recv.new.self) cause.Full refl within c.loop-turn.invariant.turned (search rules)
-    (ap (λ (w : Told). w.nothings) handed.1))
+    (ap (λ (w : LinkTrace). w.nothings) handed.1))
 
 pub returns-in-Err-Memory-clause-turns : goal.returns-in-Err-Memory-clause-turns
 returns-in-Err-Memory-clause-turns g c =
@@ -151,4 +151,4 @@ returns-in-Err-Memory-clause-turns g c =
     rw c.ended-in-Err-Memory.ensures
     (read_cut_off (g.G.Gate.may_answer c.args.gate.now c.args.job) c.args.turns c.loop-turn.turn c.loop-turn.entered (g.L.Link.told c.args.link.now)
     (g.L.Link.told c.loop-turn.link) (g.L.Link.told c.recv.new.self) cause.Memory refl within c.loop-turn.invariant.turned (search rules)
-    (ap (λ (w : Told). w.nothings) handed.1))
+    (ap (λ (w : LinkTrace). w.nothings) handed.1))

@@ -1,0 +1,5 @@
+-- What callers cite.
+pub mod Steps
+pub mod StatesView
+pub mod Noting
+pub mod Endings

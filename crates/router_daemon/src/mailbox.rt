@@ -1,0 +1,129 @@
+//! What the thread that reads a link and the one that writes to it leave for each other.
+ghost use Rattle.std.specs.Prelude.{◌≡◌};
+
+use crate::router_passes::{FreshPass, RouterPass};
+use message_streams::MessageWriter;
+use router_operator::Naming;
+use std::io::Write;
+use std::sync::{Condvar, Mutex, Wait};
+
+/// A session whose writer is to begin: its number, and the writer's pass, by which nothing was called.
+#[derive(Drop)]
+pub(crate) struct WriterTask<J: Naming> {
+    pub(crate) session: u32,
+    pub(crate) router_pass: FreshPass<J>,
+}
+
+/// What one thread has left for the other.
+#[derive(Drop)]
+pub(crate) struct Contents<O: Write, J: Naming> {
+    /// The stream that is to be written to.
+    output: Option<MessageWriter<O>>,
+    task: Option<WriterTask<J>>,
+    /// The pass of the writer, which is done with a session.
+    done: Option<RouterPass<J>>,
+    /// The stream is to be closed.
+    closes: bool,
+}
+
+/// Where the reader's thread leaves work for the writer's: it hands over the stream that is written to and the task to write a session, waits
+/// until it is done, and has the stream closed.
+#[derive(Drop)]
+pub(crate) struct Mailbox<O: Write, J: Naming> {
+    contents: Mutex<Contents<O, J>>,
+    changed: Condvar,
+}
+
+impl<O: Write + Drop, J: Naming> Mailbox<O, J> {
+    /// A mailbox with nothing in it.
+    pub(crate) fn new() -> Mailbox<O, J> {
+        Mailbox {
+            contents: Mutex::new(Contents {
+                output: None,
+                task: None,
+                done: None,
+                closes: false,
+            }),
+            changed: Condvar::new(),
+        }
+    }
+
+    /// Hands over the stream that is written to.
+    pub(crate) fn put_output<R: Wait>(&self, rt: &R, output: MessageWriter<O>) {
+        let mut contents = self.contents.lock(rt);
+        contents.output = Some(output);
+        drop(contents);
+        self.changed.notify_all();
+    }
+
+    /// Waits for the stream that is written to.
+    pub(crate) fn await_output<R: Wait>(&self, rt: &R) -> MessageWriter<O> {
+        let mut contents = self.contents.lock(rt);
+        for _ in rt.forever() {
+            if let Some(output) = contents.output.take() {
+                return output;
+            }
+            contents = self.changed.wait(rt, contents);
+        }
+        unreachable!()
+    }
+
+    /// Leaves the task to write a session. Who writes has to be woken.
+    pub(crate) fn put_task<R: Wait>(&self, rt: &R, task: WriterTask<J>) {
+        self.contents.lock(rt).task = Some(task);
+    }
+
+    /// Takes the task, if there is one.
+    pub(crate) fn take_task<R: Wait>(&self, rt: &R) -> Option<WriterTask<J>> {
+        self.contents.lock(rt).task.take()
+    }
+
+    /// Says that a session is done, and gives back the writer's pass.
+    pub(crate) fn put_done<R: Wait>(&self, rt: &R, router_pass: RouterPass<J>) {
+        let mut contents = self.contents.lock(rt);
+        contents.done = Some(router_pass);
+        drop(contents);
+        self.changed.notify_all();
+    }
+
+    /// Waits until the session of the task is done: the writer's pass.
+    pub(crate) fn await_done<R: Wait>(&self, rt: &R) -> RouterPass<J> {
+        let mut contents = self.contents.lock(rt);
+        for _ in rt.forever() {
+            if let Some(router_pass) = contents.done.take() {
+                return router_pass;
+            }
+            contents = self.changed.wait(rt, contents);
+        }
+        unreachable!()
+    }
+
+    /// Has the stream closed. Who writes has to be woken.
+    pub(crate) fn close<R: Wait>(&self, rt: &R) {
+        self.contents.lock(rt).closes = true;
+    }
+
+    /// Whether the stream is to be closed.
+    pub(crate) fn closes<R: Wait>(&self, rt: &R) -> bool {
+        self.contents.lock(rt).closes
+    }
+
+    /// Says that the stream is closed.
+    pub(crate) fn put_closed<R: Wait>(&self, rt: &R) {
+        let mut contents = self.contents.lock(rt);
+        contents.closes = false;
+        drop(contents);
+        self.changed.notify_all();
+    }
+
+    /// Waits until the stream is closed.
+    pub(crate) fn await_closed<R: Wait>(&self, rt: &R) {
+        let mut contents = self.contents.lock(rt);
+        for _ in rt.forever() {
+            if !contents.closes {
+                return;
+            }
+            contents = self.changed.wait(rt, contents);
+        }
+    }
+}
