@@ -90,9 +90,9 @@ class Trial:
     def left_out(self, name, config, place, words):
         said, status, written = self.run(config)
         lines = said.splitlines()
-        is_shown = any(line.startswith(f"bird.conf:{place} ") and words in line for line in lines)
+        is_told = any(line.startswith(f"bird.conf:{place} ") and words in line for line in lines)
         taken = [line for line in lines if " verified " in line]
-        self.check(name, status == 1 and is_shown and len(taken) == len(written), f"status {status}\n{said}{written}")
+        self.check(name, status == 1 and is_told and len(taken) == len(written), f"status {status}\n{said}{written}")
 
     def printed(self, config, name="bird.conf", folder="out", files=()):
         """What is printed on both streams."""
@@ -126,9 +126,9 @@ def full(trial):
     config = f"filter f {{ if net ~ [{members}] then accept; reject; }}\nfilter g {{ accept; }}\n"
     here, ran = trial.imported([("bird.conf", config)], preexec_fn=limit)
     held = (here / "out" / "f.filter").read_text()
-    is_shown = ran.stderr == b"out/f.filter: could not be written to its end (E2)\n"
+    is_told = ran.stderr == b"out/f.filter: could not be written to its end (E2)\n"
     is_next = ran.stdout.startswith(b"bird.conf:2:1 filter g -> out/g.filter verified ")
-    trial.check("a file that is not written to its end", is_shown and is_next and ran.returncode == 1 and len(held) == 200, f"{ran} {held}")
+    trial.check("a file that is not written to its end", is_told and is_next and ran.returncode == 1 and len(held) == 200, f"{ran} {held}")
 
 
 def place(text, part, number=0):
@@ -241,9 +241,9 @@ def counts(trial):
                 heads[f"f{n}"] = [f"# From bird.conf:{line}:{indent + 1}"] + ([f"# and {called[1]}"] if n > 1 else []) + ["# and bird.conf:1:14"]
         said, status, written = trial.run("\n".join(lines))
         told = said.splitlines()
-        is_shown = status == 0 and len(told) == len(wanted) and all(line.startswith(it) for line, it in zip(told, wanted))
+        is_told = status == 0 and len(told) == len(wanted) and all(line.startswith(it) for line, it in zip(told, wanted))
         got = {name: [line for line in text.splitlines() if line.startswith("#")] for name, text in written.items()}
-        trial.check(f"{count} filters and functions", is_shown and got == heads, f"status {status}\n{said}{got}")
+        trial.check(f"{count} filters and functions", is_told and got == heads, f"status {status}\n{said}{got}")
 
 
 def constants(text, dice):
