@@ -8,7 +8,7 @@ ghost use Rattle.filter_diff.specs.Answers.{answer_of};
 ghost use Rattle.filter_diff.specs.Endings.{outcome_at};
 ghost use Rattle.filter_diff.specs.Parts.{IsEnough};
 ghost use Rattle.filter_diff.specs.Expectations.{IsCovered, IsMet, IsShown, route_of};
-ghost use Rattle.filter_diff.specs.declared.answer.Answer.TheVariants as answer;
+ghost use Rattle.filter_diff.specs.declared.answer.Comparison.TheVariants as answer;
 ghost use Rattle.filter_diff.specs.declared.checking.Counterexample.{Counterexample as TheCounterexample};
 ghost use Rattle.filter_diff.specs.declared.expectation.Expectation.{Expectation as TheExpectation};
 ghost use Rattle.filter_diff.specs.declared.route_part.RoutePart.{RoutePart as RoutePartView};

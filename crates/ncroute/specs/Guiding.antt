@@ -9,7 +9,7 @@ use Rattle.line_protocol.specs.Limits.{input_limit}
 use Rattle.line_protocol.specs.declared.faults.StreamFault.{StreamFault}
 use Rattle.line_protocol.specs.declared.faults.StreamFault.TheVariants.{Write}
 use Rattle.script_runs.specs.Faults.{stream_of}
-use Rattle.script_runs.specs.RunOptions.{IsSaved, IsSavedInPart}
+use Rattle.script_runs.specs.Running.{IsSaved, IsSavedInPart}
 use Rattle.script_runs.specs.declared.fault.SavingFault.TheVariants.{Saver}
 use Rattle.script_runs.specs.declared.filter_naming.NamedFilter.{NamedFilter}
 use Rattle.script_runs.specs.declared.filter_naming.Unfit.{Unfit}

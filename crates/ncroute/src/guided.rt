@@ -5,7 +5,7 @@ ghost use Rattle.ncroute.specs.Guiding.{EndsSaved, GuidesScript, IsCutLoss, Runs
 ghost use Rattle.ncroute.specs.Guiding.{StopsSaved, TellsLoss};
 ghost use Rattle.ncroute.specs.Scripts.{IsQuiet, TakesLines, text_of};
 ghost use Rattle.script_runs.specs.Faults.{stream_of};
-ghost use Rattle.script_runs.specs.RunOptions.{IsSaved, IsSavedInPart};
+ghost use Rattle.script_runs.specs.Running.{IsSaved, IsSavedInPart};
 
 use crate::console::{Console, Loaded};
 use crate::ending::{FAILED, status_of};

@@ -1,7 +1,7 @@
 use Rattle.std.proofs.Common.{◌∙◌, ℕ, List, ap, subst}
 use Rattle.bird_import.specs.Laying.{origins_of, text_of}
 use Rattle.bird_import.specs.Texts.{HasOutcome}
-use Rattle.bird_import.specs.declared.text.Fate.TheVariants as text_outcome
+use Rattle.bird_import.specs.declared.text.TextOutcome.TheVariants as text_outcome
 use Rattle.ncroute.proofs.ResultTexts.{is_among, of_left, of_same, of_size, of_text, of_unset}
 use Rattle.ncroute.proofs.importing.make_filter.Goals as goal
 
