@@ -8,9 +8,9 @@ ghost use Rattle.slot_lock.specs.Passes.{IsPassOf};
 ghost use Rattle.router_daemon.specs.Running.{keep_of};
 
 use crate::forgetting::{Forgetter, slack_of};
-use crate::router_passes::RouterPass;
 use crate::queues::{LOOK, close_long_queues};
 use crate::retrying::next_wait;
+use crate::router_passes::RouterPass;
 use crate::shared::Shared;
 use crate::signals::Closing;
 use crate::telling::{tell_saved, tell_unsaved};
@@ -140,10 +140,11 @@ fn turn<R: Wait, F: SegmentFolder + Drop, J: Naming, E: Write>(
     ensures { option_map keep_of forgetter.new.saver ≡ option_map keep_of forgetter.old.saver }
 {
     match state {
-        BoundingState::Failing { wait, left } if left > SECOND && !is_closing => BoundingState::Failing {
-            wait,
-            left: left - SECOND,
-        },
+        BoundingState::Failing { wait, left } if left > SECOND && !is_closing =>
+            BoundingState::Failing {
+                wait,
+                left: left - SECOND,
+            },
         _ => {
             let turned = forgetter.turn(rt, alloc, shared);
             state_after(rt, alloc, shared, state, turned)

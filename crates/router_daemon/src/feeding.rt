@@ -4,9 +4,9 @@ ghost use Rattle.slot_lock.specs.Passes.{IsPassOf};
 ghost use Rattle.router_daemon.specs.Passes.{IsLegalPass};
 
 use crate::folder::LinkFolder;
-use crate::router_passes::RouterPass;
-use crate::resting::await_rest;
 use crate::owed_downs::pause;
+use crate::resting::await_rest;
+use crate::router_passes::RouterPass;
 use crate::shared::Shared;
 use crate::signals::Closing;
 use crate::starting::take_part;

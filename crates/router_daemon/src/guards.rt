@@ -2,9 +2,9 @@
 ghost use Rattle.std.specs.Prelude.{◌≡◌};
 
 use crate::signals::Signals;
-use link_states::SessionEnding;
 use link_handshake::{CameUp, Said};
-use neighbour_session::{SessionGuard, Ears, EndedGuard, READER};
+use link_states::SessionEnding;
+use neighbour_session::{Ears, EndedGuard, READER, SessionGuard};
 use netchange_core::Reply;
 use route_session::Gate;
 use slot_lock::Answer;

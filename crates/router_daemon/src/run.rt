@@ -14,11 +14,11 @@ use crate::fault::DaemonFault;
 use crate::feeding::{FeedFile, Feeding, start_feeding};
 use crate::folder::LinkFolder;
 use crate::forgetting::Forgetter;
-use crate::router_passes::{LegalPass, RouterPass};
 use crate::opening::open_router;
 use crate::operating::{Figures, OperatorEnd, serve_lines};
 use crate::outbox::{Counts, Outbox};
-use crate::setting::{VerifiedFilters, RouterEnd, Setting};
+use crate::router_passes::{LegalPass, RouterPass};
+use crate::setting::{RouterEnd, Setting, VerifiedFilters};
 use crate::shared::{Shared, shared_of};
 use crate::starting::{Bounding, Links, start_bounding, start_links, start_telling, take_part};
 use crate::telling::{tell_lost, tell_unkept};
@@ -164,7 +164,12 @@ fn end_run<R: Threads + Wait, S: SegmentFolder + Drop, J: Naming, E: Write>(
 {
     let forgetter = bounding.join(rt);
     match ran {
-        Ok(OperatorEnd { answered, router_pass }) => {
+        Ok(
+            OperatorEnd {
+                answered,
+                router_pass,
+            },
+        ) => {
             let saved = end_saving(rt, alloc, shared, forgetter, router_pass);
             end_of(answered, saved)
         }

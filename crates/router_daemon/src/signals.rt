@@ -265,7 +265,13 @@ impl Signals {
 
     /// Ends a session of a link: the answer says who is the first who does, who is to enter its Down, and to say when it is entered. The
     /// end of the link begins anew then. If it is who reads the link that ends it, the line that is why is heard next.
-    pub(crate) fn end<R: Wait>(&self, rt: &R, link: usize, session: u32, by_line: bool) -> SessionEnding
+    pub(crate) fn end<R: Wait>(
+        &self,
+        rt: &R,
+        link: usize,
+        session: u32,
+        by_line: bool,
+    ) -> SessionEnding
         ensures { (result.link ≡ link) × (result.session ≡ session) }
     {
         let mut states = self.states.lock(rt);

@@ -10,12 +10,12 @@ ghost use Rattle.message_streams.specs.Views.{ReaderView};
 ghost use Rattle.neighbour_session.specs.Reading.{Hears};
 
 use crate::closing::stay;
-use crate::guards::{LinkGuard, LinkEars};
 use crate::folder::LinkFolder;
-use crate::router_passes::{FreshPass, RouterPass};
+use crate::guards::{LinkEars, LinkGuard};
+use crate::mailbox::{Mailbox, WriterTask};
+use crate::owed_downs::{enter_owed_down, passes, pause};
 use crate::retrying::{reopening, seconds, wait_before, was_long};
-use crate::mailbox::{WriterTask, Mailbox};
-use crate::owed_downs::{passes, pause, enter_owed_down};
+use crate::router_passes::{FreshPass, RouterPass};
 use crate::shared::Shared;
 use crate::signals::Closing;
 use crate::telling::{tell_end, tell_unopened};
@@ -179,7 +179,15 @@ fn serve_begun<R: Wait + Clock, I: Read + Drop, O: Write + Drop, J: Naming, E: W
     mailbox.put_task(rt, task);
     shared.signals.notify(rt, link.index);
     let guard = LinkGuard::reader(&shared.signals, link.index, session);
-    let (why, input, ended_guard) = serve_reader(rt, &shared.router, pass, session, input, guard, true);
+    let (why, input, ended_guard) = serve_reader(
+        rt,
+        &shared.router,
+        pass,
+        session,
+        input,
+        guard,
+        true,
+    );
     ended_guard.note_owed(rt);
     let input = going_on(why, input);
     if ended_guard.ended_it() {
@@ -234,7 +242,10 @@ fn serve_opened<R: Wait + Clock, I: Read + Drop, O: Write + Drop, J: Naming, E: 
     if shared.signals.begin(rt, link.index, task.session, answer) {
         return serve_begun(rt, alloc, shared, mailbox, link, input, task, pass);
     }
-    let WriterTask { session, router_pass } = task;
+    let WriterTask {
+        session,
+        router_pass,
+    } = task;
     let why = abandon(rt, shared, pass, link.index, session);
     shared.signals.end_change(rt, link.index);
     (why, None, RouterPass::new(router_pass.pass()))

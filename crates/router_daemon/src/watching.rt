@@ -9,10 +9,10 @@ ghost use Rattle.router_daemon.specs.Links.{EndsSilent};
 ghost use Rattle.slot_lock.specs.Passes.{IsPassOf};
 
 use crate::guards::LinkGuard;
-use crate::supervisor::tell_unless_closed;
-use crate::router_passes::RouterPass;
 use crate::owed_downs::try_owed_down;
+use crate::router_passes::RouterPass;
 use crate::shared::Shared;
+use crate::supervisor::tell_unless_closed;
 use neighbour_session::{SessionEnd, end_session};
 use router_operator::Naming;
 use slot_lock::Pass;

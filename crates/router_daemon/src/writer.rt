@@ -5,12 +5,12 @@ ghost use Rattle.neighbour_session.specs.Writing.{Serves};
 ghost use Rattle.std.specs.Io.KnownBytes.{Appends};
 ghost use Rattle.std.specs.Prelude.{IsTrue, true, ⊤};
 
-use crate::guards::{LinkGuard, EndedLinkGuard};
-use crate::supervisor::tell_unless_closed;
-use crate::router_passes::RouterPass;
-use crate::mailbox::{WriterTask, Mailbox};
+use crate::guards::{EndedLinkGuard, LinkGuard};
+use crate::mailbox::{Mailbox, WriterTask};
 use crate::owed_downs::enter_owed_down;
+use crate::router_passes::RouterPass;
 use crate::shared::Shared;
+use crate::supervisor::tell_unless_closed;
 use crate::telling::tell_left_out;
 use link_handshake::{Greeting, push_greeting};
 use message_streams::MessageWriter;
@@ -42,7 +42,10 @@ fn write_session<'a, R: Wait + Clock, O: Write + Drop, J: Naming, E: Write>(
     ensures { Serves true (λ _. ⊤) (λ _. ⊤) J.router task.session task.router_pass output result.0.why result.0.router_pass.pass result.1
         result.0.left_out }
 {
-    let WriterTask { session, router_pass } = task;
+    let WriterTask {
+        session,
+        router_pass,
+    } = task;
     let mut pass = router_pass.pass();
     let (why, written, ended_guard, left_out) = serve_writer(
         rt,
@@ -73,7 +76,10 @@ fn end_unwritten<'a, R: Wait + Clock, J: Naming, E: Write>(
 ) -> WrittenSession<'a, J>
     ensures { Ends (λ _. ⊤) J.router task.session SessionEnd.Unwritten task.router_pass result.why result.router_pass.pass }
 {
-    let WriterTask { session, router_pass } = task;
+    let WriterTask {
+        session,
+        router_pass,
+    } = task;
     let mut pass = router_pass.pass();
     let why = SessionEnd::Unwritten;
     let (why, ended_guard) = end_session(rt, &shared.router, &mut pass, session, guard, why);
