@@ -103,7 +103,11 @@ fn plan_by<'a>(
 }
 
 /// The first of the plans that has something to do.
-fn plan<'a>(alloc: Global, config: &Config<'a>, words: &[Word<'a>]) -> Result<NextStep<'a>, AllocError>
+fn plan<'a>(
+    alloc: Global,
+    config: &Config<'a>,
+    words: &[Word<'a>],
+) -> Result<NextStep<'a>, AllocError>
     ensures { IfOk result (λ plan. IfSome (why_of_plan plan) (Hinders config.now words.now)) }
 {
     for rule in &ORDER {
@@ -622,7 +626,11 @@ fn place_of(config: &Config<'_>, index: usize) -> usize
 }
 
 /// The draft of an item.
-fn conversion_of<'a>(alloc: Global, config: &Config<'a>, item: &'a Item) -> Result<Conversion<'a>, AllocError>
+fn conversion_of<'a>(
+    alloc: Global,
+    config: &Config<'a>,
+    item: &'a Item,
+) -> Result<Conversion<'a>, AllocError>
     ensures { IfOk result (IsConversion config.now item.now) }
 {
     let at = place_of(config, item.from);
@@ -654,7 +662,10 @@ fn push_conversion<'a>(
 
 /// What becomes of each filter of a configuration, in the order of its items.
 #[tactic(auto, using(crate::proofs::Reached::no_conversion))]
-pub fn make_conversions<'a>(alloc: Global, config: &Config<'a>) -> Result<Vec<Conversion<'a>>, AllocError>
+pub fn make_conversions<'a>(
+    alloc: Global,
+    config: &Config<'a>,
+) -> Result<Vec<Conversion<'a>>, AllocError>
     // Each item that is no function has one draft, in order. The words that are drafted come of the item's, by steps that fit their rules.
     ensures { IfOk result (λ conversions. HaveConversions config.now config.now.items.now (length config.now.items.now) conversions.items) }
 {

@@ -19,7 +19,7 @@ use crate::config::Config;
 use crate::items::Definition;
 use crate::reason::{Reason, Why};
 use crate::rules::{is_defined, is_kind, is_one_operand};
-use crate::step::{NextStep, Rule, RewriteStep, enclosed, joined};
+use crate::step::{NextStep, RewriteStep, Rule, enclosed, joined};
 use crate::word::{
     Word, WordKind, is_at, is_before, is_foreign_at, is_name_at, is_named_at, kind_at, word_at,
 };
@@ -288,7 +288,9 @@ pub fn plan_definition<'a>(
         };
         match look_up(config, word.bytes) {
             NameDefinition::Never => {}
-            NameDefinition::Once(definition) => return place(alloc, config, words, definition, word, at),
+            NameDefinition::Once(definition) => return place(
+                alloc, config, words, definition, word, at,
+            ),
             NameDefinition::Twice => return Ok(NextStep::Stuck(Reason {
                 at: word.at,
                 why: Why::DefinedTwice(word.bytes),

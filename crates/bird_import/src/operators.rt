@@ -51,7 +51,12 @@ fn operator_at(words: &[Word<'_>], at: usize) -> Option<Symbol>
 }
 
 /// The chain that is being read behind the word at an index, which opens or closes neither parentheses nor brackets.
-fn chain_behind(chain: OperandChain, word: Word<'_>, operator: Option<Symbol>, at: usize) -> OperandChain {
+fn chain_behind(
+    chain: OperandChain,
+    word: Word<'_>,
+    operator: Option<Symbol>,
+    at: usize,
+) -> OperandChain {
     let next = at.saturating_add(1);
     if word.is(Symbol::If) || word.is(Symbol::Case) || word.is_foreign(b"return") {
         OperandChain::at(next, true)

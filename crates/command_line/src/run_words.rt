@@ -8,7 +8,8 @@ ghost use Rattle.command_line.specs.declared.command_names.CommandName.TheVarian
 use crate::filter_words::{NamedFile, WrongFilter, filters_given};
 use crate::given::{is_given, word_given, words_given};
 use crate::requests::{
-    Engine, Request, RunOptions, files_in, has_files, one_source, tells_in, text_in, explained_source,
+    Engine, Request, RunOptions, explained_source, files_in, has_files, one_source, tells_in,
+    text_in,
 };
 use crate::terminals::Terminals;
 use clap::ArgMatches;

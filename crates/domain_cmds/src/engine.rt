@@ -68,7 +68,10 @@ impl DomainScript {
             answer,
             size: self.planning.as_ref().map(|planning| planning.size()),
             filters: self.planning.as_ref().map(|planning| planning.filters()),
-            diagnosis: self.planning.as_ref().and_then(|planning| planning.diagnosis()),
+            diagnosis: self
+                .planning
+                .as_ref()
+                .and_then(|planning| planning.diagnosis()),
         }
     }
 

@@ -127,7 +127,11 @@ impl Planning {
         ensures err { OnErr result (StartsWith out.new.items out.old.items) }
     {
         match command {
-            DomainCommand::Domain(_) => refuse(out, DomainStateFault::TooLate.code(), u64::from(number)),
+            DomainCommand::Domain(_) => refuse(
+                out,
+                DomainStateFault::TooLate.code(),
+                u64::from(number),
+            ),
             DomainCommand::Prefix { node, prefix } => self.set_prefix(number, node, prefix, out),
             DomainCommand::Load { name, text } => {
                 self.load(alloc, number, name, FilterSource::Text(text), out)
@@ -228,7 +232,11 @@ impl Planning {
         ensures err { OnErr result (StartsWith out.new.items out.old.items) }
     {
         let Some(filter) = self.filters.get(name)? else {
-            return refuse(out, DomainStateFault::UnknownFilter.code(), u64::from(number));
+            return refuse(
+                out,
+                DomainStateFault::UnknownFilter.code(),
+                u64::from(number),
+            );
         };
         self.begun = true;
         if !are_a_pair(self.size(), u, w) {

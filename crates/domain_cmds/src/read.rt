@@ -112,7 +112,10 @@ fn read_failures<'a>(rest: &[u8]) -> Result<DomainCommand<'a>, CommandFault>
 }
 
 /// A command after which nothing follows.
-fn read_alone<'a>(command: DomainCommand<'a>, rest: &[u8]) -> Result<DomainCommand<'a>, CommandFault>
+fn read_alone<'a>(
+    command: DomainCommand<'a>,
+    rest: &[u8],
+) -> Result<DomainCommand<'a>, CommandFault>
     ensures { IsRead result (spec.alone (view_of command.entry) (words rest.now)) }
 {
     match next_word(rest) {
@@ -122,7 +125,11 @@ fn read_alone<'a>(command: DomainCommand<'a>, rest: &[u8]) -> Result<DomainComma
 }
 
 /// A command by its verb and the bytes after it.
-fn read_rest(alloc: Global, verb: DomainVerb, rest: &[u8]) -> Result<DomainCommand<'_>, CommandFault>
+fn read_rest(
+    alloc: Global,
+    verb: DomainVerb,
+    rest: &[u8],
+) -> Result<DomainCommand<'_>, CommandFault>
     ensures { IsReadIn result (spec.command_of (Some verb) (words rest.now) (without_front_blanks (after_word rest.now))) }
 {
     match verb {

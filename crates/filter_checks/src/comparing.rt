@@ -173,7 +173,15 @@ pub fn compare_named<W: Write, E: Write>(
     match before {
         Ok(old_code) => match after {
             Ok(new_code) => write_comparison(alloc, &old_code, &new_code, limit, writer),
-            Err(diagnosis) => tell_both(alloc, errors, old, new, None, Some(diagnosis), is_explained),
+            Err(diagnosis) => tell_both(
+                alloc,
+                errors,
+                old,
+                new,
+                None,
+                Some(diagnosis),
+                is_explained,
+            ),
         },
         Err(diagnosis) => tell_both(
             alloc,

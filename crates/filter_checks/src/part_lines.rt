@@ -3,7 +3,7 @@ ghost use Rattle.std.specs.Prelude.{◌≡◌, ◌++◌, IfOk, OnOk, flat_map, t
 ghost use Rattle.filter_checks.specs.PartLines as spec;
 
 use filter_code::Outcome;
-use filter_diff::{RunEnding, PartFinding, RoutePart, count_undecided};
+use filter_diff::{PartFinding, RoutePart, RunEnding, count_undecided};
 use filter_reports::push_prefix;
 use line_protocol::push_decimal;
 use std::alloc::{AllocError, Global};

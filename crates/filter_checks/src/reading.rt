@@ -11,7 +11,7 @@ ghost use Rattle.filter_checks.specs.Reading as spec;
 
 use crate::keyword::{TestKeyword, find_keyword, is_every};
 use filter_code::Outcome;
-use filter_diff::{RunEnding, Expectation};
+use filter_diff::{Expectation, RunEnding};
 use line_protocol::next_word;
 use prefix_patterns::{ADDRESS_LENGTH, Pattern, Prefix, cut_at, read_number, read_prefix};
 

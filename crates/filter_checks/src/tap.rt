@@ -8,7 +8,7 @@ ghost use Rattle.filter_checks.specs.Tap as spec;
 
 use crate::part_lines::push_outcome;
 use crate::testing::RanTest;
-use filter_diff::{ExpectationResult, Counterexample};
+use filter_diff::{Counterexample, ExpectationResult};
 use filter_reports::{push_prefix, push_shown};
 use line_protocol::push_decimal;
 use std::alloc::{AllocError, Global};
@@ -35,7 +35,11 @@ fn push_found(alloc: Global, out: &mut Vec<u8>, found: &Counterexample) -> Resul
 }
 
 /// Puts the comment behind the line of a test at the end of `out`, if the test does not hold.
-fn push_note(alloc: Global, out: &mut Vec<u8>, checked: &ExpectationResult) -> Result<(), AllocError>
+fn push_note(
+    alloc: Global,
+    out: &mut Vec<u8>,
+    checked: &ExpectationResult,
+) -> Result<(), AllocError>
     ensures { OnOk result (out.new.items ≡ out.old.items ++ spec.note checked.now) }
 {
     match checked {
@@ -87,7 +91,12 @@ fn push_place(alloc: Global, out: &mut Vec<u8>, name: &[u8], line: usize) -> Res
 }
 
 /// Puts what people are told of a test at the end of `out`, if it does not hold.
-fn push_failure(alloc: Global, out: &mut Vec<u8>, name: &[u8], ran: &RanTest) -> Result<(), AllocError>
+fn push_failure(
+    alloc: Global,
+    out: &mut Vec<u8>,
+    name: &[u8],
+    ran: &RanTest,
+) -> Result<(), AllocError>
     ensures { OnOk result (out.new.items ≡ out.old.items ++ spec.failure_of name.now ran.now) }
 {
     match &ran.checked {

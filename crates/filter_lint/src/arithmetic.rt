@@ -4,7 +4,7 @@ ghost use Rattle.filter_lint.specs.Arithmetic as spec;
 
 use crate::finding::found_below;
 use crate::surveyed_filter::SurveyedFilter;
-use crate::warning::{ValueBounds, WarningCause, Operation, Warning};
+use crate::warning::{Operation, ValueBounds, Warning, WarningCause};
 use filter_code::Instr;
 use std::alloc::{AllocError, Global};
 

@@ -12,7 +12,7 @@ ghost use Rattle.std.specs.Prelude.{◌≡◌, Some};
 ghost use Rattle.filter_lint.specs.Disorders as spec;
 
 use crate::surveyed_filter::SurveyedFilter;
-use crate::warning::{WarningCause, Warning};
+use crate::warning::{Warning, WarningCause};
 use filter_diff::Order;
 
 /// What is said of a filter, where this is found of the order of metrics, or that is not asked for. It is said where the filter's first

@@ -29,4 +29,4 @@ mod watching;
 
 pub use linting::{Linted, lint_named, tell_host_bits, warn_named};
 pub use site::Site;
-pub use warning::{ValueBounds, WarningCause, Operation, Warning};
+pub use warning::{Operation, ValueBounds, Warning, WarningCause};

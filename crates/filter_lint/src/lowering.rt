@@ -4,7 +4,7 @@ ghost use Rattle.filter_lint.specs.Lowering as spec;
 
 use crate::finding::found_below;
 use crate::surveyed_filter::SurveyedFilter;
-use crate::warning::{WarningCause, Warning};
+use crate::warning::{Warning, WarningCause};
 use filter_diff::Mark;
 use std::alloc::{AllocError, Global};
 

@@ -7,7 +7,7 @@ ghost use Rattle.filter_lint.specs.Sets as spec;
 
 use crate::finding::found_below;
 use crate::surveyed_filter::SurveyedFilter;
-use crate::warning::{WarningCause, Warning};
+use crate::warning::{Warning, WarningCause};
 use filter_code::Instr;
 use prefix_patterns::Pattern;
 use std::alloc::{AllocError, Global};

@@ -6,7 +6,7 @@ ghost use Rattle.filter_lint.specs.WarningLines as spec;
 
 use crate::host_bits::{HostBits, bytes_of};
 use crate::site::Site;
-use crate::warning::{ValueBounds, WarningCause, Operation, Warning};
+use crate::warning::{Operation, ValueBounds, Warning, WarningCause};
 use filter_code::Outcome;
 use filter_diff::Disorder;
 use filter_reports::{place_in, push_position, push_prefix, push_shown};
@@ -333,7 +333,9 @@ fn push_words(
         WarningCause::Constant(site, value) => push_constant(out, site, value),
         WarningCause::Unreached => out.extend_from_slice(b"no route reaches this command"),
         WarningCause::Wraps(operation, left, right) => push_wraps(out, operation, left, right),
-        WarningCause::Covered(set, inner, outer) => { push_covered(alloc, out, sets, set, inner, outer) }
+        WarningCause::Covered(set, inner, outer) => {
+            push_covered(alloc, out, sets, set, inner, outer)
+        }
         WarningCause::Unread => out.extend_from_slice(b"this variable is never read"),
         WarningCause::Unreachable(bounds) => push_unreachable(out, bounds),
         WarningCause::NotLowered => out.extend_from_slice(not_lowered_words()),

@@ -24,9 +24,9 @@ ghost use Rattle.filter_reports.specs.Explanations.{byte_of_line, dots_for, exce
 ghost use Rattle.filter_reports.specs.Explanations.{coded, end_within, explanation, first_of, front_within};
 ghost use Rattle.filter_reports.specs.Explanations.{is_long, last_of, message, number_text, position};
 
+use crate::diagnosis_words::diagnosis_words;
 use crate::place::place_in;
 use crate::shown::{columns_of, push_characters, push_indent, push_shown, shown_characters};
-use crate::diagnosis_words::diagnosis_words;
 use filter_source::{Diagnosis, Refusal};
 use line_protocol::push_decimal;
 use std::alloc::{AllocError, Global};
@@ -245,7 +245,11 @@ fn line_in(number: Option<u32>, line: usize) -> usize
 }
 
 /// Why a source is refused, for people, where its place is told elsewhere: `WORDS (CODE)`.
-pub fn refusal_words(alloc: Global, text: &[u8], diagnosis: &Diagnosis) -> Result<Vec<u8>, AllocError>
+pub fn refusal_words(
+    alloc: Global,
+    text: &[u8],
+    diagnosis: &Diagnosis,
+) -> Result<Vec<u8>, AllocError>
     ensures { IfOk result (λ out. AreRefusalWords diagnosis.now out.items) }
 {
     let words = diagnosis_words(alloc, text, diagnosis)?;

@@ -17,6 +17,7 @@
 
 mod around;
 mod check;
+mod diagnosis_words;
 mod explanation;
 mod fault;
 mod laws;
@@ -33,7 +34,6 @@ mod report;
 mod rewrite;
 mod shown;
 mod spelling;
-mod diagnosis_words;
 mod words;
 
 pub use check::{Checked, check_text, code_of, write_report};

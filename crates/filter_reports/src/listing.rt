@@ -206,7 +206,10 @@ fn end_listing(
     match verdict {
         Ok(bounds) => {
             push_bounds(&mut text, bounds)?;
-            Ok(Listing { text, diagnosis: None })
+            Ok(Listing {
+                text,
+                diagnosis: None,
+            })
         }
         Err(Unverified { fault, range }) => {
             push_refusal(&mut text, fault.code(), fault.at() as u64)?;

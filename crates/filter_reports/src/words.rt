@@ -30,7 +30,11 @@ const BYTE_ORDER_MARK: &[u8] = b"\xef\xbb\xbf";
 const CODE_LINE: &[u8] = b"code ";
 
 /// What is wrong with a source.
-pub(crate) fn words_of(alloc: Global, text: &[u8], diagnosis: &Diagnosis) -> Result<String, AllocError> {
+pub(crate) fn words_of(
+    alloc: Global,
+    text: &[u8],
+    diagnosis: &Diagnosis,
+) -> Result<String, AllocError> {
     match diagnosis.refusal {
         Refusal::Parse(fault) => parse_words(alloc, text, fault, &diagnosis.around),
         Refusal::Typing(fault) => kind_words(alloc, text, fault, &diagnosis.around),

@@ -94,7 +94,11 @@ impl<'a> Traced<'a> {
 }
 
 /// The sites of some bytes of a text.
-fn sites_in(alloc: Global, text: &[u8], places: &[usize]) -> Result<Vec<InstructionSite>, AllocError>
+fn sites_in(
+    alloc: Global,
+    text: &[u8],
+    places: &[usize],
+) -> Result<Vec<InstructionSite>, AllocError>
     ensures { IfOk result (λ sites. sites.items ≡ map (site_in text.now) places.now) }
 {
     let positions = Positions::new(alloc, text)?;

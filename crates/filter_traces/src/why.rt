@@ -42,7 +42,12 @@ fn push_outcome(out: &mut Vec<u8>, outcome: Outcome) -> Result<(), AllocError>
 
 impl<'a> Traced<'a> {
     /// The line on a route, whose run is told.
-    fn route_line(&self, alloc: Global, route: &Route, run: &ShownRun) -> Result<Vec<u8>, AllocError>
+    fn route_line(
+        &self,
+        alloc: Global,
+        route: &Route,
+        run: &ShownRun,
+    ) -> Result<Vec<u8>, AllocError>
         ensures { IfOk result (λ line. line.items ≡ route_text route.now ++ 32 ∷ [] ++ outcome_words run.now.outcome ++ 32 ∷ []
             ++ site_text (slice_get self.now.sites run.now.place) ++ 10 ∷ []) }
     {

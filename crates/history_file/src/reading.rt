@@ -102,7 +102,10 @@ fn read_filter(alloc: Global, size: u16, digits: &[u8]) -> Result<Arc<Verified>,
 
 /// A filter, and the bytes after it.
 #[tactic(auto, unfolding(crate::specs::Reading::first_filter))]
-pub(crate) fn first_filter(alloc: Global, line: &[u8]) -> Result<(Arc<Verified>, &[u8]), HistoryLineFault>
+pub(crate) fn first_filter(
+    alloc: Global,
+    line: &[u8],
+) -> Result<(Arc<Verified>, &[u8]), HistoryLineFault>
     ensures { spec.IsRead (λ p. (p.0.value, words p.1.now)) (spec.first_filter (words line.now)) result }
 {
     let (size, rest) = first_small(line)?;
@@ -112,7 +115,11 @@ pub(crate) fn first_filter(alloc: Global, line: &[u8]) -> Result<(Arc<Verified>,
 
 /// An event by its keyword, and the bytes after it.
 #[tactic(auto, unfolding(crate::specs::Reading::event_of))]
-fn event_of(alloc: Global, keyword: HistoryKeyword, line: &[u8]) -> Result<(Event, &[u8]), HistoryLineFault>
+fn event_of(
+    alloc: Global,
+    keyword: HistoryKeyword,
+    line: &[u8],
+) -> Result<(Event, &[u8]), HistoryLineFault>
     ensures { spec.IsRead (λ p. (event_view p.0, words p.1.now)) (spec.event_of keyword (words line.now)) result }
 {
     match keyword {

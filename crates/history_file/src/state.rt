@@ -70,7 +70,11 @@ fn push_rows(out: &mut Vec<u8>, rows: &[Vec<u8>]) -> Result<(), AllocError>
 }
 
 /// Adds the words of the number of a filter, if there is one.
-fn push_use(out: &mut Vec<u8>, keyword: HistoryKeyword, number: Option<usize>) -> Result<(), AllocError>
+fn push_use(
+    out: &mut Vec<u8>,
+    keyword: HistoryKeyword,
+    number: Option<usize>,
+) -> Result<(), AllocError>
     ensures ok { OnOk result (out.new.items ≡ out.old.items ++ spaced (spec.use_words (keyword_text keyword) number)) }
     ensures err { OnErr result (StartsWith out.new.items out.old.items) }
 {

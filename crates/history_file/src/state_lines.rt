@@ -115,7 +115,11 @@ fn filter_at(
 }
 
 /// The session of a node, if it is up, and the distance to each node that it advertised.
-fn read_link(alloc: Global, size: u16, line: &[u8]) -> Result<(Option<u32>, Vec<u16>), HistoryLineFault> {
+fn read_link(
+    alloc: Global,
+    size: u16,
+    line: &[u8],
+) -> Result<(Option<u32>, Vec<u16>), HistoryLineFault> {
     let (word, rest) = first_word(line)?;
     if word == "down".as_bytes() {
         no_more(rest)?;

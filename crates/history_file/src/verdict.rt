@@ -80,7 +80,11 @@ fn judge_right(saved: &SavedHistory) -> ReplayVerdict
 }
 
 /// The verdict on a history whose entry at this index is the first wrong one.
-fn tell_difference(alloc: Global, saved: SavedHistory, at: usize) -> Result<ReplayVerdict, AllocError>
+fn tell_difference(
+    alloc: Global,
+    saved: SavedHistory,
+    at: usize,
+) -> Result<ReplayVerdict, AllocError>
     requires { IsFirstWrong saved.opening saved.entries.items at }
     ensures { IfOk result (spec.IsVerdictOn saved) }
 {

@@ -7,14 +7,14 @@
 //! them only locks them.
 #![tactic(auto)]
 
-mod states;
 mod ending;
 mod laws;
 mod link_state;
+mod states;
 mod waiting;
 
-pub use states::LinkStates;
 pub use ending::SessionEnding;
 pub use laws::{no_queue_is_overlooked, notes_add_up};
 pub use link_state::LinkState;
+pub use states::LinkStates;
 pub use waiting::Waiting;

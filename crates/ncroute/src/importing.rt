@@ -25,8 +25,9 @@ use crate::including::{Whole, push_texts, read_whole};
 use crate::placed::PlacedConfig;
 use crate::texts::{Folder, tell_uncreated, tell_unwritten};
 use bird_import::{
-    Config, Cut, Conversion, TextOutcome, FilterText, ConversionOutcome, Why, Word, WordKind, cut_words,
-    find_definitions, find_items, make_conversions, origin_of, reason_words, write_filter,
+    Config, Conversion, ConversionOutcome, Cut, FilterText, TextOutcome, Why, Word, WordKind,
+    cut_words, find_definitions, find_items, make_conversions, origin_of, reason_words,
+    write_filter,
 };
 use command_line::{Importing, Source};
 use filter_parser::{Around, Unparsed};
@@ -99,7 +100,9 @@ fn push_outside(
     ensures { OnOk result (head.new.items
         ≡ head.old.items ++ outside_line placed.now conversion.now.at conversion.now.end last at) }
 {
-    if is_outside(conversion.at, conversion.end, at) && !is_outside(conversion.at, conversion.end, last) {
+    if is_outside(conversion.at, conversion.end, at)
+        && !is_outside(conversion.at, conversion.end, last)
+    {
         push_origin(alloc, head, placed, b"# and ", at)
     } else {
         Ok(())
@@ -256,7 +259,13 @@ fn make(
 {
     match &conversion.outcome {
         ConversionOutcome::LeftOut(reason) => left_out(alloc, reason.at, reason.why),
-        ConversionOutcome::Converted(words) => make_filter(alloc, placed, size, conversion, words.as_slice()),
+        ConversionOutcome::Converted(words) => make_filter(
+            alloc,
+            placed,
+            size,
+            conversion,
+            words.as_slice(),
+        ),
     }
 }
 
@@ -439,7 +448,16 @@ fn import_result<F: Folder, R: Read, W: Write, E: Write>(
         (Some(folder), Some(text)) => {
             let path = file_path(alloc, folder.as_str(), name)?;
             let (text, path) = (text.as_slice(), path.as_str());
-            save_result(files, alloc, placed, name, filter_result, text, path, console)
+            save_result(
+                files,
+                alloc,
+                placed,
+                name,
+                filter_result,
+                text,
+                path,
+                console,
+            )
         }
         (_, text) => {
             tell_result(alloc, placed, name, filter_result, None, console)?;
@@ -460,7 +478,15 @@ fn import_one<F: Folder, R: Read, W: Write, E: Write>(
     ensures { IfOk result (ImportsConversion (F.creates files.now) (F.leaves files.now) how.now placed.now conversion.now console.old console.new) }
 {
     let filter_result = make(alloc, placed, how.size, conversion)?;
-    import_result(files, alloc, how, placed, conversion.name, &filter_result, console)
+    import_result(
+        files,
+        alloc,
+        how,
+        placed,
+        conversion.name,
+        &filter_result,
+        console,
+    )
 }
 
 /// The line that tells of a byte of a configuration.

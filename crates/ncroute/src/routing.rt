@@ -78,7 +78,11 @@ fn end_by_line<E: Write>(errors: &mut E, status: u8, line: &[u8]) -> Result<u8, 
 }
 
 /// Tells people what is wrong with the words: the exit status.
-fn end_by_words<E: Write>(alloc: Global, errors: &mut E, fault: PlanFault<'_>) -> Result<u8, Unreported>
+fn end_by_words<E: Write>(
+    alloc: Global,
+    errors: &mut E,
+    fault: PlanFault<'_>,
+) -> Result<u8, Unreported>
     ensures told { IfOk result (λ ended. (ended ≡ 2)
         × Appends (E.contents errors.old) (E.contents errors.new) (wrong_line fault.entry)) }
     ensures cut { IfErr result (λ unreported. (unreported.status ≡ 2)
@@ -94,7 +98,11 @@ fn end_by_words<E: Write>(alloc: Global, errors: &mut E, fault: PlanFault<'_>) -
 }
 
 /// Tells people what kept a router from being set up: the exit status.
-fn end_unset<E: Write>(alloc: Global, errors: &mut E, fault: SetupFault<'_>) -> Result<u8, Unreported>
+fn end_unset<E: Write>(
+    alloc: Global,
+    errors: &mut E,
+    fault: SetupFault<'_>,
+) -> Result<u8, Unreported>
     ensures told { IfOk result (λ ended. (ended ≡ spec.setup_status fault.entry)
         × Appends (E.contents errors.old) (E.contents errors.new) (spec.setup_line fault.entry)) }
     ensures cut { IfErr result (λ unreported. (unreported.status ≡ spec.setup_status fault.entry)

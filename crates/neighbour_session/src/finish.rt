@@ -5,8 +5,8 @@ ghost use Rattle.route_session.specs.Calls.{StaysSound};
 ghost use Rattle.slot_lock.specs.Passes.{IsPassOf};
 
 use crate::calls::enter_down;
-use crate::guard::{SessionGuard, EndedGuard};
 use crate::ends::SessionEnd;
+use crate::guard::{EndedGuard, SessionGuard};
 use slot_lock::{Pass, Router};
 use std::rt::Clock;
 use std::sync::Wait;

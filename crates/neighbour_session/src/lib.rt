@@ -2,19 +2,19 @@
 #![tactic(auto)]
 
 mod calls;
-mod guard;
 mod ends;
 mod finish;
 mod greeting;
+mod guard;
 mod links;
 mod read;
 mod waiting;
 mod write;
 
 pub use calls::{enter_down, enter_up};
-pub use guard::{SessionGuard, EndedGuard, READER};
 pub use ends::{GreetingFault, SessionEnd};
 pub use finish::end_session;
 pub use greeting::{Domain, Ears, meet};
+pub use guard::{EndedGuard, READER, SessionGuard};
 pub use read::serve_reader;
 pub use write::serve_writer;

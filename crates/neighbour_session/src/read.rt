@@ -6,9 +6,9 @@ ghost use Rattle.route_session.specs.Reads.{IsReadBy};
 ghost use Rattle.route_session.specs.Calls.{StaysSound};
 ghost use Rattle.slot_lock.specs.Passes.{IsPassOf};
 
-use crate::guard::{SessionGuard, READER};
 use crate::ends::SessionEnd;
 use crate::finish::end_session;
+use crate::guard::{READER, SessionGuard};
 use crate::links::{GivenReader, InputLink};
 use crate::waiting::{end_of_full, enter_later};
 use message_streams::MessageReader;

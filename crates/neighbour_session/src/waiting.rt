@@ -4,8 +4,8 @@ ghost use Rattle.neighbour_session.specs.Waiting as spec;
 ghost use Rattle.route_session.specs.Calls.{StaysSound, stale};
 ghost use Rattle.slot_lock.specs.Passes.{IsPassOf};
 
-use crate::guard::{SessionGuard, READER};
 use crate::ends::SessionEnd;
+use crate::guard::{READER, SessionGuard};
 use netchange_core::{Event, EventRefusal, Message, Reply};
 use route_history::CallFault;
 use route_session::Cause;

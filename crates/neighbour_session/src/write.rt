@@ -5,10 +5,10 @@ ghost use Rattle.neighbour_session.specs.Writing as spec;
 ghost use Rattle.route_session.specs.Calls.{StaysSound};
 ghost use Rattle.slot_lock.specs.Passes.{IsPassOf};
 
-use crate::guard::{SessionGuard, WRITER};
 use crate::ends::SessionEnd;
 use crate::finish::end_session;
-use crate::links::{OutputLink, GivenWriter};
+use crate::guard::{SessionGuard, WRITER};
+use crate::links::{GivenWriter, OutputLink};
 use crate::waiting::pause;
 use message_streams::MessageWriter;
 use route_session::{Cause, write_newest};

@@ -10,9 +10,9 @@ mod laws;
 mod line_fault;
 mod route_line;
 mod route_words;
-mod watched_routes;
 mod verdict_line;
 mod watch;
+mod watched_routes;
 
 pub use eval::{eval_lines, eval_watched_lines};
 pub use filter::{Filtered, ROUTES_LIMIT};
@@ -22,5 +22,5 @@ pub use laws::{
 };
 pub use line_fault::LineFault;
 pub use route_line::read_route;
-pub use watched_routes::{Routes, eval_named, filter_named};
 pub use watch::{NoRouteWatcher, RefusedRoute, WatchRoutes, WhyRefused};
+pub use watched_routes::{Routes, eval_named, filter_named};

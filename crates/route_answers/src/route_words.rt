@@ -39,7 +39,11 @@ fn form_of(size: Option<u32>) -> (&'static str, usize) {
 }
 
 /// That a line has not the words of a route.
-fn count_finding(alloc: Global, line: &[u8], size: Option<u32>) -> Result<RouteFinding, AllocError> {
+fn count_finding(
+    alloc: Global,
+    line: &[u8],
+    size: Option<u32>,
+) -> Result<RouteFinding, AllocError> {
     let (form, wanted) = form_of(size);
     let count = count_words(line, wanted);
     if count > wanted {
@@ -73,7 +77,11 @@ fn digit_words(alloc: Global, word: &[u8]) -> Result<String, AllocError> {
 }
 
 /// What is wrong with the numbers of a line.
-fn number_finding(alloc: Global, line: &[u8], size: Option<u32>) -> Result<RouteFinding, AllocError> {
+fn number_finding(
+    alloc: Global,
+    line: &[u8],
+    size: Option<u32>,
+) -> Result<RouteFinding, AllocError> {
     let metric = word_at(line, 1);
     let Some(metric) = read_number(metric, NUMBER_LIMIT) else {
         return Ok(found_at(line, 1, digit_words(alloc, metric)?));

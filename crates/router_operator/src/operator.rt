@@ -14,7 +14,7 @@ ghost use Rattle.slot_lock.specs.Passes.{IsPassOf};
 
 use crate::calls::{answer_call, exported_by};
 use crate::listener::Listener;
-use crate::looking::{Query, FindingSession, Looking};
+use crate::looking::{FindingSession, Looking, Query};
 use crate::naming::Naming;
 use crate::questions::{has_link, is_quit};
 use filter_verifier::Verified;

@@ -67,7 +67,11 @@ pub(crate) fn event_words(
 }
 
 /// That the history is full.
-pub(crate) fn full_words(alloc: Global, at: &[u8], line: &[u8]) -> Result<ScriptFinding, AllocError> {
+pub(crate) fn full_words(
+    alloc: Global,
+    at: &[u8],
+    line: &[u8],
+) -> Result<ScriptFinding, AllocError> {
     let limit = short_text(at).unwrap_or("?");
     let words = format!(in alloc;
         "the history is full, at its limit of {limit}: no event is carried out any more"

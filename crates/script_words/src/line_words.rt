@@ -30,9 +30,10 @@ pub(crate) fn line_words(
         RefusalCause::Long => length_words(alloc, line),
         RefusalCause::Prefix => prefix_words(alloc, line),
         RefusalCause::Full => full_words(alloc, at, line),
-        RefusalCause::BadNode | RefusalCause::Linked | RefusalCause::Apart | RefusalCause::Unplayable => {
-            domain_words(alloc, cause, refused)
-        }
+        RefusalCause::BadNode
+        | RefusalCause::Linked
+        | RefusalCause::Apart
+        | RefusalCause::Unplayable => { domain_words(alloc, cause, refused) }
         _ => event_words(alloc, cause, at, refused),
     }
 }

@@ -1,9 +1,9 @@
 //! What was done at a router, beside what its journal says of it.
 
 use crate::asserts::{RouterHost, done, must, some};
-use crate::session_groups::Auditor;
 use crate::histories::must_answer;
 use crate::random_link::RandomLink;
+use crate::session_groups::Auditor;
 use netchange_core::{Event, Message, ReplyRef};
 use route_history::{Entries, EntryRef, Journal};
 use route_session::{Cause, Ending, Finished};

@@ -26,10 +26,15 @@ enum ChannelStep {
 /// Does with some links what steps say.
 fn must_follow<R: RouterHost, L: Link>(rt: &R, links: &mut [L], steps: &[ChannelStep]) {
     for step in steps {
-        let (ChannelStep::Asked(at, _) | ChannelStep::Given(at, _, _) | ChannelStep::Closed(at)) = step;
+        let (ChannelStep::Asked(at, _) | ChannelStep::Given(at, _, _) | ChannelStep::Closed(at)) =
+            step;
         let link = some(rt, links.get_mut(*at), "a link");
         match step {
-            ChannelStep::Asked(_, wanted) => must(rt, link.recv(rt) == *wanted, "what a link hands out"),
+            ChannelStep::Asked(_, wanted) => must(
+                rt,
+                link.recv(rt) == *wanted,
+                "what a link hands out",
+            ),
             ChannelStep::Given(_, message, is_taken) => {
                 let is_so = link.send(rt, *message).is_ok() == *is_taken;
                 must(rt, is_so, "what a link takes");

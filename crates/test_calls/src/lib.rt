@@ -14,8 +14,6 @@ mod channels;
 #[cfg(test)]
 mod code_tests;
 #[cfg(test)]
-mod session_groups;
-#[cfg(test)]
 mod embedding_tests;
 #[cfg(test)]
 mod endless;
@@ -69,6 +67,8 @@ mod runs;
 mod script_saves;
 #[cfg(test)]
 mod segments;
+#[cfg(test)]
+mod session_groups;
 #[cfg(test)]
 mod shifts;
 #[cfg(test)]

@@ -2,11 +2,11 @@
 
 use crate::asserts::{RouterHost, done, must};
 use crate::callers::{Caller, Way, close, open, opening};
-use crate::session_groups::{Auditor, SessionGroup};
 use crate::gates::OpenGate;
 use crate::histories::must_replay;
 use crate::memory::Answered;
 use crate::memory_tables::event;
+use crate::session_groups::{Auditor, SessionGroup};
 use netchange_core::{Event, Message};
 use route_history::Journal;
 use route_session::{Cause, Ending, Finished, MemoryLink, ReadEnd, Role, WriteEnd};

@@ -138,7 +138,13 @@ fn take_step<R: Host>(rt: &R, routers: &mut Routers, step: &PlayerStep) {
     match step {
         PlayerStep::Link(u, w) | PlayerStep::Cut(u, w) => set_up(rt, routers, (*u, *w), step),
         PlayerStep::Import(u, w, text) => set_filter(rt, routers, (*u, *w), filter(rt, text), true),
-        PlayerStep::Export(u, w, text) => set_filter(rt, routers, (*u, *w), filter(rt, text), false),
+        PlayerStep::Export(u, w, text) => set_filter(
+            rt,
+            routers,
+            (*u, *w),
+            filter(rt, text),
+            false,
+        ),
         PlayerStep::Settle(rounds, messages) => {
             let is_so = settles(rt, routers, *rounds, *messages);
             must(rt, is_so, "rounds and messages")

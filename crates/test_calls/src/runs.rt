@@ -3,10 +3,10 @@
 
 use crate::asserts::{RouterHost, done, must, some};
 use crate::callers::{Caller, close, open};
-use crate::session_groups::{Auditor, SessionGroup};
 use crate::ends::{FIRST, FOUR, SECOND, THIRD};
 use crate::gates::{MeetingGate, NotingGate};
 use crate::histories::must_replay;
+use crate::session_groups::{Auditor, SessionGroup};
 use netchange_core::Message;
 use route_history::Journal;
 use route_session::{Cause, Ending, Finished, Gate, MemoryLink, Role};

@@ -257,7 +257,11 @@ fn segments_are_one_history(rt: HostRuntime) {
     let (router, mut pass, right, saver) = begin(&rt, MemoryFolder::new(rt.alloc()), rotation);
     let caller = Caller::of(&router, &mut pass);
     let router_saver = RouterSaver::of(&router, right, saver);
-    let (kept, _) = thread::join(&rt, || router_saver.save_all(&rt, ALL), || call_all(&rt, caller));
+    let (kept, _) = thread::join(
+        &rt,
+        || router_saver.save_all(&rt, ALL),
+        || call_all(&rt, caller),
+    );
     must(&rt, kept.faults > 0, "the folder was full");
     let named = kept.saver.into_folder().named;
     must(&rt, named.len() >= 2, "there are several segments");

@@ -2,11 +2,11 @@
 
 use crate::accounts::Account;
 use crate::asserts::{RouterHost, done, some};
-use crate::session_groups::SessionGroup;
 use crate::gates::OpenGate;
 use crate::numbers::Numbers;
 use crate::operators::{LINKED, Operator};
 use crate::random_link::RandomLink;
+use crate::session_groups::SessionGroup;
 use filter_verifier::Verified;
 use netchange_core::Event;
 use route_session::Role;
