@@ -32,16 +32,20 @@ said checked.Undecided = codes ": undecided"
 abbrev pub result_words : Ran → List ℕ
 result_words ran = ran.line.items ++ said ran.checked
 
--- the report on a test of a file of this name
-abbrev pub test_view : List ℕ → Ran → ReportView
-test_view name ran = record {
-  severity = severity_of ran.checked;
+-- a report on a line of a file of this name
+abbrev pub view_on_line : Severity → List ℕ → ℕ → List ℕ → ReportView
+view_on_line how name line words = record {
+  severity = how;
   code = None;
   file = name;
-  line = Some ran.number;
+  line = Some line;
   column = None;
-  words = result_words ran;
+  words = words;
 }
+
+-- that on a test
+abbrev pub test_view : List ℕ → Ran → ReportView
+test_view name ran = view_on_line (severity_of ran.checked) name ran.number (result_words ran)
 
 abbrev pub test_report : List ℕ → Ran → List ℕ
 test_report name ran = report_line (test_view name ran)

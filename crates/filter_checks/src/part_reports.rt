@@ -133,12 +133,12 @@ fn push_part_reports(
 }
 
 /// Puts a report on the whole comparison at the end of `out`, under the name of the newer filter.
-fn push_whole(
+fn push_whole<'a>(
     alloc: Global,
     out: &mut Vec<u8>,
-    name: &[u8],
+    name: &'a [u8],
     found: Answer,
-    words: &[u8],
+    words: &'a [u8],
 ) -> Result<(), AllocError>
     ensures { OnOk result (out.new.items ≡ out.old.items ++ report_line (spec.whole_view name.now found words.now)) }
 {

@@ -2,6 +2,7 @@
 //!
 //! **JUnit's document has no counts at its head.** They are known at its end, and build servers count the tests themselves.
 ghost use Rattle.std.specs.Prelude.{◌≡◌, ◌+◌, ◌<◌, ◌^◌, ◌++◌, IfOk, OnOk, flat_map, length};
+ghost use Rattle.report_formats.specs.Reports.{report_line};
 ghost use Rattle.filter_checks.specs.Results as spec;
 
 use crate::tap::{all_lines, plan_line, push_found, skipped_line};
@@ -59,6 +60,31 @@ fn words_of(alloc: Global, ran: &Ran) -> Result<Vec<u8>, AllocError>
     Ok(words)
 }
 
+/// Puts a report on a line of a file at the end of `out`.
+fn push_report_on_line<'a>(
+    alloc: Global,
+    out: &mut Vec<u8>,
+    name: &'a [u8],
+    severity: Severity,
+    line: usize,
+    words: &'a [u8],
+) -> Result<(), AllocError>
+    ensures { OnOk result (out.new.items ≡ out.old.items ++ report_line (spec.view_on_line severity name.now line words.now)) }
+{
+    push_report(
+        alloc,
+        out,
+        &Report {
+            severity,
+            code: None,
+            file: name,
+            line: Some(line),
+            column: None,
+            words,
+        },
+    )
+}
+
 /// Puts the report on a test at the end of `out`.
 fn push_test_report(
     alloc: Global,
@@ -69,18 +95,8 @@ fn push_test_report(
     ensures { OnOk result (out.new.items ≡ out.old.items ++ spec.test_report name.now ran.now) }
 {
     let words = words_of(alloc, ran)?;
-    push_report(
-        alloc,
-        out,
-        &Report {
-            severity: severity_of(&ran.checked),
-            code: None,
-            file: name,
-            line: Some(ran.number),
-            column: None,
-            words: words.as_slice(),
-        },
-    )
+    let severity = severity_of(&ran.checked);
+    push_report_on_line(alloc, out, name, severity, ran.number, words.as_slice())
 }
 
 /// Puts the reports on tests at the end of `out`.
