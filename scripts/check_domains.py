@@ -3,15 +3,18 @@
 
 usage: scripts/check_domains.py [SCRIPTS [SEED]]        (100 scripts; NCROUTE=PATH: the program; without it, the sources as they are, by `rt try`)
 
-A script has 2 to 9 nodes and 20 to 80 lines: links, cuts, filters, questions about rest, `settle`, and now and then a node or a name that is none.
+A script has 2 to 9 nodes and 20 to 80 lines: links, cuts, filters, nodes that begin anew, questions about rest, `settle`, and now and then a node or
+a name that is none.
 Of `load` only the first word of the answer is compared: the slow program verifies no filter. Before each `settle` stands `reach`, and more rounds
 than it says phases are a failure. A script that the two answer differently is written to
 standard error with its number, and the exit status is 1.
 
-With NCROUTE=PATH three more things are looked at. What `failures` says of each link is what `changes` and `reach` say once it is cut. Small plans of
-2 to 4 nodes: of all distances that there could be, just one choice is a fixed point of Bellman's equation, and it is the one that is answered, with
-the least next hops. And domains whose routers are runs of `ncroute run`: in whatever order they send and receive their messages, they come to the
-routes that `ncroute domain` computes.
+With NCROUTE=PATH four more things are looked at. What `failures` says of each link is what `changes` and `reach` say once it is cut. What `changes`
+and `draw V changes` say to stand still does: after a random `mark` links are made and cut, filters are set and nodes begin anew, and the routers of a
+plain model, which are at rest as they were at the `mark`, do all that again and again, at one end before the other and among messages in a random
+order, of which some are lost. Small plans of 2 to 4 nodes: of all distances that there could be, just one choice is a fixed point of Bellman's
+equation, and it is the one that is answered, with the least next hops. And domains whose routers are runs of `ncroute run`: in whatever order they
+send and receive their messages, they come to the routes that `ncroute domain` computes.
 """
 import contextlib
 import itertools
@@ -63,7 +66,9 @@ class Lines:
             return f"{self.numbers.choice(('import', 'export'))} {self.node()} {self.node()} {self.name()}"
         if chosen < 68:
             return f"load {self.name()} filter f {{ {self.numbers.choice(FILTERS)} }}"
-        if chosen < 70:
+        if chosen < 72:
+            return f"anew {self.node()}"
+        if chosen < 74:
             return f"prefix {self.node()} 10.{self.numbers.randrange(4)}.{self.numbers.randrange(3)}.0/24"
         verb = self.numbers.choice(QUESTIONS)
         words = [str(self.node()) for _ in range({"route": 2, "path": 2, "table": 1, "draw": 1}.get(verb, 0))]
@@ -184,6 +189,106 @@ def failures(ncroute, number):
     return None if said[len(script)] == wanted else f"failures {number}: {script}: {said[len(script)]}, and not {wanted}"
 
 
+# ---- what stands still, in routers that do in any order what was done
+
+
+class Changing:
+    """A random domain that is marked, and what is done to it then, as lines of a script; and its routers, as they are at rest at the mark."""
+
+    def __init__(self, numbers):
+        self.numbers, self.size = numbers, numbers.randint(2, 8)
+        pairs = list(itertools.combinations(range(self.size), 2))
+        self.links = {pair for pair in pairs if numbers.randrange(5) < 2}
+        set_up = [f"domain {self.size}", *(f"load {name} filter f {{ {numbers.choice(FILTERS)} }}" for name in NAMES),
+                  *(f"link {u} {w}" for u, w in sorted(self.links)), *(self.new_filter() for _ in range(numbers.randrange(self.size)))]
+        self.model = domain_oracle.Script()
+        for number, line in enumerate([*set_up, "settle", "mark"], 1):
+            self.model.answer(number, line)
+        # What came or went, where filters were set, by who is told and who tells, and who began anew.
+        self.loose, self.replaced, self.restarts = set(), set(), set()
+        self.script = [*set_up, "mark", *(self.change(pairs) for _ in range(numbers.randint(1, 3)))]
+
+    def new_filter(self):
+        u, w = self.numbers.sample(range(self.size), 2)
+        return f"{self.numbers.choice(('import', 'export'))} {u} {w} {self.numbers.choice(NAMES)}"
+
+    def change(self, pairs):
+        chosen = self.numbers.randrange(6)
+        if chosen < 3:
+            u, w = pair = self.numbers.choice(pairs)
+            self.links ^= {pair}
+            self.loose |= {pair, (w, u)}
+            return f"{'link' if pair in self.links else 'cut'} {u} {w}"
+        if chosen < 5:
+            line = self.new_filter()
+            u, w = (int(word) for word in line.split()[1:3])
+            self.loose |= {(u, w), (w, u)}
+            self.replaced.add((u, w) if line.startswith("import") else (w, u))
+            return line
+        u = self.numbers.randrange(self.size)
+        self.restarts.add(u)
+        self.loose |= {way for pair in self.links if u in pair for way in (pair, pair[::-1])}
+        return f"anew {u}"
+
+    def happens(self, domain):
+        """A node begins anew, with the filters that it had; one end of a link comes up or goes down; a filter is replaced; messages are lost; or some
+        are sent, or one is received."""
+        numbers, chosen = self.numbers, self.numbers.randrange(12)
+        if chosen == 0 and self.restarts:
+            u = numbers.choice(sorted(self.restarts))
+            for w in list(domain.routers[u].queues):
+                domain.flight[w, u] = []
+            new = netchange.Router(self.size, u)
+            new.imports, new.exports = domain.routers[u].imports, domain.routers[u].exports
+            domain.routers[u] = new
+        elif chosen in (1, 2) and self.loose:
+            u, w = numbers.choice(sorted(self.loose))
+            (domain.down if w in domain.routers[u].queues else domain.up)(u, w)
+        elif chosen == 3 and self.replaced:
+            told, tells = numbers.choice(sorted(self.replaced))
+            used = domain.under(domain_oracle.Filter(f"filter f {{ {numbers.choice(FILTERS)} }}"))
+            if numbers.randrange(2):
+                domain.routers[told].set_import(tells, used)
+            else:
+                domain.routers[tells].set_export(told, used)
+        elif chosen == 4 and any(domain.flight.values()):
+            way = numbers.choice([way for way, messages in sorted(domain.flight.items()) if messages])
+            domain.flight[way] = domain.flight[way][:numbers.randrange(3)]
+        else:
+            waiting = [(way, True) for way in domain.ways() if domain.routers[way[0]].queues[way[1]]]
+            steps = waiting + [(way, False) for way, messages in sorted(domain.flight.items()) if messages]
+            if steps:
+                (u, w), is_sent = numbers.choice(steps)
+                if is_sent:
+                    domain.send(u, w, numbers.randint(1, self.size))
+                else:
+                    domain.receive(u, w)
+
+
+def stands_still(ncroute, number, moved):
+    """Which route is another than it was, and was said to stand still; or none. Counts to `moved` the routes that changed at a bound."""
+    changing = Changing(random.Random(f"still {number}"))
+    nodes, size = range(changing.size), changing.size
+    said = asked_of(ncroute, [*changing.script, "changes", *(f"draw {v} changes" for v in nodes)])
+    # Behind the pictures there is an empty line.
+    bounds = dict.fromkeys(nodes, size)
+    bounds.update((int(v), int(bound)) for v, bound in (word.split(":") for word in said[-size - 2].split(" still")[1].split()))
+    pictures = said[-size - 1:-1]
+    kept = [["color=red" not in node for node in picture.split("]; ")[:size]] for picture in pictures]
+    domain = changing.model.domain
+    first = [[router.route(v) for v in nodes] for router in domain.routers]
+    for _ in range(150):
+        changing.happens(domain)
+        for u, v in itertools.product(nodes, nodes):
+            was, now = first[u][v], domain.routers[u].route(v)
+            if now[0] != was[0] and (was[0] < bounds[v] or now[0] < bounds[v] or bounds[v] == size):
+                return f"still {number}: {changing.script}: {u} to {v} at {now[0]}, and not at {was[0]}, below {bounds[v]}"
+            if now != was and kept[v][u]:
+                return f"still {number}: {changing.script}: {u} to {v} by {now[1]}, and not by {was[1]}"
+            moved[0] += now[0] != was[0] and bounds[v] == min(was[0], now[0])
+    return None
+
+
 # ---- routers whose messages come in any order
 
 
@@ -262,9 +367,12 @@ def main(words):
         is_wrong = answered != slow or late_rounds(output)
         counts.judge(f"script {number}", is_wrong and f"\n{script.decode()}\nanswered\n{answered}\nslowly\n{slow}")
     if ncroute := named():
+        moved = [0]
         for wrong in itertools.chain(small_plans(ncroute), (failures(ncroute, number) for number in range(1000)),
+                                     (stands_still(ncroute, number, moved) for number in range(400)),
                                      (any_order(ncroute, number) for number in range(100))):
             counts.judge("routes", wrong)
+        counts.expect("bounds", moved[0], "no route changed at a bound")
     counts.finish()
 
 

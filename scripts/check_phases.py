@@ -13,9 +13,9 @@ things are looked at, each in a copy:
 - rounds, as `settle` plays them: not more than either of both.
 - limits: import filters let through nothing beyond a metric. After one phase more than that each distance is that of rest, and after one more
   nothing waits.
-- failures far away: some links come and go, some routers begin anew and some filters are replaced, and messages are lost anywhere. No distance
-  below K changes where K is the least distance on which the state of rest with all of that and the one with nothing of it differ, nor a next hop
-  that both have.
+- failures far away: some links come and go, some routers begin anew, with the filters that they had or others, and some filters are replaced, and
+  messages are lost anywhere. No distance below K changes where K is the least distance on which the state of rest with all of that and the one with
+  nothing of it differ, nor a next hop that both have.
 
 In a domain of its own whose filters keep order links are added, while messages are sent, received and left out: no distance rises, and what is
 forwarded arrives. The same with any filters shows that it needs them.
@@ -241,6 +241,9 @@ def check_failures(domain, reached):
     loose = {pair for pair in domain.pairs if numbers.randrange(4) == 0}
     restarts = [u for u in range(size) if numbers.randrange(8) == 0]
     loose |= {pair for pair in domain.pairs if pair[0] in restarts or pair[1] in restarts}
+    # Of those that keep their filters the links alone that they have.
+    keepers = [u for u in range(size) if numbers.randrange(8) == 0]
+    loose |= {pair for pair in domain.pairs if (pair[0] in keepers or pair[1] in keepers) and pair in links}
     loose |= {(w, u) for u, w in loose}
     # Who is told, and who tells: where the filters between them may be replaced.
     replaced = {(u, w) for u, w in loose if numbers.randrange(4) == 0 or u in restarts or w in restarts}
@@ -249,7 +252,7 @@ def check_failures(domain, reached):
     bound = min([size] + [min(a, b) for (a, _), (b, _) in zip(most, least) if a != b])
     near = [u for u, (dist, _) in enumerate(most) if dist < bound]
     for _ in range(60):
-        change(domain, restarts, sorted(loose), sorted(replaced))
+        change(domain, restarts, keepers, sorted(loose), sorted(replaced))
         for u in near:
             dist, hop = domain.routers[u].route(0)
             if dist != most[u][0] or most[u] == least[u] and hop != most[u][1]:
@@ -258,13 +261,21 @@ def check_failures(domain, reached):
     return None
 
 
-def change(domain, restarts, loose, replaced):
+def begin_anew(domain, u, keeps):
+    """A router ends, and another one is there, which has no session yet."""
+    new = netchange.Router(domain.size, u, nodes=(0,))
+    if keeps:
+        new.imports, new.exports = domain.routers[u].imports, domain.routers[u].exports
+    domain.routers[u] = new
+    domain.flight = {(v, w): [] if w == u else messages for (v, w), messages in domain.flight.items()}
+
+
+def change(domain, restarts, keepers, loose, replaced):
     """A router begins anew, a session that may comes or goes, a filter is replaced, messages are lost, or one is sent or received."""
     numbers, chosen = domain.numbers, domain.numbers.randrange(10)
-    if chosen == 0 and restarts:
-        u = numbers.choice(restarts)
-        domain.routers[u] = netchange.Router(domain.size, u, nodes=(0,))
-        domain.flight = {(v, w): [] if w == u else messages for (v, w), messages in domain.flight.items()}
+    if chosen == 0 and restarts + keepers:
+        u = numbers.choice(restarts + keepers)
+        begin_anew(domain, u, keeps=u not in restarts)
     elif chosen == 1 and loose:
         u, w = numbers.choice(loose)
         (domain.down if domain.are_up(u, w) else domain.up)(u, w)

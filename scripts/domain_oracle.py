@@ -78,8 +78,9 @@ class Script:
 
     def __init__(self):
         self.domain, self.filters, self.marked, self.begun = None, {}, None, False
-        # What was done since the last `mark`: the commands, or None where it is not known.
-        self.done = None
+        # The links that came or went since the last `mark`, in both directions, and where filters were set, by who is told and who tells; before
+        # any, None.
+        self.loose, self.replaced = None, None
 
     def answer(self, number, line):
         verb, *words = line.split()
@@ -115,27 +116,41 @@ class Script:
             return f"refused D3 {number}"
         return getattr(self, verb)(*nodes, *words[len(nodes):])
 
-    def note(self, verb):
-        if self.done is not None:
-            self.done.add(verb)
+    def loosen(self, u, w):
+        if self.loose is not None:
+            self.loose |= {(u, w), (w, u)}
+
+    def replace(self, told, tells):
+        self.loosen(told, tells)
+        if self.replaced is not None:
+            self.replaced.add((told, tells))
 
     def link(self, u, w):
-        self.note("link")
+        self.loosen(u, w)
         self.domain.links |= {(u, w), (w, u)}
         self.domain.up(u, w)
         self.domain.up(w, u)
         return "ok"
 
     def cut(self, u, w):
-        self.note("cut")
+        self.loosen(u, w)
         self.domain.links -= {(u, w), (w, u)}
         self.domain.down(u, w)
         self.domain.down(w, u)
         return "ok"
 
     def export(self, u, w, name):
-        self.note("filter")
+        self.replace(w, u)
         self.domain.routers[u].set_export(w, self.domain.under(self.filters[name]))
+        return "ok"
+
+    def anew(self, u):
+        near = [w for w in range(self.domain.size) if (u, w) in self.domain.links]
+        for change in (self.domain.down, self.domain.up):
+            for w in near:
+                self.loosen(u, w)
+                change(u, w)
+                change(w, u)
         return "ok"
 
     def route(self, u, v):
@@ -153,20 +168,30 @@ class Script:
         rows = [routes[u] for routes in self.domain.all_routes()]
         return "table " + " ".join(f"{v}:{dist}" + (f":{via}" if via is not None else "") for v, (dist, via) in enumerate(rows))
 
-    def is_one_way(self):
-        """Whether links were made alone, or cut alone, since the last `mark`."""
-        return self.done is not None and len(self.done) < 2 and "filter" not in self.done
+    def both(self, v):
+        """The routes to a node with each link that there was since the last `mark`, and without a filter where one was set; and those with the
+        links alone to which nothing was done."""
+        domain = self.domain
+
+        def toll(u, w, dist):
+            return dist if (u, w) in self.replaced else domain.toll(u, w, v, dist)
+
+        return [netchange.rest(domain.size, v, links, toll) for links in (domain.links | self.loose, domain.links - self.loose)]
 
     def still_below(self, v):
-        """Below which distance no route to a node is another one than at the last `mark`: the size, if none is."""
-        both = [{old[0], new[0]} for old, new in zip(self.marked[v], self.domain.routes_to(v))]
-        return min((min(two) for two in both if len(two) == 2), default=self.domain.size)
+        """Below which distance both have the same routes to a node: the size, if no distance is another."""
+        return min((min(one, other) for (one, _), (other, _) in zip(*self.both(v)) if one != other), default=self.domain.size)
+
+    def is_still(self, v, u):
+        if self.loose is None:
+            return False
+        most, least = self.both(v)
+        return most[u][0] < self.still_below(v) and most[u][1] == least[u][1]
 
     def looks(self, v, u, route, is_shown):
         """How a node looks in a picture of the routes to another."""
         looks = [f'label="{u} at {route[0]}"' if route[0] < self.domain.size else "style=dotted"]
-        is_still = self.is_one_way() and route[0] < self.still_below(v) and route[1] == self.marked[v][u][1]
-        return ", ".join(looks + (["color=red"] if is_shown and not is_still else []))
+        return ", ".join(looks + (["color=red"] if is_shown and not self.is_still(v, u) else []))
 
     def draw(self, v, *options):
         routes = self.domain.routes_to(v)
@@ -181,13 +206,13 @@ class Script:
         return f"reach {max(dist for dist in dists if dist < size)} {min(max(dists) + 1, size)}"
 
     def mark(self):
-        self.marked, self.done = self.domain.all_routes(), set()
+        self.marked, self.loose, self.replaced = self.domain.all_routes(), set(), set()
         return "ok"
 
     def changes(self):
         now, size = self.domain.all_routes(), self.domain.size
         said = "changes" + "".join(f" {u}:{v}" for u in range(size) for v in range(size) if now[v][u] != self.marked[v][u])
-        if not self.is_one_way():
+        if self.loose is None:
             return said
         bounds = [(v, self.still_below(v)) for v in range(size)]
         return said + " still" + "".join(f" {v}:{bound}" for v, bound in bounds if bound < size)
@@ -227,7 +252,7 @@ class Script:
 
 
 def importing(script, u, w, name):
-    script.note("filter")
+    script.replace(u, w)
     script.domain.routers[u].set_import(w, script.domain.under(script.filters[name]))
     return "ok"
 

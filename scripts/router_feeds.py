@@ -98,13 +98,17 @@ class FeedRows(RunRows):
     WAITING = ("feed_first_rest", "feed_silence", "feed_reader_again", "feed_no_file", "feed_to_a_file")
 
     @contextlib.contextmanager
-    def feeding(self, more=(), make=os.mkfifo, kind=Feed, **options):
-        """A router that tells its routes, and who is to read them."""
+    def feeding(self, more=(), make=os.mkfifo, kind=Feed, config=None, **options):
+        """A router that tells its routes, and who is to read them. A file of options of this text is beside the file that they are told to."""
         with tempfile.TemporaryDirectory(prefix="feed.") as folder, contextlib.ExitStack() as stack:
             feed = kind(os.path.join(folder, "routes"))
             make(feed.path)
             stack.callback(feed.close)
-            yield stack.enter_context(Run(self.program, more=("--routes", feed.path, *more), **options)), feed
+            words = ("--routes", feed.path)
+            if config is not None:
+                words = ("--config", os.path.join(folder, "router.conf"))
+                pathlib.Path(words[1]).write_text(config)
+            yield stack.enter_context(Run(self.program, more=(*words, *more), **options)), feed
 
     def come_both(self, run, size=8):
         """Both neighbours come, and say that they are there: the table that is to be told."""
@@ -160,6 +164,16 @@ class FeedRows(RunRows):
         """A neighbour that stays away is not waited for longer than that."""
         begun = time.monotonic()
         with self.feeding(more=("--retry", "1", "--settle", "2")) as (run, feed):
+            feed.open()
+            run.neighbours[1].come()
+            run.neighbours[1].say(b"1 0\n")
+            self.judge("the whole table", feed.gathers({net(1): (1, 1)}), feed.text[-300:])
+            self.judge("not before", time.monotonic() - begun >= 2)
+
+    def row_feed_of_a_file_of_options(self):
+        """A file of options says where the routes are told, beside it, and when."""
+        begun = time.monotonic()
+        with self.feeding(config="retry 1\nroutes routes\nsettle 2\n") as (run, feed):
             feed.open()
             run.neighbours[1].come()
             run.neighbours[1].say(b"1 0\n")

@@ -7,6 +7,10 @@ use Rattle.std.specs.Str.{bytes_eq}
 use Rattle.clap.specs.Words.{IsAmong, Row, fault_of, subcommand_of}
 use Rattle.clap.specs.declared.error.kind.ErrorKind.{ErrorKind}
 use Rattle.clap.specs.declared.error.kind.ErrorKind.TheVariants as kind
+use Rattle.report_formats.specs.declared.format.Format.{Format}
+use Rattle.report_formats.specs.declared.format.Format.TheVariants as formats
+use Rattle.report_formats.specs.declared.format.TestFormat.{TestFormat}
+use Rattle.report_formats.specs.declared.format.TestFormat.TheVariants as test_formats
 use Rattle.command_line.specs.CommandNames.{command_of}
 use Rattle.command_line.specs.Filters.{HasWrong, NameFirst}
 use Rattle.command_line.specs.Given.{is_set, number_of, word_of, words_of}
@@ -54,6 +58,21 @@ telling_named word = if bytes_eq word (codes "always") then Always else if bytes
 abbrev pub telling_of : List Row → Telling
 telling_of given = option_map_or telling_named (word_of (codes "explain") given) Auto
 
+-- what the value of `--format` says
+abbrev pub format_named : List ℕ → Format
+format_named word = if bytes_eq word (codes "json") then formats.Json else formats.Text
+
+abbrev pub format_of : List Row → Format
+format_of given = option_map_or format_named (word_of (codes "format") given) formats.Text
+
+-- and that of `test`
+abbrev pub test_format_named : List ℕ → TestFormat
+test_format_named word =
+    if bytes_eq word (codes "json") then test_formats.Json else if bytes_eq word (codes "junit") then test_formats.Junit else test_formats.Tap
+
+abbrev pub test_format_of : List Row → TestFormat
+test_format_of given = option_map_or test_format_named (word_of (codes "format") given) test_formats.Tap
+
 -- a refusal is told in words, where sources are files that were named or not
 abbrev pub tells : List Row → Terminals → Bool → Bool
 tells given terminals has_files = is_explained (telling_of given) terminals.errors has_files
@@ -64,6 +83,7 @@ pub record IsChecking (given : List Row) (terminals : Terminals) (has_files : Bo
   pub has_names : how.has_names ≡ is_set (codes "names") given
   pub is_quiet : how.is_quiet ≡ is_set (codes "quiet") given
   pub warning_limit : how.warning_limit ≡ (if is_set (codes "warn") given then Some usual_limit else None)
+  pub format : how.format ≡ format_of given
   pub is_explained : how.is_explained ≡ tells given terminals has_files
   pub is_told : how.is_told ≡ (has_files
       || (how.is_explained || (how.has_names || (how.is_quiet || is_some how.warning_limit))))
@@ -77,6 +97,7 @@ abbrev pub comparing_of : List Row → Terminals → ℕ → Comparing
 comparing_of given terminals size = record {
   size = size;
   limit = unwrap_or (number_of 64 (codes "limit") given) usual_limit;
+  format = format_of given;
   is_explained = tells given terminals true;
 }
 
@@ -85,6 +106,7 @@ pub record IsLinting (given : List Row) (terminals : Terminals) (sources : List 
   pub size : SaysSize given how.size
   pub limit : how.limit ≡ unwrap_or (number_of 64 (codes "limit") given) usual_limit
   pub allowed : map (λ copy. string_bytes copy) how.allowed.items ≡ words_of (codes "allow") given
+  pub format : how.format ≡ format_of given
   pub asks_order : how.asks_order ≡ is_set (codes "order") given
   pub is_explained : how.is_explained ≡ tells given terminals (list_any is_file sources)
 
@@ -92,6 +114,7 @@ pub record IsLinting (given : List Row) (terminals : Terminals) (sources : List 
 abbrev pub testing_of : List Row → Terminals → List Source → Testing
 testing_of given terminals sources = record {
   limit = unwrap_or (number_of 64 (codes "limit") given) usual_limit;
+  format = test_format_of given;
   is_explained = tells given terminals (list_any is_file sources);
 }
 
@@ -144,10 +167,12 @@ pub record IsRunning (given : List Row) (terminals : Terminals) (has_files : Boo
   pub save : option_map (λ copy. string_bytes copy) how.save ≡ word_of (codes "save") given
   pub filters : AreFilters given how.filters.items
 
--- what the words of `router` say; the parser of words accepts none without the two numbers
+-- what the words of `router` say; a file may say the rest
 pub record IsRouting (given : List Row) (words : RouterWords) : Type 0 where
-  pub size : words.size ≡ unwrap_or (number_of 32 (codes "size") given) 0
-  pub node : words.node ≡ unwrap_or (number_of 32 (codes "node") given) 0
+  pub config : option_map (λ copy. string_bytes copy) words.config ≡ word_of (codes "config") given
+  pub checks : words.checks ≡ is_set (codes "check") given
+  pub size : words.size ≡ number_of 32 (codes "size") given
+  pub node : words.node ≡ number_of 32 (codes "node") given
   pub limit : words.limit ≡ number_of 32 (codes "limit") given
   pub queue : words.queue ≡ number_of 32 (codes "queue") given
   pub retry : words.retry ≡ number_of 32 (codes "retry") given

@@ -15,13 +15,15 @@ use Rattle.command_line.specs.declared.command_names.CommandName.{CommandName}
 use Rattle.command_line.specs.declared.command_names.CommandName.TheVariants as command
 use Rattle.command_line.specs.declared.options.Choices.{Choices}
 use Rattle.command_line.specs.declared.options.ParameterKind.{ParameterKind}
-use Rattle.command_line.specs.declared.options.ParameterKind.TheVariants.{Flag, Letter, Text, Texts, When, Codes, Number, Count, Argument, Arguments}
+use Rattle.command_line.specs.declared.options.ParameterKind.TheVariants.{Flag, Letter, Text, Texts, When, Codes, Format, TestFormat, Number, Count, Argument, Arguments}
 use Rattle.command_line.specs.declared.options.Parameter.{Parameter}
 
--- These are what `--explain` and `--allow` may say.
+-- These are what `--explain`, `--allow` and `--format` may say.
 pub record AreChoices (choices : Choices) : Type 0 where
   pub tellings : map (λ word. word.now) choices.words.now ≡ codes "auto" ∷ codes "always" ∷ codes "never" ∷ []
   pub warnings : map (λ word. word.now) choices.codes.now ≡ lint_codes
+  pub formats : map (λ word. word.now) choices.formats.now ≡ codes "text" ∷ codes "json" ∷ []
+  pub test_formats : map (λ word. word.now) choices.test_formats.now ≡ codes "text" ∷ codes "json" ∷ codes "junit" ∷ []
 
 -- an argument of this name, an option that takes a value, and one that takes none
 abbrev pub argument : List ℕ → Rule
@@ -41,6 +43,8 @@ written choices name Text = option name
 written choices name Texts = record (option name) { action = Some Append }
 written choices name When = record (option name) { parser = Some (parser.Names choices.words) }
 written choices name Codes = record (option name) { parser = Some (parser.Names choices.codes); action = Some Append }
+written choices name Format = record (option name) { parser = Some (parser.Names choices.formats) }
+written choices name TestFormat = record (option name) { parser = Some (parser.Names choices.test_formats) }
 written choices name Number = record (option name) { parser = Some (parser.Signed (pos 0) (pos 4294967295)) }
 written choices name Count = record (option name) { parser = Some (parser.Unsigned 0 18446744073709551615) }
 written choices name Argument = argument name
@@ -67,23 +71,26 @@ unfoldable pub all_taken : List Taken
 all_taken =
     needs command.Check (codes "size") Number ∷ takes command.Check (codes "code") Flag ∷ takes command.Check (codes "names") Flag
     ∷ takes command.Check (codes "quiet") (Letter 113) ∷ takes command.Check (codes "warn") Flag
-    ∷ takes command.Check (codes "explain") When ∷ takes command.Check (codes "file") Arguments
-    ∷ needs command.Diff (codes "size") Number ∷ takes command.Diff (codes "limit") Count ∷ takes command.Diff (codes "explain") When
+    ∷ takes command.Check (codes "format") Format ∷ takes command.Check (codes "explain") When ∷ takes command.Check (codes "file") Arguments
+    ∷ needs command.Diff (codes "size") Number ∷ takes command.Diff (codes "limit") Count ∷ takes command.Diff (codes "format") Format
+    ∷ takes command.Diff (codes "explain") When
     ∷ needs command.Diff (codes "old") Argument ∷ needs command.Diff (codes "new") Argument
     ∷ takes command.Explain (codes "code") Argument
     ∷ needs command.Filter (codes "size") Number ∷ takes command.Filter (codes "why") Flag ∷ takes command.Filter (codes "coverage") Flag
     ∷ takes command.Filter (codes "explain") When ∷ needs command.Filter (codes "file") Argument
     ∷ needs command.Import (codes "size") Number ∷ takes command.Import (codes "out") Text ∷ takes command.Import (codes "file") Argument
     ∷ needs command.Lint (codes "size") Number ∷ takes command.Lint (codes "limit") Count ∷ takes command.Lint (codes "allow") Codes
-    ∷ takes command.Lint (codes "order") Flag ∷ takes command.Lint (codes "explain") When ∷ takes command.Lint (codes "file") Arguments
+    ∷ takes command.Lint (codes "order") Flag ∷ takes command.Lint (codes "format") Format ∷ takes command.Lint (codes "explain") When
+    ∷ takes command.Lint (codes "file") Arguments
     ∷ takes command.List (codes "size") Number ∷ takes command.List (codes "code") Flag ∷ takes command.List (codes "explain") When
     ∷ takes command.List (codes "file") Argument
-    ∷ takes command.Test (codes "limit") Count ∷ takes command.Test (codes "explain") When ∷ takes command.Test (codes "file") Arguments
+    ∷ takes command.Test (codes "limit") Count ∷ takes command.Test (codes "format") TestFormat ∷ takes command.Test (codes "explain") When ∷ takes command.Test (codes "file") Arguments
     ∷ takes command.Eval (codes "explain") When
     ∷ takes command.Rewrite (codes "old") Flag
     ∷ takes command.Domain (codes "explain") When ∷ takes command.Domain (codes "file") Argument
     ∷ takes command.Replay (codes "file") Arguments
-    ∷ needs command.Router (codes "size") Number ∷ needs command.Router (codes "node") Number ∷ takes command.Router (codes "limit") Number
+    ∷ takes command.Router (codes "config") Text ∷ takes command.Router (codes "check") Flag
+    ∷ takes command.Router (codes "size") Number ∷ takes command.Router (codes "node") Number ∷ takes command.Router (codes "limit") Number
     ∷ takes command.Router (codes "queue") Number ∷ takes command.Router (codes "retry") Number ∷ takes command.Router (codes "hold") Number
     ∷ takes command.Router (codes "prefix") Texts
     ∷ takes command.Router (codes "filter") Texts ∷ takes command.Router (codes "import") Texts ∷ takes command.Router (codes "export") Texts

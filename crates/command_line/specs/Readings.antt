@@ -1,9 +1,10 @@
 -- How often what the words of a command line ask for reads standard input to its end. (This project's own choice.)
-use Rattle.std.specs.Prelude.{ℕ, Bool, true, false, List, count_by, max}
+use Rattle.std.specs.Prelude.{ℕ, Bool, true, false, List, count_by, if◌then◌else◌, max}
 use Rattle.command_line.specs.Reads.{filter_sources, sources_of}
 use Rattle.command_line.specs.declared.requests.Request.{Request}
 use Rattle.command_line.specs.declared.requests.Source.{Source}
 use Rattle.command_line.specs.declared.requests.Source.TheVariants.{Input, File}
+use Rattle.command_line.specs.declared.router_words.RouterWords.{RouterWords}
 use Rattle.command_line.specs.declared.words.Invocation.{Invocation}
 use Rattle.command_line.specs.declared.words.Invocation.TheVariants.{Asked, Network, Router, Shown}
 
@@ -25,9 +26,14 @@ inputs_among sources = count_by is_input sources
 abbrev pub readings_of : Request → ℕ
 readings_of request = inputs_among (sources_of request)
 
--- how often the words read it: a router reads what its filters leave of it, if anything is left
+-- how often a router reads it: what its filters leave of it, if anything is left, unless it is not started
+abbrev pub readings_by_router : RouterWords → ℕ
+readings_by_router words =
+    let filters = inputs_among (filter_sources words.filters.items) in if words.checks then filters else max 1 filters
+
+-- how often the words read it
 abbrev pub readings : Invocation → ℕ
 readings (Asked asked) = readings_of asked
 readings Network = 0
-readings (Router words) = max 1 (inputs_among (filter_sources words.filters.items))
+readings (Router words) = readings_by_router words
 readings (Shown status) = 0

@@ -12,7 +12,7 @@ use std::alloc::{AllocError, Global};
 /// The version of the project, and the logic that it is proved in, as `rt version` names it: several kits have it.
 const VERSION: &str = "0.1.0 (Rattle logic dac8208d650f15bf)";
 
-/// The program, with all commands. `--explain` and `--allow` take these words.
+/// The program, with all commands. Options that are one of some words take these.
 pub fn program<'a>(alloc: Global, choices: Choices<'a>) -> Result<Command<'a>, AllocError>
     ensures { IfOk result (λ program. app_of program ≡ spec.program choices.entry) }
 {
@@ -158,16 +158,18 @@ static COMMANDS: [(&str, &str); 15] = [
 ];
 
 /// The options and arguments of each command, in the order in which its help shows them.
-static PARAMETERS: [(&str, Parameter); 60] = [
+static PARAMETERS: [(&str, Parameter); 66] = [
     ("check", SIZE),
     ("check", CODE),
     ("check", NAMES),
     ("check", QUIET),
     ("check", WARN),
+    ("check", FORMAT),
     ("check", EXPLAIN),
     ("check", CHECKED),
     ("diff", SIZE),
     ("diff", LIMIT),
+    ("diff", FORMAT),
     ("diff", EXPLAIN),
     ("diff", OLD_FILE),
     ("diff", NEW_FILE),
@@ -184,6 +186,7 @@ static PARAMETERS: [(&str, Parameter); 60] = [
     ("lint", LIMIT),
     ("lint", ALLOW),
     ("lint", ORDER),
+    ("lint", FORMAT),
     ("lint", EXPLAIN),
     ("lint", LINTED),
     ("list", VERIFIED_SIZE),
@@ -191,6 +194,7 @@ static PARAMETERS: [(&str, Parameter); 60] = [
     ("list", EXPLAIN),
     ("list", LISTED),
     ("test", LIMIT),
+    ("test", TEST_FORMAT),
     ("test", EXPLAIN),
     ("test", TEST_FILES),
     ("eval", EXPLAIN),
@@ -198,6 +202,8 @@ static PARAMETERS: [(&str, Parameter); 60] = [
     ("domain", EXPLAIN),
     ("domain", SCRIPT),
     ("replay", REPLAYED),
+    ("router", CONFIG),
+    ("router", CHECK),
     ("router", ROUTER_SIZE),
     ("router", NODE),
     ("router", ROOM),
@@ -281,6 +287,24 @@ const WARN: Parameter = Parameter {
     value: "",
     help: "Say on standard error what `ncroute lint` says of each filter that is verified",
     kind: ParameterKind::Flag,
+    is_required: false,
+};
+
+/// How reports are written.
+const FORMAT: Parameter = Parameter {
+    name: "format",
+    value: "FORMAT",
+    help: "How to print what is found: text, the default, or json, an object a line",
+    kind: ParameterKind::Format,
+    is_required: false,
+};
+
+/// How what comes of tests is written.
+const TEST_FORMAT: Parameter = Parameter {
+    name: "format",
+    value: "FORMAT",
+    help: "How to print what comes of the tests: text, the default, which is TAP; json, an object a line; or junit, JUnit's XML",
+    kind: ParameterKind::TestFormat,
     is_required: false,
 };
 
@@ -446,13 +470,31 @@ const REPLAYED: Parameter = Parameter {
     is_required: false,
 };
 
+/// The file in which a router's options are.
+const CONFIG: Parameter = Parameter {
+    name: "config",
+    value: "FILE",
+    help: "Read options from FILE too, one a line without dashes, as `link 1 in out`",
+    kind: ParameterKind::Text,
+    is_required: false,
+};
+
+/// A router is not started.
+const CHECK: Parameter = Parameter {
+    name: "check",
+    value: "",
+    help: "Read the options and verify the filters, say what is wrong with them, and start nothing",
+    kind: ParameterKind::Flag,
+    is_required: false,
+};
+
 /// The number of nodes of a router's domain.
 const ROUTER_SIZE: Parameter = Parameter {
     name: "size",
     value: "N",
     help: "The number of nodes of the routing domain (2 to 250)",
     kind: ParameterKind::Number,
-    is_required: true,
+    is_required: false,
 };
 
 /// The node that a router is.
@@ -461,7 +503,7 @@ const NODE: Parameter = Parameter {
     value: "ME",
     help: "The node that the router is, below N",
     kind: ParameterKind::Number,
-    is_required: true,
+    is_required: false,
 };
 
 /// How many entries of its history a router has room for.

@@ -4,10 +4,12 @@ ghost use Rattle.command_line.specs.Given.{given_in};
 ghost use Rattle.command_line.specs.Meaning.{AskFor, SaysSize, comparing_of};
 ghost use Rattle.command_line.specs.declared.command_names.CommandName.TheVariants as command;
 
+use crate::format_words::format_in;
 use crate::given::count_given;
 use crate::requests::{Request, one_source, tells_in};
 use crate::terminals::Terminals;
 use clap::ArgMatches;
+use report_formats::Format;
 use std::alloc::{AllocError, Global};
 
 /// How two filters are compared.
@@ -17,6 +19,8 @@ pub struct Comparing {
     pub size: u32,
     /// The largest number of classes of routes that are tried.
     pub limit: u64,
+    /// How what is found is written.
+    pub format: Format,
     /// A refusal is told in words too.
     pub is_explained: bool,
 }
@@ -31,6 +35,7 @@ fn comparing_in(matches: &ArgMatches<'_>, size: u32, terminals: Terminals) -> Co
     Comparing {
         size,
         limit: count_given(matches, "limit").unwrap_or(USUAL_LIMIT),
+        format: format_in(matches),
         is_explained: tells_in(matches, terminals, true),
     }
 }

@@ -252,6 +252,7 @@ The input is commands, one a line. Empty lines and lines that begin with # are s
   link U W, cut U W      U and W are neighbours from now on, or no more
   import U W NAME        the filter of what U hears from W
   export U W NAME        the filter of what U tells W
+  anew U                 all links of U are cut and made again
   route U V              U's route to V when the domain is at rest
   path U V               the nodes on the way
   table U                all routes of U
@@ -261,18 +262,20 @@ The input is commands, one a line. Empty lines and lines that begin with # are s
   mark                   remember all routes
   changes                the routes that are not what they were at the last mark, and
                          which distances stand still while the changes happen
+  failures [nodes]       what the failure of each link, or node, changes by itself
   settle                 have the routers exchange messages until none is left
 
 Each command is answered on standard output before more input is read:
-  ok                     domain, prefix, link, cut, import, export, mark
+  ok                     domain, prefix, link, cut, import, export, anew, mark
   verified BUDGET DEPTH  load, code
   route D local, route D via W, route D none
   path U .. V, path none
   table V:D:W V:D ..     to V at distance D through W
   reach LONGEST PHASES   a phase is over when all came in that waited at its start
   changes U:V ..         of U to V
-  .. still V:K ..        where links were made alone, or cut alone: to V no distance
-                         below K changes while they come and go; to others none
+  .. still V:K ..        while all that was done since the mark happens, and again: to
+                         V no distance below K changes; to others none
+  failures COUNT         and as many lines: link U W, or node U, and what changes
   settled ROUNDS COUNT   COUNT messages were heard
   digraph { .. }         draw
   refused CODE AT        the command was refused, and no route changed:
@@ -332,14 +335,18 @@ Standard input has the operator's commands, as `ncroute run` answers them, witho
 `network`, `prefix`, `recv` and `take`. `up`, and `down` of a node with a link, are refused
 as O9. `quit` ends the router, and so does the end of standard input without --stay.
 
+A line of the FILE of --config says an option without its dashes, with blanks between its
+parts: `size 4`, `link 1 in out`, `filter near near.filter`, `stay`. Names of files count from
+the folder of FILE. A word that begins with # begins a comment.
+
 The last entries of the history are kept in memory. With --save all of them are in FOLDER, or
 the last ones with --segments, and one that is not saved yet is not forgotten.
 
 Example, in two terminals after `mkfifo a b`:
   ncroute router --size 2 --node 0 --link 1=a,b
   ncroute router --size 2 --node 1 --link 0=b,a
-The exit status is 0; 1 if a filter was refused, FOLDER was not made, or a fault ended the run
-or the saving; 2 if the command line is wrong.
+The exit status is 0; 1 if a filter or FILE was not read, a filter was refused, FOLDER was not
+made, or a fault ended the run or the saving; 2 if the command line or FILE is wrong.
 ";
 
 /// Of `run`.

@@ -8,6 +8,7 @@ mod commands;
 mod diff_words;
 mod environment;
 mod filter_words;
+mod format_words;
 mod given;
 mod help;
 mod lint_words;

@@ -5,10 +5,12 @@ ghost use Rattle.command_line.specs.Meaning.{AskFor, SaysSize};
 ghost use Rattle.command_line.specs.declared.command_names.CommandName.TheVariants as command;
 
 use crate::diff_words::USUAL_LIMIT;
+use crate::format_words::format_in;
 use crate::given::{count_given, is_given};
 use crate::requests::{Request, files_in, has_files, tells_in, values_of};
 use crate::terminals::Terminals;
 use clap::ArgMatches;
+use report_formats::Format;
 use std::alloc::{AllocError, Global};
 
 /// How filters are looked through for what is plainly wrong.
@@ -22,6 +24,8 @@ pub struct Linting {
     pub allowed: Vec<String>,
     /// Whether the order of metrics is kept is looked for too.
     pub asks_order: bool,
+    /// How what is found is written.
+    pub format: Format,
     /// A refusal is told in words too.
     pub is_explained: bool,
 }
@@ -43,6 +47,7 @@ pub fn lint_in(
         limit: count_given(matches, "limit").unwrap_or(USUAL_LIMIT),
         allowed: values_of(alloc, matches, "allow")?,
         asks_order: is_given(matches, "order"),
+        format: format_in(matches),
         is_explained: tells_in(matches, terminals, has_files),
     };
     Ok(Request::Lint { how, sources })

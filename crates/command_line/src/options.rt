@@ -25,6 +25,10 @@ pub enum ParameterKind {
     When,
     /// An option with the code of a warning, which may be given many times.
     Codes,
+    /// An option that says how reports are written.
+    Format,
+    /// One that says how what comes of tests is written.
+    TestFormat,
     /// An option with a number of at most 32 bits.
     Number,
     /// One with a number of at most 64 bits.
@@ -57,9 +61,13 @@ pub struct Choices<'a> {
     pub words: &'a [&'a str],
     /// Those of the kind `Codes`.
     pub codes: &'a [&'a str],
+    /// Those of the kind `Format`.
+    pub formats: &'a [&'a str],
+    /// Those of the kind `TestFormat`.
+    pub test_formats: &'a [&'a str],
 }
 
-/// A parameter as the parser of words knows it, where `When` and `Codes` take these words.
+/// A parameter as the parser of words knows it, where options that are one of some words take these.
 pub fn arg_of<'a>(alloc: Global, parameter: &Parameter, choices: Choices<'a>) -> Arg<'a>
     ensures rule { rule_of result ≡ record (written choices.entry parameter.now.name.now parameter.now.kind) { required = parameter.now.is_required } }
     ensures local { result.global ≡ false }
@@ -91,6 +99,12 @@ fn written<'a>(alloc: Global, parameter: &Parameter, choices: Choices<'a>) -> Ar
         ParameterKind::Codes => option(arg, parameter)
             .value_parser(ValueParser::Names(choices.codes))
             .action(ArgAction::Append),
+        ParameterKind::Format => {
+            option(arg, parameter).value_parser(ValueParser::Names(choices.formats))
+        }
+        ParameterKind::TestFormat => {
+            option(arg, parameter).value_parser(ValueParser::Names(choices.test_formats))
+        }
         ParameterKind::Number => option(arg, parameter).value_parser(clap::value_parser!(u32)),
         ParameterKind::Count => option(arg, parameter).value_parser(clap::value_parser!(u64)),
     }

@@ -10,12 +10,14 @@ ghost use Rattle.command_line.specs.declared.command_names.CommandName.TheVarian
 
 use crate::diff_words::{Comparing, USUAL_LIMIT};
 use crate::filter_words::NamedFile;
+use crate::format_words::format_in;
 use crate::given::{is_given, number_given, word_given, words_given};
 use crate::lint_words::Linting;
 use crate::telling::{Telling, is_explained};
 use crate::terminals::Terminals;
 use crate::test_words::Testing;
 use clap::ArgMatches;
+use report_formats::Format;
 use std::alloc::{AllocError, Global};
 
 /// Where a source comes from.
@@ -62,6 +64,8 @@ pub struct Checking {
     pub is_quiet: bool,
     /// The warnings of a filter that is verified are told too, for which so many classes of routes are tried.
     pub warning_limit: Option<u64>,
+    /// How all that is said is written.
+    pub format: Format,
 }
 
 /// What is written of routes that are taken through a filter.
@@ -330,6 +334,7 @@ fn checking_in(
         has_names: is_given(matches, "names"),
         is_quiet: is_given(matches, "quiet"),
         warning_limit: warning_limit_in(matches),
+        format: format_in(matches),
     })
 }
 

@@ -13,10 +13,14 @@ use std::alloc::{AllocError, Global};
 /// What the words of `router` say. Whether they go together is judged later.
 #[derive(Drop)]
 pub struct RouterWords {
+    /// The file that says options too.
+    pub config: Option<String>,
+    /// The options are looked at, and nothing is started.
+    pub checks: bool,
     /// The number of nodes of the domain.
-    pub size: u32,
+    pub size: Option<u32>,
     /// The node that the router is.
-    pub node: u32,
+    pub node: Option<u32>,
     /// How many entries of its history there is room for in memory.
     pub limit: Option<u32>,
     /// The most messages that may wait for a neighbour.
@@ -57,9 +61,10 @@ fn routing_in(
     ensures sets { IfOk result (IsRouting (given_in matches.now)) }
 {
     Ok(RouterWords {
-        // The parser accepts no words without these two numbers.
-        size: number_given(matches, "size").unwrap_or(0),
-        node: number_given(matches, "node").unwrap_or(0),
+        config: text_in(alloc, matches, "config")?,
+        checks: is_given(matches, "check"),
+        size: number_given(matches, "size"),
+        node: number_given(matches, "node"),
         limit: number_given(matches, "limit"),
         queue: number_given(matches, "queue"),
         retry: number_given(matches, "retry"),

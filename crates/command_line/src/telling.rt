@@ -39,13 +39,21 @@ static TELLINGS: [&str; 3] = ["auto", "always", "never"];
 /// The words of `--allow`.
 static CODES: [&str; 9] = ["W1", "W2", "W3", "W4", "W5", "W6", "W7", "W8", "W9"];
 
-/// The words of both, of which a caller is not to know more than what they are.
+/// The words of `--format`.
+static FORMATS: [&str; 2] = ["text", "json"];
+
+/// Those of `test`.
+static TEST_FORMATS: [&str; 3] = ["text", "json", "junit"];
+
+/// The words of these options, of which a caller is not to know more than what they are.
 pub fn choices() -> Choices<'static>
     ensures { AreChoices result }
 {
     Choices {
         words: &TELLINGS,
         codes: &CODES,
+        formats: &FORMATS,
+        test_formats: &TEST_FORMATS,
     }
 }
 

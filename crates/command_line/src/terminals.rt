@@ -8,6 +8,7 @@ ghost use Rattle.command_line.specs.Reads.{filter_sources};
 
 use crate::filter_words::NamedFile;
 use crate::requests::{Request, Source};
+use crate::router_words::RouterWords;
 use crate::words::Invocation;
 
 /// Which of the standard streams that people type into or read are terminals.
@@ -36,12 +37,24 @@ fn filters_among(filters: &[NamedFile]) -> usize
         .count()
 }
 
-/// How often what is asked for reads standard input to its end. A router reads what is left of it, if anything is.
+/// How often a router reads standard input to its end: what its filters leave of it, if anything is left, unless it is not started.
+fn readings_by_router(words: &RouterWords) -> usize
+    ensures { result ≡ spec.readings_by_router words.now }
+{
+    let filters = filters_among(words.filters.as_slice());
+    if words.checks {
+        filters
+    } else {
+        filters.max(1)
+    }
+}
+
+/// How often what is asked for reads standard input to its end.
 fn count_readings(words: &Invocation) -> usize
     ensures { result ≡ min (spec.readings words.now) (2 ^ 64 - 1) }
 {
     match words {
-        Invocation::Router(words) => filters_among(words.filters.as_slice()).max(1),
+        Invocation::Router(words) => readings_by_router(words),
         Invocation::Asked(request) => count_of(request),
         Invocation::Network | Invocation::Shown(_) => 0,
     }

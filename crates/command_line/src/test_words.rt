@@ -5,10 +5,12 @@ ghost use Rattle.command_line.specs.Meaning.{AskFor};
 ghost use Rattle.command_line.specs.declared.command_names.CommandName.TheVariants as command;
 
 use crate::diff_words::USUAL_LIMIT;
+use crate::format_words::test_format_in;
 use crate::given::count_given;
 use crate::requests::{Request, files_in, has_files, tells_in};
 use crate::terminals::Terminals;
 use clap::ArgMatches;
+use report_formats::TestFormat;
 use std::alloc::{AllocError, Global};
 
 /// How test files are run.
@@ -16,6 +18,8 @@ use std::alloc::{AllocError, Global};
 pub struct Testing {
     /// The largest number of classes of routes that a test tries.
     pub limit: u64,
+    /// How what comes of the tests is written.
+    pub format: TestFormat,
     /// What does not hold, and a refusal, is told in words too.
     pub is_explained: bool,
 }
@@ -32,6 +36,7 @@ pub fn test_in(
     let has_files = has_files(sources.as_slice());
     let how = Testing {
         limit: count_given(matches, "limit").unwrap_or(USUAL_LIMIT),
+        format: test_format_in(matches),
         is_explained: tells_in(matches, terminals, has_files),
     };
     Ok(Request::Test { how, sources })

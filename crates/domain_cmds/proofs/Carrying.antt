@@ -8,18 +8,18 @@ use Rattle.operator_cmds.specs.Replies.{Answers}
 use Rattle.operator_cmds.specs.Script.{AnswersSource}
 use Rattle.operator_cmds.proofs.Answering.{answers}
 use Rattle.domain_routes.specs.PlanView.{PlanView}
+use Rattle.domain_routes.specs.Still.{BetweenView}
 use Rattle.domain_routes.specs.declared.best.Best.{Best}
-use Rattle.domain_routes.specs.declared.since.Since.{Since}
 use Rattle.domain_cmds.specs.Script.{AnswersLoad, AnswersQuestion, Asks}
 use Rattle.domain_cmds.specs.State.{FiltersView, Named, PlanningView, filter_named}
 use Rattle.domain_cmds.specs.declared.command.Question.{Question}
 
-abbrev domain : PlanView → Named → Bool → Option (List (List Best)) → Since → PlanningView
-domain plan filters begun marked done = record { plan = plan; filters = filters; begun = begun; marked = marked; since = done }
+abbrev domain : PlanView → Named → Bool → Option (List (List Best)) → Option BetweenView → PlanningView
+domain plan filters begun marked since = record { plan = plan; filters = filters; begun = begun; marked = marked; since = since }
 
 -- what is answered to a domain whose fields are these; `p` is how it was
 module _ {E : Type 0} (done : Result LineReply E) (old new : List ℕ) (p : PlanningView) (plan : PlanView) (begun : Bool)
-    (marked : Option (List (List Best))) (so_far : Since) (number : ℕ) where
+    (marked : Option (List (List Best))) (so_far : Option BetweenView) (number : ℕ) where
   -- a question, which leaves the plan as it was
   pub asked : (later : PlanView) (filters : Named) (question : Question) → domain plan filters begun marked so_far ≡ p → later ≡ plan
       → IfOk done (Answers (AnswersQuestion question plan marked so_far number) old new)

@@ -1,15 +1,16 @@
 -- A script ends where its input does: no answer ends it before.
 use Rattle.std.proofs.Common.{ℕ, Bool, List, Option, Some, None, Ok, Err, refl, inl, inr, nat_lt, ◌&&◌}
+use Rattle.std.specs.Option.{option_map}
 use Rattle.filter_source.specs.Sources.{IsRefusedText}
 use Rattle.filter_verifier.specs.VerifiedView.{VerifiedView}
 use Rattle.line_protocol.specs.Answers.{Answer}
 use Rattle.operator_cmds.specs.Script.{GivesFile, GivesText, IsRefusedFile}
+use Rattle.operator_cmds.specs.declared.event.Direction.{Direction}
 use Rattle.domain_routes.specs.Edits.{linking}
 use Rattle.domain_routes.specs.PlanView.{PlanView, is_linked}
-use Rattle.domain_routes.specs.Still.{after_link}
+use Rattle.domain_routes.specs.Still.{BetweenView, after_link}
 use Rattle.domain_routes.specs.declared.best.Best.{Best}
-use Rattle.domain_routes.specs.declared.since.Since.{Since}
-use Rattle.domain_cmds.specs.CommandView.{CommandView, Domain, Prefix, Load, Code, Link, Use, Mark, Ask}
+use Rattle.domain_cmds.specs.CommandView.{CommandView, Domain, Prefix, Load, Code, Link, Use, Anew, Mark, Ask}
 use Rattle.domain_cmds.specs.Commands.{Read, command_in}
 use Rattle.domain_cmds.specs.Script
 use Rattle.domain_cmds.specs.Script.{AnswersLine}
@@ -20,21 +21,21 @@ use Rattle.domain_cmds.specs.declared.fault.StateFault.{StateFault}
 use Rattle.operator_cmds.proofs.Unended.{GoesOn, either, like, source}
 
 module _ (answer : Answer) where
-  by_name : (found : Option VerifiedView) (plan : VerifiedView → PlanView) (p : PlanningView) (number u w : ℕ) (after : PlanningView)
-      → Script.AnswersUse found plan p number u w answer after → GoesOn answer
-  by_name None plan p number u w after h = like answer _ h.0 refl
-  by_name (Some f) plan p number u w after h =
+  by_name : (found : Option VerifiedView) (way : Direction) (p : PlanningView) (number u w : ℕ) (after : PlanningView)
+      → Script.AnswersUse found way p number u w answer after → GoesOn answer
+  by_name None way p number u w after h = like answer _ h.0 refl
+  by_name (Some f) way p number u w after h =
       either (Script.are_a_pair p.plan.size u w) _ _ (λ q. like answer _ q.0 refl) (λ q. like answer _ q.0 refl) h
 
-  unless : (why : Option StateFault) (done : Since) (plan : PlanView) (p : PlanningView) (number : ℕ) (after : PlanningView)
-      → Script.PlansUnless why done plan p number answer after → GoesOn answer
-  unless None done plan p number after h = like answer _ h.0 refl
-  unless (Some why) done plan p number after h = like answer _ h.0 refl
+  unless : (why : Option StateFault) (since : Option BetweenView) (plan : PlanView) (p : PlanningView) (number : ℕ) (after : PlanningView)
+      → Script.PlansUnless why since plan p number answer after → GoesOn answer
+  unless None since plan p number after h = like answer _ h.0 refl
+  unless (Some why) since plan p number after h = like answer _ h.0 refl
 
   linked : (wanted : Bool) (p : PlanningView) (number u w : ℕ) (after : PlanningView) → Script.AnswersLink wanted p number u w answer after
       → GoesOn answer
   linked wanted p number u w after h = either (Script.are_a_pair p.plan.size u w) _ _
-      (λ q. unless (Script.link_fault (is_linked p.plan u w) wanted) (after_link wanted p.since) (linking wanted u w p.plan) p number after q)
+      (λ q. unless (Script.link_fault (is_linked p.plan u w) wanted) (option_map (after_link u w) p.since) (linking wanted u w p.plan) p number after q)
       (λ q. like answer _ q.0 refl) h
 
   prefixed : (p : PlanningView) (number node : ℕ) (bits : List Bool) (after : PlanningView)
@@ -51,23 +52,23 @@ module _ (answer : Answer) where
   settled number (inl (rounds, messages, few, h)) = like answer _ h refl
   settled number (inr h) = like answer _ h refl
 
-  told : (q : Question) (plan : PlanView) (marked : Option (List (List Best))) (done : Since) (number : ℕ)
-      → Script.AnswersQuestion q plan marked done number answer → GoesOn answer
-  told (question.Route u v) plan marked done number h =
+  told : (q : Question) (plan : PlanView) (marked : Option (List (List Best))) (since : Option BetweenView) (number : ℕ)
+      → Script.AnswersQuestion q plan marked since number answer → GoesOn answer
+  told (question.Route u v) plan marked since number h =
       told_of plan number u v (Script.TellsRoute plan.size u) (λ routes q. like answer _ q refl) h
-  told (question.Path u v) plan marked done number h =
+  told (question.Path u v) plan marked since number h =
       told_of plan number u v (Script.TellsPath plan.size u) (λ routes q. like answer _ q.2 refl) h
-  told (question.Table u) plan marked done number h =
+  told (question.Table u) plan marked since number h =
       either (nat_lt u plan.size) _ _ (λ q. like answer _ q.2 refl) (λ q. like answer _ q refl) h
-  told (question.Draw v) plan marked done number h =
+  told (question.Draw v) plan marked since number h =
       either (nat_lt v plan.size) _ _ (λ q. like answer _ q.2 refl) (λ q. like answer _ q refl) h
-  told (question.DrawChanges v) plan marked done number h =
+  told (question.DrawChanges v) plan marked since number h =
       either (nat_lt v plan.size) _ _ (λ q. like answer _ q.6 refl) (λ q. like answer _ q refl) h
-  told question.Reach plan marked done number h = like answer _ h.2 refl
-  told question.Changes plan marked done number h = like answer _ h.4 refl
-  told question.Failures plan marked done number h = like answer _ h.4 refl
-  told question.NodeFailures plan marked done number h = like answer _ h.4 refl
-  told question.Settle plan marked done number h = settled number h
+  told question.Reach plan marked since number h = like answer _ h.2 refl
+  told question.Changes plan marked since number h = like answer _ h.6 refl
+  told question.Failures plan marked since number h = like answer _ h.4 refl
+  told question.NodeFailures plan marked since number h = like answer _ h.4 refl
+  told question.Settle plan marked since number h = settled number h
 
   planned : (p : PlanningView) (number : ℕ) (c : CommandView) (after : PlanningView)
       → Script.AnswersPlanned p number c answer after → GoesOn answer
@@ -79,7 +80,8 @@ module _ (answer : Answer) where
       source (GivesFile bytes) (IsRefusedFile bytes) p.plan.size number name (filter_named p.filters) answer (filter_named after.filters) h.0
   planned p number (Link wanted u w) after h = linked wanted p number u w after h
   planned p number (Use way u w name) after h =
-      by_name (filter_named p.filters name) (λ filter. Script.filtering way filter u w p.plan) p number u w after h
+      by_name (filter_named p.filters name) way p number u w after h
+  planned p number (Anew u) after h = either (nat_lt u p.plan.size) _ _ (λ q. like answer _ q.0 refl) (λ q. like answer _ q.0 refl) h
   planned p number Mark after h = like answer _ h.2.0 refl
   planned p number (Ask q) after h = told q p.plan p.marked p.since number h.0
 
@@ -90,6 +92,7 @@ module _ (answer : Answer) where
   first number (Code name bytes) after h = like answer _ h.0 refl
   first number (Link wanted u w) after h = like answer _ h.0 refl
   first number (Use way u w name) after h = like answer _ h.0 refl
+  first number (Anew u) after h = like answer _ h.0 refl
   first number Mark after h = like answer _ h.0 refl
   first number (Ask q) after h = like answer _ h.0 refl
 

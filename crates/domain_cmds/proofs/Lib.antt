@@ -1,5 +1,6 @@
 pub mod Ending
 pub mod Filling
+pub mod Fitting
 pub mod Marked
 pub mod Carrying
 pub mod Setting

@@ -19,6 +19,8 @@ pub data CommandView : Type 0 where
   Link : Bool → ℕ → ℕ → CommandView
   -- a node, a neighbour, and a filter's name
   Use : Direction → ℕ → ℕ → List ℕ → CommandView
+  -- a node that begins anew
+  Anew : ℕ → CommandView
   Mark : CommandView
   Ask : Question → CommandView
 
@@ -29,5 +31,6 @@ view_of (command.Load name text) = Load name.now text.now
 view_of (command.Code name bytes) = Code name.now bytes.items
 view_of (command.Link linked u w) = Link linked u w
 view_of (command.Use direction u w name) = Use direction u w name.now
+view_of (command.Anew u) = Anew u
 view_of command.Mark = Mark
 view_of (command.Ask question) = Ask question

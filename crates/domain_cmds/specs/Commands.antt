@@ -11,7 +11,7 @@ use Rattle.operator_cmds.specs.WordLists.{one_of, two_of, three_of}
 use Rattle.operator_cmds.specs.declared.event.Direction.TheVariants as direction
 use Rattle.operator_cmds.specs.declared.fault.CommandFault.{CommandFault}
 use Rattle.operator_cmds.specs.declared.fault.CommandFault.TheVariants as fault
-use Rattle.domain_cmds.specs.CommandView.{CommandView, Domain, Prefix, Load, Code, Link, Use, Mark, Ask}
+use Rattle.domain_cmds.specs.CommandView.{CommandView, Domain, Prefix, Load, Code, Link, Use, Anew, Mark, Ask}
 use Rattle.domain_cmds.specs.Sizes.{is_size}
 use Rattle.domain_cmds.specs.Verbs.{verb_in}
 use Rattle.domain_cmds.specs.declared.command.Question.TheVariants as question
@@ -78,6 +78,7 @@ command_of (Some verb.Link) args text = made (λ p. Link true p.0 p.1) (nodes_in
 command_of (Some verb.Cut) args text = made (λ p. Link false p.0 p.1) (nodes_in (two_of args))
 command_of (Some verb.Import) args text = made (λ p. Use direction.Import p.0 p.1 p.2) (filter_in (three_of args))
 command_of (Some verb.Export) args text = made (λ p. Use direction.Export p.0 p.1 p.2) (filter_in (three_of args))
+command_of (Some verb.Anew) args text = made (λ u. Anew u) (node_in (one_of args))
 command_of (Some verb.Route) args text = made (λ p. Ask (question.Route p.0 p.1)) (nodes_in (two_of args))
 command_of (Some verb.Path) args text = made (λ p. Ask (question.Path p.0 p.1)) (nodes_in (two_of args))
 command_of (Some verb.Table) args text = made (λ u. Ask (question.Table u)) (node_in (one_of args))

@@ -1,5 +1,6 @@
 -- What the script of a domain answers to each of its lines, and what becomes of it. (This project's own choice.)
 use Rattle.std.specs.Prelude.{◌≡◌, ◌⊎◌, ℕ, ◌≤◌, ◌==◌, nat_lt, Bool, true, false, not, ◌&&◌, MatchBool, List, [], Option, Some, None, Ok, Err, codes}
+use Rattle.std.specs.Option.{option_map}
 use Rattle.filter_code.specs.CodeView.{CodeView}
 use Rattle.filter_source.specs.Sources.{IsRefusedText}
 use Rattle.filter_source.specs.declared.refusal.Refusal.{Refusal}
@@ -14,17 +15,15 @@ use Rattle.operator_cmds.specs.declared.event.Direction.TheVariants as direction
 use Rattle.domain_routes.specs.Edits.{exporting, importing, linking, unlinked, with_prefix}
 use Rattle.domain_routes.specs.PlanView.{PlanView, is_linked}
 use Rattle.domain_routes.specs.Routes.{AreRoutes}
-use Rattle.domain_routes.specs.Still.{after_link}
+use Rattle.domain_routes.specs.Still.{BetweenView, after_anew, after_filter, after_link, unchanged}
 use Rattle.domain_routes.specs.Topology.{topology}
 use Rattle.domain_routes.specs.declared.best.Best.{Best}
-use Rattle.domain_routes.specs.declared.since.Since.{Since}
-use Rattle.domain_routes.specs.declared.since.Since.TheVariants as since
-use Rattle.domain_cmds.specs.CommandView.{CommandView, Domain, Prefix, Load, Code, Link, Use, Mark, Ask}
+use Rattle.domain_cmds.specs.CommandView.{CommandView, Domain, Prefix, Load, Code, Link, Use, Anew, Mark, Ask}
 use Rattle.domain_cmds.specs.Commands.{Read, command_in}
 use Rattle.domain_cmds.specs.Failures.{AreFailures, all_links, all_nodes}
 use Rattle.domain_cmds.specs.FailureTexts.{failures_text}
 use Rattle.domain_cmds.specs.Faults.{state_code}
-use Rattle.domain_cmds.specs.Rests.{AreAllRoutes}
+use Rattle.domain_cmds.specs.Rests.{AreAllRoutes, AreRestsBetween, RestsView}
 use Rattle.domain_cmds.specs.State.{PlanningView, filter_named}
 use Rattle.domain_cmds.specs.Texts.{IsPathText, changes_text, draw_text, felt_text, reach_text, route_in, route_text, settled_text, table_text}
 use Rattle.domain_cmds.specs.declared.command.Question.{Question}
@@ -41,16 +40,16 @@ new_planning size = record {
   filters = [];
   begun = false;
   marked = None;
-  since = since.Anything;
+  since = None;
 }
 
 -- prefixes stay from now on
 abbrev pub begin : PlanningView → PlanningView
 begin p = record p { begun = true }
 
--- another plan, by what was done to it since the last `mark`, and prefixes stay
-abbrev pub planned : Since → PlanView → PlanningView → PlanningView
-planned done plan p = record p { plan = plan; begun = true; since = done }
+-- another plan, with those between which it stayed since the last `mark`, and prefixes stay
+abbrev pub planned : Option BetweenView → PlanView → PlanningView → PlanningView
+planned since plan p = record p { plan = plan; begun = true; since = since }
 
 -- ---- what may be answered, and what becomes of the domain
 
@@ -94,14 +93,14 @@ link_fault true false = None
 link_fault false true = None
 
 -- another plan, unless a fault refuses it
-abbrev pub PlansUnless : Option StateFault → Since → PlanView → PlanningView → ℕ → Answer → PlanningView → Type 0
-PlansUnless None done plan p number answer after = Confirms (planned done plan p) answer after
-PlansUnless (Some why) done plan p number answer after = Refuses (state_code why) number (begin p) answer after
+abbrev pub PlansUnless : Option StateFault → Option BetweenView → PlanView → PlanningView → ℕ → Answer → PlanningView → Type 0
+PlansUnless None since plan p number answer after = Confirms (planned since plan p) answer after
+PlansUnless (Some why) since plan p number answer after = Refuses (state_code why) number (begin p) answer after
 
 -- `link` and `cut`: whether there is a link between two nodes
 abbrev pub AnswersLink : Bool → PlanningView → ℕ → ℕ → ℕ → Answer → PlanningView → Type 0
 AnswersLink linked p number u w answer after = MatchBool (are_a_pair p.plan.size u w)
-    (PlansUnless (link_fault (is_linked p.plan u w) linked) (after_link linked p.since) (linking linked u w p.plan) p number answer after)
+    (PlansUnless (link_fault (is_linked p.plan u w) linked) (option_map (after_link u w) p.since) (linking linked u w p.plan) p number answer after)
     (Refuses (codes "D1") number (begin p) answer after)
 
 -- a plan where what the first node receives from the second, or tells it, passes a filter
@@ -109,11 +108,22 @@ abbrev pub filtering : Direction → VerifiedView → ℕ → ℕ → PlanView �
 filtering direction.Import filter u w plan = importing filter u w plan
 filtering direction.Export filter u w plan = exporting filter u w plan
 
--- a command with the filter of a name, which makes another plan of it: an unknown name counts first, and begins nothing
-abbrev pub AnswersUse : Option VerifiedView → (VerifiedView → PlanView) → PlanningView → ℕ → ℕ → ℕ → Answer → PlanningView → Type 0
-AnswersUse None plan p number u w answer after = Refuses (codes "O6") number p answer after
-AnswersUse (Some filter) plan p number u w answer after = MatchBool (are_a_pair p.plan.size u w)
-    (Confirms (planned since.Anything (plan filter) p) answer after)
+-- the plans between which the plan stayed then
+abbrev pub filtered_between : Direction → ℕ → ℕ → BetweenView → BetweenView
+filtered_between direction.Import u w between = after_filter u w between
+filtered_between direction.Export u w between = after_filter w u between
+
+-- a command with the filter of a name: an unknown name counts first, and begins nothing
+abbrev pub AnswersUse : Option VerifiedView → Direction → PlanningView → ℕ → ℕ → ℕ → Answer → PlanningView → Type 0
+AnswersUse None way p number u w answer after = Refuses (codes "O6") number p answer after
+AnswersUse (Some filter) way p number u w answer after = MatchBool (are_a_pair p.plan.size u w)
+    (Confirms (planned (option_map (filtered_between way u w) p.since) (filtering way filter u w p.plan) p) answer after)
+    (Refuses (codes "D1") number (begin p) answer after)
+
+-- `anew`: all links of a node are cut and made again, so that it and its neighbours forget what they heard over them; the plan stays as it is
+abbrev pub AnswersAnew : PlanningView → ℕ → ℕ → Answer → PlanningView → Type 0
+AnswersAnew p number u answer after = MatchBool (nat_lt u p.plan.size)
+    (Confirms (planned (option_map (after_anew p.plan u) p.since) p.plan p) answer after)
     (Refuses (codes "D1") number (begin p) answer after)
 
 -- ---- questions about rest
@@ -155,25 +165,29 @@ IsToldReach plan answer = (all : List (List Best)) × AreAllRoutes plan all × (
 
 -- ---- `mark` and `changes`
 
+-- all routes are noted, and that nothing was done to the plan yet
+abbrev pub marking : List (List Best) → PlanningView → PlanningView
+marking all p = record p { begun = true; marked = Some all; since = Some (unchanged p.plan) }
+
 abbrev pub AnswersMark : PlanningView → Answer → PlanningView → Type 0
 AnswersMark p answer after =
-    (all : List (List Best)) × AreAllRoutes p.plan all × Confirms (record p { begun = true; marked = Some all; since = since.Nothing }) answer after
+    (all : List (List Best)) × AreAllRoutes p.plan all × Confirms (marking all p) answer after
 
 -- all routes at the last `mark`; before any, those of the domain without links
 abbrev pub AreMarks : PlanView → Option (List (List Best)) → List (List Best) → Type 0
 AreMarks plan (Some marked) marks = marks ≡ marked
 AreMarks plan None marks = AreAllRoutes (unlinked plan.prefixes) marks
 
-abbrev pub IsToldChanges : PlanView → Option (List (List Best)) → Since → Answer → Type 0
-IsToldChanges plan marked done answer =
+abbrev pub IsToldChanges : PlanView → Option (List (List Best)) → Option BetweenView → Answer → Type 0
+IsToldChanges plan marked since answer =
     (marks : List (List Best)) × AreMarks plan marked marks × (all : List (List Best)) × AreAllRoutes plan all
-    × (answer ≡ answered (changes_text plan.size done marks all))
+    × (rests : Option RestsView) × AreRestsBetween since rests × (answer ≡ answered (changes_text plan.size rests marks all))
 
 -- a picture of the routes to a node, and of which nodes may feel what was done since the last `mark`
-abbrev pub IsToldFelt : PlanView → Option (List (List Best)) → Since → ℕ → ℕ → Answer → Type 0
-IsToldFelt plan marked done number v answer = MatchBool (nat_lt v plan.size)
-    ((marks : List (List Best)) × AreMarks plan marked marks × (all : List (List Best)) × AreAllRoutes plan all
-    × (routes : List Best) × AreRoutes (topology plan v) v routes × (answer ≡ answered (felt_text plan done marks all v routes)))
+abbrev pub IsToldFelt : PlanView → Option BetweenView → ℕ → ℕ → Answer → Type 0
+IsToldFelt plan since number v answer = MatchBool (nat_lt v plan.size)
+    ((all : List (List Best)) × AreAllRoutes plan all × (rests : Option RestsView) × AreRestsBetween since rests
+    × (routes : List Best) × AreRoutes (topology plan v) v routes × (answer ≡ answered (felt_text plan rests all v routes)))
     (answer ≡ refused (codes "D1") number)
 
 -- ---- `failures`
@@ -192,18 +206,18 @@ IsToldSettled number answer =
     ((rounds : ℕ) × (messages : ℕ) × (rounds ≤ messages) × (answer ≡ answered (settled_text rounds messages)))
     ⊎ (answer ≡ refused (codes "D4") number)
 
--- what is told of a plan, of all routes at the last `mark`, and by what was done since
-abbrev pub AnswersQuestion : Question → PlanView → Option (List (List Best)) → Since → ℕ → Answer → Type 0
-AnswersQuestion (question.Route u v) plan marked done number answer = IsToldRoute plan number u v answer
-AnswersQuestion (question.Path u v) plan marked done number answer = IsToldPath plan number u v answer
-AnswersQuestion (question.Table u) plan marked done number answer = IsToldTable plan number u answer
-AnswersQuestion (question.Draw v) plan marked done number answer = IsToldDrawing plan number v answer
-AnswersQuestion (question.DrawChanges v) plan marked done number answer = IsToldFelt plan marked done number v answer
-AnswersQuestion question.Reach plan marked done number answer = IsToldReach plan answer
-AnswersQuestion question.Changes plan marked done number answer = IsToldChanges plan marked done answer
-AnswersQuestion question.Failures plan marked done number answer = IsToldFailures plan (all_links plan) answer
-AnswersQuestion question.NodeFailures plan marked done number answer = IsToldFailures plan (all_nodes plan) answer
-AnswersQuestion question.Settle plan marked done number answer = IsToldSettled number answer
+-- what is told of a plan, of all routes at the last `mark`, and of the plans between which it stayed since
+abbrev pub AnswersQuestion : Question → PlanView → Option (List (List Best)) → Option BetweenView → ℕ → Answer → Type 0
+AnswersQuestion (question.Route u v) plan marked since number answer = IsToldRoute plan number u v answer
+AnswersQuestion (question.Path u v) plan marked since number answer = IsToldPath plan number u v answer
+AnswersQuestion (question.Table u) plan marked since number answer = IsToldTable plan number u answer
+AnswersQuestion (question.Draw v) plan marked since number answer = IsToldDrawing plan number v answer
+AnswersQuestion (question.DrawChanges v) plan marked since number answer = IsToldFelt plan since number v answer
+AnswersQuestion question.Reach plan marked since number answer = IsToldReach plan answer
+AnswersQuestion question.Changes plan marked since number answer = IsToldChanges plan marked since answer
+AnswersQuestion question.Failures plan marked since number answer = IsToldFailures plan (all_links plan) answer
+AnswersQuestion question.NodeFailures plan marked since number answer = IsToldFailures plan (all_nodes plan) answer
+AnswersQuestion question.Settle plan marked since number answer = IsToldSettled number answer
 
 -- ---- a line
 
@@ -214,7 +228,8 @@ AnswersPlanned p number (Load name text) answer after = AnswersLoad (GivesText t
 AnswersPlanned p number (Code name bytes) answer after = AnswersLoad (GivesFile bytes) (IsRefusedFile bytes) p number name answer after
 AnswersPlanned p number (Link linked u w) answer after = AnswersLink linked p number u w answer after
 AnswersPlanned p number (Use way u w name) answer after =
-    AnswersUse (filter_named p.filters name) (λ filter. filtering way filter u w p.plan) p number u w answer after
+    AnswersUse (filter_named p.filters name) way p number u w answer after
+AnswersPlanned p number (Anew u) answer after = AnswersAnew p number u answer after
 AnswersPlanned p number Mark answer after = AnswersMark p answer after
 AnswersPlanned p number (Ask asked) answer after = Asks (AnswersQuestion asked p.plan p.marked p.since number) p answer after
 

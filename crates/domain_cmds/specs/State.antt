@@ -10,7 +10,7 @@ use Rattle.std.specs.declared.alloc.Global.{Global}
 use Rattle.filter_verifier.specs.VerifiedView.{VerifiedView}
 use Rattle.domain_routes.specs.PlanView.{PlanView}
 use Rattle.domain_routes.specs.declared.best.Best.{Best}
-use Rattle.domain_routes.specs.declared.since.Since.{Since}
+use Rattle.domain_routes.specs.Still.{BetweenView}
 
 -- names, in their order, each with its filter
 abbrev pub Named : Type 0
@@ -21,13 +21,13 @@ abbrev pub filter_named : Named → List ℕ → Option VerifiedView
 filter_named named name = option_map (λ f. f.value) (lookup (is_at (λ key. slice_cmp nat_cmp name key.items)) named)
 
 -- a domain that is set up: its prefixes, links and filters; the filters that have a name; whether a command came after which
--- prefixes stay; all routes at the last `mark`, if there was one; and what was done to links and filters since
+-- prefixes stay; and where there was a `mark`, all routes at the last one, and the plans between which the plan stayed since
 pub record PlanningView : Type 0 where
   pub plan : PlanView
   pub filters : Named
   pub begun : Bool
   pub marked : Option (List (List Best))
-  pub since : Since
+  pub since : Option BetweenView
 
 -- filters that are verified for domains of this size, by their names
 pub record FiltersView : Type 0 where

@@ -1,5 +1,5 @@
 -- The lines that tell of routes at rest. (This project's own choice.) `size` is the number of nodes.
-use Rattle.std.specs.Prelude.{◌≡◌, MatchBool, ℕ, ◌==◌, nat_lt, Bool, true, false, not, ◌&&◌, if◌then◌else◌}
+use Rattle.std.specs.Prelude.{◌≡◌, MatchBool, ℕ, ◌==◌, nat_lt, Bool, true, false, not, ◌&&◌, if◌then◌else◌, Option, None, Some}
 use Rattle.std.specs.Prelude.{List, [], ◌∷◌, ◌++◌, flat_map, slice_index_or, codes, decimal}
 use Rattle.netchange_core.specs.declared.reply.Via.{Via}
 use Rattle.netchange_core.specs.declared.reply.Via.TheVariants.{Local, Node, Nowhere}
@@ -8,9 +8,9 @@ use Rattle.operator_cmds.specs.Replies.{pair_text, via_text}
 use Rattle.domain_routes.specs.PlanView.{PlanView, is_linked}
 use Rattle.domain_routes.specs.Reach.{longest, phases_to_rest}
 use Rattle.domain_routes.specs.Routes.{nowhere}
-use Rattle.domain_routes.specs.Still.{is_one_way, one_below}
+use Rattle.domain_routes.specs.Still.{one_below}
 use Rattle.domain_routes.specs.declared.best.Best.{Best}
-use Rattle.domain_routes.specs.declared.since.Since.{Since}
+use Rattle.domain_cmds.specs.Rests.{RestsView}
 
 -- the route of a node, in a list of the routes of all nodes to one destination
 abbrev pub route_in : ℕ → List Best → ℕ → Best
@@ -155,30 +155,32 @@ all_changes size before now = texts_below size (changes_of size before now)
 abbrev pub distances : ℕ → List (List Best) → ℕ → ℕ → ℕ
 distances size all v u = (route_of size all u v).dist
 
--- Below this bound all distances to a destination are what they were. Where links were made alone, or cut alone, none of them changes while
--- these links come and go.
+-- Below this bound all distances to a destination are the same in two routings. Where these are those of the two plans between which a plan stayed,
+-- none of them changes while that happens.
 abbrev pub still_below : ℕ → List (List Best) → List (List Best) → ℕ → ℕ
-still_below size before now v = one_below size (distances size before v) (distances size now v)
+still_below size most least v = one_below size (distances size most v) (distances size least v)
 
--- `V:K` where a distance to V is not what it was
+-- `V:K` where a distance to V may change
 abbrev pub still_text : ℕ → List (List Best) → List (List Best) → ℕ → List ℕ
-still_text size before now v =
-    if nat_lt (still_below size before now v) size then pair_text v (still_below size before now v) else []
+still_text size most least v =
+    if nat_lt (still_below size most least v) size then pair_text v (still_below size most least v) else []
 
--- nothing where links were made and others cut, or filters replaced
-abbrev pub stills_text : ℕ → Since → List (List Best) → List (List Best) → List ℕ
-stills_text size since before now = if is_one_way since then codes " still" ++ texts_below size (still_text size before now) else []
+-- nothing where nothing was marked
+abbrev pub stills_text : ℕ → Option RestsView → List ℕ
+stills_text size None = []
+stills_text size (Some rests) = codes " still" ++ texts_below size (still_text size rests.most rests.least)
 
-abbrev pub changes_text : ℕ → Since → List (List Best) → List (List Best) → List ℕ
-changes_text size since before now = codes "changes" ++ all_changes size before now ++ stills_text size since before now
+abbrev pub changes_text : ℕ → Option RestsView → List (List Best) → List (List Best) → List ℕ
+changes_text size rests before now = codes "changes" ++ all_changes size before now ++ stills_text size rests
 
 -- ---- a picture of what is felt of changes
 
--- a node keeps its route to a destination while these links come and go: it is nearer than the bound, and its next hop is what it was
-abbrev pub is_still : ℕ → Since → List (List Best) → List (List Best) → ℕ → ℕ → Bool
-is_still size since before now v u =
-    is_one_way since && nat_lt (route_of size now u v).dist (still_below size before now v)
-    && is_same_via (route_of size now u v).via (route_of size before u v).via
+-- a node keeps its route to a destination meanwhile: it is nearer than the bound, and both plans have its next hop
+abbrev pub is_still : ℕ → Option RestsView → ℕ → ℕ → Bool
+is_still size None v u = false
+is_still size (Some rests) v u =
+    nat_lt (route_of size rests.most u v).dist (still_below size rests.most rests.least v)
+    && is_same_via (route_of size rests.most u v).via (route_of size rests.least u v).via
 
 -- a node that may not, in red
 abbrev pub red_text : ℕ → ℕ → List ℕ
@@ -192,16 +194,15 @@ felt_look_text u d Nowhere = codes " [style=dotted, color=red];"
 abbrev pub felt_node_text : Bool → ℕ → Best → List ℕ
 felt_node_text still u route = if still then node_text u route else 32 ∷ decimal u ++ felt_look_text u route.dist route.via
 
-abbrev pub felt_nodes_text : ℕ → Since → List (List Best) → List (List Best) → ℕ → List ℕ
-felt_nodes_text size since before now v =
-    texts_below size (λ u. felt_node_text (is_still size since before now v u) u (route_of size now u v))
+abbrev pub felt_nodes_text : ℕ → Option RestsView → List (List Best) → ℕ → List ℕ
+felt_nodes_text size rests now v = texts_below size (λ u. felt_node_text (is_still size rests v u) u (route_of size now u v))
 
 -- the nodes so, and the links as in each picture
-abbrev pub felt_body_text : PlanView → Since → List (List Best) → List (List Best) → ℕ → List Best → List ℕ
-felt_body_text plan since before now v routes = felt_nodes_text plan.size since before now v ++ links_text plan routes
+abbrev pub felt_body_text : PlanView → Option RestsView → List (List Best) → ℕ → List Best → List ℕ
+felt_body_text plan rests now v routes = felt_nodes_text plan.size rests now v ++ links_text plan routes
 
-abbrev pub felt_text : PlanView → Since → List (List Best) → List (List Best) → ℕ → List Best → List ℕ
-felt_text plan since before now v routes = codes "digraph {" ++ felt_body_text plan since before now v routes ++ codes " }"
+abbrev pub felt_text : PlanView → Option RestsView → List (List Best) → ℕ → List Best → List ℕ
+felt_text plan rests now v routes = codes "digraph {" ++ felt_body_text plan rests now v routes ++ codes " }"
 
 -- ---- how far, and how soon
 

@@ -3,7 +3,7 @@ use Rattle.std.specs.Prelude.{ℕ, Bool, List, [], ◌∷◌, Option, find, code
 use Rattle.std.specs.Str.{bytes_eq}
 use Rattle.domain_cmds.specs.declared.verb.Verb.{Verb}
 use Rattle.domain_cmds.specs.declared.verb.Verb.TheVariants.{Domain, Prefix, Load, Code, Link, Cut, Import, Export}
-use Rattle.domain_cmds.specs.declared.verb.Verb.TheVariants.{Route, Path, Table, Draw, Reach, Mark, Changes, Failures, Settle}
+use Rattle.domain_cmds.specs.declared.verb.Verb.TheVariants.{Anew, Route, Path, Table, Draw, Reach, Mark, Changes, Failures, Settle}
 
 -- how each is written
 abbrev pub verb_text : Verb → List ℕ
@@ -15,6 +15,7 @@ verb_text Link = codes "link"
 verb_text Cut = codes "cut"
 verb_text Import = codes "import"
 verb_text Export = codes "export"
+verb_text Anew = codes "anew"
 verb_text Route = codes "route"
 verb_text Path = codes "path"
 verb_text Table = codes "table"
@@ -28,7 +29,7 @@ verb_text Settle = codes "settle"
 -- all of them
 abbrev pub verbs : List Verb
 verbs =
-    Domain ∷ Prefix ∷ Load ∷ Code ∷ Link ∷ Cut ∷ Import ∷ Export ∷ Route ∷ Path ∷ Table ∷ Draw ∷ Reach ∷ Mark ∷ Changes ∷ Failures ∷ Settle ∷ []
+    Domain ∷ Prefix ∷ Load ∷ Code ∷ Link ∷ Cut ∷ Import ∷ Export ∷ Anew ∷ Route ∷ Path ∷ Table ∷ Draw ∷ Reach ∷ Mark ∷ Changes ∷ Failures ∷ Settle ∷ []
 
 -- whether a verb is written so
 abbrev pub is_spelled : List ℕ → Verb → Bool

@@ -18,10 +18,11 @@ use crate::felt::push_felt;
 use crate::playing::Playing;
 use crate::resting::RestingPlan;
 use crate::routes::{Column, all_columns, make_column};
+use crate::still::rests_between;
 use crate::text::{
     push_changes, push_drawing, push_path, push_reach, push_route, push_settled, push_table,
 };
-use domain_routes::{Plan, Since};
+use domain_routes::{Between, Plan};
 use line_protocol::LineReply;
 use operator_cmds::refuse;
 use std::alloc::{AllocError, Global};
@@ -165,16 +166,23 @@ fn answer_changes(
     alloc: Global,
     domain: &mut RestingPlan,
     marked: &Option<Arc<Vec<Column>>>,
-    since: Since,
+    since: &Option<Between>,
     out: &mut Vec<u8>,
 ) -> Result<LineReply, AllocError>
-    ensures ok { IfOk result (Answers (spec.IsToldChanges domain.old (option_map (λ m. m.value.items) marked.now) since) out.old.items out.new.items) }
+    ensures ok { IfOk result (Answers (spec.IsToldChanges domain.old (option_map (λ m. m.value.items) marked.now) since.now) out.old.items out.new.items) }
     ensures err { OnErr result (StartsWith out.new.items out.old.items) }
     ensures same { domain.new ≡ domain.old }
 {
     let before = marks(alloc, domain.plan(), marked)?;
     let now = domain.all_routes(alloc)?;
-    push_changes(out, domain.size(), since, before.as_slice(), now.as_slice())?;
+    let rests = rests_between(alloc, since)?;
+    push_changes(
+        out,
+        domain.size(),
+        &rests,
+        before.as_slice(),
+        now.as_slice(),
+    )?;
     end_line(out)
 }
 
@@ -182,31 +190,22 @@ fn answer_changes(
 fn answer_felt(
     alloc: Global,
     domain: &mut RestingPlan,
-    marked: &Option<Arc<Vec<Column>>>,
-    since: Since,
+    since: &Option<Between>,
     number: u32,
     v: u16,
     out: &mut Vec<u8>,
 ) -> Result<LineReply, AllocError>
-    ensures ok { IfOk result (Answers (spec.IsToldFelt domain.old (option_map (λ m. m.value.items) marked.now) since number v) out.old.items out.new.items) }
+    ensures ok { IfOk result (Answers (spec.IsToldFelt domain.old since.now number v) out.old.items out.new.items) }
     ensures err { OnErr result (StartsWith out.new.items out.old.items) }
     ensures same { domain.new ≡ domain.old }
 {
     if v >= domain.size() {
         return refuse(out, StateFault::BadNode.code(), u64::from(number));
     }
-    let before = marks(alloc, domain.plan(), marked)?;
     let now = domain.all_routes(alloc)?;
+    let rests = rests_between(alloc, since)?;
     let routes = make_column(alloc, domain.plan(), v)?;
-    push_felt(
-        out,
-        domain.plan(),
-        since,
-        before.as_slice(),
-        now.as_slice(),
-        v,
-        &routes,
-    )?;
+    push_felt(out, domain.plan(), &rests, now.as_slice(), v, &routes)?;
     end_line(out)
 }
 
@@ -268,12 +267,12 @@ pub(crate) fn answer_question(
     question: Question,
     domain: &mut RestingPlan,
     marked: &Option<Arc<Vec<Column>>>,
-    since: Since,
+    since: &Option<Between>,
     playing: &mut Playing,
     number: u32,
     out: &mut Vec<u8>,
 ) -> Result<LineReply, AllocError>
-    ensures ok { IfOk result (Answers (spec.AnswersQuestion question domain.old (option_map (λ m. m.value.items) marked.now) since number) out.old.items out.new.items) }
+    ensures ok { IfOk result (Answers (spec.AnswersQuestion question domain.old (option_map (λ m. m.value.items) marked.now) since.now number) out.old.items out.new.items) }
     ensures err { OnErr result (StartsWith out.new.items out.old.items) }
     ensures same { domain.new ≡ domain.old }
 {
@@ -282,7 +281,7 @@ pub(crate) fn answer_question(
         Question::Path(u, v) => answer_path(alloc, domain.plan(), number, u, v, out),
         Question::Table(u) => answer_table(alloc, domain, number, u, out),
         Question::Draw(v) => answer_draw(alloc, domain.plan(), number, v, out),
-        Question::DrawChanges(v) => answer_felt(alloc, domain, marked, since, number, v, out),
+        Question::DrawChanges(v) => answer_felt(alloc, domain, since, number, v, out),
         Question::Reach => answer_reach(alloc, domain, out),
         Question::Changes => answer_changes(alloc, domain, marked, since, out),
         Question::Failures => answer_failures(alloc, domain, out),

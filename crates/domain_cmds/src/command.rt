@@ -59,6 +59,8 @@ pub enum Command<'a> {
         /// NAME.
         name: &'a [u8],
     },
+    /// `anew U`: all links of a node are cut and made again.
+    Anew(u16),
     /// `mark`: remembers all routes.
     Mark,
     /// A question.

@@ -9,30 +9,28 @@ ghost use Rattle.std.specs.Io.{StartsWith};
 ghost use Rattle.domain_cmds.specs.Texts as spec;
 
 use crate::routes::{Column, route_of};
-use crate::still::{distance, still_below};
+use crate::still::{Rests, distance, still_below};
 use crate::text::{is_same_via, push_links, push_node, push_step};
-use domain_routes::{Best, Plan, Since};
+use domain_routes::{Best, Plan};
 use line_protocol::push_decimal;
 use netchange_core::Via;
 use std::alloc::AllocError;
 
 /// Whether a node keeps its route to a destination while what was done since happens.
-pub(crate) fn is_still(
-    size: u16,
-    since: Since,
-    before: &[Column],
-    now: &[Column],
-    v: u16,
-    u: u16,
-) -> bool
-    ensures { result ≡ spec.is_still size since before.now now.now v u }
+pub(crate) fn is_still(size: u16, rests: &Option<Rests>, v: u16, u: u16) -> bool
+    ensures { result ≡ spec.is_still size rests.now v u }
 {
-    since.is_one_way()
-        && distance(size, now, u, v) < still_below(size, before, now, v)
-        && is_same_via(
-            route_of(size, now, u, v).via,
-            route_of(size, before, u, v).via,
-        )
+    match rests {
+        Some(rests) => {
+            let (most, least) = (rests.most(), rests.least());
+            distance(size, most, u, v) < still_below(size, most, least, v)
+                && is_same_via(
+                    route_of(size, most, u, v).via,
+                    route_of(size, least, u, v).via,
+                )
+        }
+        None => false,
+    }
 }
 
 /// Adds how a node looks that reaches the destination, and may not keep its route.
@@ -76,16 +74,15 @@ fn push_marked_node(out: &mut Vec<u8>, still: bool, u: u16, route: Best) -> Resu
 fn push_felt_nodes(
     out: &mut Vec<u8>,
     size: u16,
-    since: Since,
-    before: &[Column],
+    rests: &Option<Rests>,
     now: &[Column],
     v: u16,
 ) -> Result<(), AllocError>
-    ensures ok { OnOk result (out.new.items ≡ out.old.items ++ spec.felt_nodes_text size since before.now now.now v) }
+    ensures ok { OnOk result (out.new.items ≡ out.old.items ++ spec.felt_nodes_text size rests.now now.now v) }
     ensures err { OnErr result (StartsWith out.new.items out.old.items) }
 {
     for u in 0..size {
-        let still = is_still(size, since, before, now, v, u);
+        let still = is_still(size, rests, v, u);
         push_marked_node(out, still, u, route_of(size, now, u, v))?;
     }
     Ok(())
@@ -95,16 +92,15 @@ fn push_felt_nodes(
 fn push_felt_body(
     out: &mut Vec<u8>,
     plan: &Plan,
-    since: Since,
-    before: &[Column],
+    rests: &Option<Rests>,
     now: &[Column],
     v: u16,
     routes: &Column,
 ) -> Result<(), AllocError>
-    ensures ok { OnOk result (out.new.items ≡ out.old.items ++ spec.felt_body_text plan.now since before.now now.now v routes.now) }
+    ensures ok { OnOk result (out.new.items ≡ out.old.items ++ spec.felt_body_text plan.now rests.now now.now v routes.now) }
     ensures err { OnErr result (StartsWith out.new.items out.old.items) }
 {
-    push_felt_nodes(out, plan.size(), since, before, now, v)?;
+    push_felt_nodes(out, plan.size(), rests, now, v)?;
     push_links(out, plan, routes)
 }
 
@@ -112,16 +108,15 @@ fn push_felt_body(
 pub(crate) fn push_felt(
     out: &mut Vec<u8>,
     plan: &Plan,
-    since: Since,
-    before: &[Column],
+    rests: &Option<Rests>,
     now: &[Column],
     v: u16,
     routes: &Column,
 ) -> Result<(), AllocError>
-    ensures ok { OnOk result (out.new.items ≡ out.old.items ++ spec.felt_text plan.now since before.now now.now v routes.now) }
+    ensures ok { OnOk result (out.new.items ≡ out.old.items ++ spec.felt_text plan.now rests.now now.now v routes.now) }
     ensures err { OnErr result (StartsWith out.new.items out.old.items) }
 {
     out.extend_from_slice(b"digraph {")?;
-    push_felt_body(out, plan, since, before, now, v, routes)?;
+    push_felt_body(out, plan, rests, now, v, routes)?;
     out.extend_from_slice(b" }")
 }

@@ -10,8 +10,8 @@ ghost use Rattle.domain_cmds.specs.Texts.{still_below};
 ghost use Rattle.domain_cmds.specs.declared.failure.Failing.TheVariants as failing;
 ghost use Rattle.domain_cmds.specs.State.{PlanningView};
 
-/// Between any two lines of a script the routes at the last `mark` are those of the plan as it was, and what was done to links and filters
-/// since is what is noted. So what `changes` says to stand still is what `what_is_near_stands_still` of `domain_routes` promises.
+/// Between any two lines of a script the routes at the last `mark` are those of the plan as it was, and two plans are noted between which it lay, and
+/// the plan now lies. So what `changes` says to stand still is what `what_is_near_stands_still` of `domain_routes` promises.
 pub fn marks_are_of_a_plan()
     ensures begins { (size : ℕ) → is_size size ≡ true → IsMarked (new_planning size) }
     ensures goes_on { (p after : PlanningView) → (number : ℕ) → (line : List ℕ) → (answer : Answer) → IsMarked p →

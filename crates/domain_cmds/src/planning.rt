@@ -1,6 +1,8 @@
 //! A domain that is set up: its plan, and what its script did with it.
-ghost use Rattle.std.specs.Prelude.{◌≡◌, ◌≢◌, ◌<◌, IfOk, IsTrue, OnErr};
+ghost use Rattle.std.specs.Prelude.{◌≡◌, ◌≢◌, ◌<◌, IfOk, IfSome, IsTrue, OnErr};
 ghost use Rattle.std.specs.Io.{StartsWith};
+ghost use Rattle.std.specs.Option.{option_map};
+ghost use Rattle.domain_routes.specs.Still as rest;
 ghost use Rattle.domain_cmds.specs.Script as spec;
 
 use crate::asking::answer_question;
@@ -10,7 +12,7 @@ use crate::filters::Filters;
 use crate::playing::{Change, Playing};
 use crate::resting::RestingPlan;
 use crate::routes::Column;
-use domain_routes::{Plan, Since};
+use domain_routes::{Between, Plan};
 use filter_source::Diagnosis;
 use line_protocol::LineReply;
 use operator_cmds::{Direction, FilterSource, NamedFilters, confirm, default_prefixes, refuse};
@@ -30,14 +32,14 @@ pub(crate) struct Planning {
     begun: bool,
     /// All routes at rest at the last `mark`.
     marked: Option<Arc<Vec<Column>>>,
-    /// What was done to links and filters since; before any `mark`, anything.
-    since: Since,
+    /// Between which plans the plan stayed since.
+    since: Option<Between>,
     /// Its routers.
     playing: Playing,
 }
 
 impl Model for Planning {
-    ghost use Rattle.std.specs.Prelude.{◌≡◌};
+    ghost use Rattle.std.specs.Prelude.{◌≡◌, IfSome};
     ghost use Rattle.std.specs.Option.{option_map};
     ghost use Rattle.domain_cmds.specs.State.{PlanningView};
 
@@ -51,8 +53,8 @@ impl Model for Planning {
       since = p.since;
     } };
 
-    // The filters fit the domain.
-    ghost invariant = { λ p. p.filters.size ≡ p.domain.size };
+    // The filters fit the domain, and so do the plans between which it stayed.
+    ghost invariant = { λ p. (p.filters.size ≡ p.domain.size) × IfSome p.since (λ between. between.most.size ≡ p.domain.size) };
 }
 
 /// Why two nodes that have a link, or none, are not to have one, or none.
@@ -74,6 +76,49 @@ fn are_a_pair(size: u16, u: u16, w: u16) -> bool
     u < size && w < size && u != w
 }
 
+/// Notes that a link was made or cut.
+fn loosen_link(since: &mut Option<Between>, size: u16, u: u16, w: u16)
+    requires u { u < size }
+    requires w { w < size }
+    requires apart { u ≢ w }
+    requires fits { IfSome since.old (λ between. between.most.size ≡ size) }
+    ensures value { since.new ≡ option_map (rest.after_link u w) since.old }
+    ensures fits { IfSome since.new (λ between. between.most.size ≡ size) }
+{
+    if let Some(between) = since {
+        between.loosen_link(u, w);
+    }
+}
+
+/// Notes that a filter was set.
+fn loosen_filter(since: &mut Option<Between>, size: u16, direction: Direction, u: u16, w: u16)
+    requires u { u < size }
+    requires w { w < size }
+    requires apart { u ≢ w }
+    requires fits { IfSome since.old (λ between. between.most.size ≡ size) }
+    ensures value { since.new ≡ option_map (spec.filtered_between direction u w) since.old }
+    ensures fits { IfSome since.new (λ between. between.most.size ≡ size) }
+{
+    if let Some(between) = since {
+        match direction {
+            Direction::Import => between.loosen_filter(u, w),
+            Direction::Export => between.loosen_filter(w, u),
+        }
+    }
+}
+
+/// Notes that a node began anew.
+fn loosen_node(since: &mut Option<Between>, plan: &Plan, u: u16)
+    requires node { u < plan.now.size }
+    requires fits { IfSome since.old (λ between. between.most.size ≡ plan.now.size) }
+    ensures value { since.new ≡ option_map (rest.after_anew plan.now u) since.old }
+    ensures fits { IfSome since.new (λ between. between.most.size ≡ plan.now.size) }
+{
+    if let Some(between) = since {
+        between.loosen_node(plan, u);
+    }
+}
+
 impl Planning {
     ghost use Rattle.operator_cmds.specs.Replies.{Answers};
     ghost use Rattle.operator_cmds.specs.Script.{gives, lacks};
@@ -91,7 +136,7 @@ impl Planning {
             filters: Filters::new(alloc, size.nodes),
             begun: false,
             marked: None,
-            since: Since::Anything,
+            since: None,
             playing: Playing::new(alloc),
         })
     }
@@ -148,6 +193,7 @@ impl Planning {
                 w,
                 name,
             } => self.use_filter(number, direction, u, w, name, out),
+            Command::Anew(u) => self.begin_anew(number, u, out),
             Command::Mark => self.mark(alloc, out),
             Command::Ask(question) => self.ask(alloc, number, question, out),
         }
@@ -209,8 +255,9 @@ impl Planning {
             return refuse(out, why.code(), u64::from(number));
         }
         self.playing.note(Change::Link(u, w, linked))?;
+        let size = self.size();
         self.domain.set_linked(u, w, linked);
-        self.since = self.since.after_link(linked);
+        loosen_link(&mut self.since, size, u, w);
         confirm(out)
     }
 
@@ -224,7 +271,7 @@ impl Planning {
         name: &[u8],
         out: &mut Vec<u8>,
     ) -> Result<LineReply, AllocError>
-        ensures ok { IfOk result (Answers (λ answer. spec.AnswersUse (filter_named self.old.filters name.now) (λ filter. spec.filtering direction filter u w self.old.plan) self.old number u w answer self.new) out.old.items out.new.items) }
+        ensures ok { IfOk result (Answers (λ answer. spec.AnswersUse (filter_named self.old.filters name.now) direction self.old number u w answer self.new) out.old.items out.new.items) }
         ensures err { OnErr result (StartsWith out.new.items out.old.items) }
     {
         let Some(filter) = self.filters.get(name)? else {
@@ -236,8 +283,28 @@ impl Planning {
         }
         let played = Arc::try_clone(&filter)?;
         self.playing.note(Change::Filter(direction, u, w, played))?;
+        let size = self.size();
         self.domain.set_filter(direction, u, w, filter);
-        self.since = Since::Anything;
+        loosen_filter(&mut self.since, size, direction, u, w);
+        confirm(out)
+    }
+
+    /// Answers `anew`: all links of a node are cut and made again.
+    fn begin_anew(
+        &mut self,
+        number: u32,
+        u: u16,
+        out: &mut Vec<u8>,
+    ) -> Result<LineReply, AllocError>
+        ensures ok { IfOk result (Answers (λ answer. spec.AnswersAnew self.old number u answer self.new) out.old.items out.new.items) }
+        ensures err { OnErr result (StartsWith out.new.items out.old.items) }
+    {
+        self.begun = true;
+        if u >= self.size() {
+            return refuse(out, StateFault::BadNode.code(), u64::from(number));
+        }
+        self.playing.note_anew(self.domain.plan(), u)?;
+        loosen_node(&mut self.since, self.domain.plan(), u);
         confirm(out)
     }
 
@@ -258,7 +325,7 @@ impl Planning {
             question,
             &mut self.domain,
             &self.marked,
-            self.since,
+            &self.since,
             &mut self.playing,
             number,
             out,
@@ -271,8 +338,10 @@ impl Planning {
         ensures err { OnErr result (StartsWith out.new.items out.old.items) }
     {
         self.begun = true;
-        self.marked = Some(self.domain.all_routes(alloc)?);
-        self.since = Since::Nothing;
+        let all = self.domain.all_routes(alloc)?;
+        let between = Between::new(alloc, self.domain.plan())?;
+        self.marked = Some(all);
+        self.since = Some(between);
         confirm(out)
     }
 }

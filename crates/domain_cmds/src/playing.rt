@@ -153,6 +153,26 @@ impl Playing {
         Ok(())
     }
 
+    /// Notes that each link of a node comes up, or goes down.
+    fn note_links_of(&mut self, plan: &Plan, u: u16, linked: bool) -> Result<(), AllocError>
+        requires { u < plan.now.size }
+    {
+        for w in 0..plan.size() {
+            if plan.is_linked(u, w) {
+                self.note(Change::Link(u, w, linked))?;
+            }
+        }
+        Ok(())
+    }
+
+    /// Notes that a node begins anew: its links go down, and come up again.
+    pub(crate) fn note_anew(&mut self, plan: &Plan, u: u16) -> Result<(), AllocError>
+        requires { u < plan.now.size }
+    {
+        self.note_links_of(plan, u, false)?;
+        self.note_links_of(plan, u, true)
+    }
+
     /// The routers enter what happened since they were last played, and are played until quiet. None if they cannot be played.
     pub(crate) fn settle(
         &mut self,

@@ -143,6 +143,7 @@ fn read_rest(alloc: Global, verb: Verb, rest: &[u8]) -> Result<Command<'_>, Comm
         Verb::Cut => read_link(false, rest),
         Verb::Import => read_use(Direction::Import, rest),
         Verb::Export => read_use(Direction::Export, rest),
+        Verb::Anew => Ok(Command::Anew(read_node(rest)?)),
         Verb::Route => {
             let (u, v) = read_nodes(rest)?;
             Ok(Command::Ask(Question::Route(u, v)))

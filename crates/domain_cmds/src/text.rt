@@ -9,8 +9,8 @@ ghost use Rattle.domain_cmds.specs.Texts as spec;
 
 use crate::reach::{longest, phases_to_rest};
 use crate::routes::{Column, route_of};
-use crate::still::still_below;
-use domain_routes::{Best, Plan, Since};
+use crate::still::{Rests, still_below};
+use domain_routes::{Best, Plan};
 use line_protocol::push_decimal;
 use netchange_core::Via;
 use operator_cmds::push_via;
@@ -350,18 +350,18 @@ fn push_all_changes(
     Ok(())
 }
 
-/// Adds a destination, if a distance to it is another than it was, and the bound below which none is.
+/// Adds a destination, if a distance to it is not the same in both, and the bound below which all are.
 fn push_still(
     out: &mut Vec<u8>,
     size: u16,
-    before: &[Column],
-    now: &[Column],
+    most: &[Column],
+    least: &[Column],
     v: u16,
 ) -> Result<(), AllocError>
-    ensures ok { OnOk result (out.new.items ≡ out.old.items ++ spec.still_text size before.now now.now v) }
+    ensures ok { OnOk result (out.new.items ≡ out.old.items ++ spec.still_text size most.now least.now v) }
     ensures err { OnErr result (StartsWith out.new.items out.old.items) }
 {
-    let bound = still_below(size, before, now, v);
+    let bound = still_below(size, most, least, v);
     if bound < size {
         push_pair(out, v, bound)
     } else {
@@ -369,55 +369,51 @@ fn push_still(
     }
 }
 
-/// Adds the destinations to which a distance is another than it was, each with its bound.
+/// Adds the destinations to which a distance is not the same in both, each with its bound.
 #[tactic(auto, unfolding(operator_cmds::specs::Looks::texts_below))]
 fn push_all_still(
     out: &mut Vec<u8>,
     size: u16,
-    before: &[Column],
-    now: &[Column],
+    most: &[Column],
+    least: &[Column],
 ) -> Result<(), AllocError>
-    ensures ok { OnOk result (out.new.items ≡ out.old.items ++ texts_below size (spec.still_text size before.now now.now)) }
+    ensures ok { OnOk result (out.new.items ≡ out.old.items ++ texts_below size (spec.still_text size most.now least.now)) }
     ensures err { OnErr result (StartsWith out.new.items out.old.items) }
 {
     for v in 0..size {
-        push_still(out, size, before, now, v)?;
+        push_still(out, size, most, least, v)?;
     }
     Ok(())
 }
 
-/// Adds what stands still while what was done since happens, where links were made alone, or cut alone.
-fn push_stills(
-    out: &mut Vec<u8>,
-    size: u16,
-    since: Since,
-    before: &[Column],
-    now: &[Column],
-) -> Result<(), AllocError>
-    ensures ok { OnOk result (out.new.items ≡ out.old.items ++ spec.stills_text size since before.now now.now) }
+/// Adds what stands still while what was done since happens, where something was marked.
+fn push_stills(out: &mut Vec<u8>, size: u16, rests: &Option<Rests>) -> Result<(), AllocError>
+    ensures ok { OnOk result (out.new.items ≡ out.old.items ++ spec.stills_text size rests.now) }
     ensures err { OnErr result (StartsWith out.new.items out.old.items) }
 {
-    if !since.is_one_way() {
-        return Ok(());
+    match rests {
+        Some(rests) => {
+            out.extend_from_slice(b" still")?;
+            push_all_still(out, size, rests.most(), rests.least())
+        }
+        None => Ok(()),
     }
-    out.extend_from_slice(b" still")?;
-    push_all_still(out, size, before, now)
 }
 
 /// Adds the answer to `changes`.
 pub(crate) fn push_changes(
     out: &mut Vec<u8>,
     size: u16,
-    since: Since,
+    rests: &Option<Rests>,
     before: &[Column],
     now: &[Column],
 ) -> Result<(), AllocError>
-    ensures ok { OnOk result (out.new.items ≡ out.old.items ++ spec.changes_text size since before.now now.now) }
+    ensures ok { OnOk result (out.new.items ≡ out.old.items ++ spec.changes_text size rests.now before.now now.now) }
     ensures err { OnErr result (StartsWith out.new.items out.old.items) }
 {
     out.extend_from_slice(b"changes")?;
     push_all_changes(out, size, before, now)?;
-    push_stills(out, size, since, before, now)
+    push_stills(out, size, rests)
 }
 
 /// Adds the answer to `reach`.

@@ -21,6 +21,8 @@ pub enum Verb {
     Import,
     /// `export`
     Export,
+    /// `anew`
+    Anew,
     /// `route`
     Route,
     /// `path`
@@ -42,7 +44,7 @@ pub enum Verb {
 }
 
 /// All of them.
-pub static VERBS: [Verb; 17] = [
+pub static VERBS: [Verb; 18] = [
     Verb::Domain,
     Verb::Prefix,
     Verb::Load,
@@ -51,6 +53,7 @@ pub static VERBS: [Verb; 17] = [
     Verb::Cut,
     Verb::Import,
     Verb::Export,
+    Verb::Anew,
     Verb::Route,
     Verb::Path,
     Verb::Table,
@@ -78,6 +81,7 @@ impl Verb {
             Verb::Cut => "cut",
             Verb::Import => "import",
             Verb::Export => "export",
+            Verb::Anew => "anew",
             Verb::Route => "route",
             Verb::Path => "path",
             Verb::Table => "table",

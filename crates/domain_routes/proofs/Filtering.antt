@@ -1,8 +1,8 @@
 -- A plan in which another filter stands.
-use Rattle.std.proofs.Common.{◌≡◌, ℕ, ◌<◌, Some, sym, refl, ◌∙◌}
+use Rattle.std.proofs.Common.{◌≡◌, ℕ, ◌<◌, None, Some, sym, refl, ◌∙◌}
 use Rattle.filter_verifier.specs.VerifiedView.{VerifiedView}
 use Rattle.netchange_core.specs.Kept.{FitsSize}
-use Rattle.domain_routes.specs.Edits.{exporting, importing, put}
+use Rattle.domain_routes.specs.Edits.{exporting, half_unfiltered, importing, put, unfiltered}
 use Rattle.domain_routes.specs.PlanView.{IsPlan, PeerView, PlanView, is_linked, peer}
 use Rattle.domain_routes.proofs.Places.{put_each, put_places, put_same}
 
@@ -29,3 +29,12 @@ importing_plan p f u w plan from to fits =
 pub exporting_plan : (p : PlanView) (f : VerifiedView) (u w : ℕ) → IsPlan p → u < p.size → w < p.size → f.size ≡ p.size → IsPlan (exporting f u w p)
 exporting_plan p f u w plan from to fits =
     put_plan p u w (record (peer p u w) { exports = Some f }) plan from to refl (plan.imports u w) fits
+
+half_plan : (p : PlanView) (u w : ℕ) → IsPlan p → u < p.size → w < p.size → IsPlan (half_unfiltered u w p)
+half_plan p u w plan from to = put_plan p u w (record (peer p u w) { imports = None }) plan from to refl tt (plan.exports u w)
+
+pub unfiltered_plan : (p : PlanView) (u w : ℕ) → IsPlan p → u < p.size → w < p.size → IsPlan (unfiltered u w p)
+unfiltered_plan p u w plan from to =
+    let half : PlanView = half_unfiltered u w p in
+    let is : IsPlan half = half_plan p u w plan from to in
+    put_plan half w u (record (peer half w u) { exports = None }) is to from refl (is.imports w u) tt

@@ -13,6 +13,7 @@ pub mod Quiet
 pub mod Reach
 pub mod Restoring
 pub mod Still
+mod StillRows
 pub mod Unlinked
 pub mod Values
 pub mod Waiting

@@ -1,11 +1,12 @@
--- Distances that two plans have in common stand still while the links come and go that one of them has and the other has not.
+-- Distances that two plans have in common between which a plan stayed stand still, whatever happened meanwhile.
 use mathlib.Core.Logic.{inl, inr}
-use Rattle.std.proofs.Common.{◌≡◌, ◌≢◌, ⊎_elim, ℕ, ◌+◌, ◌<◌, ◌≤◌, zero, suc, min, Bool, true, false, List, cond, if◌then◌else◌}
+use Rattle.std.proofs.Common.{◌≡◌, ◌≢◌, ⊎_elim, ℕ, ◌<◌, ◌≤◌, ◌+◌, ◌&&◌, zero, suc, min, Bool, true, false, List, Option, None, Some, cond, if◌then◌else◌}
 use Rattle.std.proofs.Common.{eq-eqb, ne_eqb, sym, ap, subst, refl, ◌∙◌, arith}
-use Rattle.std.proofs.lemmas.Bool.{cases_eq}
+use Rattle.std.proofs.lemmas.Bool.{cases_Bool, cases_eq}
+use Rattle.filter_verifier.specs.VerifiedView.{VerifiedView}
 use Rattle.netchange_core.specs.Best.{best, distance}
 use Rattle.netchange_core.specs.FilteredDistance.{filtered_distance}
-use Rattle.netchange_core.specs.declared.reply.Via.{Via}
+use Rattle.netchange_core.specs.OpeningView.{OpeningView}
 use Rattle.routing_domain.proofs.Watching.{IsFar, far_distance, far_from, far_via}
 use Rattle.routing_domain.specs.Domain.{Domain, IsInOrder, topology as domain_topology}
 use Rattle.routing_domain.specs.Failures.{AreOneBelow, HappenAll, IsLoose, Loose, with_all, with_none}
@@ -14,16 +15,17 @@ use Rattle.routing_domain.specs.Phases.{Phases}
 use Rattle.routing_domain.specs.Rest.{Topology}
 use Rattle.routing_domain.specs.Ways.{GoesVia}
 use Rattle.domain_routes.specs.declared.best.Best.{Best}
-use Rattle.domain_routes.specs.declared.since.Since.{Since}
-use Rattle.domain_routes.specs.declared.since.Since.TheVariants as since
-use Rattle.domain_routes.specs.Edits.{linking}
+use Rattle.domain_routes.specs.Edits.{exporting, half_unfiltered, importing, linking, unfiltered}
 use Rattle.domain_routes.specs.OfDomain.{IsPlanOf}
-use Rattle.domain_routes.specs.PlanView.{IsPlan, PeerView, PlanView, is_linked, opening_of, peer}
+use Rattle.domain_routes.specs.PlanView.{HasPlaces, IsPlan, PeerView, PlanView, is_linked, opening_of, peer}
 use Rattle.domain_routes.specs.Routes.{AreRoutes, route_at}
-use Rattle.domain_routes.specs.Still.{HasFewerLinks, IsSince, after_link, is_one_way, is_other, least_below, lesser_of_two, loose_between, one_below}
+use Rattle.domain_routes.specs.Still.{BetweenView, HasFewerLinks, HasSameFilters, IsBetween, IsSince, StaysBetween, after_anew, after_filter, after_link}
+use Rattle.domain_routes.specs.Still.{after_links_below, is_none, is_other, is_unfiltered, least_below, lesser_of_two, loose_between, one_below, still_between, unchanged}
 use Rattle.domain_routes.specs.Topology.{toll, topology}
-use Rattle.domain_routes.proofs.Linking.{IsLink, cases_ends, linked_here, linked_there, linking_keeps}
+use Rattle.domain_routes.proofs.Filtering.{unfiltered_plan}
+use Rattle.domain_routes.proofs.Linking.{AreEnds, IsLink, cases_ends, linked_here, linked_there, linking_keeps, linking_plan}
 use Rattle.domain_routes.proofs.OfDomain.{AreAlike, alike, goes_alike, rest_alike, same_filtered_distance}
+use Rattle.domain_routes.proofs.Places.{cases_place, put_here, put_places, put_same, put_there}
 
 -- ---- the bound
 
@@ -90,17 +92,13 @@ module _ (size : ℕ) (a b : ℕ → ℕ) where
 never : {A : Type 0} → false ≡ true → A
 never h = absurd (let no : false ≡ true = h in cc)
 
-links_more : (p q : PlanView) (u w : ℕ) → IsLink q u w → HasFewerLinks q p → HasFewerLinks (linking true u w q) p
-links_more p q u w l f = record {
-  size = f.size;
-  prefixes = f.prefixes;
-  linked = λ x y h. ⊎_elim
-      (λ ends. linked_here q u w true l x y ends)
-      (λ other. linked_there q u w true l x y other ∙ f.linked x y h)
-      (cases_ends u w x y);
-  imports = λ x y. f.imports x y ∙ sym (linking_keeps (λ (c : PeerView). c.imports) (λ _ _. refl) q u w true l x y);
-  exports = λ x y. f.exports x y ∙ sym (linking_keeps (λ (c : PeerView). c.exports) (λ _ _. refl) q u w true l x y);
-}
+and_left : (a b : Bool) → (a && b) ≡ true → a ≡ true
+and_left true b h = refl
+and_left false b h = h
+
+and_right : (a b : Bool) → (a && b) ≡ true → b ≡ true
+and_right true b h = h
+and_right false b h = never h
 
 pub cuts_fewer : (p q : PlanView) (u w : ℕ) → IsLink q u w → HasFewerLinks p q → HasFewerLinks p (linking false u w q)
 cuts_fewer p q u w l f = record {
@@ -127,85 +125,331 @@ fewer_on p q r one next = record {
   exports = λ u w. next.exports u w ∙ one.exports u w;
 }
 
-pub since_link : (s : Since) (linked : Bool) (p q : PlanView) (u w : ℕ) → IsLink q u w → IsSince s p q → IsSince (after_link linked s) p (linking linked u w q)
-since_link since.Nothing true p q u w l is = links_more p q u w l (subst (λ x. HasFewerLinks q x) is (has_itself q))
-since_link since.Nothing false p q u w l is = cuts_fewer p q u w l (subst (λ x. HasFewerLinks x q) is (has_itself q))
-since_link since.Links true p q u w l is = links_more p q u w l is
-since_link since.Links false p q u w l is = tt
-since_link since.Cuts true p q u w l is = tt
-since_link since.Cuts false p q u w l is = cuts_fewer p q u w l is
-since_link since.Anything true p q u w l is = tt
-since_link since.Anything false p q u w l is = tt
+-- a plan that another became, which has the same links between all others than these, and the same filters
+record KeepsOthers (q r : PlanView) (u w : ℕ) : Type 0 where
+  size : q.size ≡ r.size
+  prefixes : q.prefixes ≡ r.prefixes
+  linked : (x y : ℕ) → (AreEnds u w x y → ⊥) → is_linked r x y ≡ is_linked q x y
+  imports : (x y : ℕ) → (peer r x y).imports ≡ (peer q x y).imports
+  exports : (x y : ℕ) → (peer r x y).exports ≡ (peer q x y).exports
+
+keeps_itself : (q : PlanView) (u w : ℕ) → KeepsOthers q q u w
+keeps_itself q u w = record { size = refl; prefixes = refl; linked = λ x y _. refl; imports = λ x y. refl; exports = λ x y. refl }
+
+linking_others : (q : PlanView) (u w : ℕ) (linked : Bool) → IsLink q u w → KeepsOthers q (linking linked u w q) u w
+linking_others q u w linked l = record {
+  size = refl;
+  prefixes = refl;
+  linked = λ x y other. linked_there q u w linked l x y other;
+  imports = λ x y. linking_keeps (λ (c : PeerView). c.imports) (λ _ _. refl) q u w linked l x y;
+  exports = λ x y. linking_keeps (λ (c : PeerView). c.exports) (λ _ _. refl) q u w linked l x y;
+}
+
+-- a link came and went
+module _ (b : BetweenView) (u w : ℕ) (greatest : IsLink b.most u w) (smallest : IsLink b.least u w) where
+  kept_imports : (x y : ℕ) → (peer (linking true u w b.most) x y).imports ≡ (peer b.most x y).imports
+  kept_imports x y = linking_keeps (λ (c : PeerView). c.imports) (λ _ _. refl) b.most u w true greatest x y
+
+  kept_exports : (x y : ℕ) → (peer (linking true u w b.most) x y).exports ≡ (peer b.most x y).exports
+  kept_exports x y = linking_keeps (λ (c : PeerView). c.exports) (λ _ _. refl) b.most u w true greatest x y
+
+  kept_none : (x y : ℕ) → is_unfiltered (linking true u w b.most) x y ≡ is_unfiltered b.most x y
+  kept_none x y = λ i. is_none (kept_imports x y i) && is_none (kept_exports y x i)
+
+  -- filters that may have been replaced still may
+  loose_more : (x y : ℕ) → (loose_between b).filters x y ≡ true → (loose_between (after_link u w b)).filters x y ≡ true
+  loose_more x y h = ⊎_elim
+      (λ ends.
+      (λ i. is_other (linked_here b.most u w true greatest x y ends i) (linked_here b.least u w false smallest x y ends i) && kept_none x y i)
+      ∙ and_right (is_other (is_linked b.most x y) (is_linked b.least x y)) (is_unfiltered b.most x y) h)
+      (λ other.
+      (λ i. is_other (linked_there b.most u w true greatest x y other i) (linked_there b.least u w false smallest x y other i) && kept_none x y i) ∙ h)
+      (cases_ends u w x y)
+
+  link_between : (q r : PlanView) → KeepsOthers q r u w → IsBetween b q → IsBetween (after_link u w b) r
+  link_between q r e s = record {
+    size = s.size ∙ e.size;
+    prefixes = s.prefixes ∙ e.prefixes;
+    more = λ x y h. ⊎_elim
+        (λ ends. linked_here b.most u w true greatest x y ends)
+        (λ other. linked_there b.most u w true greatest x y other ∙ s.more x y (sym (e.linked x y other) ∙ h))
+        (cases_ends u w x y);
+    fewer = λ x y h. ⊎_elim
+        (λ ends. never (sym (linked_here b.least u w false smallest x y ends) ∙ h))
+        (λ other. e.linked x y other ∙ s.fewer x y (sym (linked_there b.least u w false smallest x y other) ∙ h))
+        (cases_ends u w x y);
+    filters = λ x y. ⊎_elim
+        (λ loose. inl (loose_more x y loose))
+        (λ (same : HasSameFilters b.most q x y). inr (record {
+          imports = kept_imports x y ∙ same.imports ∙ sym (e.imports x y);
+          exports = kept_exports y x ∙ same.exports ∙ sym (e.exports y x);
+        }))
+        (s.filters x y);
+  }
+
+-- filters are off between two nodes
+module _ (p : PlanView) (u w : ℕ) (places : HasPlaces p) (from : u < p.size) (to : w < p.size) where
+  abbrev half : PlanView
+  half = half_unfiltered u w p
+
+  half_places : HasPlaces half
+  half_places = put_places p u w (record (peer p u w) { imports = None }) places from
+
+  off_linked : (x y : ℕ) → is_linked (unfiltered u w p) x y ≡ is_linked p x y
+  off_linked x y =
+      put_same (λ (c : PeerView). c.linked) half w u (record (peer half w u) { exports = None }) half_places to from refl x y
+      ∙ put_same (λ (c : PeerView). c.linked) p u w (record (peer p u w) { imports = None }) places from to refl x y
+
+  half_imports : (x y : ℕ) → (peer (unfiltered u w p) x y).imports ≡ (peer half x y).imports
+  half_imports x y = put_same (λ (c : PeerView). c.imports) half w u (record (peer half w u) { exports = None }) half_places to from refl x y
+
+  imports_off : (peer (unfiltered u w p) u w).imports ≡ None
+  imports_off = half_imports u w ∙ ap (λ (c : PeerView). c.imports) (put_here p u w (record (peer p u w) { imports = None }) places from to u w refl refl)
+
+  imports_there : (x y : ℕ) → (x ≡ u → y ≡ w → ⊥) → (peer (unfiltered u w p) x y).imports ≡ (peer p x y).imports
+  imports_there x y other =
+      half_imports x y ∙ ap (λ (c : PeerView). c.imports) (put_there p u w (record (peer p u w) { imports = None }) places from x y other)
+
+  exports_off : (peer (unfiltered u w p) w u).exports ≡ None
+  exports_off = ap (λ (c : PeerView). c.exports) (put_here half w u (record (peer half w u) { exports = None }) half_places to from w u refl refl)
+
+  exports_there : (x y : ℕ) → (x ≡ w → y ≡ u → ⊥) → (peer (unfiltered u w p) x y).exports ≡ (peer p x y).exports
+  exports_there x y other =
+      ap (λ (c : PeerView). c.exports) (put_there half w u (record (peer half w u) { exports = None }) half_places to x y other)
+      ∙ put_same (λ (c : PeerView). c.exports) p u w (record (peer p u w) { imports = None }) places from to refl x y
+
+-- a plan that another became, which has the same links, and the same filters but between these
+record KeepsOtherFilters (q r : PlanView) (u w : ℕ) : Type 0 where
+  size : q.size ≡ r.size
+  prefixes : q.prefixes ≡ r.prefixes
+  linked : (x y : ℕ) → is_linked r x y ≡ is_linked q x y
+  imports : (x y : ℕ) → (x ≡ u → y ≡ w → ⊥) → (peer r x y).imports ≡ (peer q x y).imports
+  exports : (x y : ℕ) → (x ≡ w → y ≡ u → ⊥) → (peer r x y).exports ≡ (peer q x y).exports
+
+keeps_all : (q : PlanView) (u w : ℕ) → KeepsOtherFilters q q u w
+keeps_all q u w = record { size = refl; prefixes = refl; linked = λ x y. refl; imports = λ x y _. refl; exports = λ x y _. refl }
+
+importing_others : (q : PlanView) (f : VerifiedView) (u w : ℕ) → HasPlaces q → u < q.size → w < q.size → KeepsOtherFilters q (importing f u w q) u w
+importing_others q f u w places from to = record {
+  size = refl;
+  prefixes = refl;
+  linked = λ x y. put_same (λ (c : PeerView). c.linked) q u w (record (peer q u w) { imports = Some f }) places from to refl x y;
+  imports = λ x y other. ap (λ (c : PeerView). c.imports) (put_there q u w (record (peer q u w) { imports = Some f }) places from x y other);
+  exports = λ x y _. put_same (λ (c : PeerView). c.exports) q u w (record (peer q u w) { imports = Some f }) places from to refl x y;
+}
+
+exporting_others : (q : PlanView) (f : VerifiedView) (u w : ℕ) → HasPlaces q → u < q.size → w < q.size → KeepsOtherFilters q (exporting f w u q) u w
+exporting_others q f u w places from to = record {
+  size = refl;
+  prefixes = refl;
+  linked = λ x y. put_same (λ (c : PeerView). c.linked) q w u (record (peer q w u) { exports = Some f }) places to from refl x y;
+  imports = λ x y _. put_same (λ (c : PeerView). c.imports) q w u (record (peer q w u) { exports = Some f }) places to from refl x y;
+  exports = λ x y other. ap (λ (c : PeerView). c.exports) (put_there q w u (record (peer q w u) { exports = Some f }) places to x y other);
+}
+
+module _ (b : BetweenView) (u w : ℕ) (places : HasPlaces b.most) (from : u < b.most.size) (to : w < b.most.size)
+    (linked : is_linked b.most u w ≡ true) (apart : is_linked b.least u w ≡ false) where
+  abbrev off : BetweenView
+  off = record { most = unfiltered u w b.most; least = b.least }
+
+  loose_here : (loose_between off).filters u w ≡ true
+  loose_here =
+      λ i. is_other ((off_linked b.most u w places from to u w ∙ linked) i) (apart i)
+      && (is_none (imports_off b.most u w places from to i) && is_none (exports_off b.most u w places from to i))
+
+  loose_at : (x y : ℕ) → x ≡ u → y ≡ w → (loose_between off).filters x y ≡ true
+  loose_at x y one other =
+      ap (λ (n : ℕ). (loose_between off).filters n y) one ∙ ap (λ (n : ℕ). (loose_between off).filters u n) other ∙ loose_here
+
+  loose_there : (x y : ℕ) → (x ≡ u → y ≡ w → ⊥) → (loose_between off).filters x y ≡ (loose_between b).filters x y
+  loose_there x y other =
+      λ i. is_other (off_linked b.most u w places from to x y i) (is_linked b.least x y)
+      && (is_none (imports_there b.most u w places from to x y other i) && is_none (exports_there b.most u w places from to y x (λ s t. other t s) i))
+
+  off_between : (q r : PlanView) → KeepsOtherFilters q r u w → IsBetween b q → IsBetween off r
+  off_between q r e s = record {
+    size = s.size ∙ e.size;
+    prefixes = s.prefixes ∙ e.prefixes;
+    more = λ x y h. off_linked b.most u w places from to x y ∙ s.more x y (sym (e.linked x y) ∙ h);
+    fewer = λ x y h. e.linked x y ∙ s.fewer x y h;
+    filters = λ x y. ⊎_elim
+        (λ (at : (x ≡ u) × (y ≡ w)). inl (loose_at x y (at.0) (at.1)))
+        (λ (other : x ≡ u → y ≡ w → ⊥). ⊎_elim
+        (λ loose. inl (loose_there x y other ∙ loose))
+        (λ (same : HasSameFilters b.most q x y). inr (record {
+          imports = imports_there b.most u w places from to x y other ∙ same.imports ∙ sym (e.imports x y other);
+          exports = exports_there b.most u w places from to y x (λ s t. other t s) ∙ same.exports ∙ sym (e.exports y x (λ s t. other t s));
+        }))
+        (s.filters x y))
+        (cases_place u w x y);
+  }
+
+-- ---- it stays between them
+
+pub begins_between : (p : PlanView) → IsPlan p → StaysBetween (unchanged p) p p
+begins_between p plan =
+    let here : IsBetween (unchanged p) p = record {
+      size = refl;
+      prefixes = refl;
+      more = λ x y h. h;
+      fewer = λ x y h. h;
+      filters = λ x y. inr (record { imports = refl; exports = refl });
+    } in
+    record { most = plan; least = plan; size = refl; since = record { between = here; least = has_itself p }; now = here }
+
+module _ (b : BetweenView) (p q : PlanView) (s : StaysBetween b p q) (u w : ℕ) (from : u < q.size) (to : w < q.size) (apart : u ≢ w) where
+  in_most : IsLink b.most u w
+  in_most = record { plan = s.most; from = omega (arith, from, s.now.size); to = omega (arith, to, s.now.size); apart = apart }
+
+  in_least : IsLink b.least u w
+  in_least = record {
+    plan = s.least;
+    from = omega (arith, from, s.now.size, s.size);
+    to = omega (arith, to, s.now.size, s.size);
+    apart = apart;
+  }
+
+  since_link : IsSince (after_link u w b) p
+  since_link = record {
+    between = link_between b u w in_most in_least p p (keeps_itself p u w) s.since.between;
+    least = cuts_fewer p b.least u w in_least s.since.least;
+  }
+
+  loosened : (r : PlanView) → KeepsOthers q r u w → StaysBetween (after_link u w b) p r
+  loosened r e = record {
+    most = linking_plan b.most u w true in_most;
+    least = linking_plan b.least u w false in_least;
+    size = s.size;
+    since = since_link;
+    now = link_between b u w in_most in_least q r e s.now;
+  }
+
+  pub link_stays : (linked : Bool) → IsPlan q → StaysBetween (after_link u w b) p (linking linked u w q)
+  link_stays linked plan = loosened (linking linked u w q) (linking_others q u w linked (record { plan = plan; from = from; to = to; apart = apart }))
+
+  pub flap_stays : StaysBetween (after_link u w b) p q
+  flap_stays = loosened q (keeps_itself q u w)
+
+  both_places : HasPlaces (linking true u w b.most)
+  both_places = (linking_plan b.most u w true in_most).places
+
+  off_stays : (r : PlanView) → KeepsOtherFilters q r u w → StaysBetween (after_filter u w b) p r
+  off_stays r e =
+      let linked : is_linked (linking true u w b.most) u w ≡ true = linked_here b.most u w true in_most u w (inl (refl, refl)) in
+      let unlinked : is_linked (linking false u w b.least) u w ≡ false = linked_here b.least u w false in_least u w (inl (refl, refl)) in
+      record {
+        most = unfiltered_plan (linking true u w b.most) u w (linking_plan b.most u w true in_most) in_most.from in_most.to;
+        least = linking_plan b.least u w false in_least;
+        size = s.size;
+        since = record {
+          between = off_between (after_link u w b) u w both_places in_most.from in_most.to linked unlinked p p (keeps_all p u w) since_link.between;
+          least = since_link.least;
+        };
+        now = off_between (after_link u w b) u w both_places in_most.from in_most.to linked unlinked q r e flap_stays.now;
+      }
+
+  pub import_stays : (f : VerifiedView) → IsPlan q → StaysBetween (after_filter u w b) p (importing f u w q)
+  import_stays f plan = off_stays (importing f u w q) (importing_others q f u w plan.places from to)
+
+  pub export_stays : (f : VerifiedView) → IsPlan q → StaysBetween (after_filter u w b) p (exporting f w u q)
+  export_stays f plan = off_stays (exporting f w u q) (exporting_others q f u w plan.places from to)
+
+module _ (p q : PlanView) (plan : IsPlan q) (u : ℕ) (from : u < q.size) where
+  -- no node is linked to itself
+  other_node : (w : ℕ) → is_linked q u w ≡ true → u ≢ w
+  other_node w linked same = never (sym (plan.apart u) ∙ ap (λ (n : ℕ). is_linked q u n) same ∙ linked)
+
+  one_link : (b : BetweenView) → StaysBetween b p q → (w : ℕ) → w < q.size → (t : Bool) → is_linked q u w ≡ t →
+      StaysBetween (if t then after_link u w b else b) p q
+  one_link b s w to true linked = flap_stays b p q s u w from to (other_node w linked)
+  one_link b s w to false linked = s
+
+  links_stay : (b : BetweenView) → StaysBetween b p q → (n : ℕ) → n ≤ q.size → StaysBetween (after_links_below n q u b) p q
+  links_stay b s zero within = s
+  links_stay b s (suc n) within =
+      one_link (after_links_below n q u b) (links_stay b s n (omega (arith, within))) n (omega (arith, within)) (is_linked q u n) refl
+
+  pub anew_stays : (b : BetweenView) → StaysBetween b p q → StaysBetween (after_anew q u b) p q
+  anew_stays b s = links_stay b s q.size (omega arith)
+
+-- one number more
+pub links_more : (n : ℕ) (q : PlanView) (u : ℕ) (b : BetweenView) → after_links_below (n + 1) q u b
+    ≡ (if is_linked q u n then after_link u n (after_links_below n q u b) else after_links_below n q u b)
+links_more n q u b = ap (λ k. after_links_below k q u b) (let more : n + 1 ≡ suc n = omega arith in more)
 
 -- ---- topologies
 
--- where one of two is true if the other is, it is what it is between them with all, and the other with none
-with_more : (x y : Bool) → (x ≡ true → y ≡ true) → y ≡ (if is_other x y then true else x)
-with_more true true h = refl
-with_more true false h = never (h refl)
-with_more false true h = refl
-with_more false false h = refl
+-- what lies between is the greater where the lesser is not, and both where they are one
+between_all : (m l x : Bool) → (x ≡ true → m ≡ true) → (l ≡ true → x ≡ true) → m ≡ (if is_other m l then true else x)
+between_all true true true g f = refl
+between_all true true false g f = never (f refl)
+between_all true false x g f = refl
+between_all false true x g f = never (g (f refl))
+between_all false false true g f = g refl
+between_all false false false g f = refl
 
-with_the_same : (x y : Bool) → (x ≡ true → y ≡ true) → x ≡ (if is_other x y then false else x)
-with_the_same true true h = refl
-with_the_same true false h = never (h refl)
-with_the_same false true h = refl
-with_the_same false false h = refl
+between_none : (m l x : Bool) → (x ≡ true → m ≡ true) → (l ≡ true → x ≡ true) → l ≡ (if is_other m l then false else x)
+between_none true true true g f = refl
+between_none true true false g f = sym (f refl)
+between_none true false x g f = refl
+between_none false true x g f = never (g (f refl))
+between_none false false true g f = g refl
+between_none false false false g f = refl
 
-all_the_same : (x y : Bool) → (y ≡ true → x ≡ true) → x ≡ (if is_other x y then true else x)
-all_the_same true true h = refl
-all_the_same true false h = refl
-all_the_same false true h = never (h refl)
-all_the_same false false h = refl
+-- the same filters make the same toll
+toll_at : (p q : PlanView) → p.size ≡ q.size → p.prefixes ≡ q.prefixes → (v u w x : ℕ) → HasSameFilters p q u w → toll p v u w x ≡ toll q v u w x
+toll_at p q size prefixes v u w x f =
+    same_filtered_distance (opening_of p) (opening_of q) size prefixes (peer p u w).imports v
+    (filtered_distance (opening_of p) (peer p w u).exports v x)
+    ∙ ap (λ y. filtered_distance (opening_of q) (peer p u w).imports v y)
+    (same_filtered_distance (opening_of p) (opening_of q) size prefixes (peer p w u).exports v x)
+    ∙ ap (λ g. filtered_distance (opening_of q) g v (filtered_distance (opening_of q) (peer p w u).exports v x)) f.imports
+    ∙ ap (λ g. filtered_distance (opening_of q) (peer q u w).imports v (filtered_distance (opening_of q) g v x)) f.exports
 
-with_less : (x y : Bool) → (y ≡ true → x ≡ true) → y ≡ (if is_other x y then false else x)
-with_less true true h = refl
-with_less true false h = refl
-with_less false true h = never (h refl)
-with_less false false h = refl
-
--- the same filters make the same tolls
 pub same_toll : (p q : PlanView) → HasFewerLinks p q → (v u w x : ℕ) → toll q v u w x ≡ toll p v u w x
-same_toll p q f v u w x =
-    same_filtered_distance (opening_of q) (opening_of p) f.size f.prefixes (peer q u w).imports v
-    (filtered_distance (opening_of q) (peer q w u).exports v x)
-    ∙ ap (λ y. filtered_distance (opening_of p) (peer q u w).imports v y)
-    (same_filtered_distance (opening_of q) (opening_of p) f.size f.prefixes (peer q w u).exports v x)
-    ∙ ap (λ g. filtered_distance (opening_of p) g v (filtered_distance (opening_of p) (peer q w u).exports v x)) (f.imports u w)
-    ∙ ap (λ g. filtered_distance (opening_of p) (peer p u w).imports v (filtered_distance (opening_of p) g v x)) (f.exports w u)
+same_toll p q f v u w x = toll_at q p f.size f.prefixes v u w x (record { imports = f.imports u w; exports = f.exports w u })
 
-module _ (p q : PlanView) (v : ℕ) where
+-- without filters a distance stays
+passes : (o : OpeningView) (f : Option VerifiedView) (v d : ℕ) → is_none f ≡ true → filtered_distance o f v d ≡ d
+unfolding filtered_distance
+passes o None v d h = refl
+passes o (Some f) v d h = never h
+
+no_toll : (p : PlanView) (v u w x : ℕ) → is_unfiltered p u w ≡ true → toll p v u w x ≡ x
+no_toll p v u w x h =
+    passes (opening_of p) (peer p u w).imports v (filtered_distance (opening_of p) (peer p w u).exports v x)
+    (and_left (is_none (peer p u w).imports) (is_none (peer p w u).exports) h)
+    ∙ passes (opening_of p) (peer p w u).exports v x (and_right (is_none (peer p u w).imports) (is_none (peer p w u).exports) h)
+
+module _ (b : BetweenView) (p : PlanView) (s : IsSince b p) (v : ℕ) where
   abbrev loose : Loose
-  loose = loose_between p q
+  loose = loose_between b
 
-  -- links were cut
-  cut_all : HasFewerLinks p q → AreAlike (topology p v) (with_all (topology p v) loose)
-  cut_all f = record {
-    size = refl;
-    linked = λ u w _ _. all_the_same (is_linked p u w) (is_linked q u w) (f.linked u w);
-    toll = λ u w x _ _. refl;
+  -- where filters may have been replaced, the greatest has none
+  loose_toll : (u w x : ℕ) → loose.filters u w ≡ true → toll b.most v u w x ≡ (if loose.filters u w then x else toll p v u w x)
+  loose_toll u w x h =
+      no_toll b.most v u w x (and_right (is_other (is_linked b.most u w) (is_linked b.least u w)) (is_unfiltered b.most u w) h)
+      ∙ ap (λ (t : Bool). if t then x else toll p v u w x) (sym h)
+
+  kept_toll : (u w x : ℕ) → loose.filters u w ≡ false → toll b.most v u w x ≡ (if loose.filters u w then x else toll p v u w x)
+  kept_toll u w x h = ⊎_elim
+      (λ (is : loose.filters u w ≡ true). never (sym h ∙ is))
+      (λ (same : HasSameFilters b.most p u w).
+      toll_at b.most p s.between.size s.between.prefixes v u w x same ∙ ap (λ (t : Bool). if t then x else toll p v u w x) (sym h))
+      (s.between.filters u w)
+
+  top : AreAlike (topology b.most v) (with_all (topology p v) loose)
+  top = record {
+    size = s.between.size;
+    linked = λ u w _ _. between_all (is_linked b.most u w) (is_linked b.least u w) (is_linked p u w) (s.between.more u w) (s.between.fewer u w);
+    toll = λ u w x _ _. ⊎_elim (λ is. loose_toll u w x is) (λ isnt. kept_toll u w x isnt) (cases_Bool (loose.filters u w));
   }
 
-  cut_none : HasFewerLinks p q → AreAlike (topology q v) (with_none (topology p v) loose)
-  cut_none f = record {
-    size = f.size;
-    linked = λ u w _ _. with_less (is_linked p u w) (is_linked q u w) (f.linked u w);
-    toll = λ u w x _ _. same_toll p q f v u w x;
-  }
-
-  -- links were made
-  made_all : HasFewerLinks q p → AreAlike (topology q v) (with_all (topology p v) loose)
-  made_all f = record {
-    size = sym f.size;
-    linked = λ u w _ _. with_more (is_linked p u w) (is_linked q u w) (f.linked u w);
-    toll = λ u w x _ _. sym (same_toll q p f v u w x);
-  }
-
-  made_none : HasFewerLinks q p → AreAlike (topology p v) (with_none (topology p v) loose)
-  made_none f = record {
-    size = refl;
-    linked = λ u w _ _. with_the_same (is_linked p u w) (is_linked q u w) (f.linked u w);
-    toll = λ u w x _ _. refl;
+  bottom : AreAlike (topology b.least v) (with_none (topology p v) loose)
+  bottom = record {
+    size = s.least.size;
+    linked = λ u w _ _. between_none (is_linked b.most u w) (is_linked b.least u w) (is_linked p u w) (s.between.more u w) (s.between.fewer u w);
+    toll = λ u w x _ _. same_toll p b.least s.least v u w x;
   }
 
 -- so it is in a domain with the links and filters of a plan
@@ -230,116 +474,72 @@ alike_on m n o one next = record {
   toll = λ u w x short within. one.toll u w x short within ∙ next.toll u w x (omega (arith, short, one.size)) (omega (arith, within, one.size));
 }
 
-is_loose : (p q : PlanView) → IsPlan p → IsPlan q → IsLoose (loose_between p q)
-is_loose p q plan later = record {
-  back = λ u w h. (λ i. is_other (plan.both_ways w u i) (later.both_ways w u i)) ∙ h;
-  within = λ u w h. never h;
+is_loose : (b : BetweenView) → IsPlan b.most → IsPlan b.least → IsLoose (loose_between b)
+is_loose b most least = record {
+  back = λ u w h. (λ i. is_other (most.both_ways w u i) (least.both_ways w u i)) ∙ h;
+  within = λ u w h. and_left (is_other (is_linked b.most u w) (is_linked b.least u w)) (is_unfiltered b.most u w) h;
 }
 
 -- ---- what stands still
 
-abbrev dist_of : PlanView → List Best → ℕ → ℕ
-dist_of p routes u = (route_at p.size routes u).dist
-
--- Two plans, their routes to a destination, a network with the links of the first that was left alone, and what happened to it.
-pub record Happened (p q : PlanView) (v : ℕ) (a b : List Best) (n m : Network) : Type 0 where
-  pub plan : IsPlan p
-  pub later : IsPlan q
+-- Two plans between which a plan stayed, their routes to a destination, a network with the links and filters of that plan as it was, which was left
+-- alone, and what happened to it.
+pub record Happened (b : BetweenView) (p : PlanView) (v : ℕ) (most least : List Best) (n m : Network) : Type 0 where
+  pub greatest : IsPlan b.most
+  pub smallest : IsPlan b.least
+  pub since : IsSince b p
   pub there : v < p.size
-  pub before : AreRoutes (topology p v) v a
-  pub now : AreRoutes (topology q v) v b
+  pub with_all : AreRoutes (topology b.most v) v most
+  pub with_none : AreRoutes (topology b.least v) v least
   pub orderly : IsOrderly n
   pub whole : IsWhole n
   pub of_plan : IsPlanOf n.domain p
   pub start : Domain
   pub in_order : IsInOrder start
-  pub phases : Phases (one_below p.size (dist_of p a) (dist_of q b)) start n.domain
+  pub phases : Phases (still_between b most least) start n.domain
   pub count : ℕ
-  pub happen : HappenAll count (loose_between p q) n m
+  pub happen : HappenAll count (loose_between b) n m
 
--- the bound of both routings
-abbrev pub bound_of : PlanView → PlanView → List Best → List Best → ℕ
-bound_of p q a b = one_below p.size (dist_of p a) (dist_of q b)
+module _ (b : BetweenView) (p : PlanView) (v : ℕ) (most least : List Best) (n m : Network) (h : Happened b p v most least n m) where
+  abbrev pub dist_all : ℕ → ℕ
+  dist_all u = (route_at b.most.size most u).dist
 
--- one of both plans has all links, and the other none
-module _ (p q : PlanView) (v : ℕ) (a b : List Best) (n m : Network) (h : Happened p q v a b n m) (t l : PlanView) (all none : List Best)
-    (top : AreAlike (topology t v) (with_all (topology p v) (loose_between p q)))
-    (bottom : AreAlike (topology l v) (with_none (topology p v) (loose_between p q)))
-    (with_them : AreRoutes (topology t v) v all) (without : AreRoutes (topology l v) v none)
-    (agree : AreOneBelow p.size (bound_of p q a b) (dist_of t all) (dist_of l none)) where
-  top_domain : AreAlike (topology t v) (with_all (domain_topology n.domain v) (loose_between p q))
-  top_domain = alike_on (topology t v) (with_all (topology p v) (loose_between p q)) (with_all (domain_topology n.domain v) (loose_between p q)) top
-      (all_alike (topology p v) (domain_topology n.domain v) (loose_between p q) (alike n.domain p h.of_plan v))
+  abbrev pub dist_none : ℕ → ℕ
+  dist_none u = (route_at b.least.size least u).dist
 
-  bottom_domain : AreAlike (topology l v) (with_none (domain_topology n.domain v) (loose_between p q))
-  bottom_domain = alike_on (topology l v) (with_none (topology p v) (loose_between p q)) (with_none (domain_topology n.domain v) (loose_between p q)) bottom
-      (none_alike (topology p v) (domain_topology n.domain v) (loose_between p q) (alike n.domain p h.of_plan v))
+  top_domain : AreAlike (topology b.most v) (with_all (domain_topology n.domain v) (loose_between b))
+  top_domain = alike_on (topology b.most v) (with_all (topology p v) (loose_between b)) (with_all (domain_topology n.domain v) (loose_between b))
+      (top b p h.since v) (all_alike (topology p v) (domain_topology n.domain v) (loose_between b) (alike n.domain p h.of_plan v))
 
-  far : IsFar n.domain v (bound_of p q a b) (loose_between p q) (dist_of t all) (dist_of l none) m.domain
-  far = far_from n m (bound_of p q a b) h.start (loose_between p q) v (dist_of t all) (dist_of l none) h.orderly h.whole
-      (let within : bound_of p q a b ≤ p.size = within_size p.size (dist_of p a) (dist_of q b) in omega (arith, within, h.of_plan.size)) h.in_order h.phases (is_loose p q h.plan h.later)
-      (omega (arith, h.there, h.of_plan.size))
-      (rest_alike (topology t v) (with_all (domain_topology n.domain v) (loose_between p q)) top_domain v (dist_of t all) with_them.rest)
-      (rest_alike (topology l v) (with_none (domain_topology n.domain v) (loose_between p q)) bottom_domain v (dist_of l none) without.rest)
-      (λ u short. agree u (omega (arith, short, h.of_plan.size))) h.count h.happen
+  bottom_domain : AreAlike (topology b.least v) (with_none (domain_topology n.domain v) (loose_between b))
+  bottom_domain = alike_on (topology b.least v) (with_none (topology p v) (loose_between b)) (with_none (domain_topology n.domain v) (loose_between b))
+      (bottom b p h.since v) (none_alike (topology p v) (domain_topology n.domain v) (loose_between b) (alike n.domain p h.of_plan v))
 
-  still_distance : (u : ℕ) → u < p.size → dist_of t all u < bound_of p q a b → distance (m.domain.router u) v ≡ dist_of t all u
-  still_distance u short near =
-      far_distance n.domain v (bound_of p q a b) (loose_between p q) (dist_of t all) (dist_of l none) m.domain far u
+  same_size : b.most.size ≡ n.domain.size
+  same_size = h.since.between.size ∙ sym h.of_plan.size
+
+  far : IsFar n.domain v (still_between b most least) (loose_between b) dist_all dist_none m.domain
+  far = far_from n m (still_between b most least) h.start (loose_between b) v dist_all dist_none h.orderly h.whole
+      (let within : still_between b most least ≤ b.most.size = within_size b.most.size dist_all dist_none in omega (arith, within, same_size))
+      h.in_order h.phases (is_loose b h.greatest h.smallest) (omega (arith, h.there, h.of_plan.size))
+      (rest_alike (topology b.most v) (with_all (domain_topology n.domain v) (loose_between b)) top_domain v dist_all h.with_all.rest)
+      (rest_alike (topology b.least v) (with_none (domain_topology n.domain v) (loose_between b)) bottom_domain v dist_none h.with_none.rest)
+      (λ u short. are_one b.most.size dist_all dist_none u (omega (arith, short, same_size))) h.count h.happen
+
+  pub distance_stands : (u : ℕ) → u < p.size → dist_all u < still_between b most least → distance (m.domain.router u) v ≡ dist_all u
+  distance_stands u short near =
+      far_distance n.domain v (still_between b most least) (loose_between b) dist_all dist_none m.domain far u
       (omega (arith, short, h.of_plan.size)) near
 
-  still_via : (u : ℕ) → u < p.size → dist_of t all u < bound_of p q a b → (via : Via) → (route_at t.size all u).via ≡ via →
-      (route_at l.size none u).via ≡ via → (best (m.domain.router u) v).via ≡ via
-  still_via u short near via one other =
-      let top_size : t.size ≡ p.size = top.size in
-      let bottom_size : l.size ≡ p.size = bottom.size in
-      let in_top : u < t.size = omega (arith, short, top_size) in
-      let in_bottom : u < l.size = omega (arith, short, bottom_size) in
-      far_via n.domain v (bound_of p q a b) (loose_between p q) (dist_of t all) (dist_of l none) m.domain far u
-      (omega (arith, short, h.of_plan.size)) near via
-      (goes_alike (topology t v) (with_all (domain_topology n.domain v) (loose_between p q)) top_domain v (dist_of t all) u in_top via
-      (subst (GoesVia (topology t v) v (dist_of t all) u) one (with_them.vias u in_top)))
-      (goes_alike (topology l v) (with_none (domain_topology n.domain v) (loose_between p q)) bottom_domain v (dist_of l none) u in_bottom via
-      (subst (GoesVia (topology l v) v (dist_of l none) u) other (without.vias u in_bottom)))
-
-module _ (p q : PlanView) (v : ℕ) (a b : List Best) (n m : Network) (h : Happened p q v a b n m) (u : ℕ) (short : u < p.size)
-    (near : dist_of q b u < bound_of p q a b) where
-  -- below the bound both routings have one distance
-  same_dist : dist_of p a u ≡ dist_of q b u
-  same_dist = ⊎_elim
-      (λ (is : dist_of q b u ≡ dist_of p a u). sym is)
-      (λ (far : (bound_of p q a b ≤ dist_of p a u) × (bound_of p q a b ≤ dist_of q b u)). absurd (omega (arith, near, far.1)))
-      (are_one p.size (dist_of p a) (dist_of q b) u short)
-
-  cut_distance : HasFewerLinks p q → distance (m.domain.router u) v ≡ dist_of q b u
-  cut_distance f =
-      still_distance p q v a b n m h p q a b (cut_all p q v f) (cut_none p q v f) h.before h.now (are_one p.size (dist_of p a) (dist_of q b)) u short
-      (omega (arith, near, same_dist)) ∙ same_dist
-
-  made_distance : HasFewerLinks q p → distance (m.domain.router u) v ≡ dist_of q b u
-  made_distance f =
-      still_distance p q v a b n m h q p b a (made_all p q v f) (made_none p q v f) h.now h.before (are_one_back p.size (dist_of p a) (dist_of q b))
-      u short near
-
-  cut_via : HasFewerLinks p q → (route_at p.size a u).via ≡ (route_at q.size b u).via → (best (m.domain.router u) v).via ≡ (route_at q.size b u).via
-  cut_via f same =
-      still_via p q v a b n m h p q a b (cut_all p q v f) (cut_none p q v f) h.before h.now (are_one p.size (dist_of p a) (dist_of q b)) u short
-      (omega (arith, near, same_dist)) (route_at q.size b u).via same refl
-
-  made_via : HasFewerLinks q p → (route_at p.size a u).via ≡ (route_at q.size b u).via → (best (m.domain.router u) v).via ≡ (route_at q.size b u).via
-  made_via f same =
-      still_via p q v a b n m h q p b a (made_all p q v f) (made_none p q v f) h.now h.before (are_one_back p.size (dist_of p a) (dist_of q b)) u short
-      near (route_at q.size b u).via refl same
-
-  pub distance_stands : (s : Since) → is_one_way s ≡ true → IsSince s p q → distance (m.domain.router u) v ≡ dist_of q b u
-  distance_stands since.Nothing one is = cut_distance (subst (λ x. HasFewerLinks x q) is (has_itself q))
-  distance_stands since.Links one is = made_distance is
-  distance_stands since.Cuts one is = cut_distance is
-  distance_stands since.Anything one is = never one
-
-  pub via_stands : (s : Since) → is_one_way s ≡ true → IsSince s p q → (route_at p.size a u).via ≡ (route_at q.size b u).via →
-      (best (m.domain.router u) v).via ≡ (route_at q.size b u).via
-  via_stands since.Nothing one is same = cut_via (subst (λ x. HasFewerLinks x q) is (has_itself q)) same
-  via_stands since.Links one is same = made_via is same
-  via_stands since.Cuts one is same = cut_via is same
-  via_stands since.Anything one is same = never one
+  pub via_stands : (u : ℕ) → u < p.size → dist_all u < still_between b most least →
+      (route_at b.most.size most u).via ≡ (route_at b.least.size least u).via → (best (m.domain.router u) v).via ≡ (route_at b.most.size most u).via
+  via_stands u short near same =
+      let in_top : u < b.most.size = omega (arith, short, h.since.between.size) in
+      let in_bottom : u < b.least.size = omega (arith, short, h.since.least.size) in
+      far_via n.domain v (still_between b most least) (loose_between b) dist_all dist_none m.domain far u
+      (omega (arith, short, h.of_plan.size)) near (route_at b.most.size most u).via
+      (goes_alike (topology b.most v) (with_all (domain_topology n.domain v) (loose_between b)) top_domain v dist_all u in_top
+      (route_at b.most.size most u).via (h.with_all.vias u in_top))
+      (goes_alike (topology b.least v) (with_none (domain_topology n.domain v) (loose_between b)) bottom_domain v dist_none u in_bottom
+      (route_at b.most.size most u).via
+      (subst (GoesVia (topology b.least v) v dist_none u) (sym same) (h.with_none.vias u in_bottom)))

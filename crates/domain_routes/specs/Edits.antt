@@ -1,5 +1,5 @@
 -- Changes of a plan.
-use Rattle.std.specs.Prelude.{ℕ, Bool, Some, List, [], length, replicate, slice_index_or, slice_set}
+use Rattle.std.specs.Prelude.{ℕ, Bool, None, Some, List, [], length, replicate, slice_index_or, slice_set}
 use Rattle.filter_verifier.specs.VerifiedView.{VerifiedView}
 use Rattle.domain_routes.specs.PlanView.{PeerView, PlanView, peer, stranger}
 
@@ -32,3 +32,10 @@ importing f u w p = put u w (record (peer p u w) { imports = Some f }) p
 
 abbrev pub exporting : VerifiedView → ℕ → ℕ → PlanView → PlanView
 exporting f u w p = put u w (record (peer p u w) { exports = Some f }) p
+
+-- a plan where what the first node receives from the second passes no filter: first none of the first, then none of the second
+abbrev pub half_unfiltered : ℕ → ℕ → PlanView → PlanView
+half_unfiltered u w p = put u w (record (peer p u w) { imports = None }) p
+
+abbrev pub unfiltered : ℕ → ℕ → PlanView → PlanView
+unfiltered u w p = put w u (record (peer (half_unfiltered u w p) w u) { exports = None }) (half_unfiltered u w p)

@@ -7,9 +7,8 @@ ghost use Rattle.domain_routes.specs.OfDomain.{IsPlanOf};
 ghost use Rattle.domain_routes.specs.PlanView.{IsPlan, PeerView, PlanView, is_linked, peer};
 ghost use Rattle.domain_routes.specs.Reach.{greatest, phases_to_rest};
 ghost use Rattle.domain_routes.specs.Routes.{AreRoutes, route_at};
-ghost use Rattle.domain_routes.specs.Still.{IsSince, after_link, is_one_way, loose_between, one_below};
-ghost use Rattle.domain_routes.specs.declared.since.Since.{Since};
-ghost use Rattle.domain_routes.specs.declared.since.Since.TheVariants as since;
+ghost use Rattle.domain_routes.specs.Still.{BetweenView, IsSince, StaysBetween, after_anew, after_filter, after_link, loose_between, one_below};
+ghost use Rattle.domain_routes.specs.Still.{still_between, unchanged};
 ghost use Rattle.netchange_core.specs.Best.{best, distance};
 ghost use Rattle.domain_routes.specs.Topology.{topology};
 ghost use Rattle.std.proofs.Common.{Global};
@@ -85,31 +84,33 @@ pub fn reach_bounds_phases()
         Phases (phases_to_rest p.size (λ v u. (route_at p.size (all v) u).dist)) d e → IsQuiet e }
 {}
 
-/// Of a plan to which links were made alone, or cut alone, it stays known that it has all links of what it was, or that this had all of
-/// its links; whatever else is done to a plan, nothing is known.
-pub fn links_change_one_way()
-    ensures begins { (p : PlanView) → IsSince since.Nothing p p }
-    ensures link { (s : Since) → (linked : Bool) → (p q : PlanView) → (u w : ℕ) → IsPlan q → u < q.size → w < q.size → u ≢ w → IsSince s p q →
-        IsSince (after_link linked s) p (linking linked u w q) }
+/// A plan stays between two others, whatever is done to it: links are made and cut, filters are set, and nodes begin anew; and so does the plan as it
+/// was at first.
+pub fn plans_stay_between()
+    ensures begins { (p : PlanView) → IsPlan p → StaysBetween (unchanged p) p p }
+    ensures link { (b : BetweenView) → (linked : Bool) → (p q : PlanView) → (u w : ℕ) → StaysBetween b p q → IsPlan q → u < q.size → w < q.size → u ≢ w →
+        StaysBetween (after_link u w b) p (linking linked u w q) }
+    ensures import { (b : BetweenView) → (f : VerifiedView) → (p q : PlanView) → (u w : ℕ) → StaysBetween b p q → IsPlan q → u < q.size → w < q.size → u ≢ w →
+        StaysBetween (after_filter u w b) p (importing f u w q) }
+    ensures export { (b : BetweenView) → (f : VerifiedView) → (p q : PlanView) → (u w : ℕ) → StaysBetween b p q → IsPlan q → u < q.size → w < q.size → u ≢ w →
+        StaysBetween (after_filter u w b) p (exporting f w u q) }
+    ensures anew { (b : BetweenView) → (p q : PlanView) → (u : ℕ) → StaysBetween b p q → IsPlan q → u < q.size → StaysBetween (after_anew q u b) p q }
 {}
 
-/// Where links come and go, what is near stands still. Of a plan and what it is once links were made alone, or cut alone, take the routes to
-/// a destination, before and after. There is a greatest bound below which their distances are one. A network with the links and filters of
-/// the plan as it was, that was left alone for as many phases, keeps each distance below the bound, whichever of these links come up and go
-/// down from then on, at either end, and whatever messages are lost; and each next hop there that is the same before and after.
+/// What is near stands still. Take the routes to a destination in the two plans between which a plan stayed since a moment. There is a greatest bound
+/// below which their distances are one. A network with the links and filters of the plan as it was, that was left alone for as many phases, keeps each
+/// distance below the bound, whichever links come up and go down from then on that the greatest plan alone has, at either end, whichever filters are
+/// replaced on those of them on which that one has none, and whatever messages are lost; and each next hop there that both plans have.
 pub fn what_is_near_stands_still()
     ensures one { (size : ℕ) → (a b : ℕ → ℕ) → AreOneBelow size (one_below size a b) a b }
     ensures greatest { (size k : ℕ) → (a b : ℕ → ℕ) → k ≤ size → AreOneBelow size k a b → k ≤ one_below size a b }
-    ensures distance { (s : Since) → (p q : PlanView) → is_one_way s ≡ true → IsSince s p q → IsPlan p → IsPlan q → (v : ℕ) → v < p.size → (a b : List Best) →
-        AreRoutes (topology p v) v a → AreRoutes (topology q v) v b → (n m : Network) → IsOrderly n → IsWhole n → IsPlanOf n.domain p → (d : Domain) → IsInOrder d →
-        Phases (one_below p.size (λ u. (route_at p.size a u).dist) (λ u. (route_at q.size b u).dist)) d n.domain →
-        (j : ℕ) → HappenAll j (loose_between p q) n m → (u : ℕ) → u < p.size →
-        (route_at q.size b u).dist < one_below p.size (λ u. (route_at p.size a u).dist) (λ u. (route_at q.size b u).dist) →
-        distance (m.domain.router u) v ≡ (route_at q.size b u).dist }
-    ensures via { (s : Since) → (p q : PlanView) → is_one_way s ≡ true → IsSince s p q → IsPlan p → IsPlan q → (v : ℕ) → v < p.size → (a b : List Best) →
-        AreRoutes (topology p v) v a → AreRoutes (topology q v) v b → (n m : Network) → IsOrderly n → IsWhole n → IsPlanOf n.domain p → (d : Domain) → IsInOrder d →
-        Phases (one_below p.size (λ u. (route_at p.size a u).dist) (λ u. (route_at q.size b u).dist)) d n.domain →
-        (j : ℕ) → HappenAll j (loose_between p q) n m → (u : ℕ) → u < p.size →
-        (route_at q.size b u).dist < one_below p.size (λ u. (route_at p.size a u).dist) (λ u. (route_at q.size b u).dist) →
-        (route_at p.size a u).via ≡ (route_at q.size b u).via → (best (m.domain.router u) v).via ≡ (route_at q.size b u).via }
+    ensures distance { (b : BetweenView) → (p : PlanView) → IsPlan b.most → IsPlan b.least → IsSince b p → (v : ℕ) → v < p.size → (most least : List Best) →
+        AreRoutes (topology b.most v) v most → AreRoutes (topology b.least v) v least → (n m : Network) → IsOrderly n → IsWhole n → IsPlanOf n.domain p →
+        (d : Domain) → IsInOrder d → Phases (still_between b most least) d n.domain → (j : ℕ) → HappenAll j (loose_between b) n m → (u : ℕ) → u < p.size →
+        (route_at b.most.size most u).dist < still_between b most least → distance (m.domain.router u) v ≡ (route_at b.most.size most u).dist }
+    ensures via { (b : BetweenView) → (p : PlanView) → IsPlan b.most → IsPlan b.least → IsSince b p → (v : ℕ) → v < p.size → (most least : List Best) →
+        AreRoutes (topology b.most v) v most → AreRoutes (topology b.least v) v least → (n m : Network) → IsOrderly n → IsWhole n → IsPlanOf n.domain p →
+        (d : Domain) → IsInOrder d → Phases (still_between b most least) d n.domain → (j : ℕ) → HappenAll j (loose_between b) n m → (u : ℕ) → u < p.size →
+        (route_at b.most.size most u).dist < still_between b most least → (route_at b.most.size most u).via ≡ (route_at b.least.size least u).via →
+        (best (m.domain.router u) v).via ≡ (route_at b.most.size most u).via }
 {}

@@ -1,10 +1,11 @@
 //! What a plan has between a node and another.
 
-ghost use Rattle.std.specs.Prelude.{◌≡◌, None, Some};
+ghost use Rattle.std.specs.Prelude.{◌≡◌, IfOk, None, Some};
 ghost use Rattle.netchange_core.specs.Kept.{filter_of};
 ghost use Rattle.domain_routes.specs.PlanView.{stranger};
 
 use filter_verifier::Verified;
+use std::alloc::AllocError;
 use std::marker::Model;
 use std::sync::Arc;
 
@@ -28,7 +29,28 @@ impl Model for Peer {
     ghost view = { λ p. record { linked = p.linked; imports = filter_of p.imports; exports = filter_of p.exports } };
 }
 
+/// The same filter, or none.
+fn copy_filter(filter: &Option<Arc<Verified>>) -> Result<Option<Arc<Verified>>, AllocError>
+    ensures { IfOk result (λ f. filter_of f ≡ filter_of filter.now) }
+{
+    match filter {
+        Some(filter) => Ok(Some(Arc::try_clone(filter)?)),
+        None => Ok(None),
+    }
+}
+
 impl Peer {
+    /// The same again.
+    pub(crate) fn copy(&self) -> Result<Peer, AllocError>
+        ensures { IfOk result (λ p. p ≡ self.now) }
+    {
+        Ok(Peer {
+            linked: self.linked,
+            imports: copy_filter(&self.imports)?,
+            exports: copy_filter(&self.exports)?,
+        })
+    }
+
     /// A node without a link and without filters.
     pub(crate) fn stranger() -> Peer
         ensures { result ≡ stranger }
@@ -80,5 +102,18 @@ impl Peer {
         ensures { self.new ≡ record self.old { exports = Some filter.value } }
     {
         self.exports = Some(filter);
+    }
+    /// What the node tells passes no filter from now on.
+    pub(crate) fn drop_imports(&mut self)
+        ensures { self.new ≡ record self.old { imports = None } }
+    {
+        self.imports = None;
+    }
+
+    /// What the node is told passes no filter from now on.
+    pub(crate) fn drop_exports(&mut self)
+        ensures { self.new ≡ record self.old { exports = None } }
+    {
+        self.exports = None;
     }
 }

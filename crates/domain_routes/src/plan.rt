@@ -9,7 +9,7 @@
 
 ghost use Rattle.std.specs.Prelude.{◌≡◌, ◌≢◌, ◌≤◌, ◌<◌, ℕ, IfOk, false, length, slice_index_or, slice_set, true};
 ghost use Rattle.std.specs.Option.{SomeIff};
-ghost use Rattle.domain_routes.specs.Edits.{exporting, importing, linking, unlinked, with_prefix};
+ghost use Rattle.domain_routes.specs.Edits.{exporting, importing, linking, unfiltered, unlinked, with_prefix};
 ghost use Rattle.domain_routes.specs.PlanView.{IsPlan, IsSize, is_linked, opening_of, peer, stranger};
 ghost use Rattle.domain_routes.specs.Still.{HasFewerLinks};
 ghost use Rattle.domain_routes.specs.Topology.{toll};
@@ -58,6 +58,17 @@ fn make_plan(alloc: Global, opening: Opening) -> Result<Plan, AllocError>
     Ok(Plan { opening, rows })
 }
 
+/// The same rows again.
+fn copy_rows(alloc: Global, rows: &[Row]) -> Result<Vec<Row>, AllocError>
+    ensures { IfOk result (λ copies. copies.items ≡ rows.now) }
+{
+    let mut copies = Vec::with_capacity(alloc, rows.len())?;
+    for row in rows {
+        copies.push(row.copy(alloc)?)?;
+    }
+    Ok(copies)
+}
+
 impl Plan {
     /// A plan without links and filters, of as many nodes as there are prefixes. None exactly where these are not 2 to 250.
     pub fn new(alloc: Global, prefixes: Vec<Prefix>) -> Result<Option<Plan>, AllocError>
@@ -70,6 +81,15 @@ impl Plan {
             Some(opening) => Ok(Some(make_plan(alloc, opening)?)),
             None => Ok(None),
         }
+    }
+
+    /// The same plan again.
+    pub fn copy(&self, alloc: Global) -> Result<Plan, AllocError>
+        ensures { IfOk result (λ p. p ≡ self.now) }
+    {
+        let opening = self.opening.copy(alloc)?;
+        let rows = copy_rows(alloc, self.rows.as_slice())?;
+        Ok(Plan { opening, rows })
     }
 
     /// The number of nodes, 2 to 250.
@@ -177,6 +197,16 @@ impl Plan {
         ensures { self.new ≡ exporting filter.value u w self.old }
     {
         self.rows[usize::from(u)].set_exports(w, filter);
+    }
+
+    /// What the first node receives from the second passes no filter from now on, neither that of the first nor that of the second.
+    pub fn take_filters_off(&mut self, u: u16, w: u16)
+        requires u { u < self.old.size }
+        requires w { w < self.old.size }
+        ensures { self.new ≡ unfiltered u w self.old }
+    {
+        self.rows[usize::from(u)].drop_imports(w);
+        self.rows[usize::from(w)].drop_exports(u);
     }
 
     /// What the second node's distance from a destination comes to at the first, under the filters between them.

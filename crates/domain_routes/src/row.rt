@@ -1,6 +1,6 @@
 //! What a plan has between a node and all others.
 
-ghost use Rattle.std.specs.Prelude.{◌≡◌, ◌<◌, IfOk, Some, length, replicate, slice_index_or, slice_set};
+ghost use Rattle.std.specs.Prelude.{◌≡◌, ◌<◌, IfOk, None, Some, length, replicate, slice_index_or, slice_set};
 ghost use Rattle.domain_routes.specs.PlanView.{stranger};
 
 use crate::peer::Peer;
@@ -24,6 +24,17 @@ impl Model for Row {
     ghost view = { λ r. r.peers.items };
 }
 
+/// The same nodes again.
+fn copy_peers(alloc: Global, peers: &[Peer]) -> Result<Vec<Peer>, AllocError>
+    ensures { IfOk result (λ copies. copies.items ≡ peers.now) }
+{
+    let mut copies = Vec::with_capacity(alloc, peers.len())?;
+    for peer in peers {
+        copies.push(peer.copy()?)?;
+    }
+    Ok(copies)
+}
+
 impl Row {
     /// A row without links and filters.
     pub(crate) fn strangers(alloc: Global, size: u16) -> Result<Row, AllocError>
@@ -34,6 +45,15 @@ impl Row {
             peers.push(Peer::stranger())?;
         }
         Ok(Row { peers })
+    }
+
+    /// The same again.
+    pub(crate) fn copy(&self, alloc: Global) -> Result<Row, AllocError>
+        ensures { IfOk result (λ r. r ≡ self.now) }
+    {
+        Ok(Row {
+            peers: copy_peers(alloc, self.peers.as_slice())?,
+        })
     }
 
     /// A node as this one has it.
@@ -66,5 +86,20 @@ impl Row {
         ensures { self.new ≡ slice_set self.old node (record (slice_index_or self.old node stranger) { exports = Some filter.value }) }
     {
         self.peers[usize::from(node)].set_exports(filter);
+    }
+    /// What a node tells passes no filter from now on.
+    pub(crate) fn drop_imports(&mut self, node: u16)
+        requires { node < length self.old }
+        ensures { self.new ≡ slice_set self.old node (record (slice_index_or self.old node stranger) { imports = None }) }
+    {
+        self.peers[usize::from(node)].drop_imports();
+    }
+
+    /// What a node is told passes no filter from now on.
+    pub(crate) fn drop_exports(&mut self, node: u16)
+        requires { node < length self.old }
+        ensures { self.new ≡ slice_set self.old node (record (slice_index_or self.old node stranger) { exports = None }) }
+    {
+        self.peers[usize::from(node)].drop_exports();
     }
 }

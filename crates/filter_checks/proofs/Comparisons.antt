@@ -14,18 +14,19 @@ use Rattle.filter_verifier.specs.VerifiedView.{VerifiedView}
 use Rattle.line_protocol.specs.Runs.{AppendsFront}
 use Rattle.line_protocol.specs.declared.faults.StreamFault.{StreamFault}
 use Rattle.line_protocol.specs.declared.faults.StreamFault.TheVariants.{Write}
-use Rattle.filter_checks.specs.Comparing.{AreParts, AreRefused, ComparesNamed, ComparesNamedOff, IsCutParts}
-use Rattle.filter_checks.specs.Comparing.{IsCutTellingBoth, IsJudged, TellsBoth, WritesParts}
-use Rattle.filter_checks.specs.PartLines.{parts_text}
+use Rattle.filter_checks.specs.Comparing.{AreParts, AreRefused, ComparesNamed, ComparesNamedOff, CutsRefusingBoth, IsCutParts}
+use Rattle.filter_checks.specs.Comparing.{IsJudged, RefusesBoth, WritesParts}
+use Rattle.report_formats.specs.declared.format.Format.{Format}
+use Rattle.filter_checks.specs.PartReports.{parts_in}
 use Rattle.filter_checks.specs.declared.comparing.Compared.{Compared}
 use Rattle.filter_checks.specs.declared.comparing.Compared.TheVariants as compared
 
 -- the lines of parts, and lines that are cut
-pub parts_cut : (fault : StreamFault) (old new : CodeView) (size limit : ℕ) (parts : List RoutePart) (text shown : List ℕ)
-    (held holds : Option (List ℕ)) → fault ≡ Write → shown ≡ text → text ≡ parts_text size parts → AreParts old new size limit parts
-    → AppendsFront held holds shown → IsCutParts fault old new size limit held holds
-parts_cut fault old new size limit parts text shown held holds is same text_is are cut =
-    subst (λ (f : StreamFault). IsCutParts f old new size limit held holds) (sym is)
+pub parts_cut : (fault : StreamFault) (format : Format) (name : List ℕ) (old new : CodeView) (size limit : ℕ) (parts : List RoutePart) (text shown : List ℕ)
+    (held holds : Option (List ℕ)) → fault ≡ Write → shown ≡ text → text ≡ parts_in format name size parts → AreParts old new size limit parts
+    → AppendsFront held holds shown → IsCutParts fault format name old new size limit held holds
+parts_cut fault format name old new size limit parts text shown held holds is same text_is are cut =
+    subst (λ (f : StreamFault). IsCutParts f format name old new size limit held holds) (sym is)
     (inr (parts, are, subst (AppendsFront held holds) text_is (subst (AppendsFront held holds) same cut)))
 
 -- what is told of a text, where it is judged so
@@ -51,12 +52,12 @@ first_refused size old new told r after is h g = record {
   refused = λ first. absurd (let no : ⊥ = cc in no);
 }
 
-module _ (size limit : ℕ) (is_explained : Bool) (old new : Named) where
+module _ (format : Format) (size limit : ℕ) (is_explained : Bool) (old new : Named) where
   -- both texts give verified code
   module _ (v w : VerifiedView) (is_v : IsVerifiedOf size old.text v) (is_w : IsVerifiedOf size new.text w)
       (held holds tells : Option (List ℕ)) where
-    pub both_compared : (r : Result Compared ProgramFault) → IfOk r (WritesParts v.program w.program v.size limit held holds)
-        → IfOk r (ComparesNamed size limit is_explained old new held holds tells tells)
+    pub both_compared : (r : Result Compared ProgramFault) → IfOk r (WritesParts format new.name v.program w.program v.size limit held holds)
+        → IfOk r (ComparesNamed format size limit is_explained old new held holds tells tells)
     both_compared (Ok end) h =
         inr (
           keeps_self tells,
@@ -64,13 +65,13 @@ module _ (size limit : ℕ) (is_explained : Bool) (old new : Named) where
           is_filter size old.text v is_v,
           is_w.filter,
           is_filter size new.text w is_w,
-          subst (λ (n : ℕ). WritesParts v.program w.program n limit held holds end) is_v.size_is h,
+          subst (λ (n : ℕ). WritesParts format new.name v.program w.program n limit held holds end) is_v.size_is h,
         )
     both_compared (Err fault) h = tt
 
     pub both_cut : (r : Result Compared ProgramFault)
-        → IfErr r (λ fault. IsCutParts (stream_fault fault) v.program w.program v.size limit held holds)
-        → IfErr r (λ fault. ComparesNamedOff (stream_fault fault) size limit is_explained old new held holds tells tells)
+        → IfErr r (λ fault. IsCutParts (stream_fault fault) format new.name v.program w.program v.size limit held holds)
+        → IfErr r (λ fault. ComparesNamedOff (stream_fault fault) format size limit is_explained old new held holds tells tells)
     both_cut (Ok end) h = tt
     both_cut (Err fault) h =
         inr (inr (
@@ -79,19 +80,19 @@ module _ (size limit : ℕ) (is_explained : Bool) (old new : Named) where
           is_filter size old.text v is_v,
           is_w.filter,
           is_filter size new.text w is_w,
-          subst (λ (n : ℕ). IsCutParts (stream_fault fault) v.program w.program n limit held holds) is_v.size_is h,
+          subst (λ (n : ℕ). IsCutParts (stream_fault fault) format new.name v.program w.program n limit held holds) is_v.size_is h,
         ))
 
   -- one of them is refused
-  module _ (before after : Option Diagnosis) (are : AreRefused size old new before after) (held tells told : Option (List ℕ)) where
+  module _ (before after : Option Diagnosis) (are : AreRefused size old new before after) (held holds tells told : Option (List ℕ)) where
     pub refused_told : (r : Result Compared ProgramFault)
-        → IfOk r (λ end. (end ≡ compared.Refused) × TellsBoth is_explained old new before after tells told)
-        → IfOk r (ComparesNamed size limit is_explained old new held held tells told)
-    refused_told (Ok end) h = inl (h.0, keeps_self held, before, after, are, h.1)
+        → IfOk r (λ end. (end ≡ compared.Refused) × RefusesBoth format is_explained old new before after held holds tells told)
+        → IfOk r (ComparesNamed format size limit is_explained old new held holds tells told)
+    refused_told (Ok end) h = inl (h.0, before, after, are, h.1)
     refused_told (Err fault) h = tt
 
     pub refused_cut : (r : Result Compared ProgramFault)
-        → IfErr r (λ fault. IsCutTellingBoth (stream_fault fault) is_explained old new before after tells told)
-        → IfErr r (λ fault. ComparesNamedOff (stream_fault fault) size limit is_explained old new held held tells told)
+        → IfErr r (λ fault. CutsRefusingBoth (stream_fault fault) format is_explained old new before after held holds tells told)
+        → IfErr r (λ fault. ComparesNamedOff (stream_fault fault) format size limit is_explained old new held holds tells told)
     refused_cut (Ok end) h = tt
-    refused_cut (Err fault) h = inr (inl (keeps_self held, before, after, are, h))
+    refused_cut (Err fault) h = inr (inl (before, after, are, h))

@@ -19,6 +19,7 @@ use Rattle.filter_diff.specs.declared.route_part.Finding.{Finding}
 use Rattle.filter_diff.specs.declared.route_part.RoutePart.{RoutePart}
 use Rattle.filter_parser.specs.SyntaxText.{FilterView, IsText}
 use Rattle.filter_verifier.specs.Safe.{IsRouteOf}
+use Rattle.report_formats.specs.declared.format.Format.{Format}
 use Rattle.filter_checks.specs.Comparing.{AreParts, ComparesNamed, compared_as}
 use Rattle.filter_checks.specs.declared.comparing.Compared.TheVariants as compared
 use Rattle.filter_reports.proofs.Saying.{says_the_same}
@@ -186,13 +187,13 @@ compared_undecided answer.Undecided e = refl
 of_text : (text : List ℕ) (size : ℕ) (f : FilterView) (is_f : IsFilterOf text size f) → SaysTheSame f is_f.program size
 of_text text size f is_f = says_the_same f is_f.program size is_f.translates.means is_f.safe
 
-module _ (size limit : ℕ) (is_explained : Bool) (old new : Named) (held holds tells told : Option (List ℕ)) where
+module _ (format : Format) (size limit : ℕ) (is_explained : Bool) (old new : Named) (held holds tells told : Option (List ℕ)) where
   parts_of : (f g : FilterView) (is_f : IsFilterOf old.text size f) (is_g : IsFilterOf new.text size g) (parts : List RoutePart)
       → AreParts is_f.program is_g.program size limit parts → ArePartsOf f g size parts
   parts_of f g is_f is_g parts are =
       of_filters f g is_f.program is_g.program size limit parts (of_text old.text size f is_f) (of_text new.text size g is_g) are
 
-  pub filters_same : ComparesNamed size limit is_explained old new held holds tells told compared.Same
+  pub filters_same : ComparesNamed format size limit is_explained old new held holds tells told compared.Same
       → (f : FilterView) × (g : FilterView) × IsText old.text f × IsText new.text g
       × ((route : RouteView) → IsRouteOf size route → meaning f route ≡ meaning g route)
   filters_same (inl refused) = let is = refused.0 in let no : ⊥ = cc in absurd no
@@ -205,7 +206,7 @@ module _ (size limit : ℕ) (is_explained : Bool) (old new : Named) (held holds 
         (compared_same (answer_of writes.parts) writes.comes_to),
   )
 
-  pub filters_differ : ComparesNamed size limit is_explained old new held holds tells told compared.Differ
+  pub filters_differ : ComparesNamed format size limit is_explained old new held holds tells told compared.Differ
       → (f : FilterView) × (g : FilterView) × IsText old.text f × IsText new.text g
       × (route : RouteView) × IsRouteOf size route × (meaning f route ≢ meaning g route)
   filters_differ (inl refused) = let is = refused.0 in let no : ⊥ = cc in absurd no
@@ -214,7 +215,7 @@ module _ (size limit : ℕ) (is_explained : Bool) (old new : Named) (held holds 
       (compared_differ (answer_of writes.parts) writes.comes_to) in
       (f, g, is_f.translates.spelled, is_g.translates.spelled, one.0, one.1, one.2)
 
-  pub filters_decided : IsEnough size limit → ComparesNamed size limit is_explained old new held holds tells told compared.Undecided → ⊥
+  pub filters_decided : IsEnough size limit → ComparesNamed format size limit is_explained old new held holds tells told compared.Undecided → ⊥
   filters_decided enough (inl refused) = let is = refused.0 in let no : ⊥ = cc in absurd no
   filters_decided enough (inr (keeps, f, is_f, g, is_g, writes)) =
       all_decided writes.parts (writes.are_parts.decided enough) (compared_undecided (answer_of writes.parts) writes.comes_to)

@@ -12,10 +12,12 @@ use Rattle.filter_diff.specs.declared.route_part.RoutePart.{RoutePart}
 use Rattle.filter_parser.specs.SyntaxText.{FilterView}
 use Rattle.filter_source.specs.declared.diagnosis.Diagnosis.{Diagnosis}
 use Rattle.filter_reports.specs.VerifiedFilters.{IsFilterOf}
-use Rattle.filter_reports.specs.Naming.{IsCutTelling, Named, TellsOf}
+use Rattle.filter_reports.specs.Naming.{Named}
 use Rattle.line_protocol.specs.declared.faults.StreamFault.{StreamFault}
 use Rattle.line_protocol.specs.declared.faults.StreamFault.TheVariants.{Memory}
-use Rattle.filter_checks.specs.PartLines.{parts_text}
+use Rattle.refusal_reports.specs.Refusing.{CutsRefusingIf, RefusesIf}
+use Rattle.report_formats.specs.declared.format.Format.{Format}
+use Rattle.filter_checks.specs.PartReports.{parts_in}
 use Rattle.filter_checks.specs.declared.comparing.Compared.{Compared}
 use Rattle.filter_checks.specs.declared.comparing.Compared.TheVariants as compared
 
@@ -41,30 +43,34 @@ compared_as answer.Differ = compared.Differ
 compared_as answer.Undecided = compared.Undecided
 
 -- The lines of such parts were written. `held` and `holds` are what the writer held before and holds now.
-pub record WritesParts (old new : CodeView) (size limit : ℕ) (held holds : Option (List ℕ)) (end : Compared) : Type 0 where
+pub record WritesParts (format : Format) (name : List ℕ) (old new : CodeView) (size limit : ℕ) (held holds : Option (List ℕ)) (end : Compared) : Type 0 where
   pub parts : List RoutePart
   pub are_parts : AreParts old new size limit parts
-  pub written : Appends held holds (parts_text size parts)
+  pub written : Appends held holds (parts_in format name size parts)
   pub comes_to : end ≡ compared_as (answer_of parts)
 
 -- a fault cut them
-abbrev pub IsCutParts : StreamFault → CodeView → CodeView → ℕ → ℕ → Option (List ℕ) → Option (List ℕ) → Type 0
-IsCutParts fault old new size limit held holds =
+abbrev pub IsCutParts : StreamFault → Format → List ℕ → CodeView → CodeView → ℕ → ℕ → Option (List ℕ) → Option (List ℕ) → Type 0
+IsCutParts fault format name old new size limit held holds =
     ((fault ≡ Memory) × Appends held holds [])
-    ⊎ ((parts : List RoutePart) × AreParts old new size limit parts × IsCut fault held holds (parts_text size parts))
+    ⊎ ((parts : List RoutePart) × AreParts old new size limit parts × IsCut fault held holds (parts_in format name size parts))
 
--- Standard error got what is told of one text, and then of another. `tells` and `told` are what it held before and holds now.
-pub record TellsBoth (is_explained : Bool) (old new : Named) (before after : Option Diagnosis) (tells told : Option (List ℕ)) : Type 0 where
+-- It was said why one text is refused, if it is, and then the same of another. `tells` and `told` are what standard error held before and holds
+-- now.
+pub record RefusesBoth (format : Format) (is_explained : Bool) (old new : Named) (before after : Option Diagnosis)
+    (held holds tells told : Option (List ℕ)) : Type 0 where
+  pub writes : Option (List ℕ)
   pub between : Option (List ℕ)
-  pub old_told : TellsOf is_explained old.name old.text before tells between
-  pub new_told : TellsOf is_explained new.name new.text after between told
+  pub old_told : RefusesIf format is_explained old before held writes tells between
+  pub new_told : RefusesIf format is_explained new after writes holds between told
 
--- A fault cut what is told of the one, or of the other.
-abbrev pub IsCutTellingBoth : StreamFault → Bool → Named → Named → Option Diagnosis → Option Diagnosis → Option (List ℕ) → Option (List ℕ) → Type 0
-IsCutTellingBoth fault is_explained old new before after tells told =
-    ((why : Diagnosis) × (before ≡ Some why) × IsCutTelling fault is_explained old.name old.text why tells told)
-    ⊎ ((why : Diagnosis) × (after ≡ Some why) × (between : Option (List ℕ)) × TellsOf is_explained old.name old.text before tells between
-    × IsCutTelling fault is_explained new.name new.text why between told)
+-- A fault cut what is said of the one, or of the other.
+abbrev pub CutsRefusingBoth : StreamFault → Format → Bool → Named → Named → Option Diagnosis → Option Diagnosis → Option (List ℕ)
+    → Option (List ℕ) → Option (List ℕ) → Option (List ℕ) → Type 0
+CutsRefusingBoth fault format is_explained old new before after held holds tells told =
+    CutsRefusingIf fault format is_explained old before held holds tells told
+    ⊎ ((writes : Option (List ℕ)) × (between : Option (List ℕ)) × RefusesIf format is_explained old before held writes tells between
+    × CutsRefusingIf fault format is_explained new after writes holds between told)
 
 -- Two texts were judged, at least one of which is refused.
 pub record AreRefused (size : ℕ) (old new : Named) (before after : Option Diagnosis) : Type 0 where
@@ -73,20 +79,20 @@ pub record AreRefused (size : ℕ) (old new : Named) (before after : Option Diag
   pub refused : before ≡ None → after ≢ None
 
 -- The texts spell filters, and the lines of the comparison of their codes were written, and nothing told; or a text is refused, which was
--- told, and nothing written.
-abbrev pub ComparesNamed : ℕ → ℕ → Bool → Named → Named → Option (List ℕ) → Option (List ℕ) → Option (List ℕ) → Option (List ℕ) → Compared → Type 0
-ComparesNamed size limit is_explained old new held holds tells told end =
-    ((end ≡ compared.Refused) × Keeps held holds × (before : Option Diagnosis) × (after : Option Diagnosis)
-    × AreRefused size old new before after × TellsBoth is_explained old new before after tells told)
+-- said.
+abbrev pub ComparesNamed : Format → ℕ → ℕ → Bool → Named → Named → Option (List ℕ) → Option (List ℕ) → Option (List ℕ) → Option (List ℕ) → Compared → Type 0
+ComparesNamed format size limit is_explained old new held holds tells told end =
+    ((end ≡ compared.Refused) × (before : Option Diagnosis) × (after : Option Diagnosis)
+    × AreRefused size old new before after × RefusesBoth format is_explained old new before after held holds tells told)
     ⊎ (Keeps tells told × (f : FilterView) × (is_f : IsFilterOf old.text size f) × (g : FilterView) × (is_g : IsFilterOf new.text size g)
-    × WritesParts is_f.program is_g.program size limit held holds end)
+    × WritesParts format new.name is_f.program is_g.program size limit held holds end)
 
 -- A fault ended it: before anything was written or told, for want of memory; while a refusal was told; or while the lines were written.
-abbrev pub ComparesNamedOff : StreamFault → ℕ → ℕ → Bool → Named → Named → Option (List ℕ) → Option (List ℕ) → Option (List ℕ)
+abbrev pub ComparesNamedOff : StreamFault → Format → ℕ → ℕ → Bool → Named → Named → Option (List ℕ) → Option (List ℕ) → Option (List ℕ)
     → Option (List ℕ) → Type 0
-ComparesNamedOff fault size limit is_explained old new held holds tells told =
+ComparesNamedOff fault format size limit is_explained old new held holds tells told =
     ((fault ≡ Memory) × Appends held holds [] × Keeps tells told)
-    ⊎ ((Keeps held holds × (before : Option Diagnosis) × (after : Option Diagnosis) × AreRefused size old new before after
-    × IsCutTellingBoth fault is_explained old new before after tells told)
+    ⊎ (((before : Option Diagnosis) × (after : Option Diagnosis) × AreRefused size old new before after
+    × CutsRefusingBoth fault format is_explained old new before after held holds tells told)
     ⊎ (Keeps tells told × (f : FilterView) × (is_f : IsFilterOf old.text size f) × (g : FilterView) × (is_g : IsFilterOf new.text size g)
-    × IsCutParts fault is_f.program is_g.program size limit held holds))
+    × IsCutParts fault format new.name is_f.program is_g.program size limit held holds))

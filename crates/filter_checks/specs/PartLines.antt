@@ -39,9 +39,12 @@ pattern_text part = prefix_text part.prefix ++ codes "{" ++ decimal part.shortes
 abbrev pub metrics_text : RoutePart → List ℕ
 metrics_text part = codes ", metrics " ++ decimal part.least ++ codes ".." ++ decimal part.greatest
 
--- the line of a part
+-- what is said of a part, and its line
+abbrev pub part_words : RoutePart → List ℕ
+part_words part = finding_word part.finding ++ pattern_text part ++ metrics_text part ++ endings_text part.finding
+
 abbrev pub part_line : RoutePart → List ℕ
-part_line part = finding_word part.finding ++ pattern_text part ++ metrics_text part ++ endings_text part.finding ++ 10 ∷ []
+part_line part = part_words part ++ 10 ∷ []
 
 -- how many parts are undecided, where there are several
 unfoldable pub undecided_on : List ℕ
@@ -81,8 +84,11 @@ shown_limit = 1000
 unfoldable pub not_shown : List ℕ
 not_shown = codes "parts that are not shown: "
 
+abbrev pub hidden_words : ℕ → List ℕ
+hidden_words count = not_shown ++ decimal count
+
 abbrev pub hidden_text : ℕ → List ℕ
-hidden_text count = if count == 0 then [] else not_shown ++ decimal count ++ 10 ∷ []
+hidden_text count = if count == 0 then [] else hidden_words count ++ 10 ∷ []
 
 -- the lines of the parts, and the last line
 abbrev pub parts_text : ℕ → List RoutePart → List ℕ

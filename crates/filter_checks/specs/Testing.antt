@@ -14,7 +14,9 @@ use Rattle.line_protocol.specs.Runs.{AppendsFront}
 use Rattle.line_protocol.specs.declared.faults.StreamFault.{StreamFault}
 use Rattle.line_protocol.specs.declared.faults.StreamFault.TheVariants.{Memory, Write}
 use Rattle.filter_checks.specs.Files.{FileView, TestView}
-use Rattle.filter_checks.specs.Tap.{all_lines, is_undecided, is_wrong, told_of_all}
+use Rattle.report_formats.specs.declared.format.TestFormat.{TestFormat}
+use Rattle.filter_checks.specs.Results.{results_in}
+use Rattle.filter_checks.specs.Tap.{is_undecided, is_wrong, told_of_all}
 use Rattle.filter_checks.specs.declared.testing.Failures.{Failures}
 use Rattle.filter_checks.specs.declared.testing.Ran.{Ran}
 use Rattle.filter_checks.specs.declared.testing.Tested.{Tested}
@@ -36,22 +38,22 @@ AreRun program size limit (test ∷ tests) [] = ⊥
 
 -- What is found of the tests of a file by the code of the filter, in lines and in words, and how many do not hold and are not decided. `before` is
 -- the number of tests before these in the stream.
-pub record IsReport (program : CodeView) (before limit : ℕ) (is_explained : Bool) (name : List ℕ) (file : FileView) (lines words : List ℕ)
+pub record IsReport (format : TestFormat) (program : CodeView) (before limit : ℕ) (is_explained : Bool) (name : List ℕ) (file : FileView) (lines words : List ℕ)
     (failed : Failures) : Type 0 where
   pub all : List Ran
   pub are_run : AreRun program file.size limit file.tests all
-  pub lines_are : lines ≡ all_lines before all
+  pub lines_are : lines ≡ results_in format name before all
   pub words_are : words ≡ told_of_all is_explained name all
   pub wrong : failed.wrong ≡ count_by is_wrong all
   pub undecided : failed.undecided ≡ count_by is_undecided all
 
 -- The tests were run, and what is found was written and told. `held` and `holds` are what the writer held before and holds now, `tells` and
 -- `told` the same of standard error.
-pub record RunsTests (program : CodeView) (before limit : ℕ) (is_explained : Bool) (name : List ℕ) (file : FileView)
+pub record RunsTests (format : TestFormat) (program : CodeView) (before limit : ℕ) (is_explained : Bool) (name : List ℕ) (file : FileView)
     (held holds tells told : Option (List ℕ)) (failed : Failures) : Type 0 where
   pub lines : List ℕ
   pub words : List ℕ
-  pub report : IsReport program before limit is_explained name file lines words failed
+  pub report : IsReport format program before limit is_explained name file lines words failed
   pub written : Appends held holds lines
   pub told_words : Appends tells told words
 
@@ -61,27 +63,27 @@ CutsReport lines words held holds tells told = (AppendsFront held holds lines ×
     ⊎ (Appends held holds lines × AppendsFront tells told words)
 
 -- A fault ended that: memory was refused, and nothing written or told; or the report was cut.
-abbrev pub StopsTests : StreamFault → CodeView → ℕ → ℕ → Bool → List ℕ → FileView → Option (List ℕ) → Option (List ℕ) → Option (List ℕ)
+abbrev pub StopsTests : StreamFault → TestFormat → CodeView → ℕ → ℕ → Bool → List ℕ → FileView → Option (List ℕ) → Option (List ℕ) → Option (List ℕ)
     → Option (List ℕ) → Type 0
-StopsTests fault program before limit is_explained name file held holds tells told =
+StopsTests fault format program before limit is_explained name file held holds tells told =
     ((fault ≡ Memory) × Keeps held holds × Keeps tells told)
-    ⊎ ((lines : List ℕ) × (words : List ℕ) × (failed : Failures) × IsReport program before limit is_explained name file lines words failed
+    ⊎ ((lines : List ℕ) × (words : List ℕ) × (failed : Failures) × IsReport format program before limit is_explained name file lines words failed
     × (fault ≡ Write) × CutsReport lines words held holds tells told)
 
 -- The filter's text spells a filter, and the tests of its code were run; or it is refused, which was told, and nothing written.
-abbrev pub TestsNamed : ℕ → ℕ → Bool → List ℕ → FileView → Named → Option (List ℕ) → Option (List ℕ) → Option (List ℕ) → Option (List ℕ)
+abbrev pub TestsNamed : TestFormat → ℕ → ℕ → Bool → List ℕ → FileView → Named → Option (List ℕ) → Option (List ℕ) → Option (List ℕ) → Option (List ℕ)
     → Tested → Type 0
-TestsNamed before limit is_explained name file filter held holds tells told tested.Refused = (why : Diagnosis)
+TestsNamed format before limit is_explained name file filter held holds tells told tested.Refused = (why : Diagnosis)
     × IsDiagnosis file.size false filter.text why × Keeps held holds × TellsOf is_explained filter.name filter.text (Some why) tells told
-TestsNamed before limit is_explained name file filter held holds tells told (tested.Ran failed) = (f : FilterView)
-    × (is_f : IsFilterOf filter.text file.size f) × RunsTests is_f.program before limit is_explained name file held holds tells told failed
+TestsNamed format before limit is_explained name file filter held holds tells told (tested.Ran failed) = (f : FilterView)
+    × (is_f : IsFilterOf filter.text file.size f) × RunsTests format is_f.program before limit is_explained name file held holds tells told failed
 
 -- A fault ended it: before anything was written or told, for want of memory; while a refusal was told; or while tests were run.
-abbrev pub TestsNamedOff : StreamFault → ℕ → ℕ → Bool → List ℕ → FileView → Named → Option (List ℕ) → Option (List ℕ) → Option (List ℕ)
+abbrev pub TestsNamedOff : StreamFault → TestFormat → ℕ → ℕ → Bool → List ℕ → FileView → Named → Option (List ℕ) → Option (List ℕ) → Option (List ℕ)
     → Option (List ℕ) → Type 0
-TestsNamedOff fault before limit is_explained name file filter held holds tells told =
+TestsNamedOff fault format before limit is_explained name file filter held holds tells told =
     ((fault ≡ Memory) × Keeps held holds × Keeps tells told)
     ⊎ (((why : Diagnosis) × IsDiagnosis file.size false filter.text why × Keeps held holds
     × IsCutTelling fault is_explained filter.name filter.text why tells told)
     ⊎ ((f : FilterView) × (is_f : IsFilterOf filter.text file.size f)
-    × StopsTests fault is_f.program before limit is_explained name file held holds tells told))
+    × StopsTests fault format is_f.program before limit is_explained name file held holds tells told))

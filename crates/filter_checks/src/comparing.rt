@@ -9,14 +9,16 @@ ghost use Rattle.filter_reports.specs.Naming.{named};
 ghost use Rattle.filter_checks.specs.Comparing as spec;
 ghost use Rattle.filter_checks.specs.declared.comparing.Compared.TheVariants as compared;
 
-use crate::part_lines::parts_text;
+use crate::part_reports::parts_in;
 use code_file::write_code;
 use filter_code::Code;
 use filter_diff::{Answer, RoutePart, answer_of, compare, join_all};
-use filter_reports::{NamedText, ProgramFault, tell_refusal, verified_filter};
+use filter_reports::{NamedText, ProgramFault, verified_filter};
 use filter_source::{Diagnosis, Failure};
 use filter_verifier::Verified;
 use line_protocol::write_text;
+use refusal_reports::refuse_if;
+use report_formats::Format;
 use std::alloc::{AllocError, Global};
 use std::io::Write;
 
@@ -97,6 +99,8 @@ fn compared_as(found: Answer) -> Compared
 /// Compares two codes on all routes of domains of `size` nodes, and writes the lines of the parts.
 fn write_parts<W: Write>(
     alloc: Global,
+    format: Format,
+    name: &[u8],
     old: &Code,
     new: &Code,
     size: u32,
@@ -104,12 +108,12 @@ fn write_parts<W: Write>(
     writer: &mut W,
 ) -> Result<Compared, ProgramFault>
     requires { size ≤ largest_size }
-    ensures finished { IfOk result (spec.WritesParts old.now new.now size limit (W.contents writer.old) (W.contents writer.new)) }
+    ensures finished { IfOk result (spec.WritesParts format name.now old.now new.now size limit (W.contents writer.old) (W.contents writer.new)) }
     ensures broken_off { IfErr result (λ fault.
-        spec.IsCutParts (stream_fault fault) old.now new.now size limit (W.contents writer.old) (W.contents writer.new)) }
+        spec.IsCutParts (stream_fault fault) format name.now old.now new.now size limit (W.contents writer.old) (W.contents writer.new)) }
 {
     let parts = find_parts(alloc, old, new, size, limit)?;
-    let text = parts_text(alloc, size, parts.as_slice())?;
+    let text = parts_in(alloc, format, name, size, parts.as_slice())?;
     write_text(writer, text.as_slice())?;
     Ok(compared_as(answer_of(parts.as_slice())))
 }
@@ -117,44 +121,59 @@ fn write_parts<W: Write>(
 /// Compares two verified codes on all routes of domains of the size that they were verified for, and writes the lines of the parts.
 fn write_comparison<W: Write>(
     alloc: Global,
+    format: Format,
+    name: &[u8],
     old: &Verified,
     new: &Verified,
     limit: u64,
     writer: &mut W,
 ) -> Result<Compared, ProgramFault>
-    ensures finished { IfOk result (spec.WritesParts old.now.program new.now.program old.now.size limit (W.contents writer.old) (W.contents writer.new)) }
+    ensures finished { IfOk result (spec.WritesParts format name.now old.now.program new.now.program old.now.size limit (W.contents writer.old) (W.contents writer.new)) }
     ensures broken_off { IfErr result (λ fault.
-        spec.IsCutParts (stream_fault fault) old.now.program new.now.program old.now.size limit (W.contents writer.old) (W.contents writer.new)) }
+        spec.IsCutParts (stream_fault fault) format name.now old.now.program new.now.program old.now.size limit (W.contents writer.old) (W.contents writer.new)) }
 {
-    write_parts(alloc, old.code(), new.code(), old.size(), limit, writer)
+    write_parts(
+        alloc,
+        format,
+        name,
+        old.code(),
+        new.code(),
+        old.size(),
+        limit,
+        writer,
+    )
 }
 
-/// Tells why each of two texts is refused, if it is.
-fn tell_both<E: Write>(
+/// Says why each of two texts is refused, if it is.
+fn refuse_both<W: Write, E: Write>(
     alloc: Global,
-    errors: &mut E,
+    format: Format,
+    is_explained: bool,
     old: &NamedText<'_>,
     new: &NamedText<'_>,
     before: Option<Diagnosis>,
     after: Option<Diagnosis>,
-    is_explained: bool,
+    writer: &mut W,
+    errors: &mut E,
 ) -> Result<Compared, ProgramFault>
-    ensures ok { IfOk result (λ end. (end ≡ compared.Refused) × spec.TellsBoth is_explained (named old.now) (named new.now) before after
-        (E.contents errors.old) (E.contents errors.new)) }
-    ensures err { IfErr result (λ fault. spec.IsCutTellingBoth (stream_fault fault) is_explained (named old.now) (named new.now)
-        before after (E.contents errors.old) (E.contents errors.new)) }
+    ensures ok { IfOk result (λ end. (end ≡ compared.Refused) × spec.RefusesBoth format is_explained (named old.now) (named new.now) before after
+        (W.contents writer.old) (W.contents writer.new) (E.contents errors.old) (E.contents errors.new)) }
+    ensures err { IfErr result (λ fault. spec.CutsRefusingBoth (stream_fault fault) format is_explained (named old.now) (named new.now)
+        before after (W.contents writer.old) (W.contents writer.new) (E.contents errors.old) (E.contents errors.new)) }
 {
-    tell_refusal(alloc, errors, old.name, old.text, &before, is_explained)?;
-    tell_refusal(alloc, errors, new.name, new.text, &after, is_explained)?;
+    refuse_if(alloc, format, is_explained, old, before, writer, errors)?;
+    refuse_if(alloc, format, is_explained, new, after, writer, errors)?;
     Ok(Compared::Refused)
 }
 
 /// Compares the filters that two texts spell on all routes of domains of `size` nodes, and writes a line for each part of the routes
 /// on which they differ or on which it is not decided, then one line on all other routes. It tries at most `limit` classes of routes, and
 /// decides all where these are all.
-/// A text that is refused is told on `errors` under its name, in words where `is_explained` says so, and then nothing is compared.
+/// A text that is refused is told on `errors` under its name, in words where `is_explained` says so, or is written where lines are JSON; and
+/// then nothing is compared.
 pub fn compare_named<W: Write, E: Write>(
     alloc: Global,
+    format: Format,
     old: &NamedText<'_>,
     new: &NamedText<'_>,
     size: u32,
@@ -163,26 +182,40 @@ pub fn compare_named<W: Write, E: Write>(
     writer: &mut W,
     errors: &mut E,
 ) -> Result<Compared, ProgramFault>
-    ensures finished { IfOk result (spec.ComparesNamed size limit is_explained (named old.now) (named new.now)
+    ensures finished { IfOk result (spec.ComparesNamed format size limit is_explained (named old.now) (named new.now)
         (W.contents writer.old) (W.contents writer.new) (E.contents errors.old) (E.contents errors.new)) }
-    ensures broken_off { IfErr result (λ fault. spec.ComparesNamedOff (stream_fault fault) size limit is_explained (named old.now)
+    ensures broken_off { IfErr result (λ fault. spec.ComparesNamedOff (stream_fault fault) format size limit is_explained (named old.now)
         (named new.now) (W.contents writer.old) (W.contents writer.new) (E.contents errors.old) (E.contents errors.new)) }
 {
     let before = judge(alloc, old.text, size)?;
     let after = judge(alloc, new.text, size)?;
     match before {
         Ok(old_code) => match after {
-            Ok(new_code) => write_comparison(alloc, &old_code, &new_code, limit, writer),
-            Err(told) => tell_both(alloc, errors, old, new, None, Some(told), is_explained),
+            Ok(new_code) => {
+                write_comparison(alloc, format, new.name, &old_code, &new_code, limit, writer)
+            }
+            Err(told) => refuse_both(
+                alloc,
+                format,
+                is_explained,
+                old,
+                new,
+                None,
+                Some(told),
+                writer,
+                errors,
+            ),
         },
-        Err(told) => tell_both(
+        Err(told) => refuse_both(
             alloc,
-            errors,
+            format,
+            is_explained,
             old,
             new,
             Some(told),
             after.err(),
-            is_explained,
+            writer,
+            errors,
         ),
     }
 }

@@ -15,6 +15,7 @@ ghost use Rattle.filter_diff.specs.declared.route_part.RoutePart.{RoutePart as R
 ghost use Rattle.filter_parser.specs.SyntaxText.{FilterView, IsText};
 ghost use Rattle.filter_reports.specs.Naming.{Named};
 ghost use Rattle.filter_verifier.specs.Safe.{IsRouteOf};
+ghost use Rattle.report_formats.specs.declared.format.Format.{Format};
 ghost use Rattle.filter_checks.specs.Comparing.{AreParts, ComparesNamed};
 ghost use Rattle.filter_checks.specs.declared.comparing.Compared.TheVariants as compared;
 ghost use Rattle.filter_checks.specs.Filters.{ArePartsOf};
@@ -57,14 +58,14 @@ pub fn shown_routes_are_of_filters()
 /// Two texts of which `compare_named` answers `Same` spell filters of one meaning: the two say the same of every route in a domain of the
 /// size. Where it answers `Differ` they do not say the same of every route.
 pub fn compared_filters_mean_the_same()
-    ensures same { (size limit : ℕ) (is_explained : Bool) (old new : Named) (held holds tells told : Option (List ℕ))
-        → ComparesNamed size limit is_explained old new held holds tells told compared.Same
+    ensures same { (format : Format) (size limit : ℕ) (is_explained : Bool) (old new : Named) (held holds tells told : Option (List ℕ))
+        → ComparesNamed format size limit is_explained old new held holds tells told compared.Same
         → (f : FilterView) × (g : FilterView) × IsText old.text f × IsText new.text g
         × ((route : RouteView) → IsRouteOf size route → meaning f route ≡ meaning g route) }
-    ensures differ { (size limit : ℕ) (is_explained : Bool) (old new : Named) (held holds tells told : Option (List ℕ))
-        → ComparesNamed size limit is_explained old new held holds tells told compared.Differ
+    ensures differ { (format : Format) (size limit : ℕ) (is_explained : Bool) (old new : Named) (held holds tells told : Option (List ℕ))
+        → ComparesNamed format size limit is_explained old new held holds tells told compared.Differ
         → (f : FilterView) × (g : FilterView) × IsText old.text f × IsText new.text g
         × (route : RouteView) × IsRouteOf size route × (meaning f route ≢ meaning g route) }
-    ensures decided { (size limit : ℕ) (is_explained : Bool) (old new : Named) (held holds tells told : Option (List ℕ)) → IsEnough size limit
-        → ComparesNamed size limit is_explained old new held holds tells told compared.Undecided → ⊥ }
+    ensures decided { (format : Format) (size limit : ℕ) (is_explained : Bool) (old new : Named) (held holds tells told : Option (List ℕ)) → IsEnough size limit
+        → ComparesNamed format size limit is_explained old new held holds tells told compared.Undecided → ⊥ }
 {}

@@ -7,8 +7,10 @@ mod keyword;
 mod laws;
 mod lines;
 mod part_lines;
+mod part_reports;
 mod place;
 mod reading;
+mod results;
 mod tap;
 mod test_file;
 mod testing;
@@ -21,6 +23,6 @@ pub use laws::{
 };
 pub use part_lines::{parts_text, push_outcome};
 pub use place::path_beside;
-pub use tap::{plan_line, skipped_line};
+pub use results::{end_in, head_in, skipped_in};
 pub use test_file::{Test, TestFile, TestFileFault, read_tests};
 pub use testing::{Failures, Ran, Tested, test_named};

@@ -1,5 +1,5 @@
 //! The lines that tell of parts of the routes.
-ghost use Rattle.std.specs.Prelude.{◌≡◌, ◌++◌, IfOk, OnOk, flat_map, take};
+ghost use Rattle.std.specs.Prelude.{◌≡◌, ◌++◌, ◌-◌, IfOk, OnOk, flat_map, length, take};
 ghost use Rattle.filter_checks.specs.PartLines as spec;
 
 use filter_code::Outcome;
@@ -31,7 +31,7 @@ pub fn push_outcome(out: &mut Vec<u8>, end: Outcome) -> Result<(), AllocError>
 }
 
 /// Puts how the runs on all routes of a part end at the end of `out`.
-fn push_ending(out: &mut Vec<u8>, end: Ending) -> Result<(), AllocError>
+pub(crate) fn push_ending(out: &mut Vec<u8>, end: Ending) -> Result<(), AllocError>
     ensures { OnOk result (out.new.items ≡ out.old.items ++ spec.ending_text end) }
 {
     match end {
@@ -88,14 +88,25 @@ fn push_metrics(out: &mut Vec<u8>, part: &RoutePart) -> Result<(), AllocError>
     push_decimal(out, u64::from(part.greatest))
 }
 
-/// Puts the line of a part at the end of `out`.
-fn push_part(alloc: Global, out: &mut Vec<u8>, part: &RoutePart) -> Result<(), AllocError>
-    ensures { OnOk result (out.new.items ≡ out.old.items ++ spec.part_line part.now) }
+/// Puts the words of a part at the end of `out`.
+pub(crate) fn push_part_words(
+    alloc: Global,
+    out: &mut Vec<u8>,
+    part: &RoutePart,
+) -> Result<(), AllocError>
+    ensures { OnOk result (out.new.items ≡ out.old.items ++ spec.part_words part.now) }
 {
     push_finding_word(out, part.finding)?;
     push_pattern(alloc, out, part)?;
     push_metrics(out, part)?;
-    push_endings(out, part.finding)?;
+    push_endings(out, part.finding)
+}
+
+/// Puts the line of a part at the end of `out`.
+fn push_part(alloc: Global, out: &mut Vec<u8>, part: &RoutePart) -> Result<(), AllocError>
+    ensures { OnOk result (out.new.items ≡ out.old.items ++ spec.part_line part.now) }
+{
+    push_part_words(alloc, out, part)?;
     out.push(b'\n')?;
     Ok(())
 }
@@ -154,7 +165,7 @@ fn push_same_words(out: &mut Vec<u8>, size: u32, parts: &[RoutePart]) -> Result<
 }
 
 /// Puts the words of the last line at the end of `out`, where so many of the parts are undecided.
-fn push_last_words(
+pub(crate) fn push_last_words(
     out: &mut Vec<u8>,
     size: u32,
     parts: &[RoutePart],
@@ -173,7 +184,7 @@ fn push_last_words(
 
 /// The parts that have a line.
 #[tactic(auto, using(std::proofs::lemmas::List::take_min))]
-fn shown_parts(parts: &[RoutePart]) -> &[RoutePart]
+pub(crate) fn shown_parts(parts: &[RoutePart]) -> &[RoutePart]
     ensures { result.now ≡ take spec.shown_limit parts.now }
 {
     &parts[..SHOWN_LIMIT.min(parts.len())]
@@ -197,6 +208,21 @@ fn not_shown() -> &'static [u8]
     b"parts that are not shown: "
 }
 
+/// How many they are.
+pub(crate) fn hidden_count(parts: &[RoutePart]) -> usize
+    ensures { result ≡ length parts.now - spec.shown_limit }
+{
+    parts.len().saturating_sub(SHOWN_LIMIT)
+}
+
+/// Puts that there are so many of them at the end of `out`.
+pub(crate) fn push_hidden_words(out: &mut Vec<u8>, count: usize) -> Result<(), AllocError>
+    ensures { OnOk result (out.new.items ≡ out.old.items ++ spec.hidden_words count) }
+{
+    out.extend_from_slice(not_shown())?;
+    push_decimal(out, count as u64)
+}
+
 /// Puts how many they are at the end of `out`, if there are some.
 fn push_hidden(out: &mut Vec<u8>, count: usize) -> Result<(), AllocError>
     ensures { OnOk result (out.new.items ≡ out.old.items ++ spec.hidden_text count) }
@@ -204,8 +230,7 @@ fn push_hidden(out: &mut Vec<u8>, count: usize) -> Result<(), AllocError>
     if count == 0 {
         return Ok(());
     }
-    out.extend_from_slice(not_shown())?;
-    push_decimal(out, count as u64)?;
+    push_hidden_words(out, count)?;
     out.push(b'\n')?;
     Ok(())
 }
@@ -216,7 +241,7 @@ pub fn parts_text(alloc: Global, size: u32, parts: &[RoutePart]) -> Result<Vec<u
 {
     let mut out = Vec::new(alloc);
     push_parts(alloc, &mut out, shown_parts(parts))?;
-    push_hidden(&mut out, parts.len().saturating_sub(SHOWN_LIMIT))?;
+    push_hidden(&mut out, hidden_count(parts))?;
     push_last_words(&mut out, size, parts, count_undecided(parts))?;
     out.push(b'\n')?;
     Ok(out)

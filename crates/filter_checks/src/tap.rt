@@ -24,7 +24,11 @@ fn result_word(checked: &Checked) -> &'static [u8]
 }
 
 /// Puts a route and its verdict at the end of `out`.
-fn push_found(alloc: Global, out: &mut Vec<u8>, found: &Counterexample) -> Result<(), AllocError>
+pub(crate) fn push_found(
+    alloc: Global,
+    out: &mut Vec<u8>,
+    found: &Counterexample,
+) -> Result<(), AllocError>
     ensures { OnOk result (out.new.items ≡ out.old.items ++ spec.found_text found.now) }
 {
     push_prefix(alloc, out, found.prefix)?;
@@ -162,7 +166,7 @@ fn not_run() -> &'static [u8]
 }
 
 /// The line in place of the tests of a file of this name that were not run, by its number in the stream.
-pub fn skipped_line(alloc: Global, number: u64, name: &[u8]) -> Result<Vec<u8>, AllocError>
+pub(crate) fn skipped_line(alloc: Global, number: u64, name: &[u8]) -> Result<Vec<u8>, AllocError>
     ensures { IfOk result (λ out. out.items ≡ spec.skipped number name.now) }
 {
     let mut out = Vec::new(alloc);
@@ -175,7 +179,7 @@ pub fn skipped_line(alloc: Global, number: u64, name: &[u8]) -> Result<Vec<u8>, 
 }
 
 /// The last line of the stream, by the number of its tests.
-pub fn plan_line(alloc: Global, count: u64) -> Result<Vec<u8>, AllocError>
+pub(crate) fn plan_line(alloc: Global, count: u64) -> Result<Vec<u8>, AllocError>
     ensures { IfOk result (λ out. out.items ≡ spec.plan count) }
 {
     let mut out = Vec::new(alloc);

@@ -10,11 +10,13 @@ ghost use Rattle.filter_code.specs.Limits.{largest_size};
 ghost use Rattle.filter_reports.specs.Faults.{stream_fault};
 ghost use Rattle.filter_reports.specs.Naming.{named};
 ghost use Rattle.filter_checks.specs.Files.{file_view, test_view};
-ghost use Rattle.filter_checks.specs.Tap.{is_undecided, is_wrong, all_lines as lines_of, told_of_all as words_of};
+ghost use Rattle.filter_checks.specs.Results.{results_in as lines_of};
+ghost use Rattle.filter_checks.specs.Tap.{is_undecided, is_wrong, told_of_all as words_of};
 ghost use Rattle.filter_checks.specs.Testing as spec;
 ghost use Rattle.filter_checks.specs.declared.testing.Tested.TheVariants as tested;
 
-use crate::tap::{all_lines, count_undecided, count_wrong, told_of_all};
+use crate::results::results_in;
+use crate::tap::{count_undecided, count_wrong, told_of_all};
 use crate::test_file::{Test, TestFile};
 use filter_code::Code;
 use filter_diff::{Checked, check_expectation};
@@ -22,6 +24,7 @@ use filter_reports::{NamedText, ProgramFault, tell_refusal, verified_filter};
 use filter_source::Failure;
 use filter_verifier::Verified;
 use line_protocol::{StreamFault, write_text};
+use report_formats::TestFormat;
 use std::alloc::{AllocError, Global};
 use std::io::Write;
 
@@ -107,18 +110,19 @@ struct Report {
 /// The report on tests that were run, before which the stream has the lines of `before` others.
 fn report_on(
     alloc: Global,
+    format: TestFormat,
     before: u64,
     is_explained: bool,
     name: &[u8],
     all: &[Ran],
 ) -> Result<Report, AllocError>
     requires { before + length all.now < 2 ^ 64 }
-    ensures lines { IfOk result (λ report. report.lines.items ≡ lines_of before all.now) }
+    ensures lines { IfOk result (λ report. report.lines.items ≡ lines_of format name.now before all.now) }
     ensures words { IfOk result (λ report. report.words.items ≡ words_of is_explained name.now all.now) }
     ensures wrong { IfOk result (λ report. report.failed.wrong ≡ count_by is_wrong all.now) }
     ensures undecided { IfOk result (λ report. report.failed.undecided ≡ count_by is_undecided all.now) }
 {
-    let lines = all_lines(alloc, before, all)?;
+    let lines = results_in(alloc, format, name, before, all)?;
     let words = told_of_all(alloc, is_explained, name, all)?;
     Ok(Report {
         lines,
@@ -133,6 +137,7 @@ fn report_on(
 /// Runs the tests of a file by the code of its filter, and reports what is found.
 fn report_of(
     alloc: Global,
+    format: TestFormat,
     code: &Verified,
     before: u64,
     limit: u64,
@@ -142,12 +147,12 @@ fn report_of(
 ) -> Result<Report, AllocError>
     requires size { code.now.size ≡ file.now.size }
     requires fits { before + length file.now.tests.items < 2 ^ 64 }
-    ensures { IfOk result (λ report. spec.IsReport code.now.program before limit is_explained name.now (file_view file.now)
+    ensures { IfOk result (λ report. spec.IsReport format code.now.program before limit is_explained name.now (file_view file.now)
         report.lines.items report.words.items report.failed) }
 {
     let tests = file.tests.as_slice();
     let all = run_all(alloc, code.code(), code.size(), limit, tests)?;
-    report_on(alloc, before, is_explained, name, all.as_slice())
+    report_on(alloc, format, before, is_explained, name, all.as_slice())
 }
 
 /// Writes a report.
@@ -169,6 +174,7 @@ fn write_report<W: Write, E: Write>(
 /// Runs the tests of a file by the code of its filter, and writes and tells what is found.
 fn run_tests<W: Write, E: Write>(
     alloc: Global,
+    format: TestFormat,
     code: &Verified,
     before: u64,
     limit: u64,
@@ -180,12 +186,12 @@ fn run_tests<W: Write, E: Write>(
 ) -> Result<Failures, ProgramFault>
     requires size { code.now.size ≡ file.now.size }
     requires fits { before + length file.now.tests.items < 2 ^ 64 }
-    ensures finished { IfOk result (spec.RunsTests code.now.program before limit is_explained name.now (file_view file.now)
+    ensures finished { IfOk result (spec.RunsTests format code.now.program before limit is_explained name.now (file_view file.now)
         (W.contents writer.old) (W.contents writer.new) (E.contents errors.old) (E.contents errors.new)) }
-    ensures broken_off { IfErr result (λ fault. spec.StopsTests (stream_fault fault) code.now.program before limit is_explained name.now (file_view file.now)
+    ensures broken_off { IfErr result (λ fault. spec.StopsTests (stream_fault fault) format code.now.program before limit is_explained name.now (file_view file.now)
         (W.contents writer.old) (W.contents writer.new) (E.contents errors.old) (E.contents errors.new)) }
 {
-    let report = report_of(alloc, code, before, limit, is_explained, name, file)?;
+    let report = report_of(alloc, format, code, before, limit, is_explained, name, file)?;
     write_report(&report, writer, errors)?;
     Ok(report.failed)
 }
@@ -195,6 +201,7 @@ fn run_tests<W: Write, E: Write>(
 /// filter that is refused is told on `errors` under its own name, and no test is run. Each test tries at most `limit` classes of routes.
 pub fn test_named<W: Write, E: Write>(
     alloc: Global,
+    format: TestFormat,
     before: u64,
     limit: u64,
     is_explained: bool,
@@ -205,15 +212,16 @@ pub fn test_named<W: Write, E: Write>(
     errors: &mut E,
 ) -> Result<Tested, ProgramFault>
     requires { before + length file.now.tests.items < 2 ^ 64 }
-    ensures finished { IfOk result (spec.TestsNamed before limit is_explained name.now (file_view file.now) (named filter.now)
+    ensures finished { IfOk result (spec.TestsNamed format before limit is_explained name.now (file_view file.now) (named filter.now)
         (W.contents writer.old) (W.contents writer.new) (E.contents errors.old) (E.contents errors.new)) }
-    ensures broken_off { IfErr result (λ fault. spec.TestsNamedOff (stream_fault fault) before limit is_explained name.now (file_view file.now)
+    ensures broken_off { IfErr result (λ fault. spec.TestsNamedOff (stream_fault fault) format before limit is_explained name.now (file_view file.now)
         (named filter.now) (W.contents writer.old) (W.contents writer.new) (E.contents errors.old) (E.contents errors.new)) }
 {
     match verified_filter(alloc, filter.text, file.size) {
         Ok(code) => {
             let failed = run_tests(
                 alloc,
+                format,
                 &code,
                 before,
                 limit,

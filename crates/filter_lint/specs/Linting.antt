@@ -1,5 +1,5 @@
 -- What comes of a filter that is linted. (This project's own choice.)
-use Rattle.std.specs.Prelude.{◌≡◌, ◌⊎◌, ℕ, ◌+◌, ◌&&◌, Bool, true, false, List, [], All, Option, Some, String, length}
+use Rattle.std.specs.Prelude.{◌≡◌, ◌⊎◌, ℕ, ◌+◌, ◌&&◌, Bool, true, false, List, [], All, Option, String, length}
 use Rattle.std.specs.Io.KnownBytes.{Appends, Keeps}
 use Rattle.std.specs.declared.alloc.Global.{Global}
 use Rattle.filter_code.specs.CodeView.{CodeView}
@@ -9,10 +9,12 @@ use Rattle.filter_parser.specs.SyntaxText.{FilterView}
 use Rattle.filter_source.specs.TextPlaces.{ArePlacesOf}
 use Rattle.filter_source.specs.declared.diagnosis.Diagnosis.{Diagnosis}
 use Rattle.filter_reports.specs.VerifiedFilters.{IsFilterOf}
-use Rattle.filter_reports.specs.Naming.{IsCutTelling, Named, TellsOf}
+use Rattle.filter_reports.specs.Naming.{Named}
 use Rattle.line_protocol.specs.Runs.{AppendsFront}
 use Rattle.line_protocol.specs.declared.faults.StreamFault.{StreamFault}
 use Rattle.line_protocol.specs.declared.faults.StreamFault.TheVariants.{Memory, Write}
+use Rattle.refusal_reports.specs.Refusing.{CutsRefusing, Refuses}
+use Rattle.report_formats.specs.declared.format.Format.{Format}
 use Rattle.filter_lint.specs.Allowing.{told_host_bits, told_of}
 use Rattle.filter_lint.specs.HostBits.{AreHostBits}
 use Rattle.filter_lint.specs.Rules.{AreFound}
@@ -30,7 +32,7 @@ linted_as false count = linted.Undecided count
 
 -- These are the lines of the warnings of a filter's code and of the prefixes of its text that have host bits, but for what is allowed, and this
 -- comes of the filter. Each of the warnings is true of the code. All routes were tried where the limit leaves out no class of them.
-pub record IsReport (program : CodeView) (size limit : ℕ) (allowed : List (String Global)) (asks_order : Bool) (places : List ℕ) (source : Named)
+pub record IsReport (format : Format) (program : CodeView) (size limit : ℕ) (allowed : List (String Global)) (asks_order : Bool) (places : List ℕ) (source : Named)
     (lines : List ℕ) (found : Linted) : Type 0 where
   pub all : Warnings
   pub are_found : AreFound program source.text places size asks_order all
@@ -39,79 +41,78 @@ pub record IsReport (program : CodeView) (size limit : ℕ) (allowed : List (Str
   pub ordered : IsEnough size limit → all.is_ordered ≡ true
   pub host_bits : List HostBits
   pub are_host_bits : AreHostBits source.text host_bits
-  pub lines_are : lines ≡ warnings_text source.name source.text program.sets (told_of allowed source.text all.found.items)
+  pub lines_are : lines ≡ warnings_text format source.name source.text program.sets (told_of allowed source.text all.found.items)
       (told_host_bits allowed source.text host_bits) all.is_complete all.is_ordered
   pub comes_to : found ≡ linted_as (all.is_complete && all.is_ordered)
       (length (told_of allowed source.text all.found.items) + length (told_host_bits allowed source.text host_bits))
 
 -- They were written. `held` and `holds` are what the writer held before and holds now.
-pub record WritesWarnings (program : CodeView) (size limit : ℕ) (allowed : List (String Global)) (asks_order : Bool) (places : List ℕ)
+pub record WritesWarnings (format : Format) (program : CodeView) (size limit : ℕ) (allowed : List (String Global)) (asks_order : Bool) (places : List ℕ)
     (source : Named) (held holds : Option (List ℕ)) (found : Linted) : Type 0 where
   pub lines : List ℕ
-  pub report : IsReport program size limit allowed asks_order places source lines found
+  pub report : IsReport format program size limit allowed asks_order places source lines found
   pub written : Appends held holds lines
 
 -- A fault kept them from being written whole: memory was refused, and nothing was written; or they were cut.
-abbrev pub CutsWarnings : StreamFault → CodeView → ℕ → ℕ → List (String Global) → Bool → List ℕ → Named → Option (List ℕ) → Option (List ℕ)
+abbrev pub CutsWarnings : StreamFault → Format → CodeView → ℕ → ℕ → List (String Global) → Bool → List ℕ → Named → Option (List ℕ) → Option (List ℕ)
     → Type 0
-CutsWarnings fault program size limit allowed asks_order places source held holds =
+CutsWarnings fault format program size limit allowed asks_order places source held holds =
     ((fault ≡ Memory) × Keeps held holds)
-    ⊎ ((lines : List ℕ) × (found : Linted) × IsReport program size limit allowed asks_order places source lines found × (fault ≡ Write)
+    ⊎ ((lines : List ℕ) × (found : Linted) × IsReport format program size limit allowed asks_order places source lines found × (fault ≡ Write)
     × AppendsFront held holds lines)
 
 -- It spells a filter whose code never goes wrong in domains of the size, and the warnings of this code were written, each at the place of
 -- the text that its instruction comes from, and nothing told.
-abbrev pub LintsFilter : ℕ → ℕ → List (String Global) → Bool → Named → Option (List ℕ) → Option (List ℕ) → Option (List ℕ) → Option (List ℕ)
+abbrev pub LintsFilter : Format → ℕ → ℕ → List (String Global) → Bool → Named → Option (List ℕ) → Option (List ℕ) → Option (List ℕ) → Option (List ℕ)
     → Linted → Type 0
-LintsFilter size limit allowed asks_order source held holds tells told found = (f : FilterView)
+LintsFilter format size limit allowed asks_order source held holds tells told found = (f : FilterView)
     × (is_f : IsFilterOf source.text size f) × (places : List ℕ) × ArePlacesOf source.text places
-    × WritesWarnings is_f.program size limit allowed asks_order places source held holds found × Keeps tells told
+    × WritesWarnings format is_f.program size limit allowed asks_order places source held holds found × Keeps tells told
 
 -- The text is refused, which was told, and nothing written; or its warnings were written.
-abbrev pub LintsNamed : ℕ → ℕ → List (String Global) → Bool → Bool → Named → Option (List ℕ) → Option (List ℕ) → Option (List ℕ)
+abbrev pub LintsNamed : Format → ℕ → ℕ → List (String Global) → Bool → Bool → Named → Option (List ℕ) → Option (List ℕ) → Option (List ℕ)
     → Option (List ℕ) → Linted → Type 0
-LintsNamed size limit allowed asks_order is_explained source held holds tells told linted.Refused = (why : Diagnosis)
-    × IsDiagnosis size false source.text why × Keeps held holds × TellsOf is_explained source.name source.text (Some why) tells told
-LintsNamed size limit allowed asks_order is_explained source held holds tells told (linted.Warned count) =
-    LintsFilter size limit allowed asks_order source held holds tells told (linted.Warned count)
-LintsNamed size limit allowed asks_order is_explained source held holds tells told (linted.Undecided count) =
-    LintsFilter size limit allowed asks_order source held holds tells told (linted.Undecided count)
+LintsNamed format size limit allowed asks_order is_explained source held holds tells told linted.Refused = (why : Diagnosis)
+    × IsDiagnosis size false source.text why × Refuses format is_explained source why held holds tells told
+LintsNamed format size limit allowed asks_order is_explained source held holds tells told (linted.Warned count) =
+    LintsFilter format size limit allowed asks_order source held holds tells told (linted.Warned count)
+LintsNamed format size limit allowed asks_order is_explained source held holds tells told (linted.Undecided count) =
+    LintsFilter format size limit allowed asks_order source held holds tells told (linted.Undecided count)
 
 -- A fault ended it: before anything was written or told, for want of memory; while a refusal was told; or while warnings were written.
-abbrev pub LintsNamedOff : StreamFault → ℕ → ℕ → List (String Global) → Bool → Bool → Named → Option (List ℕ) → Option (List ℕ)
+abbrev pub LintsNamedOff : StreamFault → Format → ℕ → ℕ → List (String Global) → Bool → Bool → Named → Option (List ℕ) → Option (List ℕ)
     → Option (List ℕ) → Option (List ℕ) → Type 0
-LintsNamedOff fault size limit allowed asks_order is_explained source held holds tells told =
+LintsNamedOff fault format size limit allowed asks_order is_explained source held holds tells told =
     ((fault ≡ Memory) × Keeps held holds × Keeps tells told)
-    ⊎ (((why : Diagnosis) × IsDiagnosis size false source.text why × Keeps held holds
-    × IsCutTelling fault is_explained source.name source.text why tells told)
+    ⊎ (((why : Diagnosis) × IsDiagnosis size false source.text why × CutsRefusing fault format is_explained source why held holds tells told)
     ⊎ ((f : FilterView) × (is_f : IsFilterOf source.text size f) × (places : List ℕ) × ArePlacesOf source.text places
-    × CutsWarnings fault is_f.program size limit allowed asks_order places source held holds × Keeps tells told))
+    × CutsWarnings fault format is_f.program size limit allowed asks_order places source held holds × Keeps tells told))
 
 -- The text is refused, and nothing was told; or the warnings of the filter that it spells were told.
-abbrev pub WarnsNamed : ℕ → ℕ → Named → Option (List ℕ) → Option (List ℕ) → Type 0
-WarnsNamed size limit source tells told = ((why : Diagnosis) × IsDiagnosis size false source.text why × Keeps tells told)
+abbrev pub WarnsNamed : Format → ℕ → ℕ → Named → Option (List ℕ) → Option (List ℕ) → Type 0
+WarnsNamed format size limit source tells told = ((why : Diagnosis) × IsDiagnosis size false source.text why × Keeps tells told)
     ⊎ ((found : Linted) × (f : FilterView) × (is_f : IsFilterOf source.text size f) × (places : List ℕ) × ArePlacesOf source.text places
-    × WritesWarnings is_f.program size limit [] false places source tells told found)
+    × WritesWarnings format is_f.program size limit [] false places source tells told found)
 
 -- A fault ended it: before anything was told, for want of memory; or while they were told.
-abbrev pub WarnsNamedOff : StreamFault → ℕ → ℕ → Named → Option (List ℕ) → Option (List ℕ) → Type 0
-WarnsNamedOff fault size limit source tells told = ((fault ≡ Memory) × Keeps tells told)
+abbrev pub WarnsNamedOff : StreamFault → Format → ℕ → ℕ → Named → Option (List ℕ) → Option (List ℕ) → Type 0
+WarnsNamedOff fault format size limit source tells told = ((fault ≡ Memory) × Keeps tells told)
     ⊎ ((f : FilterView) × (is_f : IsFilterOf source.text size f) × (places : List ℕ) × ArePlacesOf source.text places
-    × CutsWarnings fault is_f.program size limit [] false places source tells told)
+    × CutsWarnings fault format is_f.program size limit [] false places source tells told)
 
 -- These are the lines of the prefixes of a text that have host bits, as they are among those of its warnings where no code is allowed.
-pub record AreHostBitsLines (source : Named) (lines : List ℕ) : Type 0 where
+pub record AreHostBitsLines (format : Format) (source : Named) (lines : List ℕ) : Type 0 where
   pub host_bits : List HostBits
   pub are_host_bits : AreHostBits source.text host_bits
-  pub lines_are : lines ≡ host_bits_text source.name source.text (told_host_bits [] source.text host_bits)
+  pub lines_are : lines ≡ host_bits_text format source.name source.text (told_host_bits [] source.text host_bits)
 
 -- They were told.
-pub record TellsHostBits (source : Named) (tells told : Option (List ℕ)) : Type 0 where
+pub record TellsHostBits (format : Format) (source : Named) (tells told : Option (List ℕ)) : Type 0 where
   pub lines : List ℕ
-  pub are_lines : AreHostBitsLines source lines
+  pub are_lines : AreHostBitsLines format source lines
   pub written : Appends tells told lines
 
 -- A fault kept them from being told whole: memory was refused, and nothing was told; or they were cut.
-abbrev pub CutsHostBits : StreamFault → Named → Option (List ℕ) → Option (List ℕ) → Type 0
-CutsHostBits fault source tells told = ((fault ≡ Memory) × Keeps tells told)
-    ⊎ ((lines : List ℕ) × AreHostBitsLines source lines × (fault ≡ Write) × AppendsFront tells told lines)
+abbrev pub CutsHostBits : StreamFault → Format → Named → Option (List ℕ) → Option (List ℕ) → Type 0
+CutsHostBits fault format source tells told = ((fault ≡ Memory) × Keeps tells told)
+    ⊎ ((lines : List ℕ) × AreHostBitsLines format source lines × (fault ≡ Write) × AppendsFront tells told lines)

@@ -11,6 +11,10 @@ use Rattle.filter_diff.specs.declared.ordering.Disorder.{Disorder}
 use Rattle.filter_reports.specs.Explanations.{message, position}
 use Rattle.filter_reports.specs.Places.{column_at, line_at}
 use Rattle.filter_reports.specs.Shown.{shown}
+use Rattle.report_formats.specs.Reports.{ReportView, report_line}
+use Rattle.report_formats.specs.declared.format.Format.{Format}
+use Rattle.report_formats.specs.declared.format.Format.TheVariants as formats
+use Rattle.report_formats.specs.declared.report.Severity.TheVariants as severity
 use Rattle.filter_lint.specs.declared.host_bits.HostBits.{HostBits}
 use Rattle.filter_lint.specs.declared.site.Site.{Site}
 use Rattle.filter_lint.specs.declared.site.Site.TheVariants as site
@@ -166,10 +170,6 @@ abbrev pub host_bits_line : List ℕ → List ℕ → HostBits → List ℕ
 host_bits_line name text found = shown name ++ position (line_at text found.token.from) (column_at text found.token.from)
     ++ message (host_bits_words text found) (codes "W5")
 
--- those of several, in order
-abbrev pub host_bits_text : List ℕ → List ℕ → List HostBits → List ℕ
-host_bits_text name text all = flat_map (host_bits_line name text) all
-
 -- the line that says that not all routes were tried
 unfoldable pub undecided_words : List ℕ
 undecided_words = codes ": undecided: not all routes were tried, so W1, W2 and W8 were not looked for" ++ 10 ∷ []
@@ -190,8 +190,71 @@ unordered_line name = shown name ++ unordered_words
 abbrev pub unordered_text : List ℕ → Bool → List ℕ
 unordered_text name is_ordered = if is_ordered then [] else unordered_line name
 
+-- what a report says of a warning
+abbrev pub warning_view : List ℕ → List ℕ → List (List PrefixPattern) → Warning → ReportView
+warning_view name text sets warning = record {
+  severity = severity.Warning;
+  code = Some (code_of warning.cause);
+  file = name;
+  line = Some (line_at text warning.byte);
+  column = Some (column_at text warning.byte);
+  words = words sets warning.cause;
+}
+
+-- of a prefix with host bits
+abbrev pub host_bits_view : List ℕ → List ℕ → HostBits → ReportView
+host_bits_view name text found = record {
+  severity = severity.Warning;
+  code = Some (codes "W5");
+  file = name;
+  line = Some (line_at text found.token.from);
+  column = Some (column_at text found.token.from);
+  words = host_bits_words text found;
+}
+
+-- and of a file of which not all routes were tried, or not all metrics
+unfoldable pub not_tried_words : List ℕ
+not_tried_words = codes "not all routes were tried, so W1, W2 and W8 were not looked for"
+
+unfoldable pub not_ordered_words : List ℕ
+not_ordered_words = codes "not all metrics of all routes were tried, so W9 was not looked for"
+
+abbrev pub undecided_view : List ℕ → List ℕ → ReportView
+undecided_view name words = record {
+  severity = severity.Undecided;
+  code = None;
+  file = name;
+  line = None;
+  column = None;
+  words = words;
+}
+
+abbrev pub undecided_report : List ℕ → Bool → List ℕ → List ℕ
+undecided_report name is_complete words = if is_complete then [] else report_line (undecided_view name words)
+
+-- the line of each, as it is written
+abbrev pub warning_in : Format → List ℕ → List ℕ → List (List PrefixPattern) → Warning → List ℕ
+warning_in formats.Text name text sets warning = warning_line name text sets warning
+warning_in formats.Json name text sets warning = report_line (warning_view name text sets warning)
+
+abbrev pub host_bits_in : Format → List ℕ → List ℕ → HostBits → List ℕ
+host_bits_in formats.Text name text found = host_bits_line name text found
+host_bits_in formats.Json name text found = report_line (host_bits_view name text found)
+
+abbrev pub undecided_in : Format → List ℕ → Bool → List ℕ
+undecided_in formats.Text name is_complete = undecided_text name is_complete
+undecided_in formats.Json name is_complete = undecided_report name is_complete not_tried_words
+
+abbrev pub unordered_in : Format → List ℕ → Bool → List ℕ
+unordered_in formats.Text name is_ordered = unordered_text name is_ordered
+unordered_in formats.Json name is_ordered = undecided_report name is_ordered not_ordered_words
+
+-- those of several prefixes with host bits, in order
+abbrev pub host_bits_text : Format → List ℕ → List ℕ → List HostBits → List ℕ
+host_bits_text format name text all = flat_map (host_bits_in format name text) all
+
 -- the lines of the warnings of a text, of its prefixes with host bits, and last ones where not all routes were tried, or not all metrics
-abbrev pub warnings_text : List ℕ → List ℕ → List (List PrefixPattern) → List Warning → List HostBits → Bool → Bool → List ℕ
-warnings_text name text sets warnings host_bits is_complete is_ordered =
-    flat_map (warning_line name text sets) warnings ++ host_bits_text name text host_bits ++ undecided_text name is_complete
-    ++ unordered_text name is_ordered
+abbrev pub warnings_text : Format → List ℕ → List ℕ → List (List PrefixPattern) → List Warning → List HostBits → Bool → Bool → List ℕ
+warnings_text format name text sets warnings host_bits is_complete is_ordered =
+    flat_map (warning_in format name text sets) warnings ++ host_bits_text format name text host_bits ++ undecided_in format name is_complete
+    ++ unordered_in format name is_ordered

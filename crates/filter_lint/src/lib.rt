@@ -25,6 +25,7 @@ mod surveyed_filter;
 mod variables;
 mod warning;
 mod warning_lines;
+mod warning_reports;
 mod watching;
 
 pub use linting::{Linted, lint_named, tell_host_bits, warn_named};

@@ -17,11 +17,13 @@ use crate::host_bits::{HostBits, host_bits_among};
 use crate::rules::{Warnings, find_warnings};
 use crate::warning::Warning;
 use crate::warning_lines::{host_bits_text, warnings_text};
-use filter_reports::{NamedText, PlacedCode, ProgramFault, placed_code, tell_refusal};
+use filter_reports::{NamedText, PlacedCode, ProgramFault, placed_code};
 use filter_source::Failure;
 use filter_tokens::Token;
 use filter_verifier::Verified;
 use line_protocol::{StreamFault, write_text};
+use refusal_reports::refuse;
+use report_formats::Format;
 use std::alloc::{AllocError, Global};
 use std::io::Write;
 
@@ -82,6 +84,7 @@ fn warnings_of(
 /// The lines of those warnings of a code that are told, and what comes of it.
 fn report_on(
     alloc: Global,
+    format: Format,
     verified: &Verified,
     source: &NamedText<'_>,
     all: &Warnings,
@@ -89,13 +92,14 @@ fn report_on(
     host_bits: &[HostBits],
 ) -> Result<Report, AllocError>
     ensures lines { IfOk result (λ report. report.lines.items
-        ≡ warnings_text_of source.now.name.now source.now.text.now verified.now.program.sets told.now host_bits.now all.now.is_complete
+        ≡ warnings_text_of format source.now.name.now source.now.text.now verified.now.program.sets told.now host_bits.now all.now.is_complete
         all.now.is_ordered) }
     ensures comes_to { IfOk result (λ report. report.found
         ≡ spec.linted_as (all.now.is_complete && all.now.is_ordered) (length told.now + length host_bits.now)) }
 {
     let lines = warnings_text(
         alloc,
+        format,
         source.name,
         source.text,
         verified.code().sets(),
@@ -114,6 +118,7 @@ fn report_on(
 /// The warnings of a filter's verified code and of its text, in lines, but for those of these codes and those that a comment allows.
 fn report_of(
     alloc: Global,
+    format: Format,
     placed: &PlacedCode,
     source: &NamedText<'_>,
     limit: u64,
@@ -121,7 +126,7 @@ fn report_of(
     asks_order: bool,
 ) -> Result<Report, AllocError>
     requires { IsTokenization placed.now.tokens.items 0 source.now.text.now }
-    ensures { IfOk result (λ report. spec.IsReport placed.now.verified.program placed.now.verified.size limit allowed.now asks_order
+    ensures { IfOk result (λ report. spec.IsReport format placed.now.verified.program placed.now.verified.size limit allowed.now asks_order
         placed.now.places.items (named source.now) report.lines.items report.found) }
 {
     let all = warnings_of(
@@ -137,6 +142,7 @@ fn report_of(
     let told_bits = told_host_bits(alloc, allowed, source.text, host_bits.as_slice())?;
     report_on(
         alloc,
+        format,
         &placed.verified,
         source,
         &all,
@@ -158,6 +164,7 @@ fn write_report<W: Write>(report: &Report, writer: &mut W) -> Result<(), Program
 /// Writes the warnings of a filter's verified code.
 fn write_warnings<W: Write>(
     alloc: Global,
+    format: Format,
     placed: &PlacedCode,
     source: &NamedText<'_>,
     limit: u64,
@@ -166,12 +173,12 @@ fn write_warnings<W: Write>(
     writer: &mut W,
 ) -> Result<Linted, ProgramFault>
     requires { IsTokenization placed.now.tokens.items 0 source.now.text.now }
-    ensures finished { IfOk result (spec.WritesWarnings placed.now.verified.program placed.now.verified.size limit allowed.now
+    ensures finished { IfOk result (spec.WritesWarnings format placed.now.verified.program placed.now.verified.size limit allowed.now
         asks_order placed.now.places.items (named source.now) (W.contents writer.old) (W.contents writer.new)) }
-    ensures broken_off { IfErr result (λ fault. spec.CutsWarnings (stream_fault fault) placed.now.verified.program placed.now.verified.size
+    ensures broken_off { IfErr result (λ fault. spec.CutsWarnings (stream_fault fault) format placed.now.verified.program placed.now.verified.size
         limit allowed.now asks_order placed.now.places.items (named source.now) (W.contents writer.old) (W.contents writer.new)) }
 {
-    let report = report_of(alloc, placed, source, limit, allowed, asks_order)?;
+    let report = report_of(alloc, format, placed, source, limit, allowed, asks_order)?;
     write_report(&report, writer)?;
     Ok(report.found)
 }
@@ -182,6 +189,7 @@ fn write_warnings<W: Write>(
 /// its name, in words where `is_explained` says so, and nothing is written.
 pub fn lint_named<W: Write, E: Write>(
     alloc: Global,
+    format: Format,
     source: &NamedText<'_>,
     size: u32,
     limit: u64,
@@ -191,25 +199,20 @@ pub fn lint_named<W: Write, E: Write>(
     writer: &mut W,
     errors: &mut E,
 ) -> Result<Linted, ProgramFault>
-    ensures finished { IfOk result (spec.LintsNamed size limit allowed.now asks_order is_explained (named source.now)
+    ensures finished { IfOk result (spec.LintsNamed format size limit allowed.now asks_order is_explained (named source.now)
         (W.contents writer.old) (W.contents writer.new) (E.contents errors.old) (E.contents errors.new)) }
-    ensures broken_off { IfErr result (λ fault. spec.LintsNamedOff (stream_fault fault) size limit allowed.now asks_order is_explained
+    ensures broken_off { IfErr result (λ fault. spec.LintsNamedOff (stream_fault fault) format size limit allowed.now asks_order is_explained
         (named source.now) (W.contents writer.old) (W.contents writer.new) (E.contents errors.old) (E.contents errors.new)) }
 {
     match placed_code(alloc, source.text, size) {
         Ok(placed) => {
-            let found = write_warnings(alloc, &placed, source, limit, allowed, asks_order, writer)?;
+            let found = write_warnings(
+                alloc, format, &placed, source, limit, allowed, asks_order, writer,
+            )?;
             Ok(found)
         }
         Err(Failure::Refused(told)) => {
-            tell_refusal(
-                alloc,
-                errors,
-                source.name,
-                source.text,
-                &Some(told),
-                is_explained,
-            )?;
+            refuse(alloc, format, is_explained, source, told, writer, errors)?;
             Ok(Linted::Refused)
         }
         Err(Failure::Memory) => Err(ProgramFault::MEMORY),
@@ -219,18 +222,19 @@ pub fn lint_named<W: Write, E: Write>(
 /// Tells the warnings of the filter that a text spells, as `lint_named` writes them. Nothing is told of a text that is refused.
 pub fn warn_named<E: Write>(
     alloc: Global,
+    format: Format,
     source: &NamedText<'_>,
     size: u32,
     limit: u64,
     errors: &mut E,
 ) -> Result<(), ProgramFault>
-    ensures finished { OnOk result (spec.WarnsNamed size limit (named source.now) (E.contents errors.old) (E.contents errors.new)) }
-    ensures broken_off { IfErr result (λ fault. spec.WarnsNamedOff (stream_fault fault) size limit (named source.now)
+    ensures finished { OnOk result (spec.WarnsNamed format size limit (named source.now) (E.contents errors.old) (E.contents errors.new)) }
+    ensures broken_off { IfErr result (λ fault. spec.WarnsNamedOff (stream_fault fault) format size limit (named source.now)
         (E.contents errors.old) (E.contents errors.new)) }
 {
     match placed_code(alloc, source.text, size) {
         Ok(placed) => {
-            write_warnings(alloc, &placed, source, limit, &[], false, errors)?;
+            write_warnings(alloc, format, &placed, source, limit, &[], false, errors)?;
             Ok(())
         }
         Err(Failure::Refused(_)) => Ok(()),
@@ -241,15 +245,16 @@ pub fn warn_named<E: Write>(
 /// The lines of the prefixes of a text that have host bits.
 fn host_bits_lines(
     alloc: Global,
+    format: Format,
     source: &NamedText<'_>,
     tokens: &[Token],
 ) -> Result<Vec<u8>, AllocError>
     requires { IsTokenization tokens.now 0 source.now.text.now }
-    ensures { IfOk result (λ lines. spec.AreHostBitsLines (named source.now) lines.items) }
+    ensures { IfOk result (λ lines. spec.AreHostBitsLines format (named source.now) lines.items) }
 {
     let host_bits = host_bits_among(alloc, tokens)?;
     let told = told_host_bits(alloc, &[], source.text, host_bits.as_slice())?;
-    let lines = host_bits_text(alloc, source.name, source.text, told.as_slice())?;
+    let lines = host_bits_text(alloc, format, source.name, source.text, told.as_slice())?;
     Ok(lines)
 }
 
@@ -257,16 +262,17 @@ fn host_bits_lines(
 /// No route is tried.
 pub fn tell_host_bits<E: Write>(
     alloc: Global,
+    format: Format,
     source: &NamedText<'_>,
     tokens: &[Token],
     errors: &mut E,
 ) -> Result<(), ProgramFault>
     requires { IsTokenization tokens.now 0 source.now.text.now }
-    ensures told { OnOk result (spec.TellsHostBits (named source.now) (E.contents errors.old) (E.contents errors.new)) }
-    ensures cut { IfErr result (λ fault. spec.CutsHostBits (stream_fault fault) (named source.now)
+    ensures told { OnOk result (spec.TellsHostBits format (named source.now) (E.contents errors.old) (E.contents errors.new)) }
+    ensures cut { IfErr result (λ fault. spec.CutsHostBits (stream_fault fault) format (named source.now)
         (E.contents errors.old) (E.contents errors.new)) }
 {
-    let lines = host_bits_lines(alloc, source, tokens)?;
+    let lines = host_bits_lines(alloc, format, source, tokens)?;
     write_text(errors, lines.as_slice())?;
     Ok(())
 }

@@ -7,11 +7,15 @@ ghost use Rattle.filter_lint.specs.WarningLines as spec;
 use crate::host_bits::{HostBits, bytes_of};
 use crate::site::Site;
 use crate::warning::{Bounds, Cause, Operation, Warning};
+use crate::warning_reports::{
+    push_found, push_found_host_bits, push_found_undecided, push_found_unordered,
+};
 use filter_code::Outcome;
 use filter_diff::Disorder;
 use filter_reports::{place_in, push_position, push_prefix, push_shown};
 use line_protocol::push_decimal;
 use prefix_patterns::{ADDRESS_LENGTH, Pattern, PatternSet};
+use report_formats::Format;
 use std::alloc::{AllocError, Global};
 
 impl Cause {
@@ -321,7 +325,7 @@ fn push_disordered(alloc: Global, out: &mut Vec<u8>, shown: &Disorder) -> Result
 }
 
 /// Puts what is said of a cause at the end of `out`.
-fn push_words(
+pub(crate) fn push_words(
     alloc: Global,
     out: &mut Vec<u8>,
     sets: &[PatternSet],
@@ -358,7 +362,7 @@ fn push_message(
 }
 
 /// Puts the line of a warning at the end of `out`, where the name of the source is shown so.
-fn push_warning(
+pub(crate) fn push_warning(
     alloc: Global,
     out: &mut Vec<u8>,
     name: &[u8],
@@ -374,6 +378,20 @@ fn push_warning(
     push_message(alloc, out, sets, &warning.cause)
 }
 
+/// Puts what is said of a prefix with host bits at the end of `out`.
+pub(crate) fn push_host_bits_words(
+    alloc: Global,
+    out: &mut Vec<u8>,
+    text: &[u8],
+    found: &HostBits,
+) -> Result<(), AllocError>
+    ensures { OnOk result (out.new.items ≡ out.old.items ++ spec.host_bits_words text.now found.now) }
+{
+    out.extend_from_slice(bytes_of(text, &found.token))?;
+    out.extend_from_slice(b" is read as ")?;
+    push_prefix(alloc, out, found.prefix)
+}
+
 /// Puts what is said of a prefix with host bits and its code at the end of `out`, to the end of the line.
 fn push_host_bits_message(
     alloc: Global,
@@ -384,14 +402,12 @@ fn push_host_bits_message(
     ensures { OnOk result (out.new.items ≡ out.old.items ++ message (spec.host_bits_words text.now found.now) (codes "W5")) }
 {
     out.extend_from_slice(b": ")?;
-    out.extend_from_slice(bytes_of(text, &found.token))?;
-    out.extend_from_slice(b" is read as ")?;
-    push_prefix(alloc, out, found.prefix)?;
+    push_host_bits_words(alloc, out, text, found)?;
     out.extend_from_slice(b" (W5)\n")
 }
 
 /// Puts the line of a prefix with host bits at the end of `out`, where the name of the source is shown so.
-fn push_host_bits(
+pub(crate) fn push_host_bits(
     alloc: Global,
     out: &mut Vec<u8>,
     name: &[u8],
@@ -415,7 +431,7 @@ fn undecided_words() -> &'static [u8]
 }
 
 /// Puts that line at the end of `out`, where not all routes were tried.
-fn push_undecided(
+pub(crate) fn push_undecided(
     alloc: Global,
     out: &mut Vec<u8>,
     name: &[u8],
@@ -439,7 +455,7 @@ fn unordered_words() -> &'static [u8]
 }
 
 /// Puts that line at the end of `out`, where not all were tried.
-fn push_unordered(
+pub(crate) fn push_unordered(
     alloc: Global,
     out: &mut Vec<u8>,
     name: &[u8],
@@ -458,15 +474,16 @@ fn push_unordered(
 fn push_warnings(
     alloc: Global,
     out: &mut Vec<u8>,
+    format: Format,
     name: &[u8],
     text: &[u8],
     sets: &[PatternSet],
     warnings: &[Warning],
 ) -> Result<(), AllocError>
-    ensures { OnOk result (out.new.items ≡ out.old.items ++ flat_map (spec.warning_line name.now text.now sets.now) warnings.now) }
+    ensures { OnOk result (out.new.items ≡ out.old.items ++ flat_map (spec.warning_in format name.now text.now sets.now) warnings.now) }
 {
     for warning in warnings {
-        push_warning(alloc, out, name, text, sets, warning)?;
+        push_found(alloc, out, format, name, text, sets, warning)?;
     }
     Ok(())
 }
@@ -475,14 +492,15 @@ fn push_warnings(
 fn push_all_host_bits(
     alloc: Global,
     out: &mut Vec<u8>,
+    format: Format,
     name: &[u8],
     text: &[u8],
     all: &[HostBits],
 ) -> Result<(), AllocError>
-    ensures { OnOk result (out.new.items ≡ out.old.items ++ spec.host_bits_text name.now text.now all.now) }
+    ensures { OnOk result (out.new.items ≡ out.old.items ++ spec.host_bits_text format name.now text.now all.now) }
 {
     for found in all {
-        push_host_bits(alloc, out, name, text, found)?;
+        push_found_host_bits(alloc, out, format, name, text, found)?;
     }
     Ok(())
 }
@@ -490,20 +508,22 @@ fn push_all_host_bits(
 /// The lines of the prefixes of a text that have host bits.
 pub(crate) fn host_bits_text(
     alloc: Global,
+    format: Format,
     name: &[u8],
     text: &[u8],
     all: &[HostBits],
 ) -> Result<Vec<u8>, AllocError>
-    ensures { IfOk result (λ out. out.items ≡ spec.host_bits_text name.now text.now all.now) }
+    ensures { IfOk result (λ out. out.items ≡ spec.host_bits_text format name.now text.now all.now) }
 {
     let mut out = Vec::new(alloc);
-    push_all_host_bits(alloc, &mut out, name, text, all)?;
+    push_all_host_bits(alloc, &mut out, format, name, text, all)?;
     Ok(out)
 }
 
 /// The lines of the warnings of a text, of its prefixes with host bits, and last ones where not all routes were tried, or not all metrics.
 pub(crate) fn warnings_text(
     alloc: Global,
+    format: Format,
     name: &[u8],
     text: &[u8],
     sets: &[PatternSet],
@@ -513,12 +533,12 @@ pub(crate) fn warnings_text(
     is_ordered: bool,
 ) -> Result<Vec<u8>, AllocError>
     ensures { IfOk result (λ out. out.items
-        ≡ spec.warnings_text name.now text.now sets.now warnings.now host_bits.now is_complete is_ordered) }
+        ≡ spec.warnings_text format name.now text.now sets.now warnings.now host_bits.now is_complete is_ordered) }
 {
     let mut out = Vec::new(alloc);
-    push_warnings(alloc, &mut out, name, text, sets, warnings)?;
-    push_all_host_bits(alloc, &mut out, name, text, host_bits)?;
-    push_undecided(alloc, &mut out, name, is_complete)?;
-    push_unordered(alloc, &mut out, name, is_ordered)?;
+    push_warnings(alloc, &mut out, format, name, text, sets, warnings)?;
+    push_all_host_bits(alloc, &mut out, format, name, text, host_bits)?;
+    push_found_undecided(alloc, &mut out, format, name, is_complete)?;
+    push_found_unordered(alloc, &mut out, format, name, is_ordered)?;
     Ok(out)
 }

@@ -21,12 +21,12 @@ module _ {A : Type 0} (k : OptionKind) (text_of : A → List ℕ) (options : Lis
   -- an option is refused behind others, and told
   pub not_added : (n : ℕ) (option : A) (text : List ℕ) (why : PlanFault) (plan mid : PlanView) → n < length options
       → option ≡ get_or options n option → text ≡ text_of option → AddsFirst k text_of options n plan mid
-      → TellsOption k text (Refuses k mid text) why → StopsAdding k text_of options plan why
+      → TellsOption k n text (Refuses k mid text) why → StopsAdding k text_of options plan why
   not_added n option text why plan mid inside is said first refused = record {
     n = n;
     option = option;
     is_option = slice_get_read options _ n option refl inside is;
     mid = mid;
     first = first;
-    refused = subst (λ (t : List ℕ). TellsOption k t (Refuses k mid t) why) said refused;
+    refused = subst (λ (t : List ℕ). TellsOption k n t (Refuses k mid t) why) said refused;
   }

@@ -15,17 +15,18 @@ use Rattle.router_operator.specs.OperatorView.{Names}
 use Rattle.router_options.specs.PlanView.{PlanView}
 use Rattle.command_line.specs.declared.router_words.RouterWords.{RouterWords}
 use Rattle.ncroute.specs.Routing.{CutsPlan, Operated, RunsPlan, ServesRouter, StopsSettingUp, router_line, setup_line, setup_status}
+use Rattle.ncroute.specs.Stated.{OriginView}
 use Rattle.ncroute.specs.Streaming.{Streams}
 use Rattle.ncroute.specs.declared.routing.SetupFault.{SetupFault}
 use Rattle.ncroute.specs.declared.routing.Untold.{Untold}
 
 -- it was not set up, and the result says what was told of that
 module _ (opens : List ℕ → Result (Option (List ℕ)) Error → Type 0) (makes : List ℕ → Result (Option FolderView) Error → Type 0)
-    (keeps : List ℕ → Option FolderView → Type 0) (words : RouterWords) where
+    (keeps : List ℕ → Option FolderView → Type 0) (origin : OriginView) (words : RouterWords) where
   pub stopped : {T : Type 0} (result : Result ℕ T) (before mid after : Streams) (why : SetupFault)
       → StopsSettingUp makes opens why words before mid
-      → IfOk result (λ status. (status ≡ setup_status why) × Appends mid.tells after.tells (setup_line why)) → after.reads ≡ mid.reads
-      → after.holds ≡ mid.holds → IfOk result (ServesRouter opens makes keeps words before after)
+      → IfOk result (λ status. (status ≡ setup_status why) × Appends mid.tells after.tells (setup_line origin why)) → after.reads ≡ mid.reads
+      → after.holds ≡ mid.holds → IfOk result (ServesRouter opens makes keeps origin words before after)
   unfolding ServesRouter
   stopped (Ok status) before mid after why stops told reads holds = inr (inr (why, mid, stops, told.1, reads, holds, told.0))
   stopped (Err cut) before mid after why stops told reads holds = tt

@@ -4,8 +4,11 @@ use Rattle.std.specs.declared.io.Error.{Error}
 use Rattle.filter_source.specs.Limits.{source_limit}
 use Rattle.filter_source.specs.declared.diagnosis.Diagnosis.{Diagnosis}
 use Rattle.line_protocol.specs.declared.faults.StreamFault.{StreamFault}
+use Rattle.report_formats.specs.declared.format.Format.{Format}
+use Rattle.report_formats.specs.declared.format.Format.TheVariants as formats
 use Rattle.command_line.specs.declared.requests.Checking.{Checking}
 use Rattle.command_line.specs.declared.requests.Source.{Source}
+use Rattle.ncroute.specs.CheckReports.{ChecksJson, CutsJson}
 use Rattle.ncroute.specs.Following.{CutsLater, DoesAll}
 use Rattle.ncroute.specs.Linting.{CutsWarning, Warns, wanted_of}
 use Rattle.ncroute.specs.Marking.{ChecksLines, CutsLines, CutsReport, ReportsOn}
@@ -33,22 +36,31 @@ abbrev pub CutsBy : Bool → StreamFault → Checking → List ℕ → List ℕ 
 CutsBy true fault how name text before after = CutsLines fault how name text before after
 CutsBy false fault how name text before after = CutsWhole fault how name text before after
 
--- And then those of its warnings were told that are wanted.
+-- Or in a line of JSON.
+abbrev pub ChecksAs : Format → Bool → Checking → List ℕ → List ℕ → Streams → Streams → Bool → Type 0
+ChecksAs formats.Text is_by_lines how name text before after is_refused = ChecksBy is_by_lines how name text before after is_refused
+ChecksAs formats.Json is_by_lines how name text before after is_refused = ChecksJson how name text before after is_refused
+
+abbrev pub CutsAs : Format → Bool → StreamFault → Checking → List ℕ → List ℕ → Streams → Streams → Type 0
+CutsAs formats.Text is_by_lines fault how name text before after = CutsBy is_by_lines fault how name text before after
+CutsAs formats.Json is_by_lines fault how name text before after = CutsJson fault how name text before after
+
+-- And then those of its warnings were told or written that are wanted.
 pub record ChecksText (how : Checking) (name text : List ℕ) (before after : Streams) (is_refused : Bool) : Type 0 where
   pub mid : Streams
-  pub checked : ChecksBy (how.has_names || how.is_quiet) how name text before mid is_refused
-  pub warned : Warns (wanted_of how is_refused) how.size (record { name = name; text = text }) mid after
+  pub checked : ChecksAs how.format (how.has_names || how.is_quiet) how name text before mid is_refused
+  pub warned : Warns how.format (wanted_of how is_refused) how.size (record { name = name; text = text }) mid after
 
 -- A fault cut the warnings.
 pub record CutsWarnings (fault : StreamFault) (how : Checking) (name text : List ℕ) (before after : Streams) : Type 0 where
   pub is_refused : Bool
   pub mid : Streams
-  pub checked : ChecksBy (how.has_names || how.is_quiet) how name text before mid is_refused
-  pub cut : CutsWarning (wanted_of how is_refused) fault how.size (record { name = name; text = text }) mid after
+  pub checked : ChecksAs how.format (how.has_names || how.is_quiet) how name text before mid is_refused
+  pub cut : CutsWarning how.format (wanted_of how is_refused) fault how.size (record { name = name; text = text }) mid after
 
 unfoldable pub CutsText : StreamFault → Checking → List ℕ → List ℕ → Streams → Streams → Type 0
 CutsText fault how name text before after =
-    CutsBy (how.has_names || how.is_quiet) fault how name text before after ⊎ CutsWarnings fault how name text before after
+    CutsAs how.format (how.has_names || how.is_quiet) fault how name text before after ⊎ CutsWarnings fault how name text before after
 
 -- `opens name` says what may come of opening a file of this name.
 module _ (opens : List ℕ → Result (Option (List ℕ)) Error → Type 0) where

@@ -22,13 +22,13 @@ status_of_comparison Refused = 3
 -- Two texts were compared, which was told, and the exit status says what came of it.
 pub record ComparesTexts (how : Comparing) (old new : Named) (before after : Streams) (status : ℕ) : Type 0 where
   pub found : Compared
-  pub compared : ComparesNamed how.size how.limit how.is_explained old new before.holds after.holds before.tells after.tells found
+  pub compared : ComparesNamed how.format how.size how.limit how.is_explained old new before.holds after.holds before.tells after.tells found
   pub ends : status ≡ status_of_comparison found
   pub reads : after.reads ≡ before.reads
 
 -- A fault ended it.
 pub record StopsComparison (fault : StreamFault) (how : Comparing) (old new : Named) (before after : Streams) : Type 0 where
-  pub compared : ComparesNamedOff fault how.size how.limit how.is_explained old new before.holds after.holds before.tells after.tells
+  pub compared : ComparesNamedOff fault how.format how.size how.limit how.is_explained old new before.holds after.holds before.tells after.tells
   pub reads : after.reads ≡ before.reads
 
 -- `opens name` says what may come of opening a file of this name.

@@ -6,13 +6,14 @@ use Rattle.std.specs.Prelude.{codes, drop, length, map, slice_get, take}
 use Rattle.std.specs.declared.io.Error.{Error}
 use Rattle.filter_reports.specs.Shown.{shown}
 use Rattle.line_protocol.specs.Limits.{input_limit}
+use Rattle.line_protocol.specs.declared.faults.StreamFault.{StreamFault}
 use Rattle.bird_import.specs.Including.{Includes, view_of as view_of_include}
 use Rattle.bird_import.specs.declared.includes.Include.{Include}
 use Rattle.command_line.specs.declared.requests.Source.{Source}
 use Rattle.ncroute.specs.Inclusions.{IsLeft, IsLookedFor, last_file}
 use Rattle.ncroute.specs.Places.{ConfigView, FileView, place_in, view_of}
-use Rattle.ncroute.specs.Reading.{Reads, SkipsUnread, name_of, told_line}
-use Rattle.ncroute.specs.Streaming.{Streams, Tells, Writes}
+use Rattle.ncroute.specs.Reading.{Reads, SkipsUnread, StopsReading, name_of, told_line}
+use Rattle.ncroute.specs.Streaming.{CutsTelling, Streams, Tells, Writes}
 
 -- how deep files include files at most, as in BIRD
 abbrev pub include_depth : ℕ
@@ -88,6 +89,10 @@ abbrev pub TakesWithin : Source → List ℕ → Option (List ℕ) → Streams �
 TakesWithin source text None before after = (input_limit < length text) × Tells (long_config_line source) before after
 TakesWithin source text (Some taken) before after = (length text ≤ input_limit) × (taken ≡ text) × (after ≡ before)
 
+-- What was to be told of a text that goes beyond the limit was cut.
+abbrev pub CutsWithin : StreamFault → Source → List ℕ → Streams → Streams → Type 0
+CutsWithin fault source text before after = (input_limit < length text) × CutsTelling fault (long_config_line source) before after
+
 -- `opens name` says what may come of opening a file of this name.
 module _ (opens : List ℕ → Result (Option (List ℕ)) Error → Type 0) where
   -- This is all the text of a source, which is within the limit.
@@ -111,6 +116,11 @@ module _ (opens : List ℕ → Result (Option (List ℕ)) Error → Type 0) wher
   abbrev pub IsText : Source → Option (List ℕ) → Streams → Streams → Type 0
   IsText source None before after = SkipsText source before after
   IsText source (Some text) before after = ReadsText source text before after
+
+  -- A fault kept a source from being read or told of, or cut what was to be told of its length.
+  abbrev pub StopsText : StreamFault → Source → Streams → Streams → Type 0
+  StopsText fault source before after = StopsReading opens fault input_limit source before after
+      ⊎ ((text : List ℕ) × (mid : Streams) × Reads opens input_limit source text before mid × CutsWithin fault source text mid after)
 
 -- `Puts one config after before now` says how a file that is included is put behind a configuration, or left out.
 module _ (Puts : Include → ConfigView → ConfigView → Streams → Streams → Type 0) where

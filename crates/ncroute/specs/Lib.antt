@@ -1,8 +1,12 @@
 -- What callers cite.
+pub mod CheckReports
+pub mod Checked
 pub mod Checking
 pub mod Comparing
+pub mod Configured
 pub mod Ending
 pub mod Filters
+pub mod Gathering
 pub mod Guiding
 pub mod Importing
 pub mod Including
@@ -20,9 +24,11 @@ pub mod Requests
 pub mod Responding
 pub mod Routing
 pub mod Scripts
+pub mod Stated
 pub mod Streaming
 pub mod Testing
 pub mod Trying
+pub mod WrongLines
 pub mod WrongWords
 -- What only the bodies of this crate are proved against.
 pub mod Following

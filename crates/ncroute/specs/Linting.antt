@@ -2,11 +2,13 @@
 use Rattle.std.specs.Prelude.{◌≡◌, ◌⊎◌, ℕ, zero, suc, Bool, nat_lt, not, ◌&&◌, if◌then◌else◌, List, Option, Some, None, Result, length, slice_get}
 use Rattle.std.specs.declared.io.Error.{Error}
 use Rattle.filter_source.specs.Limits.{source_limit}
-use Rattle.filter_lint.specs.Linting.{CutsHostBits, LintsNamed, LintsNamedOff, TellsHostBits, WarnsNamed, WarnsNamedOff}
+use Rattle.filter_lint.specs.Linting.{CutsHostBits as CutsHostBitsLines, LintsNamed, LintsNamedOff, TellsHostBits, WarnsNamed, WarnsNamedOff}
 use Rattle.filter_lint.specs.declared.linting.Linted.{Linted}
 use Rattle.filter_lint.specs.declared.linting.Linted.TheVariants.{Refused, Undecided, Warned}
 use Rattle.filter_reports.specs.Naming.{Named}
 use Rattle.line_protocol.specs.declared.faults.StreamFault.{StreamFault}
+use Rattle.report_formats.specs.declared.format.Format.{Format}
+use Rattle.report_formats.specs.declared.format.Format.TheVariants as formats
 use Rattle.command_line.specs.declared.requests.Checking.{Checking}
 use Rattle.command_line.specs.declared.requests.Source.{Source}
 use Rattle.command_line.specs.declared.lint_words.Linting.{Linting}
@@ -42,14 +44,14 @@ status_of_said said.Unknown = 3
 -- The warnings of a text were written, or its refusal told.
 pub record LintsText (how : Linting) (source : Named) (before after : Streams) (found : Said) : Type 0 where
   pub linted : Linted
-  pub named : LintsNamed how.size how.limit how.allowed.items how.asks_order how.is_explained source before.holds after.holds before.tells
+  pub named : LintsNamed how.format how.size how.limit how.allowed.items how.asks_order how.is_explained source before.holds after.holds before.tells
       after.tells linted
   pub judged : found ≡ said_of linted
   pub reads : after.reads ≡ before.reads
 
 -- A fault cut that.
 pub record CutsLintText (fault : StreamFault) (how : Linting) (source : Named) (before after : Streams) : Type 0 where
-  pub named : LintsNamedOff fault how.size how.limit how.allowed.items how.asks_order how.is_explained source before.holds after.holds
+  pub named : LintsNamedOff fault how.format how.size how.limit how.allowed.items how.asks_order how.is_explained source before.holds after.holds
       before.tells after.tells
   pub reads : after.reads ≡ before.reads
 
@@ -69,39 +71,81 @@ wanted_of how is_refused =
 
 -- The warnings of a text that was checked were told.
 pub record WarnsText (size limit : ℕ) (source : Named) (before after : Streams) : Type 0 where
-  pub named : WarnsNamed size limit source before.tells after.tells
+  pub named : WarnsNamed formats.Text size limit source before.tells after.tells
   pub reads : after.reads ≡ before.reads
   pub holds : after.holds ≡ before.holds
 
 -- A fault cut that.
 pub record CutsWarningText (fault : StreamFault) (size limit : ℕ) (source : Named) (before after : Streams) : Type 0 where
-  pub named : WarnsNamedOff fault size limit source before.tells after.tells
+  pub named : WarnsNamedOff fault formats.Text size limit source before.tells after.tells
   pub reads : after.reads ≡ before.reads
   pub holds : after.holds ≡ before.holds
 
+-- They were written in lines of JSON.
+pub record WritesWarnings (size limit : ℕ) (source : Named) (before after : Streams) : Type 0 where
+  pub named : WarnsNamed formats.Json size limit source before.holds after.holds
+  pub reads : after.reads ≡ before.reads
+  pub tells : after.tells ≡ before.tells
+
+-- A fault cut that.
+pub record CutsWarningWriting (fault : StreamFault) (size limit : ℕ) (source : Named) (before after : Streams) : Type 0 where
+  pub named : WarnsNamedOff fault formats.Json size limit source before.holds after.holds
+  pub reads : after.reads ≡ before.reads
+  pub tells : after.tells ≡ before.tells
+
+-- They were told, or written.
+abbrev pub SaysWarnings : Format → ℕ → ℕ → Named → Streams → Streams → Type 0
+SaysWarnings formats.Text size limit source before after = WarnsText size limit source before after
+SaysWarnings formats.Json size limit source before after = WritesWarnings size limit source before after
+
+abbrev pub CutsWarnings : Format → StreamFault → ℕ → ℕ → Named → Streams → Streams → Type 0
+CutsWarnings formats.Text fault size limit source before after = CutsWarningText fault size limit source before after
+CutsWarnings formats.Json fault size limit source before after = CutsWarningWriting fault size limit source before after
+
 -- Those of its prefixes with host bits were told.
 pub record WarnsOfHostBits (source : Named) (before after : Streams) : Type 0 where
-  pub told : TellsHostBits source before.tells after.tells
+  pub told : TellsHostBits formats.Text source before.tells after.tells
   pub reads : after.reads ≡ before.reads
   pub holds : after.holds ≡ before.holds
 
 -- A fault cut that.
 pub record CutsHostBitsText (fault : StreamFault) (source : Named) (before after : Streams) : Type 0 where
-  pub cut : CutsHostBits fault source before.tells after.tells
+  pub cut : CutsHostBitsLines fault formats.Text source before.tells after.tells
   pub reads : after.reads ≡ before.reads
   pub holds : after.holds ≡ before.holds
 
--- Those warnings were told that are wanted; where none are, nothing was done.
-abbrev pub Warns : Wanted → ℕ → Named → Streams → Streams → Type 0
-Warns wanted.Nothing size source before after = after ≡ before
-Warns wanted.HostBits size source before after = WarnsOfHostBits source before after
-Warns (wanted.All limit) size source before after = WarnsText size limit source before after
+-- They were written in lines of JSON.
+pub record WritesHostBits (source : Named) (before after : Streams) : Type 0 where
+  pub told : TellsHostBits formats.Json source before.holds after.holds
+  pub reads : after.reads ≡ before.reads
+  pub tells : after.tells ≡ before.tells
 
 -- A fault cut that.
-abbrev pub CutsWarning : Wanted → StreamFault → ℕ → Named → Streams → Streams → Type 0
-CutsWarning wanted.Nothing fault size source before after = ⊥
-CutsWarning wanted.HostBits fault size source before after = CutsHostBitsText fault source before after
-CutsWarning (wanted.All limit) fault size source before after = CutsWarningText fault size limit source before after
+pub record CutsHostBitsWriting (fault : StreamFault) (source : Named) (before after : Streams) : Type 0 where
+  pub cut : CutsHostBitsLines fault formats.Json source before.holds after.holds
+  pub reads : after.reads ≡ before.reads
+  pub tells : after.tells ≡ before.tells
+
+-- They were told, or written.
+abbrev pub SaysHostBits : Format → Named → Streams → Streams → Type 0
+SaysHostBits formats.Text source before after = WarnsOfHostBits source before after
+SaysHostBits formats.Json source before after = WritesHostBits source before after
+
+abbrev pub CutsHostBits : Format → StreamFault → Named → Streams → Streams → Type 0
+CutsHostBits formats.Text fault source before after = CutsHostBitsText fault source before after
+CutsHostBits formats.Json fault source before after = CutsHostBitsWriting fault source before after
+
+-- Those warnings were said that are wanted; where none are, nothing was done.
+abbrev pub Warns : Format → Wanted → ℕ → Named → Streams → Streams → Type 0
+Warns format wanted.Nothing size source before after = after ≡ before
+Warns format wanted.HostBits size source before after = SaysHostBits format source before after
+Warns format (wanted.All limit) size source before after = SaysWarnings format size limit source before after
+
+-- A fault cut that.
+abbrev pub CutsWarning : Format → Wanted → StreamFault → ℕ → Named → Streams → Streams → Type 0
+CutsWarning format wanted.Nothing fault size source before after = ⊥
+CutsWarning format wanted.HostBits fault size source before after = CutsHostBits format fault source before after
+CutsWarning format (wanted.All limit) fault size source before after = CutsWarnings format fault size limit source before after
 
 -- `opens name` says what may come of opening a file of this name.
 module _ (opens : List ℕ → Result (Option (List ℕ)) Error → Type 0) where

@@ -1,9 +1,11 @@
 -- What the words of `router` come to: the plan of a router. (This project's own choice.)
-use Rattle.std.specs.Prelude.{◌≡◌, ◌⊎◌, ℕ, zero, suc, Bool, true, false, List, Option, Some, is_some, String, length, slice_get, string_bytes}
+use Rattle.std.specs.Prelude.{◌≡◌, ◌⊎◌, ℕ, zero, suc, Bool, true, false, List, Option, Some, None, is_some, String, length, slice_get, string_bytes}
 use Rattle.std.specs.Option.{option_map}
 use Rattle.std.specs.declared.alloc.Global.{Global}
 use Rattle.command_line.specs.declared.filter_words.NamedFile.{NamedFile}
 use Rattle.command_line.specs.declared.router_words.RouterWords.{RouterWords}
+use Rattle.router_files.specs.declared.options.RouterOption.{RouterOption}
+use Rattle.router_files.specs.declared.options.RouterOption.TheVariants as option
 use Rattle.router_options.specs.PlanView.{PlanView}
 use Rattle.router_options.specs.Plans.{AddsExport, AddsFilter, AddsImport, AddsLink, AddsPrefix, RefusesExport, RefusesImport, RefusesLink}
 use Rattle.router_options.specs.Plans.{RefusesNumbers, RefusesPrefix, are_numbers, new_plan}
@@ -14,14 +16,15 @@ use Rattle.router_options.specs.declared.plan.Numbers.{Numbers}
 use Rattle.ncroute.specs.declared.planning.OptionKind.{OptionKind}
 use Rattle.ncroute.specs.declared.planning.OptionKind.TheVariants as kind
 use Rattle.ncroute.specs.declared.planning.PlanFault.{PlanFault}
-use Rattle.ncroute.specs.declared.planning.PlanFault.TheVariants.{WrongNumber, WrongOption}
+use Rattle.ncroute.specs.declared.planning.PlanFault.TheVariants.{Missing, WrongNumber, WrongOption}
 
 -- memory was refused
 abbrev pub is_memory : PlanFault → Bool
+is_memory (Missing option) = false
 is_memory (WrongNumber number.Memory) = true
 is_memory (WrongNumber why) = false
-is_memory (WrongOption k text fault.Memory) = true
-is_memory (WrongOption k text why) = false
+is_memory (WrongOption k at text fault.Memory) = true
+is_memory (WrongOption k at text why) = false
 
 -- an option of this kind is added to a plan
 abbrev pub Adds : OptionKind → PlanView → List ℕ → PlanView → Type 0
@@ -49,10 +52,11 @@ AddsFirst {A} k text_of options (suc n) plan after = (option : A) × (mid : Plan
 abbrev pub AddsAll : {A : Type 0} → OptionKind → (A → List ℕ) → List A → PlanView → PlanView → Type 0
 AddsAll k text_of options plan after = AddsFirst k text_of options (length options) plan after
 
--- a fault tells an option of this kind, with this text, and why it is refused
-abbrev pub TellsOption : OptionKind → List ℕ → (OptionFault → Type 0) → PlanFault → Type 0
-TellsOption k said Why (WrongNumber why) = ⊥
-TellsOption k said Why (WrongOption of text why) = (of ≡ k) × (text.now ≡ said) × Why why
+-- a fault tells an option of this kind, how many of the kind stand before it, its text, and why it is refused
+abbrev pub TellsOption : OptionKind → ℕ → List ℕ → (OptionFault → Type 0) → PlanFault → Type 0
+TellsOption k n said Why (Missing option) = ⊥
+TellsOption k n said Why (WrongNumber why) = ⊥
+TellsOption k n said Why (WrongOption of at text why) = (of ≡ k) × (at ≡ n) × (text.now ≡ said) × Why why
 
 -- The first that is refused is told, and why it is refused.
 pub record StopsAdding {A : Type 0} (k : OptionKind) (text_of : A → List ℕ) (options : List A) (plan : PlanView) (why : PlanFault) : Type 0 where
@@ -61,13 +65,13 @@ pub record StopsAdding {A : Type 0} (k : OptionKind) (text_of : A → List ℕ) 
   pub is_option : slice_get options n ≡ Some option
   pub mid : PlanView
   pub first : AddsFirst k text_of options n plan mid
-  pub refused : TellsOption k (text_of option) (Refuses k mid (text_of option)) why
+  pub refused : TellsOption k n (text_of option) (Refuses k mid (text_of option)) why
 
--- the numbers that words say
-abbrev pub numbers_of : RouterWords → Numbers
-numbers_of words = record {
-  size = words.size;
-  me = words.node;
+-- the numbers that words say, for a node of a domain of this size
+abbrev pub numbers_of : RouterWords → ℕ → ℕ → Numbers
+numbers_of words size me = record {
+  size = size;
+  me = me;
   limit = words.limit;
   queue = words.queue;
   segments = words.segments;
@@ -86,17 +90,32 @@ name_of file = string_bytes file.name
 abbrev pub text_in : Option (String Global) → Option (List ℕ)
 text_in text = option_map text_of text
 
--- the plan of the numbers alone
-pub record IsBegun (words : RouterWords) (plan : PlanView) : Type 0 where
-  pub fit : are_numbers (numbers_of words) (is_some words.save) ≡ true
+-- words do not say this number, without which there is no router: first the size of the domain is looked for, and then the router's node
+abbrev pub IsMissing : RouterWords → RouterOption → Type 0
+IsMissing words option.Size = words.size ≡ None
+IsMissing words option.Node = (is_some words.size ≡ true) × (words.node ≡ None)
+IsMissing words _ = ⊥
+
+-- the plan of the numbers alone, for a node of a domain of this size
+pub record IsOfNumbers (words : RouterWords) (size me : ℕ) (plan : PlanView) : Type 0 where
+  pub fit : are_numbers (numbers_of words size me) (is_some words.save) ≡ true
   pub save : Option (String Global)
   pub saves : text_in save ≡ text_in words.save
-  pub is : plan ≡ new_plan (numbers_of words) save words.stays
+  pub is : plan ≡ new_plan (numbers_of words size me) save words.stays
 
--- the first of the numbers that does not fit is told; memory may be refused before they are judged
+-- words say the two numbers without which there is no router, and the numbers come to this
+abbrev pub SayDomain : RouterWords → (ℕ → ℕ → Type 0) → Type 0
+SayDomain words Comes = (size : ℕ) × (me : ℕ) × (words.size ≡ Some size) × (words.node ≡ Some me) × Comes size me
+
+-- the plan of the numbers that words say
+abbrev pub IsBegun : RouterWords → PlanView → Type 0
+IsBegun words plan = SayDomain words (λ size me. IsOfNumbers words size me plan)
+
+-- the first of the numbers that is missing or does not fit is told; memory may be refused before they are judged
 abbrev pub LacksBegun : RouterWords → PlanFault → Type 0
-LacksBegun words (WrongNumber why) = RefusesNumbers (numbers_of words) (is_some words.save) why
-LacksBegun words (WrongOption k text why) = ⊥
+LacksBegun words (Missing option) = IsMissing words option
+LacksBegun words (WrongNumber why) = SayDomain words (λ size me. RefusesNumbers (numbers_of words size me) (is_some words.save) why)
+LacksBegun words (WrongOption k at text why) = ⊥
 
 -- to a plan that has come as far, all of some options were added; or it did not come as far, or one of them is refused
 abbrev pub ThenAdds : {A : Type 0} → (PlanView → Type 0) → OptionKind → (A → List ℕ) → List A → PlanView → Type 0

@@ -9,7 +9,7 @@ use Rattle.line_protocol.specs.declared.faults.StreamFault.{StreamFault}
 use Rattle.ncroute.specs.Ending.{fault_line}
 use Rattle.ncroute.specs.Networking.{FailsToReportNetwork, ServesNetwork}
 use Rattle.ncroute.specs.Requests.{FailsToReport, Serves, fault_status}
-use Rattle.ncroute.specs.Routing.{CutsRouter, ServesRouter}
+use Rattle.ncroute.specs.Configured.{CutsConfigured, ServesConfigured}
 use Rattle.ncroute.specs.Streaming.{Streams, TellsFront}
 
 -- What was asked for was served, with its status; where standard error did not take the whole line of a fault, the status is that of a fault.
@@ -23,7 +23,7 @@ module _ (opens creates : List ℕ → Result (Option (List ℕ)) Error → Type
       ⊎ (FailsToReport opens creates leaves what before after × (status ≡ fault_status what))
   Responds (Ok Network) before after status = ServesNetwork before after status
       ⊎ (FailsToReportNetwork before after × (status ≡ 1))
-  Responds (Ok (Router words)) before after status = ServesRouter opens makes keeps words before after status
-      ⊎ ((cut : StreamFault) × CutsRouter opens makes keeps cut words before after status)
+  Responds (Ok (Router words)) before after status = ServesConfigured opens makes keeps words before after status
+      ⊎ ((cut : StreamFault) × CutsConfigured opens makes keeps cut words before after status)
   Responds (Ok (Shown shown)) before after status = (status ≡ shown) × (after ≡ before)
   Responds (Err fault) before after status = (status ≡ 1) × TellsFront (fault_line (Stream fault)) before after

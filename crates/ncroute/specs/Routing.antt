@@ -23,6 +23,7 @@ use Rattle.ncroute.specs.Loading.{LacksFilters, LoadsFilters, StopsLoading}
 use Rattle.ncroute.specs.Planning.{IsPlanOf, LacksPlan, is_memory}
 use Rattle.ncroute.specs.Reading.{unmade_line}
 use Rattle.ncroute.specs.Ending.{fault_line}
+use Rattle.ncroute.specs.Stated.{OriginView}
 use Rattle.ncroute.specs.Streaming.{Streams}
 use Rattle.ncroute.specs.WrongWords.{wrong_line}
 use Rattle.ncroute.specs.declared.planning.PlanFault.{PlanFault}
@@ -38,9 +39,9 @@ abbrev pub router_line : DaemonFault → List ℕ
 router_line fault = codes "ncroute: " ++ fault_code fault ++ 10 ∷ []
 
 -- the line that tells what kept a router from being set up, and the exit status
-abbrev pub setup_line : SetupFault → List ℕ
-setup_line (Words why) = wrong_line why
-setup_line (Program fault) = fault_line fault
+abbrev pub setup_line : OriginView → SetupFault → List ℕ
+setup_line origin (Words why) = wrong_line origin why
+setup_line origin (Program fault) = fault_line fault
 
 abbrev pub setup_status : SetupFault → ℕ
 setup_status (Words why) = 2
@@ -164,20 +165,21 @@ module _ (opens : List ℕ → Result (Option (List ℕ)) Error → Type 0) (mak
   abbrev pub LacksRouter : RouterWords → Streams → Streams → ℕ → Type 0
   LacksRouter words before after status = LacksSetting makes opens words before after × (status ≡ 1)
 
-  -- A fault kept it from being set up, and `TellsLine told tells line` says what standard error was told of the line of the fault.
-  abbrev pub StopsRouter : (Option (List ℕ) → Option (List ℕ) → List ℕ → Type 0) → RouterWords → Streams → Streams → ℕ → Type 0
-  StopsRouter TellsLine words before after status = (fault : SetupFault) × (mid : Streams)
-      × StopsSettingUp makes opens fault words before mid × TellsLine mid.tells after.tells (setup_line fault)
+  -- A fault kept it from being set up, and `TellsLine told tells line` says what standard error was told of the line of the fault. `origin` is
+  -- the file that says some of the words.
+  abbrev pub StopsRouter : (Option (List ℕ) → Option (List ℕ) → List ℕ → Type 0) → OriginView → RouterWords → Streams → Streams → ℕ → Type 0
+  StopsRouter TellsLine origin words before after status = (fault : SetupFault) × (mid : Streams)
+      × StopsSettingUp makes opens fault words before mid × TellsLine mid.tells after.tells (setup_line origin fault)
       × (after.reads ≡ mid.reads) × (after.holds ≡ mid.holds) × (status ≡ setup_status fault)
 
   -- A router was run as words say: it was set up first, all of it, and then run; or it was not set up, and no line was answered. Standard
   -- error was told why, the whole line.
-  unfoldable pub ServesRouter : RouterWords → Streams → Streams → ℕ → Type 0
-  ServesRouter words before after status = SetUpRan (λ plan names kept mid end. RunsPlan keeps words.save plan names kept mid end status) words before after
-      ⊎ (LacksRouter words before after status ⊎ StopsRouter Appends words before after status)
+  unfoldable pub ServesRouter : OriginView → RouterWords → Streams → Streams → ℕ → Type 0
+  ServesRouter origin words before after status = SetUpRan (λ plan names kept mid end. RunsPlan keeps words.save plan names kept mid end status) words before after
+      ⊎ (LacksRouter words before after status ⊎ StopsRouter Appends origin words before after status)
 
   -- It ended with a line, and a fault cut what standard error was told of that one.
-  unfoldable pub CutsRouter : StreamFault → RouterWords → Streams → Streams → ℕ → Type 0
-  CutsRouter cut words before after status =
+  unfoldable pub CutsRouter : StreamFault → OriginView → RouterWords → Streams → Streams → ℕ → Type 0
+  CutsRouter cut origin words before after status =
       SetUpRan (λ plan names kept mid end. CutsPlan cut plan names mid end status) words before after
-      ⊎ StopsRouter (IsCut cut) words before after status
+      ⊎ StopsRouter (IsCut cut) origin words before after status

@@ -5,7 +5,7 @@ use Rattle.std.specs.declared.io.Error.{Error}
 use Rattle.filter_checks.specs.Faults.{fault_text}
 use Rattle.filter_checks.specs.Files.{FileView, file_in}
 use Rattle.filter_checks.specs.Places.{path_beside}
-use Rattle.filter_checks.specs.Tap.{plan, skipped}
+use Rattle.filter_checks.specs.Results.{end_in, head_in, skipped_in}
 use Rattle.filter_checks.specs.Testing.{TestsNamed, TestsNamedOff}
 use Rattle.filter_checks.specs.declared.test_file.TestFileFault.{TestFileFault}
 use Rattle.filter_checks.specs.declared.test_file.TestFileFault.TheVariants.{Name}
@@ -21,10 +21,6 @@ use Rattle.command_line.specs.declared.test_words.Testing.{Testing}
 use Rattle.ncroute.specs.Reading.{Reads, SkipsUnread, StopsReading, name_of}
 use Rattle.ncroute.specs.Streaming.{CutsTelling, CutsWriting, Streams, Tells, Writes}
 use Rattle.ncroute.specs.declared.testing.Tally.{Tally}
-
--- the first line of the output
-unfoldable pub version_line : List ℕ
-version_line = codes "TAP version 13" ++ 10 ∷ []
 
 -- no test was run
 abbrev pub none_run : Tally
@@ -51,14 +47,14 @@ status_of_tests tally = if tally.has_failed then 1 else if tally.has_undecided t
 pub record RunsBy (how : Testing) (name : List ℕ) (file : FileView) (filter : Named) (tally : Tally) (before after : Streams)
     (found : Option Tally) : Type 0 where
   pub tested : Tested
-  pub tests : TestsNamed tally.count how.limit how.is_explained name file filter before.holds after.holds before.tells after.tells tested
+  pub tests : TestsNamed how.format tally.count how.limit how.is_explained name file filter before.holds after.holds before.tells after.tells tested
   pub counted : found ≡ tally_after tally (length file.tests) tested
   pub reads : after.reads ≡ before.reads
 
 -- A fault ended it.
 pub record StopsCounted (fault : StreamFault) (how : Testing) (name : List ℕ) (file : FileView) (filter : Named) (tally : Tally)
     (before after : Streams) : Type 0 where
-  pub tests : TestsNamedOff fault tally.count how.limit how.is_explained name file filter before.holds after.holds before.tells after.tells
+  pub tests : TestsNamedOff fault how.format tally.count how.limit how.is_explained name file filter before.holds after.holds before.tells after.tells
   pub reads : after.reads ≡ before.reads
 
 -- Or tests that a number of 64 bits cannot count are not run.
@@ -76,14 +72,14 @@ abbrev pub CutsFault : StreamFault → Testing → List ℕ → TestFileFault �
 CutsFault fault how name why before after = CutsTelling fault (fault_text how.is_explained name why) before after
 
 -- It was written that the tests of a source of this name were not run.
-pub record Skips (name : List ℕ) (tally : Tally) (before after : Streams) (now : Tally) : Type 0 where
-  pub written : Writes (skipped (tally.count + 1) name) before after
+pub record Skips (how : Testing) (name : List ℕ) (tally : Tally) (before after : Streams) (now : Tally) : Type 0 where
+  pub written : Writes (skipped_in how.format (tally.count + 1) name) before after
   pub counted : now ≡ skipped_after tally
 
 -- A fault ended that: it could not be counted by a number of 64 bits, or memory was refused, or the line was cut.
-unfoldable pub StopsSkipping : StreamFault → List ℕ → Tally → Streams → Streams → Type 0
-StopsSkipping fault name tally before after = ((2 ^ 64 ≤ tally.count + 1) × (fault ≡ TooLong) × (after ≡ before))
-    ⊎ (((fault ≡ Memory) × (after ≡ before)) ⊎ CutsWriting fault (skipped (tally.count + 1) name) before after)
+unfoldable pub StopsSkipping : StreamFault → Testing → List ℕ → Tally → Streams → Streams → Type 0
+StopsSkipping fault how name tally before after = ((2 ^ 64 ≤ tally.count + 1) × (fault ≡ TooLong) × (after ≡ before))
+    ⊎ (((fault ≡ Memory) × (after ≡ before)) ⊎ CutsWriting fault (skipped_in how.format (tally.count + 1) name) before after)
 
 -- the source is the file of this name
 abbrev pub IsFileAt : List ℕ → Source → Type 0
@@ -125,7 +121,7 @@ module _ (opens : List ℕ → Result (Option (List ℕ)) Error → Type 0) wher
   -- The tests of a source were run; or a file was refused or not read, and it was written that they were not run.
   unfoldable pub RunsOrSkips : Testing → Source → Tally → Streams → Streams → Tally → Type 0
   RunsOrSkips how source tally before after now = RunsTests how source tally before after (Some now)
-      ⊎ ((mid : Streams) × RunsTests how source tally before mid None × Skips (name_of source) tally mid after now)
+      ⊎ ((mid : Streams) × RunsTests how source tally before mid None × Skips how (name_of source) tally mid after now)
 
   -- The first n of some sources were dealt with so, in order.
   unfoldable pub RunsFirst : Testing → List Source → ℕ → Streams → Streams → Tally → Type 0
@@ -142,9 +138,9 @@ module _ (opens : List ℕ → Result (Option (List ℕ)) Error → Type 0) wher
     pub begun : Streams
     pub mid : Streams
     pub found : Tally
-    pub version : Writes version_line before begun
+    pub version : Writes (head_in how.format) before begun
     pub run : RunsAll how sources begun mid found
-    pub last : Writes (plan found.count) mid after
+    pub last : Writes (end_in how.format found.count) mid after
     pub ends : status ≡ status_of_tests found
 
   -- A fault ended it while the filter of a test file was read, or its tests were run.
@@ -176,7 +172,7 @@ module _ (opens : List ℕ → Result (Option (List ℕ)) Error → Type 0) wher
   -- Or while it was written that they were not run.
   unfoldable pub StopsOrSkips : StreamFault → Testing → Source → Tally → Streams → Streams → Type 0
   StopsOrSkips fault how source tally before after = StopsTests fault how source tally before after
-      ⊎ ((mid : Streams) × RunsTests how source tally before mid None × StopsSkipping fault (name_of source) tally mid after)
+      ⊎ ((mid : Streams) × RunsTests how source tally before mid None × StopsSkipping fault how (name_of source) tally mid after)
 
   -- Behind the first of some sources.
   pub record StopsSome (fault : StreamFault) (how : Testing) (sources : List Source) (before after : Streams) : Type 0 where
@@ -193,12 +189,12 @@ module _ (opens : List ℕ → Result (Option (List ℕ)) Error → Type 0) wher
     pub begun : Streams
     pub mid : Streams
     pub found : Tally
-    pub version : Writes version_line before begun
+    pub version : Writes (head_in how.format) before begun
     pub run : RunsAll how sources begun mid found
-    pub last : CutsWriting fault (plan found.count) mid after
+    pub last : CutsWriting fault (end_in how.format found.count) mid after
 
   -- A fault ended it all: the first line was cut, or a test file, or the last line.
   unfoldable pub StopsSources : StreamFault → Testing → List Source → Streams → Streams → Type 0
-  StopsSources fault how sources before after = CutsWriting fault version_line before after
-      ⊎ (((begun : Streams) × Writes version_line before begun × StopsSome fault how sources begun after)
+  StopsSources fault how sources before after = CutsWriting fault (head_in how.format) before after
+      ⊎ (((begun : Streams) × Writes (head_in how.format) before begun × StopsSome fault how sources begun after)
       ⊎ CutsLast fault how sources before after)

@@ -1,16 +1,24 @@
 -- What people are told of wrong words of `router`: which option has which value, and why it is refused. (This project's own choice.)
-use Rattle.std.specs.Prelude.{ℕ, List, [], ◌∷◌, ◌++◌, codes, decimal}
+use Rattle.std.specs.Prelude.{ℕ, List, [], ◌∷◌, ◌++◌, Option, Some, None, codes, decimal}
+use Rattle.filter_reports.specs.Explanations.{position}
+use Rattle.filter_reports.specs.Places.{column_at}
 use Rattle.filter_reports.specs.Shown.{shown}
+use Rattle.router_files.specs.Files.{StatementView}
+use Rattle.router_files.specs.Options.{form_of}
+use Rattle.router_files.specs.Places.{second_byte, third_byte}
+use Rattle.router_files.specs.declared.options.RouterOption.{RouterOption}
+use Rattle.router_files.specs.declared.options.RouterOption.TheVariants as said
 use Rattle.router_options.specs.declared.fault.NodeFault.{NodeFault}
 use Rattle.router_options.specs.declared.fault.NodeFault.TheVariants.{Outside, Itself}
 use Rattle.router_options.specs.declared.fault.NumberFault.{NumberFault}
 use Rattle.router_options.specs.declared.fault.NumberFault.TheVariants as number
 use Rattle.router_options.specs.declared.fault.OptionFault.{OptionFault}
 use Rattle.router_options.specs.declared.fault.OptionFault.TheVariants as option
+use Rattle.ncroute.specs.Stated.{OriginView, nth_stated}
 use Rattle.ncroute.specs.declared.planning.OptionKind.{OptionKind}
 use Rattle.ncroute.specs.declared.planning.OptionKind.TheVariants as kind
 use Rattle.ncroute.specs.declared.planning.PlanFault.{PlanFault}
-use Rattle.ncroute.specs.declared.planning.PlanFault.TheVariants.{WrongNumber, WrongOption}
+use Rattle.ncroute.specs.declared.planning.PlanFault.TheVariants.{Missing, WrongNumber, WrongOption}
 
 -- ---- the names of options, and their forms
 
@@ -97,20 +105,84 @@ number_value number.Memory = 0
 
 -- ---- the line
 
--- the value that is refused: a number in decimal, and a text as it is shown
-abbrev pub value_words : PlanFault → List ℕ
-value_words (WrongNumber why) = decimal (number_value why)
-value_words (WrongOption k text why) = shown text.now
+-- what is refused: a number in decimal, and a text as it is shown, with the name of the option
+abbrev pub number_words : NumberFault → List ℕ
+number_words why = codes "invalid value '" ++ decimal (number_value why) ++ codes "' for '" ++ number_name why ++ codes "': "
 
-abbrev pub name_of : PlanFault → List ℕ
-name_of (WrongNumber why) = number_name why
-name_of (WrongOption k text why) = option_name k
+abbrev pub option_words : OptionKind → List ℕ → List ℕ
+option_words k text = codes "invalid value '" ++ shown text ++ codes "' for '" ++ option_name k ++ codes "': "
+
+abbrev pub refused_words : PlanFault → List ℕ
+refused_words (Missing option) = []
+refused_words (WrongNumber why) = number_words why
+refused_words (WrongOption k at text why) = option_words k text.now
+
+-- why it is
+abbrev pub missing_words : RouterOption → List ℕ
+missing_words option = codes "--" ++ form_of option ++ codes " is missing"
 
 abbrev pub reason_words : PlanFault → List ℕ
+reason_words (Missing option) = missing_words option
 reason_words (WrongNumber why) = number_fault_words why
-reason_words (WrongOption k text why) = option_fault_words k why
+reason_words (WrongOption k at text why) = option_fault_words k why
 
--- the line that tells what is wrong with the words
-abbrev pub wrong_line : PlanFault → List ℕ
-wrong_line fault =
-    codes "error: invalid value '" ++ value_words fault ++ codes "' for '" ++ name_of fault ++ codes "': " ++ reason_words fault ++ 10 ∷ []
+-- the line that tells what is wrong with an option of the command line
+abbrev pub unplaced_line : PlanFault → List ℕ
+unplaced_line fault = codes "error: " ++ refused_words fault ++ reason_words fault ++ 10 ∷ []
+
+-- the place of a byte of a line of a file: the file's name as it is shown, the number of the line, and the column
+abbrev pub place_words : List ℕ → ℕ → List ℕ → ℕ → List ℕ
+place_words name number line byte = shown name ++ position number (column_at line byte) ++ codes ": "
+
+-- the option whose number is refused; none where memory was refused
+abbrev pub numbered_option : NumberFault → Option RouterOption
+numbered_option (number.Size size) = Some said.Size
+numbered_option (number.Node node last) = Some said.Node
+numbered_option (number.Limit limit) = Some said.Limit
+numbered_option (number.Queue queue least) = Some said.Queue
+numbered_option number.Segments = Some said.Segments
+numbered_option (number.Unsaved count) = Some said.Segments
+numbered_option number.Retry = Some said.Retry
+numbered_option (number.Hold hold) = Some said.Hold
+numbered_option number.Memory = None
+
+-- the option of a kind
+abbrev pub option_of : OptionKind → RouterOption
+option_of kind.Prefix = said.Prefix
+option_of kind.Filter = said.Filter
+option_of kind.Import = said.Import
+option_of kind.Export = said.Export
+option_of kind.Link = said.Link
+
+-- the first line that says an option
+abbrev pub first_stated : Option RouterOption → List StatementView → Option StatementView
+first_stated None statements = None
+first_stated (Some option) statements = nth_stated option 0 statements
+
+-- the line of the file that says what is refused, if one does: what the file says comes before what the command line says
+abbrev pub line_of : PlanFault → List StatementView → Option StatementView
+line_of (Missing option) statements = None
+line_of (WrongNumber why) statements = first_stated (numbered_option why) statements
+line_of (WrongOption k at text why) statements = nth_stated (option_of k) at statements
+
+-- the byte of the line at which it begins: the name of the filter that is not known, or what follows the name of the option
+abbrev pub byte_by : OptionFault → List ℕ → ℕ
+byte_by option.UnknownFilter line = third_byte line
+byte_by _ line = second_byte line
+
+abbrev pub byte_of : PlanFault → List ℕ → ℕ
+byte_of (WrongOption k at text why) line = byte_by why line
+byte_of _ line = second_byte line
+
+-- the line that tells what is wrong with an option of a file
+abbrev pub placed_line : List ℕ → StatementView → PlanFault → List ℕ
+placed_line name statement fault =
+    place_words name statement.number statement.line (byte_of fault statement.line) ++ reason_words fault ++ 10 ∷ []
+
+-- the line that tells what is wrong with the words, some of which a file may say
+abbrev pub told_by : List ℕ → Option StatementView → PlanFault → List ℕ
+told_by name None fault = unplaced_line fault
+told_by name (Some statement) fault = placed_line name statement fault
+
+abbrev pub wrong_line : OriginView → PlanFault → List ℕ
+wrong_line origin fault = told_by origin.name (line_of fault origin.statements) fault

@@ -5,8 +5,9 @@
 ghost use Rattle.std.specs.Prelude.{◌≡◌, ◌||◌, IfErr, IfOk, is_some};
 ghost use Rattle.filter_reports.specs.Checking.{AreTokensUnlessRefused};
 ghost use Rattle.filter_reports.specs.Faults.{stream_fault};
-ghost use Rattle.ncroute.specs.Checking.{ChecksAll, ChecksBy, ChecksOne, ChecksSome, ChecksText, ChecksWhole, CutsBy, CutsText, CutsWhole, IsCutOne};
+ghost use Rattle.ncroute.specs.Checking.{ChecksAll, ChecksAs, ChecksBy, ChecksOne, ChecksSome, ChecksText, ChecksWhole, CutsAs, CutsBy, CutsText, CutsWhole, IsCutOne};
 
+use crate::check_reports::check_json;
 use crate::console::{Console, Loaded};
 use crate::ending::status_of_found;
 use crate::lines::{check_lines, report_on};
@@ -15,6 +16,7 @@ use crate::texts::{Folder, name_of};
 use command_line::{Checking, Source};
 use filter_reports::{Checked, ProgramFault};
 use filter_source::SOURCE_LIMIT;
+use report_formats::Format;
 use std::alloc::Global;
 use std::io::{Read, Write};
 
@@ -70,6 +72,26 @@ fn check_by<R: Read, W: Write, E: Write>(
     }
 }
 
+/// Checks the text of a source, and writes the report on it in a format. Returns what came of it.
+fn check_as<R: Read, W: Write, E: Write>(
+    alloc: Global,
+    format: Format,
+    is_by_lines: bool,
+    how: Checking,
+    name: &[u8],
+    text: &[u8],
+    console: &mut Console<R, W, E>,
+) -> Result<Checked, ProgramFault>
+    ensures finished { IfOk result (λ checked. ChecksAs format is_by_lines how name.now text.now console.old console.new (is_some checked.diagnosis)) }
+    ensures tokens { IfOk result (λ checked. AreTokensUnlessRefused checked.diagnosis how.is_code text.now checked.tokens.items) }
+    ensures cut { IfErr result (λ fault. CutsAs format is_by_lines (stream_fault fault) how name.now text.now console.old console.new) }
+{
+    match format {
+        Format::Text => check_by(alloc, is_by_lines, how, name, text, console),
+        Format::Json => check_json(alloc, how, name, text, console),
+    }
+}
+
 /// Checks the text of a source, and tells its warnings where they are asked for. Returns whether it is refused.
 #[tactic(auto, unfolding(crate::specs::Checking::CutsText))]
 fn check_read<R: Read, W: Write, E: Write>(
@@ -82,7 +104,15 @@ fn check_read<R: Read, W: Write, E: Write>(
     ensures finished { IfOk result (ChecksText how name.now text.now console.old console.new) }
     ensures cut { IfErr result (λ fault. CutsText (stream_fault fault) how name.now text.now console.old console.new) }
 {
-    match check_by(alloc, is_by_lines(how), how, name, text, console) {
+    match check_as(
+        alloc,
+        how.format,
+        is_by_lines(how),
+        how,
+        name,
+        text,
+        console,
+    ) {
         Ok(checked) => match warn(alloc, how, name, text, &checked, console) {
             Ok(()) => Ok(checked.diagnosis.is_some()),
             Err(fault) => Err(fault),

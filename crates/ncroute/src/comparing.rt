@@ -43,6 +43,7 @@ fn compare_texts<R: Read, W: Write, E: Write>(
 {
     match compare_named(
         alloc,
+        how.format,
         old,
         new,
         how.size,

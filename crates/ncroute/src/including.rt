@@ -1,15 +1,16 @@
 //! A configuration of BIRD, with the files that it includes in their places.
 ghost use Rattle.std.specs.List.{flat_map, list_any};
 ghost use Rattle.std.specs.Option.{option_map};
-ghost use Rattle.std.specs.Prelude.{◌≡◌, ◌++◌, [], ◌∷◌, IfOk, OnOk, length, map, slice_get, string_bytes};
+ghost use Rattle.std.specs.Prelude.{◌≡◌, ◌++◌, [], ◌∷◌, IfErr, IfOk, OnOk, length, map, slice_get, string_bytes};
+ghost use Rattle.filter_reports.specs.Faults.{stream_fault};
 ghost use Rattle.bird_import.specs.Including.{Includes, view_of as view_of_include};
-ghost use Rattle.ncroute.specs.Including.{IsConfig, IsText, LeavesOut, PutsFile, PutsIncluded, TakesWithin, bytes_between};
+ghost use Rattle.ncroute.specs.Including.{CutsWithin, IsConfig, IsText, LeavesOut, PutsFile, PutsIncluded, StopsText, TakesWithin, bytes_between};
 ghost use Rattle.ncroute.specs.Including.{closed, include_depth, left_behind, left_line, left_words, long_config};
 ghost use Rattle.ncroute.specs.Including.{long_config_line, nothing, opened, why_words, with_part};
 ghost use Rattle.ncroute.specs.Inclusions.{IsBeside, IsIncludedPath, IsInclusion, has_path, is_absolute};
 ghost use Rattle.ncroute.specs.Inclusions.{is_open, is_path, is_pattern_sign, last_file};
 ghost use Rattle.ncroute.specs.Places.{IsAlike, config_of, file_of, path_of, place_in, stretch_of, view_of};
-ghost use Rattle.ncroute.specs.Streaming.{Tells};
+ghost use Rattle.ncroute.specs.Streaming.{CutsTelling, Tells};
 
 use crate::console::{Console, Loaded};
 use crate::texts::{Folder, name_of, tell_of};
@@ -155,7 +156,7 @@ fn is_absolute(name: &[u8]) -> bool
 }
 
 /// The path of a file of this name in the folder of another one.
-fn path_beside(alloc: Global, by: &str, name: &str) -> Result<String, AllocError>
+pub fn path_beside(alloc: Global, by: &str, name: &str) -> Result<String, AllocError>
     ensures { IfOk result (λ path. IsBeside by.now name.now (string_bytes path)) }
 {
     match by.rsplit_once('/') {
@@ -327,7 +328,8 @@ fn tell_long_config<R: Read, W: Write, E: Write>(
     source: &Source,
     console: &mut Console<R, W, E>,
 ) -> Result<(), ProgramFault>
-    ensures { OnOk result (Tells (long_config_line source.now) console.old console.new) }
+    ensures told { OnOk result (Tells (long_config_line source.now) console.old console.new) }
+    ensures cut { IfErr result (λ fault. CutsTelling (stream_fault fault) (long_config_line source.now) console.old console.new) }
 {
     tell_of(
         alloc,
@@ -345,7 +347,8 @@ fn take_within<R: Read, W: Write, E: Write>(
     text: Vec<u8>,
     console: &mut Console<R, W, E>,
 ) -> Result<Option<Vec<u8>>, ProgramFault>
-    ensures { IfOk result (λ found. TakesWithin source.now text.items (option_map (λ text. text.items) found) console.old console.new) }
+    ensures taken { IfOk result (λ found. TakesWithin source.now text.items (option_map (λ text. text.items) found) console.old console.new) }
+    ensures cut { IfErr result (λ fault. CutsWithin (stream_fault fault) source.now text.items console.old console.new) }
 {
     if text.len() <= INPUT_LIMIT {
         return Ok(Some(text));
@@ -355,13 +358,14 @@ fn take_within<R: Read, W: Write, E: Write>(
 }
 
 /// Reads a file of a configuration. One that cannot be read is told of.
-fn read_config<F: Folder, R: Read, W: Write, E: Write>(
+pub fn read_config<F: Folder, R: Read, W: Write, E: Write>(
     files: &F,
     alloc: Global,
     source: &Source,
     console: &mut Console<R, W, E>,
 ) -> Result<Option<Vec<u8>>, ProgramFault>
-    ensures { IfOk result (λ found. IsText (F.opens files.now) source.now (option_map (λ text. text.items) found) console.old console.new) }
+    ensures read { IfOk result (λ found. IsText (F.opens files.now) source.now (option_map (λ text. text.items) found) console.old console.new) }
+    ensures stopped { IfErr result (λ fault. StopsText (F.opens files.now) (stream_fault fault) source.now console.old console.new) }
 {
     match console.read(files, alloc, source, INPUT_LIMIT) {
         Loaded::Text(text) => take_within(alloc, source, text, console),

@@ -8,8 +8,10 @@ ghost use Rattle.filter_reports.specs.Checking.{AreTokensUnlessRefused};
 ghost use Rattle.filter_reports.specs.Faults.{stream_fault};
 ghost use Rattle.filter_reports.specs.Naming.{named};
 ghost use Rattle.filter_tokens.specs.Tokenization.{IsTokenization};
-ghost use Rattle.ncroute.specs.Linting.{CutsHostBitsText, CutsLint, CutsLintText, CutsWarning, CutsWarningText, LintsAll, LintsOne, LintsText};
-ghost use Rattle.ncroute.specs.Linting.{StopsLinting, Warns, WarnsOfHostBits, WarnsText, both_said, said_of, status_of_said, wanted_of};
+ghost use Rattle.ncroute.specs.Linting.{CutsHostBits, CutsHostBitsText, CutsHostBitsWriting, CutsLint, CutsLintText, CutsWarning};
+ghost use Rattle.ncroute.specs.Linting.{CutsWarningText, CutsWarningWriting, CutsWarnings, LintsAll, LintsOne, LintsText};
+ghost use Rattle.ncroute.specs.Linting.{SaysHostBits, SaysWarnings, StopsLinting, Warns, WarnsOfHostBits, WarnsText, WritesHostBits};
+ghost use Rattle.ncroute.specs.Linting.{WritesWarnings, both_said, said_of, status_of_said, wanted_of};
 
 use crate::console::{Console, Loaded};
 use crate::ending::{FAILED, FAULT};
@@ -19,6 +21,7 @@ use filter_lint::{Linted, lint_named, tell_host_bits, warn_named};
 use filter_reports::{Checked, NamedText, ProgramFault};
 use filter_source::SOURCE_LIMIT;
 use filter_tokens::Token;
+use report_formats::Format;
 use std::alloc::Global;
 use std::io::{Read, Write};
 
@@ -91,6 +94,7 @@ fn lint_text<R: Read, W: Write, E: Write>(
 {
     match lint_named(
         alloc,
+        how.format,
         source,
         how.size,
         how.limit,
@@ -129,9 +133,58 @@ fn warn_of_all<R: Read, W: Write, E: Write>(
     ensures told { OnOk result (WarnsText size limit (named source.now) console.old console.new) }
     ensures cut { IfErr result (λ fault. CutsWarningText (stream_fault fault) size limit (named source.now) console.old console.new) }
 {
-    match warn_named(alloc, source, size, limit, &mut console.errors) {
+    match warn_named(
+        alloc,
+        Format::Text,
+        source,
+        size,
+        limit,
+        &mut console.errors,
+    ) {
         Ok(()) => Ok(()),
         Err(fault) => Err(fault),
+    }
+}
+
+/// Writes them in lines of JSON.
+fn write_warnings<R: Read, W: Write, E: Write>(
+    alloc: Global,
+    size: u32,
+    limit: u64,
+    source: &NamedText<'_>,
+    console: &mut Console<R, W, E>,
+) -> Result<(), ProgramFault>
+    ensures told { OnOk result (WritesWarnings size limit (named source.now) console.old console.new) }
+    ensures cut { IfErr result (λ fault. CutsWarningWriting (stream_fault fault) size limit (named source.now) console.old console.new) }
+{
+    match warn_named(
+        alloc,
+        Format::Json,
+        source,
+        size,
+        limit,
+        &mut console.writer,
+    ) {
+        Ok(()) => Ok(()),
+        Err(fault) => Err(fault),
+    }
+}
+
+/// Tells them, or writes them in lines of JSON.
+fn say_warnings<R: Read, W: Write, E: Write>(
+    alloc: Global,
+    format: Format,
+    size: u32,
+    limit: u64,
+    source: &NamedText<'_>,
+    console: &mut Console<R, W, E>,
+) -> Result<(), ProgramFault>
+    ensures told { OnOk result (SaysWarnings format size limit (named source.now) console.old console.new) }
+    ensures cut { IfErr result (λ fault. CutsWarnings format (stream_fault fault) size limit (named source.now) console.old console.new) }
+{
+    match format {
+        Format::Text => warn_of_all(alloc, size, limit, source, console),
+        Format::Json => write_warnings(alloc, size, limit, source, console),
     }
 }
 
@@ -146,13 +199,48 @@ fn warn_of_host_bits<R: Read, W: Write, E: Write>(
     ensures told { OnOk result (WarnsOfHostBits (named source.now) console.old console.new) }
     ensures cut { IfErr result (λ fault. CutsHostBitsText (stream_fault fault) (named source.now) console.old console.new) }
 {
-    match tell_host_bits(alloc, source, tokens, &mut console.errors) {
+    match tell_host_bits(alloc, Format::Text, source, tokens, &mut console.errors) {
         Ok(()) => Ok(()),
         Err(fault) => Err(fault),
     }
 }
 
-/// Tells those warnings of a text that was checked that are wanted.
+/// Writes them in lines of JSON.
+fn write_host_bits<R: Read, W: Write, E: Write>(
+    alloc: Global,
+    source: &NamedText<'_>,
+    tokens: &[Token],
+    console: &mut Console<R, W, E>,
+) -> Result<(), ProgramFault>
+    requires { IsTokenization tokens.now 0 source.now.text.now }
+    ensures told { OnOk result (WritesHostBits (named source.now) console.old console.new) }
+    ensures cut { IfErr result (λ fault. CutsHostBitsWriting (stream_fault fault) (named source.now) console.old console.new) }
+{
+    match tell_host_bits(alloc, Format::Json, source, tokens, &mut console.writer) {
+        Ok(()) => Ok(()),
+        Err(fault) => Err(fault),
+    }
+}
+
+/// Tells them, or writes them in lines of JSON.
+fn say_host_bits<R: Read, W: Write, E: Write>(
+    alloc: Global,
+    format: Format,
+    source: &NamedText<'_>,
+    tokens: &[Token],
+    console: &mut Console<R, W, E>,
+) -> Result<(), ProgramFault>
+    requires { IsTokenization tokens.now 0 source.now.text.now }
+    ensures told { OnOk result (SaysHostBits format (named source.now) console.old console.new) }
+    ensures cut { IfErr result (λ fault. CutsHostBits format (stream_fault fault) (named source.now) console.old console.new) }
+{
+    match format {
+        Format::Text => warn_of_host_bits(alloc, source, tokens, console),
+        Format::Json => write_host_bits(alloc, source, tokens, console),
+    }
+}
+
+/// Tells those warnings of a text that was checked that are wanted, or writes them in lines of JSON.
 pub fn warn<R: Read, W: Write, E: Write>(
     alloc: Global,
     how: Checking,
@@ -162,16 +250,22 @@ pub fn warn<R: Read, W: Write, E: Write>(
     console: &mut Console<R, W, E>,
 ) -> Result<(), ProgramFault>
     requires { AreTokensUnlessRefused checked.now.diagnosis how.is_code text.now checked.now.tokens.items }
-    ensures told { OnOk result (Warns (wanted_of how (is_some checked.now.diagnosis)) how.size (record { name = name.now; text = text.now })
+    ensures told { OnOk result (Warns how.format (wanted_of how (is_some checked.now.diagnosis)) how.size (record { name = name.now; text = text.now })
         console.old console.new) }
-    ensures cut { IfErr result (λ fault. CutsWarning (wanted_of how (is_some checked.now.diagnosis)) (stream_fault fault) how.size
+    ensures cut { IfErr result (λ fault. CutsWarning how.format (wanted_of how (is_some checked.now.diagnosis)) (stream_fault fault) how.size
         (record { name = name.now; text = text.now }) console.old console.new) }
 {
     let source = NamedText { name, text };
     match wanted_of(how, checked.diagnosis.is_some()) {
         Wanted::Nothing => Ok(()),
-        Wanted::HostBits => warn_of_host_bits(alloc, &source, checked.tokens.as_slice(), console),
-        Wanted::All(limit) => warn_of_all(alloc, how.size, limit, &source, console),
+        Wanted::HostBits => say_host_bits(
+            alloc,
+            how.format,
+            &source,
+            checked.tokens.as_slice(),
+            console,
+        ),
+        Wanted::All(limit) => { say_warnings(alloc, how.format, how.size, limit, &source, console) }
     }
 }
 

@@ -6,12 +6,15 @@
 //! ends with the status alone.
 #![tactic(auto)]
 
+mod check_reports;
 mod checking;
 mod comparing;
+mod configured;
 mod console;
 mod ending;
 mod filters;
 mod folders;
+mod gathering;
 mod guided;
 mod importing;
 mod including;
@@ -28,10 +31,12 @@ mod respond;
 mod routing;
 mod script;
 mod segments;
+mod stated;
 mod testing;
 mod texts;
 mod trying;
 mod watcher;
+mod wrong_lines;
 mod wrong_words;
 
 use command_line::{Invocation, Terminals, tell_that_input_is_read, waits_for_people};

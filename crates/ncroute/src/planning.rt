@@ -6,11 +6,12 @@
 //!
 //! **`--retry 0` is refused.** A link that is closed is opened again after so many seconds. Where its file is not there, or ends at once, 0 would
 //! keep a processor busy and fill standard error.
-ghost use Rattle.std.specs.Prelude.{◌≡◌, IfErr, IfOk, OnOk, is_some};
+ghost use Rattle.std.specs.Prelude.{◌≡◌, Some, IfErr, IfOk, OnOk, is_some};
 ghost use Rattle.router_options.specs.Plans.{RefusesNumbers};
 ghost use Rattle.ncroute.specs.Planning as spec;
 
 use command_line::{NamedFile, RouterWords};
+use router_files::RouterOption;
 use router_options::{NumberFault, Numbers, OptionFault, RouterPlan};
 use std::alloc::{AllocError, Global};
 
@@ -32,12 +33,16 @@ pub enum OptionKind {
 /// What is wrong with the words of `router`.
 #[derive(Clone, Copy)]
 pub enum PlanFault<'a> {
+    /// A number that there has to be is not said.
+    Missing(RouterOption),
     /// A number is refused.
     WrongNumber(NumberFault),
     /// An option is refused.
     WrongOption {
         /// What it adds.
         kind: OptionKind,
+        /// How many of this kind stand before it.
+        at: usize,
         /// What it says.
         text: &'a str,
         /// Why it is refused.
@@ -50,6 +55,7 @@ pub fn is_memory(fault: PlanFault<'_>) -> bool
     ensures { result ≡ spec.is_memory fault.entry }
 {
     match fault {
+        PlanFault::Missing(_) => false,
         PlanFault::WrongNumber(why) => matches!(why, NumberFault::Memory),
         PlanFault::WrongOption { why, .. } => matches!(why, OptionFault::Memory),
     }
@@ -95,11 +101,19 @@ fn add_options<'a>(
     ensures added { OnOk result (spec.AddsAll kind spec.text_of texts.now plan.old plan.new) }
     ensures refused { IfErr result (spec.StopsAdding kind spec.text_of texts.now plan.old) }
 {
+    let mut at = 0;
     for text in texts {
         let text = text.as_str();
         match add(alloc, plan, kind, text) {
-            Ok(()) => {}
-            Err(why) => return Err(PlanFault::WrongOption { kind, text, why }),
+            Ok(()) => at += 1,
+            Err(why) => {
+                return Err(PlanFault::WrongOption {
+                    kind,
+                    at,
+                    text,
+                    why,
+                });
+            }
         }
     }
     Ok(())
@@ -114,13 +128,15 @@ fn add_filters<'a>(
     ensures added { OnOk result (spec.AddsAll OptionKind.Filter spec.name_of filters.now plan.old plan.new) }
     ensures refused { IfErr result (spec.StopsAdding OptionKind.Filter spec.name_of filters.now plan.old) }
 {
+    let mut at = 0;
     for filter in filters {
         let name = filter.name.as_str();
         match add(alloc, plan, OptionKind::Filter, name) {
-            Ok(()) => {}
+            Ok(()) => at += 1,
             Err(why) => {
                 return Err(PlanFault::WrongOption {
                     kind: OptionKind::Filter,
+                    at,
                     text: name,
                     why,
                 });
@@ -130,14 +146,33 @@ fn add_filters<'a>(
     Ok(())
 }
 
-/// The plan of the numbers of these words, without prefixes, filters and links.
-fn begun_plan(alloc: Global, words: &RouterWords) -> Result<RouterPlan, NumberFault>
-    ensures made { IfOk result (spec.IsBegun words.now) }
-    ensures refused { IfErr result (RefusesNumbers (spec.numbers_of words.now) (is_some words.now.save)) }
+/// The size of the domain and the router's node, without which there is no router; or the option that is missing.
+fn domain_in(words: &RouterWords) -> Result<(u32, u32), RouterOption>
+    ensures said { IfOk result (λ said. (words.now.size ≡ Some said.0) × (words.now.node ≡ Some said.1)) }
+    ensures missing { IfErr result (spec.IsMissing words.now) }
+{
+    let Some(size) = words.size else {
+        return Err(RouterOption::Size);
+    };
+    match words.node {
+        Some(node) => Ok((size, node)),
+        None => Err(RouterOption::Node),
+    }
+}
+
+/// The plan of the numbers of these words, for a node of a domain of this size, without prefixes, filters and links.
+fn numbers_plan(
+    alloc: Global,
+    words: &RouterWords,
+    size: u32,
+    me: u32,
+) -> Result<RouterPlan, NumberFault>
+    ensures made { IfOk result (spec.IsOfNumbers words.now size me) }
+    ensures refused { IfErr result (RefusesNumbers (spec.numbers_of words.now size me) (is_some words.now.save)) }
 {
     let numbers = Numbers {
-        size: words.size,
-        me: words.node,
+        size,
+        me,
         limit: words.limit,
         queue: words.queue,
         segments: words.segments,
@@ -148,15 +183,26 @@ fn begun_plan(alloc: Global, words: &RouterWords) -> Result<RouterPlan, NumberFa
     RouterPlan::new(alloc, numbers, save, words.stays)
 }
 
+/// The plan of the numbers that these words say, likewise.
+fn begun_plan<'a>(alloc: Global, words: &'a RouterWords) -> Result<RouterPlan, PlanFault<'a>>
+    ensures made { IfOk result (spec.IsBegun words.now) }
+    ensures refused { IfErr result (spec.LacksBegun words.now) }
+{
+    match domain_in(words) {
+        Ok((size, me)) => match numbers_plan(alloc, words, size, me) {
+            Ok(plan) => Ok(plan),
+            Err(why) => Err(PlanFault::WrongNumber(why)),
+        },
+        Err(option) => Err(PlanFault::Missing(option)),
+    }
+}
+
 /// The same with the prefixes.
 fn placed_plan<'a>(alloc: Global, words: &'a RouterWords) -> Result<RouterPlan, PlanFault<'a>>
     ensures made { IfOk result (spec.IsPlaced words.now) }
     ensures refused { IfErr result (spec.LacksPlaced words.now) }
 {
-    let mut plan = match begun_plan(alloc, words) {
-        Ok(plan) => plan,
-        Err(why) => return Err(PlanFault::WrongNumber(why)),
-    };
+    let mut plan = begun_plan(alloc, words)?;
     let texts = words.prefixes.as_slice();
     add_options(alloc, &mut plan, OptionKind::Prefix, texts)?;
     Ok(plan)

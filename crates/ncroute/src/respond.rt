@@ -5,15 +5,15 @@ ghost use Rattle.ncroute.specs.Ending.{fault_line};
 ghost use Rattle.ncroute.specs.Networking.{FailsToReportNetwork, ServesNetwork};
 ghost use Rattle.ncroute.specs.Requests.{FailsToReport, Serves, fault_status};
 ghost use Rattle.ncroute.specs.Responding.{Responds};
-ghost use Rattle.ncroute.specs.Routing.{CutsRouter, ServesRouter};
+ghost use Rattle.ncroute.specs.Configured.{CutsConfigured, ServesConfigured};
 ghost use Rattle.ncroute.specs.Streaming.{TellsFront};
 
+use crate::configured::serve_router;
 use crate::console::Console;
 use crate::ending::{FAILED, end_by_fault};
 use crate::folders::HistoryFolders;
 use crate::network::serve_network;
 use crate::requests::{fault_status, serve};
-use crate::routing::serve_router;
 use crate::texts::Folder;
 use command_line::{Invocation, Request, RouterWords};
 use filter_reports::ProgramFault;
@@ -79,8 +79,8 @@ fn status_of_router<
 >(rt: &R, alloc: Global, words: &RouterWords, console: &mut Console<I, W, E>, voice: T) -> u8
 where
     R::Segments: Send + 'static,
-    ensures { ServesRouter (R.opens rt.now) (R.makes rt.now) (R.keeps rt.now) words.now console.old console.new result
-        ⊎ ((cut : StreamFault) × CutsRouter (R.opens rt.now) (R.makes rt.now) (R.keeps rt.now) cut words.now console.old console.new result) }
+    ensures { ServesConfigured (R.opens rt.now) (R.makes rt.now) (R.keeps rt.now) words.now console.old console.new result
+        ⊎ ((cut : StreamFault) × CutsConfigured (R.opens rt.now) (R.makes rt.now) (R.keeps rt.now) cut words.now console.old console.new result) }
 {
     match serve_router::<R, FI, FO, T, I, W, E>(rt, alloc, words, console, voice) {
         Ok(status) => status,

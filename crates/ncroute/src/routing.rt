@@ -16,7 +16,9 @@ ghost use Rattle.std.specs.Prelude.{◌≡◌, ◌++◌, IfErr, IfOk, IfSome, Ma
 ghost use Rattle.std.specs.Io.KnownBytes.{Appends};
 ghost use Rattle.filter_reports.specs.Cuts.{IsCut};
 ghost use Rattle.filter_reports.specs.Faults.{stream_fault};
+ghost use Rattle.ncroute.specs.Checked as checked;
 ghost use Rattle.ncroute.specs.Routing as spec;
+ghost use Rattle.ncroute.specs.Stated.{origin_of};
 ghost use Rattle.ncroute.specs.WrongWords.{wrong_line};
 
 use crate::console::Console;
@@ -24,6 +26,7 @@ use crate::ending::{FAILED, fault_line};
 use crate::folders::HistoryFolders;
 use crate::loading::load_filters;
 use crate::planning::{PlanFault, is_memory, plan_of};
+use crate::stated::Origin;
 use crate::texts::{Folder, tell_unmade, write_line};
 use crate::wrong_words::wrong_line;
 use command_line::RouterWords;
@@ -66,7 +69,7 @@ pub struct Untold {
 }
 
 /// Tells people the line with which a router ends: the exit status.
-fn end_by_line<E: Write>(errors: &mut E, status: u8, line: &[u8]) -> Result<u8, Untold>
+pub fn end_by_line<E: Write>(errors: &mut E, status: u8, line: &[u8]) -> Result<u8, Untold>
     ensures told { IfOk result (λ ended. (ended ≡ status) × Appends (E.contents errors.old) (E.contents errors.new) line.now) }
     ensures cut { IfErr result (λ untold. (untold.status ≡ status)
         × IsCut (stream_fault untold.why) (E.contents errors.old) (E.contents errors.new) line.now) }
@@ -78,13 +81,18 @@ fn end_by_line<E: Write>(errors: &mut E, status: u8, line: &[u8]) -> Result<u8, 
 }
 
 /// Tells people what is wrong with the words: the exit status.
-fn end_by_words<E: Write>(alloc: Global, errors: &mut E, fault: PlanFault<'_>) -> Result<u8, Untold>
+fn end_by_words<E: Write>(
+    alloc: Global,
+    errors: &mut E,
+    origin: Origin<'_>,
+    fault: PlanFault<'_>,
+) -> Result<u8, Untold>
     ensures told { IfOk result (λ ended. (ended ≡ 2)
-        × Appends (E.contents errors.old) (E.contents errors.new) (wrong_line fault.entry)) }
+        × Appends (E.contents errors.old) (E.contents errors.new) (wrong_line (origin_of origin.entry) fault.entry)) }
     ensures cut { IfErr result (λ untold. (untold.status ≡ 2)
-        × IsCut (stream_fault untold.why) (E.contents errors.old) (E.contents errors.new) (wrong_line fault.entry)) }
+        × IsCut (stream_fault untold.why) (E.contents errors.old) (E.contents errors.new) (wrong_line (origin_of origin.entry) fault.entry)) }
 {
-    match wrong_line(alloc, fault) {
+    match wrong_line(alloc, origin, fault) {
         Ok(line) => end_by_line(errors, WRONG_WORDS, line.as_slice()),
         Err(_) => Err(Untold {
             status: WRONG_WORDS,
@@ -94,14 +102,19 @@ fn end_by_words<E: Write>(alloc: Global, errors: &mut E, fault: PlanFault<'_>) -
 }
 
 /// Tells people what kept a router from being set up: the exit status.
-fn end_unset<E: Write>(alloc: Global, errors: &mut E, fault: SetupFault<'_>) -> Result<u8, Untold>
+fn end_unset<E: Write>(
+    alloc: Global,
+    errors: &mut E,
+    origin: Origin<'_>,
+    fault: SetupFault<'_>,
+) -> Result<u8, Untold>
     ensures told { IfOk result (λ ended. (ended ≡ spec.setup_status fault.entry)
-        × Appends (E.contents errors.old) (E.contents errors.new) (spec.setup_line fault.entry)) }
+        × Appends (E.contents errors.old) (E.contents errors.new) (spec.setup_line (origin_of origin.entry) fault.entry)) }
     ensures cut { IfErr result (λ untold. (untold.status ≡ spec.setup_status fault.entry)
-        × IsCut (stream_fault untold.why) (E.contents errors.old) (E.contents errors.new) (spec.setup_line fault.entry)) }
+        × IsCut (stream_fault untold.why) (E.contents errors.old) (E.contents errors.new) (spec.setup_line (origin_of origin.entry) fault.entry)) }
 {
     match fault {
-        SetupFault::Words(fault) => end_by_words(alloc, errors, fault),
+        SetupFault::Words(fault) => end_by_words(alloc, errors, origin, fault),
         SetupFault::Program(fault) => end_by_line(errors, FAILED, fault_line(fault).as_bytes()),
     }
 }
@@ -255,6 +268,71 @@ fn set_up<'a, F: Folder + HistoryFolders, R: Read, W: Write, E: Write>(
     }
 }
 
+/// Reads and verifies the filters that words name, for the domain of a plan. Returns whether all of them are verified; people are told of
+/// the first that is not.
+fn check_filters<F: Folder, R: Read, W: Write, E: Write>(
+    files: &F,
+    alloc: Global,
+    words: &RouterWords,
+    plan: &RouterPlan,
+    console: &mut Console<R, W, E>,
+) -> Result<bool, ProgramFault>
+    ensures finished { IfOk result (checked.ChecksFilters (F.opens files.now) words.now plan.now console.old console.new) }
+    ensures stopped { IfErr result (λ fault. checked.StopsFilters (F.opens files.now) (stream_fault fault) words.now plan.now console.old console.new) }
+{
+    match load_filters(
+        files,
+        alloc,
+        words.filters.as_slice(),
+        size_of(plan),
+        &mut console.reader,
+        &mut console.errors,
+    ) {
+        Ok(Some(_)) => Ok(true),
+        Ok(None) => Ok(false),
+        Err(fault) => Err(fault),
+    }
+}
+
+/// Looks at what words say, and at the filters that they name, as `set_up` does, but makes nothing. Returns whether all is right.
+fn check_words<'a, F: Folder, R: Read, W: Write, E: Write>(
+    files: &F,
+    alloc: Global,
+    words: &'a RouterWords,
+    console: &mut Console<R, W, E>,
+) -> Result<bool, SetupFault<'a>>
+    ensures finished { IfOk result (checked.ChecksWords (F.opens files.now) words.now console.old console.new) }
+    ensures stopped { IfErr result (λ fault. checked.StopsChecking (F.opens files.now) fault words.now console.old console.new) }
+{
+    match plan_of(alloc, words) {
+        Ok(plan) => match check_filters(files, alloc, words, &plan, console) {
+            Ok(is_right) => Ok(is_right),
+            Err(fault) => Err(SetupFault::Program(fault)),
+        },
+        Err(fault) if is_memory(fault) => Err(SetupFault::Program(ProgramFault::MEMORY)),
+        Err(fault) => Err(SetupFault::Words(fault)),
+    }
+}
+
+/// Looks at what words say, of which `origin` says some, and at the filters that they name, and starts nothing: the exit status.
+fn check_router<F: Folder, R: Read, W: Write, E: Write>(
+    files: &F,
+    alloc: Global,
+    words: &RouterWords,
+    origin: Origin<'_>,
+    console: &mut Console<R, W, E>,
+) -> Result<u8, Untold>
+    ensures checked { IfOk result (checked.ChecksRouter (F.opens files.now) (origin_of origin.entry) words.now console.old console.new) }
+    ensures untold { IfErr result (λ untold. checked.CutsCheck (F.opens files.now) (stream_fault untold.why) (origin_of origin.entry) words.now
+        console.old console.new untold.status) }
+{
+    match check_words(files, alloc, words, console) {
+        Ok(true) => Ok(0),
+        Ok(false) => Ok(FAILED),
+        Err(fault) => end_unset(alloc, &mut console.errors, origin, fault),
+    }
+}
+
 /// Leaves the folder of a name in which a history is saved, if one is named and there is one.
 fn leave_save<F: HistoryFolders>(
     files: &F,
@@ -323,10 +401,10 @@ where
     }
 }
 
-/// Runs the router that words ask for, and returns the exit status. Its filters are verified, and the folder of its history is made,
-/// before any link is opened. `voice` is where people are told of links.
+/// Runs the router that words ask for, of which `origin` says some, and returns the exit status. Its filters are verified, and the folder of
+/// its history is made, before any link is opened. `voice` is where people are told of links.
 #[tactic(auto, unfolding(crate::specs::Routing::ServesRouter, crate::specs::Routing::CutsRouter))]
-pub fn serve_router<
+fn run_words<
     R: Threads
         + Wait
         + Clock
@@ -349,14 +427,16 @@ pub fn serve_router<
     rt: &R,
     alloc: Global,
     words: &RouterWords,
+    origin: Origin<'_>,
     console: &mut Console<I, W, E>,
     voice: T,
 ) -> Result<u8, Untold>
 where
     R::Segments: Send + 'static,
-    ensures served { IfOk result (spec.ServesRouter (R.opens rt.now) (R.makes rt.now) (R.keeps rt.now) words.now console.old console.new) }
-    ensures untold { IfErr result (λ untold. spec.CutsRouter (R.opens rt.now) (R.makes rt.now) (R.keeps rt.now) (stream_fault untold.why) words.now
-        console.old console.new untold.status) }
+    ensures served { IfOk result (spec.ServesRouter (R.opens rt.now) (R.makes rt.now) (R.keeps rt.now) (origin_of origin.entry) words.now
+        console.old console.new) }
+    ensures untold { IfErr result (λ untold. spec.CutsRouter (R.opens rt.now) (R.makes rt.now) (R.keeps rt.now) (stream_fault untold.why)
+        (origin_of origin.entry) words.now console.old console.new untold.status) }
 {
     match set_up(rt, alloc, words, console) {
         Ok(Some(setting)) => run_setting::<R, FI, FO, T, I, W, E>(
@@ -369,6 +449,48 @@ where
             voice,
         ),
         Ok(None) => Ok(FAILED),
-        Err(fault) => end_unset(alloc, &mut console.errors, fault),
+        Err(fault) => end_unset(alloc, &mut console.errors, origin, fault),
+    }
+}
+
+/// Does what words ask for, of which `origin` says some: runs the router, or looks at what they say alone. Returns the exit status.
+pub fn serve_words<
+    R: Threads
+        + Wait
+        + Clock
+        + RandomSource
+        + Folder
+        + HistoryFolders
+        + LinkFolder<FI, FO>
+        + Copy
+        + Send
+        + Sync
+        + Drop
+        + 'static,
+    FI: Read + Send + Drop + 'static,
+    FO: Write + Send + Drop + 'static,
+    T: Write + Send + Drop + 'static,
+    I: Read,
+    W: Write,
+    E: Write,
+>(
+    rt: &R,
+    alloc: Global,
+    words: &RouterWords,
+    origin: Origin<'_>,
+    console: &mut Console<I, W, E>,
+    voice: T,
+) -> Result<u8, Untold>
+where
+    R::Segments: Send + 'static,
+    ensures served { IfOk result (checked.ServesWords (R.opens rt.now) (R.makes rt.now) (R.keeps rt.now) (origin_of origin.entry) words.now
+        console.old console.new) }
+    ensures untold { IfErr result (λ untold. checked.CutsWords (R.opens rt.now) (R.makes rt.now) (R.keeps rt.now) (stream_fault untold.why)
+        (origin_of origin.entry) words.now console.old console.new untold.status) }
+{
+    if words.checks {
+        check_router(rt, alloc, words, origin, console)
+    } else {
+        run_words::<R, FI, FO, T, I, W, E>(rt, alloc, words, origin, console, voice)
     }
 }

@@ -7,7 +7,7 @@
 //! files behind it are run: a harness takes the stream for failed, and one bad file hides no other. Its status is 3, too.
 ghost use Rattle.std.specs.Prelude.{◌≡◌, ◌+◌, ◌<◌, ◌^◌, IfErr, IfOk, OnOk};
 ghost use Rattle.filter_checks.specs.Files.{file_view};
-ghost use Rattle.filter_checks.specs.Tap.{plan};
+ghost use Rattle.filter_checks.specs.Results.{end_in, head_in};
 ghost use Rattle.filter_reports.specs.Faults.{stream_fault};
 ghost use Rattle.filter_reports.specs.Naming.{named};
 ghost use Rattle.ncroute.specs.Streaming.{CutsWriting, Writes};
@@ -18,8 +18,8 @@ use crate::ending::{FAILED, FAULT};
 use crate::texts::{Folder, name_of};
 use command_line::{Source, Testing};
 use filter_checks::{
-    TestFile, TestFileFault, Tested, fault_text, path_beside, plan_line, read_tests, skipped_line,
-    test_named,
+    TestFile, TestFileFault, Tested, end_in, fault_text, head_in, path_beside, read_tests,
+    skipped_in, test_named,
 };
 use filter_reports::{NamedText, ProgramFault};
 use filter_source::SOURCE_LIMIT;
@@ -96,6 +96,7 @@ fn run_by<R: Read, W: Write, E: Write>(
     }
     match test_named(
         alloc,
+        how.format,
         tally.count,
         how.limit,
         how.is_explained,
@@ -248,18 +249,19 @@ fn run_source<F: Folder, R: Read, W: Write, E: Write>(
 #[tactic(auto, unfolding(crate::specs::Testing::StopsSkipping))]
 fn skip_source<R: Read, W: Write, E: Write>(
     alloc: Global,
+    how: Testing,
     name: &[u8],
     tally: Tally,
     console: &mut Console<R, W, E>,
 ) -> Result<Tally, ProgramFault>
-    ensures finished { IfOk result (spec.Skips name.now tally console.old console.new) }
-    ensures stopped { IfErr result (λ fault. spec.StopsSkipping (stream_fault fault) name.now tally console.old console.new) }
+    ensures finished { IfOk result (spec.Skips how name.now tally console.old console.new) }
+    ensures stopped { IfErr result (λ fault. spec.StopsSkipping (stream_fault fault) how name.now tally console.old console.new) }
 {
     if tally.count == u64::MAX {
         return Err(ProgramFault::Stream(StreamFault::TooLong));
     }
     let count = tally.count + 1;
-    match skipped_line(alloc, count, name) {
+    match skipped_in(alloc, how.format, count, name) {
         Ok(line) => match console.write(line.as_slice()) {
             Ok(()) => Ok(Tally {
                 count,
@@ -288,7 +290,7 @@ fn run_or_skip<F: Folder, R: Read, W: Write, E: Write>(
 {
     match run_source(files, alloc, how, source, tally, console) {
         Ok(Some(after)) => Ok(after),
-        Ok(None) => skip_source(alloc, name_of(source), tally, console),
+        Ok(None) => skip_source(alloc, how, name_of(source), tally, console),
         Err(fault) => Err(fault),
     }
 }
@@ -316,24 +318,17 @@ fn run_all<F: Folder, R: Read, W: Write, E: Write>(
     Ok(tally)
 }
 
-/// The first line of the output.
-#[tactic(auto, unfolding(crate::specs::Testing::version_line))]
-fn version_line() -> &'static [u8]
-    ensures { result.now ≡ spec.version_line }
-{
-    b"TAP version 13\n"
-}
-
-/// Writes the last line.
+/// Writes what stands behind all tests.
 fn write_last<R: Read, W: Write, E: Write>(
     alloc: Global,
+    how: Testing,
     tally: Tally,
     console: &mut Console<R, W, E>,
 ) -> Result<(), ProgramFault>
-    ensures ok { OnOk result (Writes (plan tally.count) console.old console.new) }
-    ensures err { IfErr result (λ fault. CutsWriting (stream_fault fault) (plan tally.count) console.old console.new) }
+    ensures ok { OnOk result (Writes (end_in how.format tally.count) console.old console.new) }
+    ensures err { IfErr result (λ fault. CutsWriting (stream_fault fault) (end_in how.format tally.count) console.old console.new) }
 {
-    match plan_line(alloc, tally.count) {
+    match end_in(alloc, how.format, tally.count) {
         Ok(line) => console.write(line.as_slice()),
         Err(_) => Err(ProgramFault::MEMORY),
     }
@@ -352,7 +347,7 @@ fn status_of(tally: Tally) -> u8
     }
 }
 
-/// Runs the tests of sources, between the first line and the last one, and returns the exit status.
+/// Runs the tests of sources, between what stands before all tests and behind them, and returns the exit status.
 #[tactic(auto, unfolding(crate::specs::Testing::StopsSources))]
 pub fn test_sources<F: Folder, R: Read, W: Write, E: Write>(
     files: &F,
@@ -364,8 +359,8 @@ pub fn test_sources<F: Folder, R: Read, W: Write, E: Write>(
     ensures finished { IfOk result (spec.TestsSources (F.opens files.now) how sources.now console.old console.new) }
     ensures stopped { IfErr result (λ fault. spec.StopsSources (F.opens files.now) (stream_fault fault) how sources.now console.old console.new) }
 {
-    console.write(version_line())?;
+    console.write(head_in(how.format))?;
     let found = run_all(files, alloc, how, sources, console)?;
-    write_last(alloc, found, console)?;
+    write_last(alloc, how, found, console)?;
     Ok(status_of(found))
 }

@@ -1,11 +1,17 @@
 //! What people are told of wrong words of `router`: which option has which value, and why it is refused.
-ghost use Rattle.std.specs.Prelude.{◌≡◌, ◌++◌, IfOk, OnOk, decimal};
-ghost use Rattle.filter_reports.specs.Shown.{shown};
+//!
+//! **Of an option that a file says the place is told, in place of its name and value**: the line has both, and an editor goes there.
+ghost use Rattle.std.specs.Prelude.{◌≡◌, ◌++◌, IfOk, OnOk, map};
+ghost use Rattle.std.specs.Option.{option_map};
+ghost use Rattle.router_files.specs.Files.{statement_of};
+ghost use Rattle.ncroute.specs.Stated.{origin_of};
 ghost use Rattle.ncroute.specs.WrongWords as spec;
 
 use crate::planning::{OptionKind, PlanFault};
-use filter_reports::push_shown;
+use crate::stated::{Origin, nth_stated};
+use filter_reports::{place_in, push_position, push_shown};
 use line_protocol::push_decimal;
+use router_files::{RouterOption, Statement, second_byte, third_byte};
 use router_options::{NodeFault, NumberFault, OptionFault};
 use std::alloc::{AllocError, Global};
 
@@ -163,24 +169,51 @@ fn number_value(why: NumberFault) -> u32
     }
 }
 
-/// Adds the value that is refused.
-fn push_value(alloc: Global, line: &mut Vec<u8>, fault: PlanFault<'_>) -> Result<(), AllocError>
-    ensures { OnOk result (line.new.items ≡ line.old.items ++ spec.value_words fault.entry) }
+/// Adds the number that is refused, and the name of its option.
+fn push_number(line: &mut Vec<u8>, why: NumberFault) -> Result<(), AllocError>
+    ensures { OnOk result (line.new.items ≡ line.old.items ++ spec.number_words why) }
+{
+    line.extend_from_slice(b"invalid value '")?;
+    push_decimal(line, u64::from(number_value(why)))?;
+    line.extend_from_slice(b"' for '")?;
+    line.extend_from_slice(number_name(why))?;
+    line.extend_from_slice(b"': ")
+}
+
+/// Adds what an option says that is refused, and its name.
+fn push_option(
+    alloc: Global,
+    line: &mut Vec<u8>,
+    kind: OptionKind,
+    text: &str,
+) -> Result<(), AllocError>
+    ensures { OnOk result (line.new.items ≡ line.old.items ++ spec.option_words kind text.now) }
+{
+    line.extend_from_slice(b"invalid value '")?;
+    push_shown(alloc, line, text.as_bytes())?;
+    line.extend_from_slice(b"' for '")?;
+    line.extend_from_slice(option_name(kind))?;
+    line.extend_from_slice(b"': ")
+}
+
+/// Adds what is refused, if anything is.
+fn push_refused(alloc: Global, line: &mut Vec<u8>, fault: PlanFault<'_>) -> Result<(), AllocError>
+    ensures { OnOk result (line.new.items ≡ line.old.items ++ spec.refused_words fault.entry) }
 {
     match fault {
-        PlanFault::WrongNumber(why) => push_decimal(line, u64::from(number_value(why))),
-        PlanFault::WrongOption { text, .. } => push_shown(alloc, line, text.as_bytes()),
+        PlanFault::Missing(_) => Ok(()),
+        PlanFault::WrongNumber(why) => push_number(line, why),
+        PlanFault::WrongOption { kind, text, .. } => push_option(alloc, line, kind, text),
     }
 }
 
-/// The name of the option that is refused.
-fn name_of(fault: PlanFault<'_>) -> &'static [u8]
-    ensures { result.now ≡ spec.name_of fault.entry }
+/// Adds that an option is missing.
+fn push_missing(line: &mut Vec<u8>, option: RouterOption) -> Result<(), AllocError>
+    ensures { OnOk result (line.new.items ≡ line.old.items ++ spec.missing_words option) }
 {
-    match fault {
-        PlanFault::WrongNumber(why) => number_name(why),
-        PlanFault::WrongOption { kind, .. } => option_name(kind),
-    }
+    line.extend_from_slice(b"--")?;
+    line.extend_from_slice(option.form().as_bytes())?;
+    line.extend_from_slice(b" is missing")
 }
 
 /// Adds why the option is refused.
@@ -188,22 +221,131 @@ fn push_reason(line: &mut Vec<u8>, fault: PlanFault<'_>) -> Result<(), AllocErro
     ensures { OnOk result (line.new.items ≡ line.old.items ++ spec.reason_words fault.entry) }
 {
     match fault {
+        PlanFault::Missing(option) => push_missing(line, option),
         PlanFault::WrongNumber(why) => push_number_fault(line, why),
         PlanFault::WrongOption { kind, why, .. } => push_option_fault(line, kind, why),
     }
 }
 
-/// The line that tells what is wrong with the words.
-pub fn wrong_line(alloc: Global, fault: PlanFault<'_>) -> Result<Vec<u8>, AllocError>
-    ensures { IfOk result (λ line. line.items ≡ spec.wrong_line fault.entry) }
+/// The line that tells what is wrong with an option of the command line.
+fn unplaced_line(alloc: Global, fault: PlanFault<'_>) -> Result<Vec<u8>, AllocError>
+    ensures { IfOk result (λ line. line.items ≡ spec.unplaced_line fault.entry) }
 {
     let mut line = Vec::new(alloc);
-    line.extend_from_slice(b"error: invalid value '")?;
-    push_value(alloc, &mut line, fault)?;
-    line.extend_from_slice(b"' for '")?;
-    line.extend_from_slice(name_of(fault))?;
-    line.extend_from_slice(b"': ")?;
+    line.extend_from_slice(b"error: ")?;
+    push_refused(alloc, &mut line, fault)?;
     push_reason(&mut line, fault)?;
     line.push(b'\n')?;
     Ok(line)
+}
+
+/// Adds the place of a byte of a line of a file.
+pub fn push_place(
+    alloc: Global,
+    out: &mut Vec<u8>,
+    name: &str,
+    number: usize,
+    line: &[u8],
+    byte: usize,
+) -> Result<(), AllocError>
+    ensures { OnOk result (out.new.items ≡ out.old.items ++ spec.place_words name.now number line.now byte) }
+{
+    let place = place_in(line, byte);
+    push_shown(alloc, out, name.as_bytes())?;
+    push_position(out, number, place.column)?;
+    out.extend_from_slice(b": ")
+}
+
+/// The option whose number is refused; none where memory was refused.
+fn numbered_option(why: NumberFault) -> Option<RouterOption>
+    ensures { result ≡ spec.numbered_option why }
+{
+    match why {
+        NumberFault::Size(_) => Some(RouterOption::Size),
+        NumberFault::Node { .. } => Some(RouterOption::Node),
+        NumberFault::Limit(_) => Some(RouterOption::Limit),
+        NumberFault::Queue { .. } => Some(RouterOption::Queue),
+        NumberFault::Segments | NumberFault::Unsaved(_) => Some(RouterOption::Segments),
+        NumberFault::Retry => Some(RouterOption::Retry),
+        NumberFault::Hold(_) => Some(RouterOption::Hold),
+        NumberFault::Memory => None,
+    }
+}
+
+/// The option of a kind.
+fn option_of(kind: OptionKind) -> RouterOption
+    ensures { result ≡ spec.option_of kind }
+{
+    match kind {
+        OptionKind::Prefix => RouterOption::Prefix,
+        OptionKind::Filter => RouterOption::Filter,
+        OptionKind::Import => RouterOption::Import,
+        OptionKind::Export => RouterOption::Export,
+        OptionKind::Link => RouterOption::Link,
+    }
+}
+
+/// The line of the file that says what is refused, if one does. What the file says comes before what the command line says.
+fn line_of<'a>(fault: PlanFault<'_>, statements: &'a [Statement]) -> Option<&'a Statement>
+    ensures { option_map (λ s. statement_of s.now) result ≡ spec.line_of fault.entry (map statement_of statements.now) }
+{
+    match fault {
+        PlanFault::Missing(_) => None,
+        PlanFault::WrongNumber(why) => match numbered_option(why) {
+            Some(option) => nth_stated(statements, option, 0),
+            None => None,
+        },
+        PlanFault::WrongOption { kind, at, .. } => nth_stated(statements, option_of(kind), at),
+    }
+}
+
+/// The byte of a line at which what is refused begins: the name of the filter that is not known, or what follows the name of the option.
+fn byte_of(fault: PlanFault<'_>, line: &[u8]) -> usize
+    ensures { result ≡ spec.byte_of fault.entry line.now }
+{
+    match fault {
+        PlanFault::WrongOption {
+            why: OptionFault::UnknownFilter,
+            ..
+        } => third_byte(line),
+        _ => second_byte(line),
+    }
+}
+
+/// The line that tells what is wrong with an option of a file.
+fn placed_line(
+    alloc: Global,
+    name: &str,
+    statement: &Statement,
+    fault: PlanFault<'_>,
+) -> Result<Vec<u8>, AllocError>
+    ensures { IfOk result (λ line. line.items ≡ spec.placed_line name.now (statement_of statement.now) fault.entry) }
+{
+    let said = statement.line.as_slice();
+    let mut line = Vec::new(alloc);
+    push_place(
+        alloc,
+        &mut line,
+        name,
+        statement.number,
+        said,
+        byte_of(fault, said),
+    )?;
+    push_reason(&mut line, fault)?;
+    line.push(b'\n')?;
+    Ok(line)
+}
+
+/// The line that tells what is wrong with the words, some of which a file may say.
+pub fn wrong_line(
+    alloc: Global,
+    origin: Origin<'_>,
+    fault: PlanFault<'_>,
+) -> Result<Vec<u8>, AllocError>
+    ensures { IfOk result (λ line. line.items ≡ spec.wrong_line (origin_of origin.entry) fault.entry) }
+{
+    match line_of(fault, origin.statements) {
+        Some(statement) => placed_line(alloc, origin.name, statement, fault),
+        None => unplaced_line(alloc, fault),
+    }
 }

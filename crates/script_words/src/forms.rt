@@ -29,9 +29,9 @@ static ROUTER_VERBS: [&str; 15] = [
 ];
 
 /// The first words of the commands of a domain's script.
-static DOMAIN_VERBS: [&str; 16] = [
-    "domain", "prefix", "load", "code", "link", "cut", "import", "export", "route", "path",
-    "table", "draw", "reach", "mark", "changes", "settle",
+static DOMAIN_VERBS: [&str; 18] = [
+    "domain", "prefix", "load", "code", "link", "cut", "import", "export", "anew", "route", "path",
+    "table", "draw", "reach", "mark", "changes", "failures", "settle",
 ];
 
 /// The words that follow the first of a command.
@@ -175,12 +175,21 @@ const ROUTE: Form = Form {
     name: None,
 };
 
-/// The words of `table`.
+/// The words of `table` and `anew`.
 const NODE: Form = Form {
     words: "U",
     least: 1,
     most: 1,
     numbers: 1,
+    name: None,
+};
+
+/// The words of `failures`.
+const FAILED: Form = Form {
+    words: "[nodes]",
+    least: 0,
+    most: 1,
+    numbers: 0,
     name: None,
 };
 
@@ -213,9 +222,9 @@ static ROUTER_FORMS: [Form; 15] = [
 ];
 
 /// The words of the commands of a domain's script, in the order of `DOMAIN_VERBS`.
-static DOMAIN_FORMS: [Form; 16] = [
-    DOMAIN, PREFIX, TEXT, FILE, PAIR, PAIR, NAMED_PAIR, NAMED_PAIR, ROUTE, ROUTE, NODE, PICTURE,
-    ALONE, ALONE, ALONE, ALONE,
+static DOMAIN_FORMS: [Form; 18] = [
+    DOMAIN, PREFIX, TEXT, FILE, PAIR, PAIR, NAMED_PAIR, NAMED_PAIR, NODE, ROUTE, ROUTE, NODE,
+    PICTURE, ALONE, ALONE, ALONE, FAILED, ALONE,
 ];
 
 impl ScriptKind {

@@ -19,7 +19,7 @@ returns-in-Path-clause-ok c =
     let new = c.answer_path.new.out.items in
     subst
     (λ (q : Question). IfOk c.answer_path.result
-    (Answers (AnswersQuestion q c.args.domain.now (marks c.args.marked.now) c.args.since c.args.number) old new))
+    (Answers (AnswersQuestion q c.args.domain.now (marks c.args.marked.now) c.args.since.now c.args.number) old new))
     (sym c.in-Path.is)
     (subst
     (λ (plan : PlanView). IfOk c.answer_path.result (Answers (IsToldPath plan c.args.number c.in-Path.u c.in-Path.v) old new))
@@ -29,5 +29,5 @@ pub returns-in-Settle-clause-ok : goal.returns-in-Settle-clause-ok
 returns-in-Settle-clause-ok c =
     subst
     (λ (q : Question). IfOk c.answer_settle.result
-    (Answers (AnswersQuestion q c.args.domain.now (marks c.args.marked.now) c.args.since c.args.number) c.args.out.now.items c.answer_settle.new.out.items))
+    (Answers (AnswersQuestion q c.args.domain.now (marks c.args.marked.now) c.args.since.now c.args.number) c.args.out.now.items c.answer_settle.new.out.items))
     (sym c.in-Settle.is) c.answer_settle.ensures.ok

@@ -8,6 +8,6 @@ use Rattle.domain_cmds.proofs.felt.push_felt_nodes.Given as goal
 abbrev pub invariant-loop-u : goal.invariant-loop-u
 invariant-loop-u l = record {
   added : l.out.items
-      ≡ l.fn.out.items ++ texts_below l.u (λ u. felt_node_text (is_still l.size l.since l.before l.now l.v u) u (route_of l.size l.now u l.v));
+      ≡ l.fn.out.items ++ texts_below l.u (λ u. felt_node_text (is_still l.size l.rests l.v u) u (route_of l.size l.now u l.v));
   front : StartsWith l.out.items l.fn.out.items;
 }

@@ -6,4 +6,4 @@ use Rattle.domain_cmds.proofs.still.still_below.Given as goal
 -- the least so far
 abbrev pub invariant-loop-u : goal.invariant-loop-u
 invariant-loop-u l =
-    l.least ≡ least_below l.size l.u (λ u. lesser_of_two l.size (distances l.size l.before l.v u) (distances l.size l.now l.v u))
+    l.bound ≡ least_below l.size l.u (λ u. lesser_of_two l.size (distances l.size l.most l.v u) (distances l.size l.least l.v u))

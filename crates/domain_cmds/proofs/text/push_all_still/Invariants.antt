@@ -7,6 +7,6 @@ use Rattle.domain_cmds.proofs.text.push_all_still.Given as goal
 -- the texts so far were added
 abbrev pub invariant-loop-v : goal.invariant-loop-v
 invariant-loop-v l = record {
-  added : l.out.items ≡ l.fn.out.items ++ texts_below l.v (still_text l.size l.before l.now);
+  added : l.out.items ≡ l.fn.out.items ++ texts_below l.v (still_text l.size l.most l.least);
   front : StartsWith l.out.items l.fn.out.items;
 }

@@ -5,14 +5,15 @@ pub returns : goal.returns
 returns c = record {
   one = λ size a b. are_one size a b;
   greatest = λ size k a b within agree. is_greatest size a b k within agree;
-  distance = λ s p q one is plan later v there a b before now n m orderly whole of_plan d o phases j happen u short near.
-      distance_stands p q v a b n m
+  distance = λ b p greatest smallest since v there most least all none n m orderly whole of_plan d o phases j happen u short near.
+      distance_stands b p v most least n m
       (record {
-        plan = plan;
-        later = later;
+        greatest = greatest;
+        smallest = smallest;
+        since = since;
         there = there;
-        before = before;
-        now = now;
+        with_all = all;
+        with_none = none;
         orderly = orderly;
         whole = whole;
         of_plan = of_plan;
@@ -21,15 +22,16 @@ returns c = record {
         phases = phases;
         count = j;
         happen = happen;
-      }) u short near s one is;
-  via = λ s p q one is plan later v there a b before now n m orderly whole of_plan d o phases j happen u short near same.
-      via_stands p q v a b n m
+      }) u short near;
+  via = λ b p greatest smallest since v there most least all none n m orderly whole of_plan d o phases j happen u short near same.
+      via_stands b p v most least n m
       (record {
-        plan = plan;
-        later = later;
+        greatest = greatest;
+        smallest = smallest;
+        since = since;
         there = there;
-        before = before;
-        now = now;
+        with_all = all;
+        with_none = none;
         orderly = orderly;
         whole = whole;
         of_plan = of_plan;
@@ -38,5 +40,5 @@ returns c = record {
         phases = phases;
         count = j;
         happen = happen;
-      }) u short near s one is same;
+      }) u short near same;
 }

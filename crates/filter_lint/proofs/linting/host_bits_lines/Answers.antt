@@ -10,5 +10,5 @@ returns c =
     record {
       host_bits = c.in_ok-host_bits.host_bits.items;
       are_host_bits = c.in_ok-host_bits.ensures.all text c.requires;
-      lines_are = c.in_ok-lines.ensures ∙ ap (host_bits_text c.args.source.now.name.now text) told_is;
+      lines_are = c.in_ok-lines.ensures ∙ ap (host_bits_text c.args.format c.args.source.now.name.now text) told_is;
     }

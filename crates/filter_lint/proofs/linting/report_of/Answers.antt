@@ -9,7 +9,7 @@ pub returns : goal.returns
 returns c =
     let text = c.args.source.now.text.now in
     let allowed = c.args.allowed.now in
-    reported c.args.placed.now.verified.program c.args.placed.now.verified.size c.args.limit allowed c.args.asks_order c.args.placed.now.places.items
+    reported c.args.format c.args.placed.now.verified.program c.args.placed.now.verified.size c.args.limit allowed c.args.asks_order c.args.placed.now.places.items
     c.as_slice.result.now (named c.args.source.now) c.in_ok-all.all c.in_ok-host_bits.host_bits.items c.as_slice-6.result.now c.as_slice-5.result.now
     c.report_on.result c.as_slice.ensures.value
     (c.as_slice-5.ensures.value ∙ c.in_ok-told.ensures ∙ ap (told_of allowed text) c.as_slice-3.ensures.value)

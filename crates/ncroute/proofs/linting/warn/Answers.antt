@@ -6,8 +6,8 @@ use Rattle.ncroute.specs.declared.linting.Wanted.TheVariants as wanted
 use Rattle.ncroute.proofs.HostBits.{tokens_where_told}
 use Rattle.ncroute.proofs.linting.warn.Goals as goal
 
-pub warn_of_host_bits-requires : goal.warn_of_host_bits-requires
-warn_of_host_bits-requires g c =
+pub say_host_bits-requires : goal.say_host_bits-requires
+say_host_bits-requires g c =
     let told = c.args.checked.now.diagnosis in
     let asked : wanted_of c.args.how (is_some told) ≡ wanted.HostBits = search rules in
     subst (λ tokens. IsTokenization tokens 0 c.args.text.now) (sym c.as_slice.ensures.value)

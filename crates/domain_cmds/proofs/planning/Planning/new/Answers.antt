@@ -12,4 +12,4 @@ unwrap-plan-requires c =
 pub invariant_of-result : goal.invariant_of-result
 invariant_of-result c =
     let long : length c.in_ok-prefixes.prefixes.items ≡ c.args.size.nodes = one_a_node c.args.size.nodes c.in_ok-prefixes.prefixes.items c.args.size.fits c.in_ok-prefixes.ensures in
-    grind (arith, common_steps, long)
+    (grind (arith, common_steps, long), tt)

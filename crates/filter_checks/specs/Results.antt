@@ -1,0 +1,106 @@
+-- What comes of tests, as it is written. (The lines of the first form are those of the Test Anything Protocol; the words of the others are this
+-- project's own choice.)
+use Rattle.std.specs.Prelude.{ℕ, Bool, true, false, List, [], ◌∷◌, ◌++◌, None, Some, codes, flat_map, if◌then◌else◌}
+use Rattle.filter_diff.specs.declared.checking.Checked.{Checked}
+use Rattle.filter_diff.specs.declared.checking.Checked.TheVariants as checked
+use Rattle.filter_diff.specs.declared.checking.Counterexample.{Counterexample}
+use Rattle.report_formats.specs.Cases.{broken_case, document_end, document_head, failed_case, passed_case}
+use Rattle.report_formats.specs.Reports.{ReportView, report_line}
+use Rattle.report_formats.specs.declared.format.TestFormat.{TestFormat}
+use Rattle.report_formats.specs.declared.format.TestFormat.TheVariants as formats
+use Rattle.report_formats.specs.declared.report.Severity.{Severity}
+use Rattle.report_formats.specs.declared.report.Severity.TheVariants as severity
+use Rattle.filter_checks.specs.Tap.{all_lines, found_text, plan, skipped}
+use Rattle.filter_checks.specs.declared.testing.Ran.{Ran}
+
+-- how much is wrong with a test
+abbrev pub severity_of : Checked → Severity
+severity_of checked.Holds = severity.Ok
+severity_of (checked.Fails found) = severity.Error
+severity_of checked.Undecided = severity.Undecided
+
+-- what is said of a test that does not hold
+abbrev pub failure_words : Counterexample → List ℕ
+failure_words found = codes "does not hold: " ++ found_text found
+
+-- what is said of a test behind its line
+abbrev pub said : Checked → List ℕ
+said checked.Holds = []
+said (checked.Fails found) = codes ": " ++ failure_words found
+said checked.Undecided = codes ": undecided"
+
+abbrev pub result_words : Ran → List ℕ
+result_words ran = ran.line.items ++ said ran.checked
+
+-- a report on a line of a file of this name
+abbrev pub view_on_line : Severity → List ℕ → ℕ → List ℕ → ReportView
+view_on_line how name line words = record {
+  severity = how;
+  code = None;
+  file = name;
+  line = Some line;
+  column = None;
+  words = words;
+}
+
+-- that on a test
+abbrev pub test_view : List ℕ → Ran → ReportView
+test_view name ran = view_on_line (severity_of ran.checked) name ran.number (result_words ran)
+
+abbrev pub test_report : List ℕ → Ran → List ℕ
+test_report name ran = report_line (test_view name ran)
+
+-- its element
+abbrev pub failure_case : List ℕ → List ℕ → Counterexample → List ℕ
+failure_case name line found = failed_case name line (failure_words found)
+
+abbrev pub case_by : List ℕ → List ℕ → Checked → List ℕ
+case_by name line checked.Holds = passed_case name line
+case_by name line (checked.Fails found) = failure_case name line found
+case_by name line checked.Undecided = broken_case name line (codes "undecided")
+
+abbrev pub case_of : List ℕ → Ran → List ℕ
+case_of name ran = case_by name ran.line.items ran.checked
+
+-- what is written of the tests of a file of this name, before which the stream has so many others
+abbrev pub results_in : TestFormat → List ℕ → ℕ → List Ran → List ℕ
+results_in formats.Tap name before all = all_lines before all
+results_in formats.Json name before all = flat_map (test_report name) all
+results_in formats.Junit name before all = flat_map (case_of name) all
+
+-- why the tests of a file were not run
+unfoldable pub not_run_words : List ℕ
+not_run_words = codes "not run, since a file was refused or not read"
+
+abbrev pub skipped_view : List ℕ → ReportView
+skipped_view name = record {
+  severity = severity.Undecided;
+  code = None;
+  file = name;
+  line = None;
+  column = None;
+  words = not_run_words;
+}
+
+-- what is written in their place, as an element or a report
+abbrev pub skipped_as : Bool → List ℕ → List ℕ
+skipped_as is_case name = if is_case then broken_case name name not_run_words else report_line (skipped_view name)
+
+abbrev pub skipped_in : TestFormat → ℕ → List ℕ → List ℕ
+skipped_in formats.Tap number name = skipped number name
+skipped_in formats.Json number name = skipped_as false name
+skipped_in formats.Junit number name = skipped_as true name
+
+-- what is written before all tests, and behind them by their number
+unfoldable pub version_line : List ℕ
+version_line = codes "TAP version 13" ++ 10 ∷ []
+
+abbrev pub head_in : TestFormat → List ℕ
+head_in formats.Tap = version_line
+head_in formats.Json = []
+head_in formats.Junit = document_head
+
+abbrev pub end_in : TestFormat → ℕ → List ℕ
+end_in formats.Tap count = plan count
+end_in formats.Json count = []
+end_in formats.Junit count = document_end

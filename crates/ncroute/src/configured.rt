@@ -1,0 +1,278 @@
+//! The options of a router that stand in a file.
+//!
+//! **`--config` is the word, and `--check` beside it**: `bird -c FILE` reads that file, `birdc configure` reads it again, and `bird -p` reads and
+//! verifies it and starts nothing. `-p` alone would not say what it does.
+//!
+//! **A wrong line is a wrong word**, and ends with 2. A file that cannot be read ends with 1, as a filter does.
+ghost use Rattle.std.specs.Prelude.{◌<◌, ◌^◌, IfErr, IfOk, length};
+ghost use Rattle.std.specs.Io.KnownBytes.{Appends};
+ghost use Rattle.filter_reports.specs.Cuts.{IsCut};
+ghost use Rattle.filter_reports.specs.Faults.{stream_fault};
+ghost use Rattle.ncroute.specs.Configured as spec;
+ghost use Rattle.ncroute.specs.Stated.{origin_of};
+
+use crate::console::Console;
+use crate::ending::{FAILED, fault_line};
+use crate::folders::HistoryFolders;
+use crate::gathering::{Clash, find_clash, gather};
+use crate::including::{path_beside, read_config};
+use crate::routing::{Untold, end_by_line, serve_words};
+use crate::stated::{Origin, no_file};
+use crate::texts::Folder;
+use crate::wrong_lines::{clash_line, refused_line};
+use command_line::{RouterWords, Source};
+use filter_reports::ProgramFault;
+use router_daemon::LinkFolder;
+use router_files::{LineFault, WrongLine, read_statements};
+use std::alloc::Global;
+use std::io::{Read, Write};
+use std::random::RandomSource;
+use std::rt::Clock;
+use std::sync::Wait;
+use std::thread::Threads;
+
+/// The exit status where the words are wrong.
+const WRONG_WORDS: u8 = 2;
+
+/// Ends where memory was refused: the exit status.
+fn end_by_memory<E: Write>(errors: &mut E) -> Result<u8, Untold>
+    ensures told { IfOk result (λ ended. spec.EndsByMemory Appends (E.contents errors.old) (E.contents errors.new) ended) }
+    ensures cut { IfErr result (λ untold. spec.EndsByMemory (IsCut (stream_fault untold.why)) (E.contents errors.old) (E.contents errors.new)
+        untold.status) }
+{
+    end_by_line(errors, FAILED, fault_line(ProgramFault::MEMORY).as_bytes())
+}
+
+/// Tells people of a line of the file that is refused by itself: the exit status.
+fn end_by_wrong<E: Write>(
+    alloc: Global,
+    errors: &mut E,
+    name: &str,
+    wrong: &WrongLine,
+) -> Result<u8, Untold>
+    ensures told { IfOk result (λ ended. spec.EndsByWrong Appends name.now wrong.now (E.contents errors.old) (E.contents errors.new) ended) }
+    ensures cut { IfErr result (λ untold. spec.EndsByWrong (IsCut (stream_fault untold.why)) name.now wrong.now
+        (E.contents errors.old) (E.contents errors.new) untold.status) }
+{
+    if matches!(wrong.why, LineFault::Memory) {
+        return end_by_memory(errors);
+    }
+    match refused_line(alloc, name, wrong) {
+        Ok(line) => end_by_line(errors, WRONG_WORDS, line.as_slice()),
+        Err(_) => Err(Untold {
+            status: WRONG_WORDS,
+            why: ProgramFault::MEMORY,
+        }),
+    }
+}
+
+/// Tells people of a line of the file that does not go together with others: the exit status.
+fn end_by_clash<E: Write>(
+    alloc: Global,
+    errors: &mut E,
+    name: &str,
+    clash: Clash<'_>,
+) -> Result<u8, Untold>
+    ensures told { IfOk result (λ ended. spec.EndsByClash Appends name.now clash.entry (E.contents errors.old) (E.contents errors.new) ended) }
+    ensures cut { IfErr result (λ untold. spec.EndsByClash (IsCut (stream_fault untold.why)) name.now clash.entry
+        (E.contents errors.old) (E.contents errors.new) untold.status) }
+{
+    match clash_line(alloc, name, clash) {
+        Ok(line) => end_by_line(errors, WRONG_WORDS, line.as_slice()),
+        Err(_) => Err(Untold {
+            status: WRONG_WORDS,
+            why: ProgramFault::MEMORY,
+        }),
+    }
+}
+
+/// Does what the command line and the lines of a file ask for together: the exit status.
+fn serve_statements<
+    R: Threads
+        + Wait
+        + Clock
+        + RandomSource
+        + Folder
+        + HistoryFolders
+        + LinkFolder<FI, FO>
+        + Copy
+        + Send
+        + Sync
+        + Drop
+        + 'static,
+    FI: Read + Send + Drop + 'static,
+    FO: Write + Send + Drop + 'static,
+    T: Write + Send + Drop + 'static,
+    I: Read,
+    W: Write,
+    E: Write,
+>(
+    rt: &R,
+    alloc: Global,
+    words: &RouterWords,
+    origin: Origin<'_>,
+    console: &mut Console<I, W, E>,
+    voice: T,
+) -> Result<u8, Untold>
+where
+    R::Segments: Send + 'static,
+    ensures served { IfOk result (spec.ServesStatements (R.opens rt.now) (R.makes rt.now) (R.keeps rt.now) (origin_of origin.entry) words.now
+        console.old console.new) }
+    ensures untold { IfErr result (λ untold. spec.CutsStatements (R.opens rt.now) (R.makes rt.now) (R.keeps rt.now) (stream_fault untold.why)
+        (origin_of origin.entry) words.now console.old console.new untold.status) }
+{
+    if let Some(clash) = find_clash(words, origin.statements) {
+        return end_by_clash(alloc, &mut console.errors, origin.name, clash);
+    }
+    match gather(alloc, words, origin.statements) {
+        Ok(all) => serve_words::<R, FI, FO, T, I, W, E>(rt, alloc, &all, origin, console, voice),
+        Err(_) => end_by_memory(&mut console.errors),
+    }
+}
+
+/// Does what the command line and the text of a file ask for together: the exit status. The names of files that it says count from this folder.
+fn serve_text<
+    R: Threads
+        + Wait
+        + Clock
+        + RandomSource
+        + Folder
+        + HistoryFolders
+        + LinkFolder<FI, FO>
+        + Copy
+        + Send
+        + Sync
+        + Drop
+        + 'static,
+    FI: Read + Send + Drop + 'static,
+    FO: Write + Send + Drop + 'static,
+    T: Write + Send + Drop + 'static,
+    I: Read,
+    W: Write,
+    E: Write,
+>(
+    rt: &R,
+    alloc: Global,
+    words: &RouterWords,
+    name: &str,
+    text: &[u8],
+    console: &mut Console<I, W, E>,
+    voice: T,
+) -> Result<u8, Untold>
+where
+    R::Segments: Send + 'static,
+    requires { length text.now < 2 ^ 63 }
+    ensures served { IfOk result (spec.ServesText (R.opens rt.now) (R.makes rt.now) (R.keeps rt.now) name.now text.now words.now
+        console.old console.new) }
+    ensures untold { IfErr result (λ untold. spec.CutsText (R.opens rt.now) (R.makes rt.now) (R.keeps rt.now) (stream_fault untold.why) name.now
+        text.now words.now console.old console.new untold.status) }
+{
+    // A file without a name in that folder: what stands before the names of others.
+    let Ok(folder) = path_beside(alloc, name, "") else {
+        return end_by_memory(&mut console.errors);
+    };
+    match read_statements(alloc, folder.as_str(), text) {
+        Ok(statements) => {
+            let statements = statements.as_slice();
+            let origin = Origin { name, statements };
+            serve_statements::<R, FI, FO, T, I, W, E>(rt, alloc, words, origin, console, voice)
+        }
+        Err(wrong) => end_by_wrong(alloc, &mut console.errors, name, &wrong),
+    }
+}
+
+/// Does what the command line and the file of this name ask for together: the exit status.
+fn serve_file<
+    R: Threads
+        + Wait
+        + Clock
+        + RandomSource
+        + Folder
+        + HistoryFolders
+        + LinkFolder<FI, FO>
+        + Copy
+        + Send
+        + Sync
+        + Drop
+        + 'static,
+    FI: Read + Send + Drop + 'static,
+    FO: Write + Send + Drop + 'static,
+    T: Write + Send + Drop + 'static,
+    I: Read,
+    W: Write,
+    E: Write,
+>(
+    rt: &R,
+    alloc: Global,
+    words: &RouterWords,
+    name: &str,
+    console: &mut Console<I, W, E>,
+    voice: T,
+) -> Result<u8, Untold>
+where
+    R::Segments: Send + 'static,
+    ensures served { IfOk result (spec.ServesFile (R.opens rt.now) (R.makes rt.now) (R.keeps rt.now) name.now words.now
+        console.old console.new) }
+    ensures untold { IfErr result (λ untold. spec.CutsFile (R.opens rt.now) (R.makes rt.now) (R.keeps rt.now) (stream_fault untold.why) name.now
+        words.now console.old console.new untold.status) }
+{
+    let source = match String::from_str(alloc, name) {
+        Ok(name) => Source::File(name),
+        Err(_) => return end_by_memory(&mut console.errors),
+    };
+    match read_config(rt, alloc, &source, console) {
+        Ok(Some(text)) => serve_text::<R, FI, FO, T, I, W, E>(
+            rt,
+            alloc,
+            words,
+            name,
+            text.as_slice(),
+            console,
+            voice,
+        ),
+        Ok(None) => Ok(FAILED),
+        Err(fault) => end_by_line(&mut console.errors, FAILED, fault_line(fault).as_bytes()),
+    }
+}
+
+/// Does what the words of `router` ask for, with those of the file that they name, if they name one: the exit status. `voice` is where people are
+/// told of links.
+pub fn serve_router<
+    R: Threads
+        + Wait
+        + Clock
+        + RandomSource
+        + Folder
+        + HistoryFolders
+        + LinkFolder<FI, FO>
+        + Copy
+        + Send
+        + Sync
+        + Drop
+        + 'static,
+    FI: Read + Send + Drop + 'static,
+    FO: Write + Send + Drop + 'static,
+    T: Write + Send + Drop + 'static,
+    I: Read,
+    W: Write,
+    E: Write,
+>(
+    rt: &R,
+    alloc: Global,
+    words: &RouterWords,
+    console: &mut Console<I, W, E>,
+    voice: T,
+) -> Result<u8, Untold>
+where
+    R::Segments: Send + 'static,
+    ensures served { IfOk result (spec.ServesConfigured (R.opens rt.now) (R.makes rt.now) (R.keeps rt.now) words.now console.old console.new) }
+    ensures untold { IfErr result (λ untold. spec.CutsConfigured (R.opens rt.now) (R.makes rt.now) (R.keeps rt.now) (stream_fault untold.why)
+        words.now console.old console.new untold.status) }
+{
+    match &words.config {
+        Some(name) => {
+            serve_file::<R, FI, FO, T, I, W, E>(rt, alloc, words, name.as_str(), console, voice)
+        }
+        None => serve_words::<R, FI, FO, T, I, W, E>(rt, alloc, words, no_file(), console, voice),
+    }
+}

@@ -1,0 +1,2 @@
+-- What callers cite.
+pub mod Refusing

@@ -1,0 +1,22 @@
+//! What a command found, as programs read it: a line of JSON for each report, and an element of JUnit's XML for each test.
+//!
+//! **JSON is written line by line**, an object on each, so that what is found of one file is written before the next one is read, and what a fault
+//! cuts is the last line alone. All objects of a command have the same members; one that says nothing is `null`.
+//!
+//! **Names and words are read as UTF-8**: what is not is written as U+FFFD. So each line is JSON and each attribute XML, whatever the bytes of a
+//! file and of its name are.
+#![tactic(auto)]
+
+mod case;
+mod escaping;
+mod format;
+mod laws;
+mod part;
+mod report;
+mod text;
+
+pub use case::{document_end, document_head, push_broken, push_failed, push_passed};
+pub use format::{Format, TestFormat};
+pub use laws::{attributes_are_closed, readable_text_is_kept};
+pub use part::{PartReport, push_part};
+pub use report::{Report, Severity, push_report};

@@ -1,0 +1,5 @@
+mod FirstLine
+mod Repeats
+mod Rows
+mod Statements
+mod Texts
