@@ -23,7 +23,7 @@ use Rattle.ncroute.specs.Loading.{LacksFilters, LoadsFilters, StopsLoading}
 use Rattle.ncroute.specs.Planning.{IsPlanOf, LacksPlan, is_memory}
 use Rattle.ncroute.specs.Reading.{unmade_line}
 use Rattle.ncroute.specs.Ending.{fault_line}
-use Rattle.ncroute.specs.Stated.{OriginView}
+use Rattle.router_words.specs.Stated.{OriginView}
 use Rattle.ncroute.specs.Streaming.{Streams}
 use Rattle.ncroute.specs.WrongWords.{wrong_line}
 use Rattle.ncroute.specs.declared.planning.PlanFault.{PlanFault}

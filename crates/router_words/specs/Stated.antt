@@ -4,7 +4,7 @@ use Rattle.std.specs.Str.{bytes_eq}
 use Rattle.router_files.specs.Files.{StatementView, statement_of}
 use Rattle.router_files.specs.Options.{name_of}
 use Rattle.router_files.specs.declared.options.RouterOption.{RouterOption}
-use Rattle.ncroute.specs.declared.stated.Origin.{Origin}
+use Rattle.router_words.specs.declared.stated.Origin.{Origin}
 
 -- the file that says options of a router: its name, and what its lines say
 pub record OriginView : Type 0 where

@@ -1,7 +1,7 @@
 use Rattle.std.proofs.Common.{map}
 use Rattle.router_files.specs.Files.{statement_of}
-use Rattle.ncroute.specs.Gathering.{NoneWrongBefore}
-use Rattle.ncroute.proofs.gathering.first_wrong.Given as goal
+use Rattle.router_words.specs.Gathering.{NoneWrongBefore}
+use Rattle.router_words.proofs.gathering.first_wrong.Given as goal
 
 -- none so far is refused
 abbrev pub invariant-loop-statement : goal.invariant-loop-statement

@@ -6,8 +6,8 @@ use Rattle.std.specs.Prelude.{get_or, slice_get}
 use Rattle.command_line.specs.declared.router_words.RouterWords.{RouterWords}
 use Rattle.router_files.specs.Files.{StatementView, statement_of}
 use Rattle.router_files.specs.declared.reading.Statement.{Statement}
-use Rattle.ncroute.specs.Gathering.{NoneWrongBefore, fault_of}
-use Rattle.ncroute.specs.declared.gathering.StatementFault.{StatementFault}
+use Rattle.router_words.specs.Gathering.{NoneWrongBefore, fault_of}
+use Rattle.router_words.specs.declared.gathering.StatementFault.{StatementFault}
 
 -- the line of an index, as it is seen
 view_at : (statements : List Statement) (n : ℕ) (one : Statement) → one ≡ get_or statements n one → n < length statements

@@ -1,5 +1,5 @@
-use Rattle.ncroute.proofs.FirstWrong.{is_first_wrong, none_more_wrong}
-use Rattle.ncroute.proofs.gathering.first_wrong.Goals as goal
+use Rattle.router_words.proofs.FirstWrong.{is_first_wrong, none_more_wrong}
+use Rattle.router_words.proofs.gathering.first_wrong.Goals as goal
 
 pub returns-in-Some : goal.returns-in-Some
 returns-in-Some c =

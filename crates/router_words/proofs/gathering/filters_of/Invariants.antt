@@ -1,8 +1,8 @@
 use Rattle.std.proofs.Common.{◌≡◌, ◌++◌, map, take}
 use Rattle.std.specs.List.{flat_map}
 use Rattle.router_files.specs.Files.{statement_of}
-use Rattle.ncroute.specs.Gathering.{filter_of, filters_in}
-use Rattle.ncroute.proofs.gathering.filters_of.Given as goal
+use Rattle.router_words.specs.Gathering.{filter_of, filters_in}
+use Rattle.router_words.proofs.gathering.filters_of.Given as goal
 
 -- the filters that the file names, and those of the command line so far
 abbrev pub invariant-loop-named : goal.invariant-loop-named

@@ -2,8 +2,8 @@ use Rattle.std.proofs.Common.{◌≡◌, map, take}
 use Rattle.std.specs.List.{flat_map}
 use Rattle.std.specs.Prelude.{string_bytes}
 use Rattle.router_files.specs.Files.{statement_of}
-use Rattle.ncroute.specs.Gathering.{texts_in}
-use Rattle.ncroute.proofs.gathering.stated_texts.Given as goal
+use Rattle.router_words.specs.Gathering.{texts_in}
+use Rattle.router_words.proofs.gathering.stated_texts.Given as goal
 
 -- what the lines so far say of the option
 abbrev pub invariant-loop-statement : goal.invariant-loop-statement

@@ -14,11 +14,11 @@ use Rattle.router_files.specs.Files.{StatementView, statement_of}
 use Rattle.router_files.specs.Said.{SaidView, Given, Number, Text, Named}
 use Rattle.router_files.specs.declared.options.RouterOption.{RouterOption}
 use Rattle.router_files.specs.declared.options.RouterOption.TheVariants as option
-use Rattle.ncroute.specs.Stated.{is_of, nth_stated}
-use Rattle.ncroute.specs.declared.gathering.Clash.{Clash}
-use Rattle.ncroute.specs.declared.gathering.Clash.TheVariants.{Again, Wrong}
-use Rattle.ncroute.specs.declared.gathering.StatementFault.{StatementFault}
-use Rattle.ncroute.specs.declared.gathering.StatementFault.TheVariants as fault
+use Rattle.router_words.specs.Stated.{is_of, nth_stated}
+use Rattle.router_words.specs.declared.gathering.Clash.{Clash}
+use Rattle.router_words.specs.declared.gathering.Clash.TheVariants.{Again, Wrong}
+use Rattle.router_words.specs.declared.gathering.StatementFault.{StatementFault}
+use Rattle.router_words.specs.declared.gathering.StatementFault.TheVariants as fault
 
 -- ---- a line that is not to be there beside the command line
 

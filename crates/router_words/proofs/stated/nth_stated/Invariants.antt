@@ -1,7 +1,7 @@
 use Rattle.std.proofs.Common.{◌≡◌, drop, map}
 use Rattle.router_files.specs.Files.{statement_of}
-use Rattle.ncroute.specs.Stated.{nth_stated}
-use Rattle.ncroute.proofs.stated.nth_stated.Given as goal
+use Rattle.router_words.specs.Stated.{nth_stated}
+use Rattle.router_words.proofs.stated.nth_stated.Given as goal
 
 -- so many are left before it
 abbrev pub invariant-loop-statement : goal.invariant-loop-statement

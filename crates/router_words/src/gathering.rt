@@ -6,7 +6,7 @@ ghost use Rattle.std.specs.Prelude.{◌≡◌, ◌++◌, IfOk, MatchOption, OnOk
 ghost use Rattle.std.specs.Option.{option_map};
 ghost use Rattle.std.specs.List.{flat_map};
 ghost use Rattle.router_files.specs.Files.{statement_of};
-ghost use Rattle.ncroute.specs.Gathering as spec;
+ghost use Rattle.router_words.specs.Gathering as spec;
 
 use crate::stated::{is_of, nth_stated};
 use command_line::{NamedFile, RouterWords, Source};

@@ -2,7 +2,7 @@
 ghost use Rattle.std.specs.Prelude.{◌≡◌, map};
 ghost use Rattle.std.specs.Option.{option_map};
 ghost use Rattle.router_files.specs.Files.{statement_of};
-ghost use Rattle.ncroute.specs.Stated as spec;
+ghost use Rattle.router_words.specs.Stated as spec;
 
 use router_files::{RouterOption, Statement};
 

@@ -1,8 +1,8 @@
 use Rattle.std.proofs.Common.{◌≡◌, map, take}
 use Rattle.std.specs.List.{flat_map}
 use Rattle.router_files.specs.Files.{statement_of}
-use Rattle.ncroute.specs.Gathering.{filter_of, filters_in}
-use Rattle.ncroute.proofs.gathering.stated_filters.Given as goal
+use Rattle.router_words.specs.Gathering.{filter_of, filters_in}
+use Rattle.router_words.proofs.gathering.stated_filters.Given as goal
 
 -- the filters that the lines so far name
 abbrev pub invariant-loop-statement : goal.invariant-loop-statement
