@@ -12,7 +12,7 @@
 //! **People are told of links by a handle of standard error of their own**, which the threads of links share. So what `serve_router` promises of
 //! the other handle, on which it tells why a router is not there, does not depend on when a link is closed.
 ghost use Rattle.std.specs.Option.{option_map};
-ghost use Rattle.std.specs.Prelude.{◌≡◌, ◌++◌, IfErr, IfOk, IfSome, MatchOption, OnOk, is_some};
+ghost use Rattle.std.specs.Prelude.{◌≡◌, ◌++◌, IfErr, IfOk, IfSome, MatchOption, OnOk};
 ghost use Rattle.std.specs.Io.KnownBytes.{Appends};
 ghost use Rattle.filter_reports.specs.Cuts.{IsCut};
 ghost use Rattle.filter_reports.specs.Faults.{stream_fault};
@@ -190,7 +190,7 @@ fn size_of(plan: &RouterPlan) -> u16
 
 /// Where the routes are told, if they are to be.
 fn feed_of(words: &RouterWords) -> Option<FeedFile<'_>>
-    ensures { is_some result ≡ is_some words.now.routes }
+    ensures { option_map (λ feed. (feed.name.now, feed.settle)) result ≡ spec.feed_of words.now }
 {
     match &words.routes {
         Some(name) => Some(FeedFile {
