@@ -7,4 +7,4 @@ use Rattle.router_words.proofs.gathering.texts_of.Given as goal
 -- what the file says, and the texts so far
 abbrev pub invariant-loop-text : goal.invariant-loop-text
 invariant-loop-text l = map (λ text. string_bytes text) l.texts.items
-    ≡ texts_of l.option (map statement_of l.statements) (map (λ text. string_bytes text) (take l.text-index l.given))
+    ≡ texts_of l.fn.option (map statement_of l.statements) (map (λ text. string_bytes text) (take l.text-index l.given))
