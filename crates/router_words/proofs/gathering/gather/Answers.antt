@@ -1,6 +1,11 @@
-use Rattle.std.proofs.Common.{refl}
+use Rattle.std.proofs.Common.{◌≡◌, Option, Some, None, refl}
+use Rattle.std.specs.Option.{is_some, option_map}
 use Rattle.router_words.proofs.gathering.gather.Goals as goal
 use Rattle.router_words.proofs.gathering.gather.Goals.{then-words, else-words}
+
+still_there : {X Y : Type 0} (f : X → Y) (o : Option X) → is_some o ≡ is_some (option_map f o)
+still_there f None = refl
+still_there f (Some x) = refl
 
 pub returns : goal.returns
 returns c = record {
@@ -17,8 +22,8 @@ returns c = record {
   routes = c.in_ok-text_of-2.ensures;
   settle = c.number_of-8.ensures;
   stays = elim c.if-words.branch [
-    | then-words w ↦ search
-    | else-words w ↦ search
+    | then-words w ↦ rw (w.result-is, w.if-words.true) refl
+    | else-words w ↦ rw (w.result-is, w.is_some.ensures, w.if-words.false, ← w.nth_stated.ensures) (still_there _ w.nth_stated.result)
   ];
   prefixes = rw c.as_slice.ensures.value at c.in_ok-texts_of.ensures;
   filters = rw c.as_slice-2.ensures.value at c.in_ok-filters_of.ensures;
