@@ -108,8 +108,8 @@ fn asked_by(instr: Instr) -> Option<u8>
 }
 
 /// Whether an instruction asks for a set of ints.
-fn asks_ints(instr: Instr) -> bool
-    ensures { result ≡ spec.asks_ints instr }
+fn asks_ints(instr: &Instr) -> bool
+    ensures { result ≡ spec.asks_ints instr.now }
 {
     match instr {
         Instr::InSet(_) => true,
@@ -123,12 +123,13 @@ fn asked_at(source: &SurveyedFilter, at: usize) -> Option<Asked>
 {
     let instr = source.instr(at)?;
     let byte = source.place(at)?;
+    let is_of_ints = asks_ints(&instr);
     let set = asked_by(instr)?;
     Some(Asked {
         instruction: at,
         byte,
         set,
-        is_of_ints: asks_ints(instr),
+        is_of_ints,
     })
 }
 
