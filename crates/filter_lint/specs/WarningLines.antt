@@ -196,27 +196,24 @@ unordered_line name = shown name ++ unordered_words
 abbrev pub unordered_text : List ℕ → Bool → List ℕ
 unordered_text name is_ordered = if is_ordered then [] else unordered_line name
 
--- what a report says of a warning
-abbrev pub warning_view : List ℕ → List ℕ → List (List PrefixPattern) → Warning → ReportView
-warning_view name text sets warning = record {
+-- what a report says of what was found at a byte of a text, under a code
+abbrev pub found_view : List ℕ → List ℕ → ℕ → List ℕ → List ℕ → ReportView
+found_view name text byte code words = record {
   severity = severity.Warning;
-  code = Some (code_of warning.cause);
+  code = Some code;
   file = name;
-  line = Some (line_at text warning.byte);
-  column = Some (column_at text warning.byte);
-  words = words sets warning.cause;
+  line = Some (line_at text byte);
+  column = Some (column_at text byte);
+  words = words;
 }
+
+-- of a warning
+abbrev pub warning_view : List ℕ → List ℕ → List (List PrefixPattern) → Warning → ReportView
+warning_view name text sets warning = found_view name text warning.byte (code_of warning.cause) (words sets warning.cause)
 
 -- of a prefix with host bits
 abbrev pub host_bits_view : List ℕ → List ℕ → HostBits → ReportView
-host_bits_view name text found = record {
-  severity = severity.Warning;
-  code = Some (codes "W5");
-  file = name;
-  line = Some (line_at text found.token.from);
-  column = Some (column_at text found.token.from);
-  words = host_bits_words text found;
-}
+host_bits_view name text found = found_view name text found.token.from (codes "W5") (host_bits_words text found)
 
 -- and of a file of which not all routes were tried, or not all metrics
 unfoldable pub not_tried_words : List ℕ

@@ -22,6 +22,33 @@ fn words_of(alloc: Global, sets: &[PatternSet], cause: Cause) -> Result<Vec<u8>,
     Ok(words)
 }
 
+/// Puts the report on what was found at a byte of a text, under a code, at the end of `out`.
+fn push_found_at<'a>(
+    alloc: Global,
+    out: &mut Vec<u8>,
+    name: &'a [u8],
+    text: &[u8],
+    byte: usize,
+    code: &'a [u8],
+    words: &'a [u8],
+) -> Result<(), AllocError>
+    ensures { OnOk result (out.new.items ≡ out.old.items ++ report_line (spec.found_view name.now text.now byte code.now words.now)) }
+{
+    let place = place_in(text, byte);
+    push_report(
+        alloc,
+        out,
+        &Report {
+            severity: Severity::Warning,
+            code: Some(code),
+            file: name,
+            line: Some(place.line),
+            column: Some(place.column),
+            words,
+        },
+    )
+}
+
 /// Puts the report on a warning at the end of `out`.
 fn push_warning_report(
     alloc: Global,
@@ -33,20 +60,9 @@ fn push_warning_report(
 ) -> Result<(), AllocError>
     ensures { OnOk result (out.new.items ≡ out.old.items ++ report_line (spec.warning_view name.now text.now sets.now warning.now)) }
 {
-    let place = place_in(text, warning.byte);
     let words = words_of(alloc, sets, warning.cause)?;
-    push_report(
-        alloc,
-        out,
-        &Report {
-            severity: Severity::Warning,
-            code: Some(warning.cause.code()),
-            file: name,
-            line: Some(place.line),
-            column: Some(place.column),
-            words: words.as_slice(),
-        },
-    )
+    let (byte, code) = (warning.byte, warning.cause.code());
+    push_found_at(alloc, out, name, text, byte, code, words.as_slice())
 }
 
 /// Puts a warning at the end of `out`.
@@ -86,20 +102,9 @@ fn push_host_bits_report(
 ) -> Result<(), AllocError>
     ensures { OnOk result (out.new.items ≡ out.old.items ++ report_line (spec.host_bits_view name.now text.now found.now)) }
 {
-    let place = place_in(text, found.token.from);
     let words = host_bits_words_of(alloc, text, found)?;
-    push_report(
-        alloc,
-        out,
-        &Report {
-            severity: Severity::Warning,
-            code: Some(b"W5"),
-            file: name,
-            line: Some(place.line),
-            column: Some(place.column),
-            words: words.as_slice(),
-        },
-    )
+    let byte = found.token.from;
+    push_found_at(alloc, out, name, text, byte, b"W5", words.as_slice())
 }
 
 /// Puts a prefix with host bits at the end of `out`.
@@ -136,12 +141,12 @@ fn not_ordered_words() -> &'static [u8]
 }
 
 /// Puts the report that says so in these words at the end of `out`, where not all were.
-fn push_undecided_report(
+fn push_undecided_report<'a>(
     alloc: Global,
     out: &mut Vec<u8>,
-    name: &[u8],
+    name: &'a [u8],
     is_complete: bool,
-    words: &[u8],
+    words: &'a [u8],
 ) -> Result<(), AllocError>
     ensures { OnOk result (out.new.items ≡ out.old.items ++ spec.undecided_report name.now is_complete words.now) }
 {
