@@ -14,6 +14,7 @@ usage: scripts/check_documents.py        (NCROUTE=PATH: the program; without it,
   refuses it as the listing says (`V3 at 6`), or verifies it. If a line of hexadecimal follows, it is that file.
 - Each link of a document to a file of the repository, or to a heading of a document, leads there.
 - docs/CALLS.md is what `list_calls.py` makes of the sources.
+- Each name of a call, a clause, a definition, a wrong body or a crate that docs/PROMISES.md mentions is there.
 """
 import collections
 import os
@@ -31,6 +32,8 @@ TABLES = {
     "N": ("ROUTER", 1), "D": ("DOMAIN", 1), "J": ("ROUTER", 1), "H": ("HISTORY", 1), "L": ("LOCK", 2), "X": ("SESSIONS", 1), "W": ("LINT", 1),
 }
 OTHER_CODES = ["G1", "G2", "G3"]
+# What docs/PROMISES.md names beside what the sources define: commands and programs, a mark, a variable, a field, and a trait of Rust.
+OTHER_NAMES = set("changes diff eval failures history kill lint socat test NCF2 NCROUTE_SIZE unsent Send".split())
 # A filter that is refused.
 MISTAKE = "filter mistake { acept; }"
 SIZE = 8
@@ -130,11 +133,29 @@ def played(ncroute, tell, counts):
             tell(name, "blocks of terminals", [(" ".join(block[-1]), terminals.play(block, ncroute.environment())) for block in blocks])
 
 
+def defined():
+    """The names that the sources define: calls, types, clauses, definitions, wrong bodies and crates."""
+    found = set(re.findall(r"\w+", read("crates.txt") + read("include/gomthau_filter.h")))
+    for path in TOP.glob("crates/*/src/**/*.rt"):
+        found |= set(re.findall(r"\b(?:ensures|fn|struct|enum|trait|type|const) (\w+)", path.read_text(encoding="utf-8")))
+    for path in TOP.glob("crates/*/specs/**/*.antt"):
+        found |= set(re.findall(r"(?m)^ *(?:unfoldable )?(?:pub )?(?:data |record )?(\w+)", path.read_text(encoding="utf-8")))
+    return found | {path.stem for path in TOP.glob("crates/*/*/*.edit")}
+
+
+def named_in(text):
+    """The names that a document mentions."""
+    return sorted(set(re.findall(r"`([A-Za-z_]\w*(?:::\w+)*)`", without_code_blocks(text))))
+
+
+def without_code_blocks(text):
+    text = re.sub(r"^```.*?^```", "", text, flags=re.M | re.S)
+    return "\n".join(line for line in text.split("\n") if not line.startswith("    "))
+
+
 def without_code(text):
     """A document less what it shows as code, which has no links."""
-    text = re.sub(r"^```.*?^```", "", text, flags=re.M | re.S)
-    lines = [line for line in text.split("\n") if not line.startswith("    ")]
-    return re.sub(r"`[^`\n]*`", "", "\n".join(lines))
+    return re.sub(r"`[^`\n]*`", "", without_code_blocks(text))
 
 
 def anchors(text):
@@ -215,6 +236,9 @@ def main():
         if rows:
             tell(name, "links", rows)
     tell("docs/CALLS.md", "page", [("docs/CALLS.md", read("docs/CALLS.md") != list_calls.page() and "scripts/list_calls.py prints another one")])
+    there = defined() | OTHER_NAMES
+    tell("docs/PROMISES.md", "names", [(name, not set(name.split("::")) <= there and "no source defines it")
+                                       for name in named_in(read("docs/PROMISES.md"))])
     explained(ncroute, tell)
     played(ncroute, tell, counts)
     ncroute.close()
