@@ -16,7 +16,7 @@ NAME = "ncroute"
 
 # The page and the section of each document. That of ROUTER.md is named after its title, since `ncroute router` has a page.
 PAGES = {
-    "CHECK": ("ncroute-check", 1), "DIFF": ("ncroute-diff", 1), "DOMAIN": ("ncroute-domain", 1), "EVAL": ("ncroute-eval", 1),
+    "CHECK": ("ncroute-check", 1), "DIFF": ("ncroute-diff", 1), "DOMAIN": ("ncroute-domain", 1),
     "FILTER": ("ncroute-filter", 1), "IMPORT": ("ncroute-import", 1), "LINT": ("ncroute-lint", 1), "LIST": ("ncroute-list", 1),
     "RUNNING": ("ncroute-router", 1), "TESTING": ("ncroute-test", 1),
     "KERNEL": ("ncroute-kernel", 8),
