@@ -28,7 +28,7 @@ from lib.program import TOP, Program, named
 
 # The document whose table has the codes of a letter, and the column of their meaning.
 TABLES = {
-    "P": ("LANGUAGE", 1), "Y": ("KINDS", 1), "V": ("VERIFIER", 1), "C": ("CODE_FILE", 1), "K": ("MACHINE", 1), "E": ("LINES", 1), "O": ("SCRIPT", 1),
+    "P": ("LANGUAGE", 1), "Y": ("LANGUAGE", 1), "V": ("VERIFIER", 1), "C": ("CODE_FILE", 1), "K": ("MACHINE", 1), "E": ("LINES", 1), "O": ("SCRIPT", 1),
     "N": ("ROUTER", 1), "D": ("DOMAIN", 1), "J": ("ROUTER", 1), "H": ("HISTORY", 1), "L": ("LOCK", 2), "X": ("SESSIONS", 1), "W": ("LINT", 1),
 }
 OTHER_CODES = ["G1", "G2", "G3"]
