@@ -20,7 +20,7 @@ PAGES = {
     "FILTER": ("ncroute-filter", 1), "IMPORT": ("ncroute-import", 1), "LINT": ("ncroute-lint", 1), "LIST": ("ncroute-list", 1),
     "RUNNING": ("ncroute-router", 1), "TESTING": ("ncroute-test", 1),
     "KERNEL": ("ncroute-kernel", 8),
-    "CODE_FILE": ("ncroute-code-file", 5), "HISTORY": ("ncroute-history", 5), "LINKS": ("ncroute-links", 5), "SCRIPT": ("ncroute-script", 5),
+    "CODE_FILE": ("ncroute-code-file", 5), "HISTORY": ("ncroute-history", 5), "SCRIPT": ("ncroute-script", 5),
     "CI": ("ncroute-ci", 7), "LANGUAGE": ("ncroute-language", 7), "LINES": ("ncroute-lines", 7),
     "MACHINE": ("ncroute-machine", 7), "NETWORK": ("ncroute-network", 7), "OPERATORS": ("ncroute-operators", 7),
     "ROUTER": ("ncroute-tables", 7), "SESSIONS": ("ncroute-sessions", 7), "VERIFIER": ("ncroute-verifier", 7),
