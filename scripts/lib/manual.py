@@ -1,7 +1,7 @@
 """Which documents of `docs/` are man pages, and how their Markdown becomes roff. `make_manual.py` puts the pages together.
 
-A document about one command is the last section of that command's page; each other one is a page of its own, in section 5 (formats), 7, or 8
-(programs beside the router).
+A document about one command is the last section of that command's page, in place of the running text of its help; each other one is a page of its
+own, in section 5 (formats), 7, or 8 (programs beside the router).
 A link to another page becomes that page's name and section, and a link to anything else its text alone. A form of Markdown that no document
 has used yet ends the script with a message, so that nothing is left out unseen.
 """
