@@ -2,25 +2,32 @@
 # Proves, builds and installs `ncroute` and `ncroute-kernel` with their man pages, completions for bash, zsh and fish, and the syntax files of
 # `editors/`.
 #
-# usage: scripts/install.sh [--unproved] [PREFIX]      (PREFIX: /usr/local; --unproved: builds without proving anything, as scripts/build.sh does)
+# usage: scripts/install.sh [--unproved] [--service] [PREFIX]     (PREFIX: /usr/local; --unproved: builds without proving anything, as
+#                                                    scripts/build.sh does; --service: installs the systemd units of `packaging/`, too)
 #        scripts/install.sh --library [--unproved] [PREFIX]      installs the library of filters for C in place of the program
 #   NCROUTE=PATH   a program that is built already: then none is built here
 #   FILTER_C=PATH  the same for the archive of the crate filter_c
+#   DESTDIR=ROOT   all comes into ROOT, from where a package takes it to PREFIX, a path from `/` on (not with --library)
 set -eu
 top="$(cd "$(dirname "$0")/.." && pwd)"
 if [ "${1:-}" = --library ]; then
     exec "$top/scripts/install_library.sh" "${@:2}"
 fi
-how=()
-if [ "${1:-}" = --unproved ]; then
-    how=(--unproved)
+how=() has_units=""
+while [[ "${1:-}" = -* ]]; do
+    case "$1" in
+        --unproved) how=(--unproved) ;;
+        --service) has_units=yes ;;
+        *) break ;;
+    esac
     shift
-fi
+done
 if [ $# -gt 1 ] || [[ "${1:-}" = -* ]]; then
-    echo "usage: scripts/install.sh [--library] [--unproved] [PREFIX]" >&2
+    echo "usage: scripts/install.sh [--library | --service] [--unproved] [PREFIX]" >&2
     exit 2
 fi
-prefix="${1:-/usr/local}"
+root="${DESTDIR:+$(mkdir -p "$DESTDIR" && cd "$DESTDIR" && pwd)}"
+prefix="$root${1:-/usr/local}"
 # The files for Visual Studio Code are installed from another folder.
 mkdir -p "$prefix"
 prefix="$(cd "$prefix" && pwd)"
@@ -39,3 +46,9 @@ for part in syntax ftdetect; do
 done
 (cd "$top/editors/vscode" && find . -type f -exec install -D -m 644 {} "$prefix/share/ncroute/vscode/{}" \;)
 echo "installed in $prefix: bin/ncroute, bin/ncroute-kernel, man pages, completions, and syntax files for vim; those for Visual Studio Code are in share/ncroute/vscode"
+if [ -n "$has_units" ]; then
+    (cd "$top/packaging" && find . -type f -exec install -D -m 644 {} "$prefix/lib/{}" \;)
+    # The units name the programs where they will be.
+    sed -i "s|/usr/local/|${prefix#"$root"}/|" "$prefix"/lib/systemd/system/ncroute*.service
+    echo "units in lib/systemd, a user in lib/sysusers.d, folders in lib/tmpfiles.d: systemd-sysusers; systemd-tmpfiles --create; systemctl daemon-reload"
+fi

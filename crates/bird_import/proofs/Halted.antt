@@ -107,6 +107,7 @@ hinders_of config words (why.OneWord name) is = absurd is
 hinders_of config words (why.UnknownCall name) is = absurd is
 hinders_of config words (why.FunctionArguments name) is = is
 hinders_of config words (why.FunctionShape name) is = is
+hinders_of config words why.EarlyReturn is = is
 hinders_of config words (why.SetVariable name) is = is
 hinders_of config words why.PrintDoesMore is = is
 hinders_of config words why.CaseLabels is = is

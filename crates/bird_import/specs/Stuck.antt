@@ -80,10 +80,15 @@ pub record HasSetVariable (name : List ℕ) (words : List Word) : Type 0 where
   pub declared : IsDeclared old word rest
   pub same : word.bytes.now ≡ name
 
+-- a function returns at two places
+abbrev pub ReturnsTwice : List Word → Type 0
+ReturnsTwice words = (j : ℕ) × (k : ℕ) × (j < k) × IsForeignAt (codes "return") words j × IsForeignAt (codes "return") words k
+
 -- What stands in some words for which a filter that comes to them is left out, whatever else the configuration has.
 abbrev pub Hinder : List Word → Why → Type 0
 Hinder words (why.FunctionArguments name) = (k : ℕ) × IsCallAt name.now words k × (IsAt symbol.RightParen words (k + 2) → ⊥)
 Hinder words (why.FunctionShape name) = (k : ℕ) × IsCallAt name.now words k × IsAt symbol.RightParen words (k + 2)
+Hinder words why.EarlyReturn = ReturnsTwice words
 Hinder words (why.SetVariable name) = HasSetVariable name.now words
 Hinder words (why.OutOfScope name) = (declared : ℕ) × (k : ℕ) × IsStray name.now words declared k
 Hinder words why.PrintDoesMore = (k : ℕ) × Prints words k

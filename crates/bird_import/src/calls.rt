@@ -181,16 +181,28 @@ fn decided_end(words: &[Word<'_>], at: usize) -> Option<usize> {
     return_end(words, last)
 }
 
-/// The first word from an index on that is `return`, if there is one.
-fn first_return<'a>(words: &[Word<'a>], from: usize) -> Option<Word<'a>>
-    ensures { IfSome result (λ _. (k : ℕ) × IsForeignAt (codes "return") words.now k) }
+/// The index of the first word from an index on that is `return`, if there is one.
+fn first_return(words: &[Word<'_>], from: usize) -> Option<usize>
+    ensures { IfSome result (λ k. (from ≤ k) × IsForeignAt (codes "return") words.now k) }
 {
     for at in from..words.len() {
         if is_foreign_at(words, at, b"return") {
-            return word_at(words, at);
+            return Some(at);
         }
     }
     None
+}
+
+/// Why a function cannot be put in place, if it has a `return` behind another one.
+fn early_return<'a>(words: &[Word<'a>]) -> Option<Reason<'a>>
+    ensures { IfSome result (λ reason. Hinder words.now reason.why) }
+{
+    let first = first_return(words, 0)?;
+    first_return(words, first.checked_add(1)?)?;
+    Some(Reason {
+        at: word_at(words, first)?.at,
+        why: Why::EarlyReturn,
+    })
 }
 
 /// What decides between the two commands of a function that begin at an index, if they return, and the index behind them.
@@ -198,7 +210,8 @@ fn decision_at<'w, 'a>(words: &'w [Word<'a>], at: usize) -> Option<(Decision<'w,
     let to = decided_end(words, at)?;
     let made = decision_of(words.get(at..to)?)?;
     let (front, _) = split(words, at)?;
-    if is_between(front, made.middle) {
+    let is_answer = made.answer.is(Symbol::True) || made.answer.is(Symbol::False);
+    if is_answer && is_between(front, made.middle) {
         Some((made, to))
     } else {
         None
@@ -215,7 +228,10 @@ fn decide<'a>(
 ) -> Result<Plan<'a>, AllocError>
     ensures { IfOk result (λ plan. IfSome (why_of_plan plan) (Hinder words.now)) }
 {
-    let (Some(head), Some(command)) = (word_at(words, at), first_return(words, at)) else {
+    let Some(index) = first_return(words, at) else {
+        return Ok(Plan::Done);
+    };
+    let (Some(head), Some(command)) = (word_at(words, at), word_at(words, index)) else {
         return Ok(Plan::Done);
     };
     let written = decided(alloc, made, command, head.at);
@@ -236,7 +252,10 @@ pub fn plan_return<'a>(alloc: Global, words: &[Word<'a>]) -> Result<Plan<'a>, Al
             }
         }
     }
-    Ok(Plan::Done)
+    match early_return(words) {
+        Some(reason) => Ok(Plan::Stuck(reason)),
+        None => Ok(Plan::Done),
+    }
 }
 
 /// What stands for a call.

@@ -39,6 +39,8 @@ pub enum Why<'a> {
     FunctionArguments(&'a [u8]),
     /// A function that cannot be put in the place of its call.
     FunctionShape(&'a [u8]),
+    /// A function that returns before its end, and not `true` or `false` on a condition alone.
+    EarlyReturn,
     /// A set that is assigned on a condition, or more than once.
     SetVariable(&'a [u8]),
     /// A command that prints what another function computes.
@@ -315,7 +317,7 @@ impl<'a> Why<'a> {
             Why::LeftOpen(_) => "is not closed: nothing behind it was read",
             Why::FunctionArguments(_) => "is called with arguments: write its commands in place",
             Why::FunctionShape(_) =>
-                "cannot be put in place: it has variables, or returns where it is not at its end",
+                "cannot be put in place: it has variables, or does more than return a value where one is wanted, or returns one where none is",
             Why::SetVariable(_) => "is not assigned just once, before all else: `define` it",
             Why::Unset(_) =>
                 "may be read before it is assigned, and is void in BIRD then: assign it before",
@@ -333,6 +335,8 @@ impl<'a> Why<'a> {
             Why::Strange => "no word of a configuration begins with this byte",
             Why::PrintDoesMore =>
                 "what is printed here is computed by more than attributes: take it out",
+            Why::EarlyReturn =>
+                "before its end a function returns by `if C then return true;` or `false` alone: write its commands in place",
             Why::CaseLabels =>
                 "the labels of a `case` of addresses are lists of addresses, and share none",
             Why::Unclosed => "its braces are not closed: nothing behind them was read",

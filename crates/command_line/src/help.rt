@@ -144,7 +144,7 @@ W1, W2, W8 and W9 are told by all routes of the domain, which are searched as by
   W1   a condition that is always true, or always false
   W2   a command that no route reaches
   W3   arithmetic that may wrap, by what the verifier knows of the numbers
-  W4   a pattern that another one of its set covers
+  W4   a pattern that another one of its set covers, or ints of a set that overlap
   W5   a prefix with bits past its length, as 10.1.2.3/8
   W6   a variable that is never read
   W7   a metric that means unreachable, whatever the route

@@ -9,6 +9,7 @@ use Rattle.std.proofs.lemmas.Map.Keys.{any_passes_from_place}
 use Rattle.filter_code.specs.CodeView.{CodeView}
 use Rattle.filter_code.specs.declared.instruction.Instr.{Instr}
 use Rattle.filter_code.specs.declared.instruction.Instr.TheVariants as instr
+use Rattle.int_sets.specs.Holding.{NumberRange}
 use Rattle.prefix_patterns.specs.Matching.{PrefixPattern}
 use Rattle.filter_verifier.specs.InStateView.{InStateView}
 use Rattle.filter_verifier.specs.InStates.{in_state}
@@ -16,7 +17,8 @@ use Rattle.filter_lint.specs.Arithmetic.{may_wrap, operation_of, wraps, wraps_at
 use Rattle.filter_lint.specs.Hints.{hints}
 use Rattle.filter_lint.specs.Known.{top_one, top_two}
 use Rattle.filter_lint.specs.Metrics.{sets_metric, unreachable_at}
-use Rattle.filter_lint.specs.Sets.{asked_by, covered_at, covered_by, covered_of, covered_where, covering}
+use Rattle.filter_lint.specs.Overlaps.{bounds_of, overlap_at, overlapped, overlaps_of}
+use Rattle.filter_lint.specs.Sets.{asked_by, asks_ints, covered_at, covered_of, covering, overlaps_by, overlaps_where}
 use Rattle.filter_lint.specs.SurveyedFilters.{SurveyedFilterView, is_first, known_at, known_of}
 use Rattle.filter_lint.specs.Truths.{IsTrueOf}
 use Rattle.filter_lint.specs.Variables.{declared_by, is_load_of, unread_at}
@@ -26,6 +28,7 @@ use Rattle.filter_lint.specs.declared.warning.Operation.{Operation}
 use Rattle.filter_lint.specs.declared.warning.Warning.{Warning}
 use Rattle.filter_lint.proofs.Covered.{covered, covers_all}
 use Rattle.filter_lint.proofs.Found.{all_below, each_of}
+use Rattle.filter_lint.proofs.Overlapping.{overlapping, shares}
 
 -- what is known of a stack, where the verifier comes so far
 known_there : {A : Type 0} (b : Bool) (f : InStateView → Option A) (here : InStateView) (a : A)
@@ -204,22 +207,76 @@ module _ (program : CodeView) (size : ℕ) (text places : List ℕ) where
 
   of_set : (k byte number : ℕ) → slice_get program.instrs k ≡ Some (instr.Member number) → slice_get places k ≡ Some byte
       → (patterns : Option (List PrefixPattern)) → slice_get program.sets number ≡ patterns
-      → All (IsTrueOf program size places) (covered_of patterns (record { instruction = k; byte = byte; set = number }))
+      → All (IsTrueOf program size places) (covered_of patterns (record { instruction = k; byte = byte; set = number; is_of_ints = false }))
   of_set k byte number is there None set = All-nil (IsTrueOf program size places)
   of_set k byte number is there (Some patterns) set =
-      all_below (IsTrueOf program size places) (covered_at patterns (record { instruction = k; byte = byte; set = number }))
+      all_below (IsTrueOf program size places) (covered_at patterns (record { instruction = k; byte = byte; set = number; is_of_ints = false }))
       (λ j. of_pattern k byte number patterns j is there set (slice_get patterns j) refl) (length patterns)
 
+  -- a range of ints
+  if_overlapping : (k byte number : ℕ) (ranges : List NumberRange) (j : ℕ) (range : NumberRange) → slice_get program.instrs k ≡ Some (instr.InSet number)
+      → slice_get places k ≡ Some byte → slice_get program.int_sets number ≡ Some ranges → slice_get ranges j ≡ Some range
+      → (other : Option NumberRange) → overlapped ranges j range ≡ other
+      → IfSome (option_and_then (λ other. Some (record { instruction = k; byte = byte; cause = cause.Overlapping (bounds_of range) (bounds_of other) })) other)
+      (IsTrueOf program size places)
+  if_overlapping k byte number ranges j range is there set range_is None e = tt
+  if_overlapping k byte number ranges j range is there set range_is (Some other) e =
+      let found = overlapping ranges j range other e in
+      let both = shares other range found.all in
+      record {
+        place = there;
+        is_so = record {
+          number = number;
+          asks = is;
+          ranges = ranges;
+          set = set;
+          j = j;
+          k = found.k;
+          before = found.before;
+          range = range;
+          other = other;
+          range_is = range_is;
+          other_is = found.there;
+          of_range = refl;
+          of_other = refl;
+          shared = _;
+          in_range = both.1;
+          in_other = both.0;
+        };
+      }
+
+  of_range : (k byte number : ℕ) (ranges : List NumberRange) (j : ℕ) → slice_get program.instrs k ≡ Some (instr.InSet number)
+      → slice_get places k ≡ Some byte → slice_get program.int_sets number ≡ Some ranges
+      → (range : Option NumberRange) → slice_get ranges j ≡ range
+      → IfSome (option_and_then
+      (λ range. option_and_then
+      (λ other. Some (record { instruction = k; byte = byte; cause = cause.Overlapping (bounds_of range) (bounds_of other) }))
+      (overlapped ranges j range))
+      range) (IsTrueOf program size places)
+  of_range k byte number ranges j is there set None range_is = tt
+  of_range k byte number ranges j is there set (Some range) range_is =
+      if_overlapping k byte number ranges j range is there set range_is (overlapped ranges j range) refl
+
+  of_int_set : (k byte number : ℕ) → slice_get program.instrs k ≡ Some (instr.InSet number) → slice_get places k ≡ Some byte
+      → (ranges : Option (List NumberRange)) → slice_get program.int_sets number ≡ ranges
+      → All (IsTrueOf program size places) (overlaps_of ranges (record { instruction = k; byte = byte; set = number; is_of_ints = true }))
+  of_int_set k byte number is there None set = All-nil (IsTrueOf program size places)
+  of_int_set k byte number is there (Some ranges) set =
+      all_below (IsTrueOf program size places) (overlap_at ranges (record { instruction = k; byte = byte; set = number; is_of_ints = true }))
+      (λ j. of_range k byte number ranges j is there set (slice_get ranges j) refl) (length ranges)
+
   of_question : (k byte : ℕ) (i : Instr) → slice_get program.instrs k ≡ Some i → slice_get places k ≡ Some byte
-      → All (IsTrueOf program size places)
-      (covered_where program.sets (option_and_then (λ set. Some (record { instruction = k; byte = byte; set = set })) (asked_by i)))
+      → All (IsTrueOf program size places) (overlaps_where program
+      (option_and_then (λ set. Some (record { instruction = k; byte = byte; set = set; is_of_ints = asks_ints i })) (asked_by i)))
   of_question k byte (instr.Member number) is there = of_set k byte number is there (slice_get program.sets number) refl
+  of_question k byte (instr.InSet number) is there = of_int_set k byte number is there (slice_get program.int_sets number) refl
   of_question k byte _ is there = All-nil (IsTrueOf program size places)
 
   sets_are_so : (k : ℕ) (i : Option Instr) → slice_get program.instrs k ≡ i → (byte : Option ℕ) → slice_get places k ≡ byte
-      → All (IsTrueOf program size places)
-      (covered_where program.sets (option_and_then
-      (λ i. option_and_then (λ byte. option_and_then (λ set. Some (record { instruction = k; byte = byte; set = set })) (asked_by i)) byte)
+      → All (IsTrueOf program size places) (overlaps_where program (option_and_then
+      (λ i. option_and_then
+      (λ byte. option_and_then (λ set. Some (record { instruction = k; byte = byte; set = set; is_of_ints = asks_ints i })) (asked_by i))
+      byte)
       i))
   sets_are_so k None is byte there = All-nil (IsTrueOf program size places)
   sets_are_so k (Some i) is None there = All-nil (IsTrueOf program size places)
@@ -233,7 +290,7 @@ module _ (program : CodeView) (size : ℕ) (text places : List ℕ) where
       All-append P _ _
       (all_below P (wraps_at here) (λ k. operation_is_so k (slice_get program.instrs k) refl (slice_get places k) refl) all)
       (All-append P _ _
-      (each_of P (covered_by here) (λ k. sets_are_so k (slice_get program.instrs k) refl (slice_get places k) refl) all)
+      (each_of P (overlaps_by here) (λ k. sets_are_so k (slice_get program.instrs k) refl (slice_get places k) refl) all)
       (All-append P _ _
       (all_below P (unread_at here) (λ k. variable_is_so k (slice_get program.instrs k) refl (slice_get places k) refl) all)
       (all_below P (unreachable_at here) (λ k. metric_is_so k (slice_get program.instrs k) refl (slice_get places k) refl) all)))

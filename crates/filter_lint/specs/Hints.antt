@@ -2,10 +2,10 @@
 use Rattle.std.specs.Prelude.{List, ◌++◌}
 use Rattle.filter_lint.specs.Arithmetic.{wrapping_operations}
 use Rattle.filter_lint.specs.Metrics.{unreachable_metrics}
-use Rattle.filter_lint.specs.Sets.{covered_patterns}
+use Rattle.filter_lint.specs.Sets.{overlapping_members}
 use Rattle.filter_lint.specs.SurveyedFilters.{SurveyedFilterView}
 use Rattle.filter_lint.specs.Variables.{unread_variables}
 use Rattle.filter_lint.specs.declared.warning.Warning.{Warning}
 
 abbrev pub hints : SurveyedFilterView → List Warning
-hints source = wrapping_operations source ++ (covered_patterns source ++ (unread_variables source ++ unreachable_metrics source))
+hints source = wrapping_operations source ++ (overlapping_members source ++ (unread_variables source ++ unreachable_metrics source))

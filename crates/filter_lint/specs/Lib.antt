@@ -14,6 +14,7 @@ pub mod HostBits
 pub mod Known
 pub mod Lowering
 pub mod Metrics
+pub mod Overlaps
 pub mod Rules
 pub mod Sets
 pub mod Sites

@@ -1,9 +1,11 @@
--- Patterns of a set that another pattern of the set covers. (This project's own choice.)
-use Rattle.std.specs.Prelude.{ℕ, nat_le, Bool, not, ◌&&◌, List, [], length, position, take, Option, Some, None, option_and_then, slice_get}
+-- Members of a set that overlap: patterns that another pattern of the set covers, and ranges of ints. (This project's own choice.)
+use Rattle.std.specs.Prelude.{ℕ, nat_le, Bool, true, false, not, ◌&&◌, if◌then◌else◌, List, [], length, position, take, Option, Some, None, option_and_then, slice_get}
+use Rattle.filter_code.specs.CodeView.{CodeView}
 use Rattle.filter_code.specs.declared.instruction.Instr.{Instr}
 use Rattle.filter_code.specs.declared.instruction.Instr.TheVariants as instr
 use Rattle.prefix_patterns.specs.Matching.{PrefixPattern, lies_within}
 use Rattle.filter_lint.specs.Finding.{all_of, below}
+use Rattle.filter_lint.specs.Overlaps.{overlaps_of}
 use Rattle.filter_lint.specs.SurveyedFilters.{SurveyedFilterView}
 use Rattle.filter_lint.specs.declared.sets.Asked.{Asked}
 use Rattle.filter_lint.specs.declared.warning.Cause.TheVariants as cause
@@ -42,13 +44,19 @@ covered_in patterns asked = below (covered_at patterns asked) (length patterns)
 -- the number of the set that an instruction asks for
 abbrev pub asked_by : Instr → Option ℕ
 asked_by (instr.Member number) = Some number
+asked_by (instr.InSet number) = Some number
 asked_by _ = None
+
+-- that set is one of ints
+abbrev pub asks_ints : Instr → Bool
+asks_ints (instr.InSet number) = true
+asks_ints _ = false
 
 -- what the instruction of an index asks
 abbrev pub asked_at : SurveyedFilterView → ℕ → Option Asked
 asked_at source at = option_and_then
     (λ i. option_and_then
-    (λ byte. option_and_then (λ set. Some (record { instruction = at; byte = byte; set = set })) (asked_by i))
+    (λ byte. option_and_then (λ set. Some (record { instruction = at; byte = byte; set = set; is_of_ints = asks_ints i })) (asked_by i))
     (slice_get source.places at))
     (slice_get source.program.instrs at)
 
@@ -57,13 +65,14 @@ abbrev pub covered_of : Option (List PrefixPattern) → Asked → List Warning
 covered_of None asked = []
 covered_of (Some patterns) asked = covered_in patterns asked
 
-abbrev pub covered_where : List (List PrefixPattern) → Option Asked → List Warning
-covered_where sets None = []
-covered_where sets (Some asked) = covered_of (slice_get sets asked.set) asked
+abbrev pub overlaps_where : CodeView → Option Asked → List Warning
+overlaps_where program None = []
+overlaps_where program (Some asked) =
+    if asked.is_of_ints then overlaps_of (slice_get program.int_sets asked.set) asked else covered_of (slice_get program.sets asked.set) asked
 
-abbrev pub covered_by : SurveyedFilterView → ℕ → List Warning
-covered_by source at = covered_where source.program.sets (asked_at source at)
+abbrev pub overlaps_by : SurveyedFilterView → ℕ → List Warning
+overlaps_by source at = overlaps_where source.program (asked_at source at)
 
 -- what is said of all sets
-abbrev pub covered_patterns : SurveyedFilterView → List Warning
-covered_patterns source = all_of (covered_by source) (length source.program.instrs)
+abbrev pub overlapping_members : SurveyedFilterView → List Warning
+overlapping_members source = all_of (overlaps_by source) (length source.program.instrs)

@@ -1,5 +1,5 @@
 -- What a warning says of the runs of a filter's code. (This project's own choice.)
-use Rattle.std.specs.Prelude.{◌≡◌, ◌≢◌, ℕ, ◌+◌, ◌*◌, ◌≤◌, Bool, true, List, Some, slice_get}
+use Rattle.std.specs.Prelude.{◌≡◌, ◌≢◌, ℕ, ◌+◌, ◌*◌, ◌<◌, ◌≤◌, Bool, true, List, Some, slice_get}
 use Rattle.filter_code.specs.CodeView.{CodeView}
 use Rattle.filter_code.specs.Machine.{Config}
 use Rattle.filter_code.specs.declared.instruction.Instr.{Instr}
@@ -7,9 +7,11 @@ use Rattle.filter_code.specs.declared.instruction.Instr.TheVariants as instr
 use Rattle.filter_diff.specs.Ordering.{IsDisorder}
 use Rattle.filter_diff.specs.Reaching.{AreOnTop, Comes, IsAlways, IsCondition, IsMax, IsNeverReached}
 use Rattle.prefix_patterns.specs.Matching.{Matches, PrefixPattern}
+use Rattle.int_sets.specs.Holding.{Holds, NumberRange}
 use Rattle.filter_verifier.specs.InStates.{in_state}
 use Rattle.filter_lint.specs.Arithmetic.{may_wrap, operation_of}
 use Rattle.filter_lint.specs.Known.{top_one, top_two}
+use Rattle.filter_lint.specs.Overlaps.{bounds_of}
 use Rattle.filter_lint.specs.declared.warning.Bounds.{Bounds}
 use Rattle.filter_lint.specs.declared.warning.Cause.{Cause}
 use Rattle.filter_lint.specs.declared.warning.Cause.TheVariants as cause
@@ -57,6 +59,25 @@ pub record IsCovered (program : CodeView) (at number first second : ℕ) : Type 
   pub apart : second ≢ first
   pub covers : (prefix : List Bool) → Matches prefix inner → Matches prefix outer
 
+-- an instruction that asks for a set of ints, in which two ranges share a number: one of the first bounds, and before it one of the second bounds
+pub record IsOverlapping (program : CodeView) (at : ℕ) (first second : Bounds) : Type 0 where
+  pub number : ℕ
+  pub asks : slice_get program.instrs at ≡ Some (instr.InSet number)
+  pub ranges : List NumberRange
+  pub set : slice_get program.int_sets number ≡ Some ranges
+  pub j : ℕ
+  pub k : ℕ
+  pub before : k < j
+  pub range : NumberRange
+  pub other : NumberRange
+  pub range_is : slice_get ranges j ≡ Some range
+  pub other_is : slice_get ranges k ≡ Some other
+  pub of_range : bounds_of range ≡ first
+  pub of_other : bounds_of other ≡ second
+  pub shared : ℕ
+  pub in_range : Holds shared range
+  pub in_other : Holds shared other
+
 -- an instruction that takes the greater of two ints, to which the run on some route of the domain comes with the upper one greater: in
 -- the code of an assignment that is the metric received, and the value is below it
 pub record IsNotLowered (program : CodeView) (size at : ℕ) : Type 0 where
@@ -71,6 +92,7 @@ IsSo program size at (cause.Constant place truth) = IsConstant program size at t
 IsSo program size at cause.Unreached = IsNeverReached program size at
 IsSo program size at (cause.Wraps what left right) = MayWrap program size at what left right
 IsSo program size at (cause.Covered number first second) = IsCovered program at number first second
+IsSo program size at (cause.Overlapping first second) = IsOverlapping program at first second
 IsSo program size at cause.Unread = IsUnread program at
 IsSo program size at (cause.Unreachable bounds) = IsUnreachable program size at bounds
 IsSo program size at cause.NotLowered = IsNotLowered program size at

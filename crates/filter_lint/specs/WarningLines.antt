@@ -31,6 +31,7 @@ code_of (cause.Constant place value) = codes "W1"
 code_of cause.Unreached = codes "W2"
 code_of (cause.Wraps what left right) = codes "W3"
 code_of (cause.Covered number inner outer) = codes "W4"
+code_of (cause.Overlapping range other) = codes "W4"
 code_of cause.Unread = codes "W6"
 code_of (cause.Unreachable bounds) = codes "W7"
 code_of cause.NotLowered = codes "W8"
@@ -122,6 +123,10 @@ pair_words patterns inner outer = inner_words patterns inner ++ outer_words patt
 abbrev pub covered_words : List (List PrefixPattern) → ℕ → ℕ → ℕ → List ℕ
 covered_words sets number inner outer = pair_words (patterns_of sets number) inner outer
 
+-- what is said of two ranges of a set of ints
+abbrev pub overlapping_words : Bounds → Bounds → List ℕ
+overlapping_words range other = bounds_text range ++ codes " overlaps " ++ bounds_text other ++ of_same_set
+
 -- what is said of a metric that means unreachable
 abbrev pub unreachable_words : Bounds → List ℕ
 unreachable_words bounds = codes "the metric is set to " ++ bounds_text bounds ++ codes ", which means unreachable"
@@ -152,6 +157,7 @@ words sets (cause.Constant place value) = constant_words place value
 words sets cause.Unreached = codes "no route reaches this command"
 words sets (cause.Wraps what left right) = wraps_words what left right
 words sets (cause.Covered number inner outer) = covered_words sets number inner outer
+words sets (cause.Overlapping range other) = overlapping_words range other
 words sets cause.Unread = codes "this variable is never read"
 words sets (cause.Unreachable bounds) = unreachable_words bounds
 words sets cause.NotLowered = not_lowered_words

@@ -7,7 +7,7 @@ ghost use Rattle.filter_lint.specs.Hints as spec;
 
 use crate::arithmetic::wrapping_operations;
 use crate::metrics::unreachable_metrics;
-use crate::sets::covered_patterns;
+use crate::sets::overlapping_members;
 use crate::surveyed_filter::SurveyedFilter;
 use crate::variables::unread_variables;
 use crate::warning::Warning;
@@ -22,11 +22,11 @@ pub(crate) fn push_hints(
     ensures { OnOk result (out.new.items ≡ out.old.items ++ spec.hints source.now) }
 {
     let wrapping = wrapping_operations(alloc, source)?;
-    let covered = covered_patterns(alloc, source)?;
+    let overlapping = overlapping_members(alloc, source)?;
     let unread = unread_variables(alloc, source)?;
     let unreachable = unreachable_metrics(alloc, source)?;
     out.extend_from_slice(wrapping.as_slice())?;
-    out.extend_from_slice(covered.as_slice())?;
+    out.extend_from_slice(overlapping.as_slice())?;
     out.extend_from_slice(unread.as_slice())?;
     out.extend_from_slice(unreachable.as_slice())
 }

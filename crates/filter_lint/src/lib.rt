@@ -18,6 +18,7 @@ mod known;
 mod linting;
 mod lowering;
 mod metrics;
+mod overlaps;
 mod rules;
 mod sets;
 mod site;

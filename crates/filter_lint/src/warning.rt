@@ -34,6 +34,8 @@ pub enum Cause {
     Wraps(Operation, Bounds, Bounds),
     /// In the set of this number the pattern of the first index is covered by that of the second.
     Covered(u8, usize, usize),
+    /// In the set of ints that is asked for there the range of the first bounds shares a number with one before it, of the second bounds.
+    Overlapping(Bounds, Bounds),
     /// The variable that is declared there is never read.
     Unread,
     /// The metric that is set there is unreachable, by what is known of it.

@@ -27,7 +27,7 @@ impl Cause {
             Cause::Constant(_, _) => b"W1",
             Cause::Unreached => b"W2",
             Cause::Wraps(_, _, _) => b"W3",
-            Cause::Covered(_, _, _) => b"W4",
+            Cause::Covered(_, _, _) | Cause::Overlapping(_, _) => b"W4",
             Cause::Unread => b"W6",
             Cause::Unreachable(_) => b"W7",
             Cause::NotLowered => b"W8",
@@ -273,6 +273,16 @@ fn push_covered(
     push_pair(alloc, out, patterns_of(sets, number), inner, outer)
 }
 
+/// Puts what is said of a range of ints that shares a number with another one of its set at the end of `out`.
+fn push_overlapping(out: &mut Vec<u8>, range: Bounds, other: Bounds) -> Result<(), AllocError>
+    ensures { OnOk result (out.new.items ≡ out.old.items ++ spec.overlapping_words range other) }
+{
+    push_bounds(out, range)?;
+    out.extend_from_slice(b" overlaps ")?;
+    push_bounds(out, other)?;
+    out.extend_from_slice(of_same_set())
+}
+
 /// Puts what is said of a metric that means unreachable at the end of `out`.
 fn push_unreachable(out: &mut Vec<u8>, bounds: Bounds) -> Result<(), AllocError>
     ensures { OnOk result (out.new.items ≡ out.old.items ++ spec.unreachable_words bounds) }
@@ -338,6 +348,7 @@ pub(crate) fn push_words(
         Cause::Unreached => out.extend_from_slice(b"no route reaches this command"),
         Cause::Wraps(operation, left, right) => push_wraps(out, operation, left, right),
         Cause::Covered(set, inner, outer) => { push_covered(alloc, out, sets, set, inner, outer) }
+        Cause::Overlapping(range, other) => push_overlapping(out, range, other),
         Cause::Unread => out.extend_from_slice(b"this variable is never read"),
         Cause::Unreachable(bounds) => push_unreachable(out, bounds),
         Cause::NotLowered => out.extend_from_slice(not_lowered_words()),

@@ -6,7 +6,6 @@ mod Chained
 mod FileNames
 mod FilePlaces
 mod FiltersRead
-mod FirstWrong
 mod Gathered
 mod HostBits
 mod Imported

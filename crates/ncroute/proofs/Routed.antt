@@ -15,7 +15,7 @@ use Rattle.router_operator.specs.OperatorView.{Names}
 use Rattle.router_options.specs.PlanView.{PlanView}
 use Rattle.command_line.specs.declared.router_words.RouterWords.{RouterWords}
 use Rattle.ncroute.specs.Routing.{CutsPlan, Operated, RunsPlan, ServesRouter, StopsSettingUp, router_line, setup_line, setup_status}
-use Rattle.ncroute.specs.Stated.{OriginView}
+use Rattle.router_words.specs.Stated.{OriginView}
 use Rattle.ncroute.specs.Streaming.{Streams}
 use Rattle.ncroute.specs.declared.routing.SetupFault.{SetupFault}
 use Rattle.ncroute.specs.declared.routing.Untold.{Untold}

@@ -13,7 +13,7 @@ use Rattle.command_line.specs.declared.router_words.RouterWords.{RouterWords}
 use Rattle.ncroute.specs.Loading.{LacksFilters, LoadsFilters, StopsLoading}
 use Rattle.ncroute.specs.Planning.{IsPlanOf, LacksPlan, is_memory}
 use Rattle.ncroute.specs.Routing.{CutsRouter, ServesRouter, setup_line, setup_status}
-use Rattle.ncroute.specs.Stated.{OriginView}
+use Rattle.router_words.specs.Stated.{OriginView}
 use Rattle.ncroute.specs.Streaming.{Streams}
 use Rattle.ncroute.specs.declared.planning.PlanFault.{PlanFault}
 use Rattle.ncroute.specs.declared.routing.SetupFault.{SetupFault}

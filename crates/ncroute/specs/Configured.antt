@@ -17,13 +17,13 @@ use Rattle.command_line.specs.declared.requests.Source.{Source}
 use Rattle.command_line.specs.declared.router_words.RouterWords.{RouterWords}
 use Rattle.ncroute.specs.Checked.{CutsWords, ServesWords}
 use Rattle.ncroute.specs.Ending.{fault_line}
-use Rattle.ncroute.specs.Gathering.{Fit, Gathers, IsClash, path_of}
+use Rattle.router_words.specs.Gathering.{Fit, Gathers, IsClash, path_of}
 use Rattle.ncroute.specs.Inclusions.{IsBeside}
 use Rattle.ncroute.specs.Including.{IsText, StopsText}
-use Rattle.ncroute.specs.Stated.{OriginView, no_file}
+use Rattle.router_words.specs.Stated.{OriginView, no_file}
 use Rattle.ncroute.specs.Streaming.{Streams}
 use Rattle.ncroute.specs.WrongLines.{clash_line, refused_line, wrong_of}
-use Rattle.ncroute.specs.declared.gathering.Clash.{Clash}
+use Rattle.router_words.specs.declared.gathering.Clash.{Clash}
 
 -- `TellsLine told tells line` says in all of this what standard error was told of the line with which a run ends: all of it, or a front.
 abbrev pub Telling : Type 1

@@ -6,7 +6,6 @@ pub mod Comparing
 pub mod Configured
 pub mod Ending
 pub mod Filters
-pub mod Gathering
 pub mod Guiding
 pub mod Importing
 pub mod Including
@@ -24,7 +23,6 @@ pub mod Requests
 pub mod Responding
 pub mod Routing
 pub mod Scripts
-pub mod Stated
 pub mod Streaming
 pub mod Testing
 pub mod Trying

@@ -1,5 +1,6 @@
 -- What the program does for `router`, and its exit status. (This project's own choice.)
-use Rattle.std.specs.Prelude.{◌≡◌, ◌⊎◌, ℕ, true, false, List, [], ◌∷◌, ◌++◌, Option, Some, None, Result, Ok, IfSome, String, codes, string_bytes, ⊤}
+use Rattle.std.specs.Prelude.{◌≡◌, ◌⊎◌, ℕ, true, false, List, [], ◌∷◌, ◌++◌, Option, Some, None, Result, Ok, IfSome, String, codes, string_bytes, unwrap_or, ⊤}
+use Rattle.std.specs.Option.{option_map}
 use Rattle.std.specs.Io.KnownBytes.{Appends}
 use Rattle.std.specs.declared.io.Error.{Error}
 use Rattle.std.specs.declared.alloc.Global.{Global}
@@ -23,7 +24,7 @@ use Rattle.ncroute.specs.Loading.{LacksFilters, LoadsFilters, StopsLoading}
 use Rattle.ncroute.specs.Planning.{IsPlanOf, LacksPlan, is_memory}
 use Rattle.ncroute.specs.Reading.{unmade_line}
 use Rattle.ncroute.specs.Ending.{fault_line}
-use Rattle.ncroute.specs.Stated.{OriginView}
+use Rattle.router_words.specs.Stated.{OriginView}
 use Rattle.ncroute.specs.Streaming.{Streams}
 use Rattle.ncroute.specs.WrongWords.{wrong_line}
 use Rattle.ncroute.specs.declared.planning.PlanFault.{PlanFault}
@@ -46,6 +47,10 @@ setup_line origin (Program fault) = fault_line fault
 abbrev pub setup_status : SetupFault → ℕ
 setup_status (Words why) = 2
 setup_status (Program fault) = 1
+
+-- where the routes are told, if they are to be: the name of the file, and after how many seconds the first table is told at the latest
+abbrev pub feed_of : RouterWords → Option (List ℕ × ℕ)
+feed_of words = option_map (λ name. (string_bytes name, unwrap_or words.settle 10)) words.routes
 
 -- a folder, of which this is known, has no segments
 abbrev pub IsEmpty : Option FolderView → Type 0

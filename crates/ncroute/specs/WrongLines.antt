@@ -8,10 +8,10 @@ use Rattle.router_files.specs.declared.reading.WrongLine.{WrongLine}
 use Rattle.router_files.specs.declared.said.LineFault.{LineFault}
 use Rattle.router_files.specs.declared.said.LineFault.TheVariants as fault
 use Rattle.ncroute.specs.WrongWords.{place_words}
-use Rattle.ncroute.specs.declared.gathering.Clash.{Clash}
-use Rattle.ncroute.specs.declared.gathering.Clash.TheVariants.{Again, Wrong}
-use Rattle.ncroute.specs.declared.gathering.StatementFault.{StatementFault}
-use Rattle.ncroute.specs.declared.gathering.StatementFault.TheVariants as statement
+use Rattle.router_words.specs.declared.gathering.Clash.{Clash}
+use Rattle.router_words.specs.declared.gathering.Clash.TheVariants.{Again, Wrong}
+use Rattle.router_words.specs.declared.gathering.StatementFault.{StatementFault}
+use Rattle.router_words.specs.declared.gathering.StatementFault.TheVariants as statement
 
 -- ---- a line that is refused by itself
 

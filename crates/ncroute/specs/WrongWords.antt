@@ -14,7 +14,7 @@ use Rattle.router_options.specs.declared.fault.NumberFault.{NumberFault}
 use Rattle.router_options.specs.declared.fault.NumberFault.TheVariants as number
 use Rattle.router_options.specs.declared.fault.OptionFault.{OptionFault}
 use Rattle.router_options.specs.declared.fault.OptionFault.TheVariants as option
-use Rattle.ncroute.specs.Stated.{OriginView, nth_stated}
+use Rattle.router_words.specs.Stated.{OriginView, nth_stated}
 use Rattle.ncroute.specs.declared.planning.OptionKind.{OptionKind}
 use Rattle.ncroute.specs.declared.planning.OptionKind.TheVariants as kind
 use Rattle.ncroute.specs.declared.planning.PlanFault.{PlanFault}

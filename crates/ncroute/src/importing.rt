@@ -1,11 +1,11 @@
 //! From a configuration of BIRD to verified filters, in files of their own: the engine of `import`.
 ghost use Rattle.std.specs.Option.{option_map};
-ghost use Rattle.std.specs.Prelude.{◌≡◌, ◌≤◌, ℕ, false, [], ◌∷◌, ◌++◌, IfOk, IfSome, Ok, OnOk, is_some, length, string_bytes};
+ghost use Rattle.std.specs.Prelude.{◌≡◌, ◌≤◌, ℕ, false, [], ◌∷◌, ◌++◌, IfOk, IfSome, Ok, OnOk, Some, is_some, length, string_bytes};
 ghost use Rattle.ncroute.specs.Following.{DoesFirst};
 ghost use Rattle.ncroute.specs.Importing.{AreWordsFor, ImportsConfig, ImportsCut, ImportsDraft, ImportsMade};
 ghost use Rattle.ncroute.specs.Importing.{ImportsParts, ImportsRead, ImportsSource, ImportsWords, IsMade};
 ghost use Rattle.ncroute.specs.Importing.{IsMadeOfText, IsMadeOfWords, IsRefusedText, IsToldFor};
-ghost use Rattle.ncroute.specs.Importing.{SavesFilter, SavesText, TellsEnd, TellsStrange, TellsWord, byte_line};
+ghost use Rattle.ncroute.specs.Importing.{LacksFolder, SavesFilter, SavesText, TellsEnd, TellsStrange, TellsWord, byte_line};
 ghost use Rattle.ncroute.specs.Importing.{end_words, ends_in_slash, fate_words, file_name, file_path, head_for, head_of};
 ghost use Rattle.ncroute.specs.Importing.{is_outside, made_line, origin_line, origins_for, outside_line, path_words};
 ghost use Rattle.ncroute.specs.Importing.{place_from, slash_behind, strange_words, text_for, text_in};
@@ -36,7 +36,7 @@ use filter_tokens::TokenFault;
 use filter_verifier::Verified;
 use line_protocol::write_text;
 use std::alloc::{AllocError, Global};
-use std::io::{Read, Write};
+use std::io::{ErrorKind, Read, Write};
 
 /// The most bytes of the head of a filter's text that has more than one line.
 const HEAD_LIMIT: usize = 8_192;
@@ -685,7 +685,42 @@ fn import_read<F: Folder, R: Read, W: Write, E: Write>(
     Ok(status_of_found(is_any(whole.is_partial, is_left)))
 }
 
-/// Imports the filters of the configuration that a source is, and returns the exit status: 0, or 1 where something was left out.
+/// Tells that there is no folder of a path, if there is none. Returns whether there is none.
+fn lacks_path<F: Folder, R: Read, W: Write, E: Write>(
+    files: &F,
+    alloc: Global,
+    folder: &String,
+    console: &mut Console<R, W, E>,
+) -> Result<bool, ProgramFault>
+    ensures { IfOk result (LacksFolder (F.opens files.now) (Some folder.now) console.old console.new) }
+{
+    let Err(error) = files.open(folder.as_str()) else {
+        return Ok(false);
+    };
+    if !matches!(error.kind(), ErrorKind::NotFound) {
+        return Ok(false);
+    }
+    tell_unmade(alloc, &mut console.errors, folder.as_str(), &error)?;
+    Ok(true)
+}
+
+/// Tells that there is no folder for the filters, if one is named that is not there. Returns whether that is so.
+fn lacks_folder<F: Folder, R: Read, W: Write, E: Write>(
+    files: &F,
+    alloc: Global,
+    how: &Importing,
+    console: &mut Console<R, W, E>,
+) -> Result<bool, ProgramFault>
+    ensures { IfOk result (LacksFolder (F.opens files.now) how.now.folder console.old console.new) }
+{
+    match &how.folder {
+        Some(folder) => lacks_path(files, alloc, folder, console),
+        None => Ok(false),
+    }
+}
+
+/// Imports the filters of the configuration that a source is, and returns the exit status: 0, or 1 where something was left out, or the folder
+/// for the filters is not there.
 #[tactic(auto, unfolding(crate::specs::Importing::ImportsSource))]
 pub fn import_source<F: Folder, R: Read, W: Write, E: Write>(
     files: &F,
@@ -697,6 +732,9 @@ pub fn import_source<F: Folder, R: Read, W: Write, E: Write>(
     ensures status { IfOk result (λ status. status ≤ 1) }
     ensures finished { IfOk result (ImportsSource (F.creates files.now) (F.leaves files.now) (F.opens files.now) how.now source.now console.old console.new) }
 {
+    if lacks_folder(files, alloc, how, console)? {
+        return Ok(FAILED);
+    }
     match read_whole(files, alloc, source, console)? {
         Some(whole) => import_read(files, alloc, how, &whole, console),
         None => Ok(FAILED),

@@ -12,13 +12,13 @@
 //! **People are told of links by a handle of standard error of their own**, which the threads of links share. So what `serve_router` promises of
 //! the other handle, on which it tells why a router is not there, does not depend on when a link is closed.
 ghost use Rattle.std.specs.Option.{option_map};
-ghost use Rattle.std.specs.Prelude.{◌≡◌, ◌++◌, IfErr, IfOk, IfSome, MatchOption, OnOk, is_some};
+ghost use Rattle.std.specs.Prelude.{◌≡◌, ◌++◌, IfErr, IfOk, IfSome, MatchOption, OnOk};
 ghost use Rattle.std.specs.Io.KnownBytes.{Appends};
 ghost use Rattle.filter_reports.specs.Cuts.{IsCut};
 ghost use Rattle.filter_reports.specs.Faults.{stream_fault};
 ghost use Rattle.ncroute.specs.Checked as checked;
 ghost use Rattle.ncroute.specs.Routing as spec;
-ghost use Rattle.ncroute.specs.Stated.{origin_of};
+ghost use Rattle.router_words.specs.Stated.{origin_of};
 ghost use Rattle.ncroute.specs.WrongWords.{wrong_line};
 
 use crate::console::Console;
@@ -26,7 +26,6 @@ use crate::ending::{FAILED, fault_line};
 use crate::folders::HistoryFolders;
 use crate::loading::load_filters;
 use crate::planning::{PlanFault, is_memory, plan_of};
-use crate::stated::Origin;
 use crate::texts::{Folder, tell_unmade, write_line};
 use crate::wrong_words::wrong_line;
 use command_line::RouterWords;
@@ -36,6 +35,7 @@ use line_protocol::StreamFault;
 use route_history::CallFault;
 use router_daemon::{DaemonFault, FeedFile, LinkFolder, Setting, run_router};
 use router_options::RouterPlan;
+use router_words::Origin;
 use slot_lock::LockFault;
 use std::alloc::Global;
 use std::io::{Read, Write};
@@ -190,7 +190,7 @@ fn size_of(plan: &RouterPlan) -> u16
 
 /// Where the routes are told, if they are to be.
 fn feed_of(words: &RouterWords) -> Option<FeedFile<'_>>
-    ensures { is_some result ≡ is_some words.now.routes }
+    ensures { option_map (λ feed. (feed.name.now, feed.settle)) result ≡ spec.feed_of words.now }
 {
     match &words.routes {
         Some(name) => Some(FeedFile {

@@ -3,12 +3,12 @@ ghost use Rattle.std.specs.Prelude.{◌≡◌, ◌++◌, IfOk, OnOk};
 ghost use Rattle.router_files.specs.Files.{statement_of};
 ghost use Rattle.ncroute.specs.WrongLines as spec;
 
-use crate::gathering::{Clash, StatementFault};
 use crate::wrong_words::push_place;
 use line_protocol::push_decimal;
 use router_files::{
     LineFault, RouterOption, Statement, WrongLine, first_byte, second_byte, third_byte,
 };
+use router_words::{Clash, StatementFault};
 use std::alloc::{AllocError, Global};
 
 /// The byte at which that begins which is refused.

@@ -4,15 +4,15 @@
 ghost use Rattle.std.specs.Prelude.{◌≡◌, ◌++◌, IfOk, OnOk, map};
 ghost use Rattle.std.specs.Option.{option_map};
 ghost use Rattle.router_files.specs.Files.{statement_of};
-ghost use Rattle.ncroute.specs.Stated.{origin_of};
+ghost use Rattle.router_words.specs.Stated.{origin_of};
 ghost use Rattle.ncroute.specs.WrongWords as spec;
 
 use crate::planning::{OptionKind, PlanFault};
-use crate::stated::{Origin, nth_stated};
 use filter_reports::{place_in, push_position, push_shown};
 use line_protocol::push_decimal;
 use router_files::{RouterOption, Statement, second_byte, third_byte};
 use router_options::{NodeFault, NumberFault, OptionFault};
+use router_words::{Origin, nth_stated};
 use std::alloc::{AllocError, Global};
 
 /// The name of an option of this kind.

@@ -46,13 +46,19 @@ before the operation.
     Page {
         code: "W4",
         text: "\
-W4: a pattern of a set is covered by another one of the set
+W4: a pattern of a set is covered by another one of the set, or two ranges of ints share a number
 Place: the `[` of the set
 
     $ echo 'filter f { if net ~ [10.0.0.0/8+, 10.1.0.0/16+] then reject; accept; }' | ncroute lint --size 16
     <stdin>:1:21: 10.1.0.0/16+ is covered by 10.0.0.0/8+ of the same set (W4)
 
 Take the covered pattern out: each prefix that matches it matches the other one.
+
+    $ echo 'filter f { if net.len ~ [ 8..24, 16 ] then reject; accept; }' | ncroute lint --size 16
+    <stdin>:1:25: 16 overlaps 8..24 of the same set (W4)
+
+Take the numbers out that another range has. BIRD looks a number up in a tree of the ranges, and does not find
+each one where they overlap: here it misses 24.
 ",
     },
     Page {

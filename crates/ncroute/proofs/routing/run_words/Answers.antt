@@ -1,6 +1,6 @@
 -- It was not set up, of which standard error was told.
 use Rattle.std.proofs.Common.{refl}
-use Rattle.ncroute.specs.Stated.{origin_of}
+use Rattle.router_words.specs.Stated.{origin_of}
 use Rattle.ncroute.proofs.Routed.{stopped}
 use Rattle.ncroute.proofs.routing.run_words.Goals as goal
 

@@ -1,0 +1,3 @@
+-- what callers cite
+pub mod Gathering
+pub mod Stated

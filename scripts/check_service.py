@@ -1,0 +1,288 @@
+#!/usr/bin/env python3
+"""Installs the program with its systemd units in a temporary folder, has systemd's own tools judge them, and runs two routers as services by the
+commands of the units, each as a process of this script (lib/units.py): they find each other over TCP, are killed and hang, and end in order. Prints
+what is wrong, and at last 'N passed, M failed'. What needs a program that is not there is not run: a line says so, and it counts as skipped.
+
+usage: NCROUTE=PATH scripts/check_service.py     (PATH: the program as it is built)
+"""
+import os
+import pathlib
+import re
+import signal
+import subprocess
+import tempfile
+import traceback
+
+from lib.counts import Counts, lack_of
+from lib.histories import entries_of, replayed, segments_of
+from lib.processes import PATIENCE, awaited
+from lib.program import TOP, built
+from lib.terminals import free_port
+from lib.units import PLACES, Service, Unit
+
+# How much systemd finds a service exposed to, in tenths: 0 is nothing, 100 all. Who changes the kernel's table is exposed to more than the others.
+MOST_EXPOSED = {"ncroute@.service": 10, "ncroute-link@.service": 15, "ncroute-kernel@.service": 20}
+
+# Seconds: a link whose sessions are short is opened again after a minute at most, and its neighbour may have to be, too.
+UP = 240.0
+
+# What is there when both routers are up, in a domain of four nodes.
+ROUTES = {"north": "routes 0:0 1:1:1 2:4 3:4", "east": "routes 0:1:0 1:0 2:4 3:4"}
+INSTALLS = "route append 10.1.0.0/16 via 192.0.2.2 dev eth1 proto 77 metric 201 table 254"
+
+
+def ran(*words, **more):
+    done = subprocess.run(words, capture_output=True, text=True, check=False, stdin=subprocess.DEVNULL, **more)
+    return done.returncode, (done.stdout + done.stderr).strip()
+
+
+def units_in(prefix):
+    return sorted(pathlib.Path(prefix, "lib", "systemd", "system").iterdir())
+
+
+# ---- what is installed, and what systemd says of it
+
+
+def files_differ(prefix):
+    """What is installed is packaging/, with other paths of the program."""
+    there, source = pathlib.Path(prefix, "lib"), TOP / "packaging"
+    for path in filter(pathlib.Path.is_file, source.rglob("*")):
+        wanted = path.read_text(encoding="utf-8").replace("/usr/local/", f"{prefix}/")
+        if (to := there / path.relative_to(source)).read_text(encoding="utf-8") != wanted:
+            return f"{to} is another file than {path}"
+    return None
+
+
+def is_elsewhere(prefix):
+    """What comes into another root, where DESTDIR names one: the same files, with the paths that they have below it."""
+    with tempfile.TemporaryDirectory() as root:
+        status, said = ran(TOP / "scripts" / "install.sh", "--service", "/usr", env={**os.environ, "DESTDIR": root})
+        if status:
+            return said
+        listed = [sorted(str(path.relative_to(top)) for path in pathlib.Path(top).rglob("*") if path.is_file()) for top in (f"{root}/usr", prefix)]
+        if listed[0] != listed[1]:
+            return f"{set(listed[0]) ^ set(listed[1])}"
+        unit = pathlib.Path(root, "usr/lib/systemd/system/ncroute@.service").read_text(encoding="utf-8")
+        return None if "exec /usr/bin/ncroute router" in unit and root not in unit else "a unit has another path of the program"
+
+
+def parts_missing(prefix):
+    """The user, the folders and the man pages that the units name are made by the other files, and installed."""
+    users = re.findall(r"(?m)^u (\S+) ", pathlib.Path(prefix, "lib/sysusers.d/ncroute.conf").read_text(encoding="utf-8"))
+    folders = re.findall(r"(?m)^d (\S+) ", pathlib.Path(prefix, "lib/tmpfiles.d/ncroute.conf").read_text(encoding="utf-8"))
+    for path in units_in(prefix):
+        unit = Unit(path)
+        if unit.settings["User"] != users:
+            return f"{unit.name}: it runs as {unit.settings['User']}"
+        named = [*unit.settings["EnvironmentFile"], *(f"/run/{it}" for it in unit.settings["RuntimeDirectory"])]
+        if not named or any(os.path.dirname(it) not in folders for it in named):
+            return f"{unit.name}: {named} are not all in a folder of {folders}"
+        for page, section in re.findall(r"man:(ncroute[\w-]*)\((\d)\)", unit.last("Documentation")):
+            if not pathlib.Path(prefix, f"share/man/man{section}/{page}.{section}").exists():
+                return f"{unit.name}: there is no page {page}({section})"
+    return None
+
+
+def units_refused(prefix):
+    for path in units_in(prefix):
+        if (found := ran("systemd-analyze", "verify", "--man=no", path)) != (0, ""):
+            return f"{path.name}: {found}"
+    return None
+
+
+def units_exposed(prefix):
+    for path in units_in(prefix):
+        status, said = ran("systemd-analyze", "security", "--offline=yes", f"--threshold={MOST_EXPOSED[path.name]}", path)
+        if status:
+            return f"{path.name}: {said}"
+    return None
+
+
+def user_missing(prefix):
+    with tempfile.TemporaryDirectory() as root:
+        os.mkdir(f"{root}/etc")
+        found = ran("systemd-sysusers", f"--root={root}", f"{prefix}/lib/sysusers.d/ncroute.conf")
+        lines = pathlib.Path(root, "etc/passwd").read_text(encoding="utf-8") if found[0] == 0 else ""
+        return None if re.fullmatch(r"ncroute:x:\d+:\d+:[^:]*:/var/lib/ncroute:\S*/nologin\n", lines) else f"{found}: {lines!r}"
+
+
+def folders_missing(prefix):
+    with tempfile.TemporaryDirectory() as root:
+        for name in ("etc", "run"):
+            os.mkdir(f"{root}/{name}")
+        users = ran("systemd-sysusers", f"--root={root}", f"{prefix}/lib/sysusers.d/ncroute.conf")
+        found = ran("systemd-tmpfiles", "--create", f"--root={root}", f"{prefix}/lib/tmpfiles.d/ncroute.conf")
+        modes = [oct(os.stat(f"{root}{path}").st_mode) for path in ("/run/ncroute", "/etc/ncroute") if os.path.isdir(root + path)]
+        return None if (found, modes) == ((0, ""), ["0o40750"] * 2) else f"{users}, {found}: {modes}"
+
+
+CHECKS = (
+    ("the files", None, files_differ),
+    ("another root", None, is_elsewhere),
+    ("what the units name", None, parts_missing),
+    ("systemd-analyze verify", "systemd-analyze", units_refused),
+    ("systemd-analyze security", "systemd-analyze", units_exposed),
+    ("systemd-sysusers", "systemd-sysusers", user_missing),
+    ("systemd-tmpfiles", "systemd-tmpfiles", folders_missing),
+)
+
+
+# ---- two routers by the commands of the units
+
+
+class Lab:
+    """The routers `north` and `east`, the line between them, and who installs the routes of `north`: services below a folder."""
+
+    def __init__(self, program, prefix, folder, counts):
+        self.program, self.folder, self.counts, self.services = program, folder, counts, {}
+        self.units = {path.name.partition("@")[0]: Unit(path) for path in units_in(prefix)}
+        for place in PLACES:
+            os.makedirs(folder + place)
+        port = free_port()
+        for name, text in {
+            "north.conf": f"size 4\nnode 0\nretry 1\nlink 1 {folder}/run/ncroute/link-east/tty {folder}/run/ncroute/link-east/tty\n",
+            "east.conf": f"size 4\nnode 1\nretry 1\nlink 0 {folder}/run/ncroute/link-north/tty {folder}/run/ncroute/link-north/tty\n",
+            "refused.conf": "size 4\nnode 0\nhodl 3\n",
+            "east.link": f"STREAM=TCP-LISTEN:{port},bind=127.0.0.1,reuseaddr\n",
+            "north.link": f"STREAM=TCP:127.0.0.1:{port},connect-timeout=3,forever,interval=1\n",
+            "north.kernel": "# As it is tried\nOPTIONS=--dry-run --via 1=192.0.2.2%eth1\n",
+        }.items():
+            pathlib.Path(f"{folder}/etc/ncroute/{name}").write_text(text, encoding="utf-8")
+
+    def judge(self, what, holds, told=""):
+        self.counts.expect(f"services: {what}", holds, told)
+
+    def start(self, unit, name):
+        service = self.services[unit, name] = Service(self.units[unit], name, self.folder)
+        service.start()
+        return service
+
+    def say(self, name, text):
+        """Writes to the FIFO of a router's commands, as its operators do, once it is there."""
+        path = f"{self.folder}/run/ncroute/{name}/control"
+        if not awaited(lambda: os.path.exists(path), bool, PATIENCE):
+            raise TimeoutError(f"{path} is not there")
+        with open(os.open(path, os.O_RDWR), "wb") as fifo:
+            fifo.write(text.encode())
+
+    def answer(self, name, command):
+        """The newest answer of a router to a command that makes no entry. One that is given while it begins may be lost."""
+        service = self.services["ncroute", name]
+        before = len(service.lines())
+        self.say(name, command + "\n")
+        found = awaited(lambda: [line for line in service.lines()[before:] if line.startswith(command)], bool, 1.0)
+        return found[-1] if found else None
+
+    def answers(self, what, name, command, is_right):
+        found = awaited(lambda: self.answer(name, command), lambda it: it is not None and is_right(it), UP, 0.1)
+        self.judge(what, found is not None and is_right(found), f"{found}: {self.services['ncroute', name].lines()}")
+
+    def are_up(self, what):
+        for name, routes in ROUTES.items():
+            self.answers(f"{what}: routes of {name}", name, "routes", lambda it, wanted=routes: it == wanted)
+
+    def histories(self, name):
+        return sorted(pathlib.Path(f"{self.folder}/var/lib/ncroute/{name}").iterdir())
+
+    def ended_in_order(self, what, name, result):
+        """A router that was stopped: its status, and that the session which was open is closed by the last entry of its history."""
+        status, seconds = result
+        segments = segments_of(self.histories(name)[-1])
+        entries = [line.decode().split(" ", 1)[1] for segment in segments for line in entries_of(segment.read_bytes())]
+        opened = [entry.rpartition(" ")[2] for entry in entries if re.match(r"up \d+ opened ", entry)]
+        is_closed = bool(opened) and re.match(rf"down {opened[-1]} done ", entries[-1])
+        self.judge(f"{what}: {name} ends", status == 0 and is_closed, f"{status} after {seconds:.1f} s: {entries[-3:]}")
+        said, _ = replayed(self.program, segments)
+        self.judge(f"{what}: history of {name}", said.startswith("replay ok "), said)
+        path = f"{self.folder}/run/ncroute/{name}"
+        self.judge(f"{what}: FIFOs of {name}", not os.path.exists(path), f"{path} is still there")
+
+    def begun(self):
+        """In any order: the routers come before their lines."""
+        for unit, names in (("ncroute", ROUTES), ("ncroute-kernel", ["north"]), ("ncroute-link", ROUTES)):
+            for name in names:
+                self.start(unit, name)
+        self.are_up("begun")
+        installer = self.services["ncroute-kernel", "north"]
+        self.judge("routes are installed", INSTALLS in awaited(installer.lines, lambda it: INSTALLS in it, PATIENCE), installer.lines())
+
+    def lines_end(self):
+        """A line that is killed: its terminal's name goes, and it is started again."""
+        line, tty = self.services["ncroute-link", "east"], f"{self.folder}/run/ncroute/link-east/tty"
+        before = os.readlink(tty)
+        line.signal(signal.SIGKILL)
+        awaited(lambda: line.results, bool, PATIENCE, 0.001)
+        self.judge("a line is killed", not os.path.lexists(tty) or os.readlink(tty) != before or line.is_running(), f"{tty} is still there")
+        self.answers("a line is started again", "north", "neighbours", lambda it: re.fullmatch(r"neighbours 1:([2-9]|\d\d+)", it))
+        self.are_up("a line is started again")
+
+    def routers_end(self):
+        """A router that is killed is started again, with another history; one that an operator ends is not."""
+        self.services["ncroute", "north"].signal(signal.SIGKILL)
+        self.judge("a router is started again", len(awaited(lambda: self.histories("north"), lambda it: len(it) == 2, PATIENCE)) == 2)
+        self.are_up("a router is started again")
+        self.judge("a router was killed", self.services["ncroute", "north"].results == [-signal.SIGKILL], self.services["ncroute", "north"].results)
+        refused = self.start("ncroute", "refused")
+        self.judge("refused options", refused.is_over() and refused.results == [2], f"{refused.results}: {refused.lines()}")
+        self.judge("refused options are told", "refused.conf:3:1: no option has this name" in "\n".join(refused.lines()), refused.lines())
+
+    def stopped(self):
+        """Each router is stopped: one whose operator has left half a line, and one that hangs. One that has ended is stopped at once."""
+        self.say("north", "rout")
+        north = self.services["ncroute", "north"]
+        self.ended_in_order("stopped", "north", north.stop())
+        self.judge("is stopped once", len(north.results) == 2, north.results)
+        north = self.start("ncroute", "north")
+        self.are_up("started anew")
+        self.services["ncroute", "east"].signal(signal.SIGSTOP)
+        self.ended_in_order("hangs", "east", self.services["ncroute", "east"].stop())
+        self.say("north", "quit\n")
+        self.judge("quit", north.is_over() and north.results == [0], north.results)
+        self.judge("is stopped when it has ended", north.stop()[1] < PATIENCE)
+        for unit in ("ncroute-link", "ncroute-kernel"):
+            service = self.services[unit, "north"]
+            service.stop()
+            self.judge(f"{unit} is stopped", service.is_over() and not service.is_running(), service.results)
+        self.judge("ncroute-kernel ends", service.results == [0], service.results)
+
+    def run(self):
+        self.begun()
+        self.lines_end()
+        self.routers_end()
+        self.stopped()
+
+    def close(self):
+        for service in self.services.values():
+            service.signal(signal.SIGCONT)
+            service.stop()
+
+
+def main():
+    environment, counts, program = {**os.environ, "NCROUTE": built()}, Counts(), built()
+    # Names of terminals and FIFOs in a link are told by the words of an option, which have no blanks.
+    with tempfile.TemporaryDirectory(prefix="service.") as folder:
+        prefix = f"{folder}/prefix"
+        subprocess.run([TOP / "scripts" / "install.sh", "--service", prefix], env=environment, check=True, capture_output=True)
+        for name, needed, differs in CHECKS:
+            if why := lack_of(*filter(None, [needed])):
+                counts.skip(name, why)
+            elif needed == "systemd-tmpfiles" and os.geteuid():
+                counts.skip(name, "only root gives a folder to a group")
+            else:
+                counts.judge(name, differs(prefix))
+        if why := lack_of("ip", "mkfifo", "sh", "socat"):
+            counts.skip("services", why)
+        else:
+            lab = Lab(program, prefix, f"{folder}/root", counts)
+            try:
+                lab.run()
+            except Exception as why:
+                traceback.print_exc()
+                lab.judge("run", False, str(why))
+            finally:
+                lab.close()
+    counts.finish()
+
+
+if __name__ == "__main__":
+    main()
