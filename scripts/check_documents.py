@@ -14,6 +14,8 @@ usage: scripts/check_documents.py        (NCROUTE=PATH: the program; without it,
   refuses it as the listing says (`V3 at 6`), or verifies it. If a line of hexadecimal follows, it is that file.
 - Each link of a document to a file of the repository, or to a heading of a document, leads there.
 - docs/CALLS.md is what `list_calls.py` makes of the sources.
+- The examples in Rattle of docs/SESSIONS.md and docs/EMBEDDING.md are what the tests run.
+- Each name of a call, a clause, a definition, a wrong body or a crate that docs/PROMISES.md mentions is there.
 """
 import collections
 import os
@@ -27,10 +29,18 @@ from lib.program import TOP, Program, named
 
 # The document whose table has the codes of a letter, and the column of their meaning.
 TABLES = {
-    "P": ("LANGUAGE", 1), "Y": ("KINDS", 1), "V": ("VERIFIER", 1), "C": ("CODE_FILE", 1), "K": ("MACHINE", 1), "E": ("LINES", 1), "O": ("SCRIPT", 1),
-    "N": ("ROUTER", 1), "D": ("DOMAIN", 1), "J": ("ROUTER", 1), "H": ("HISTORY", 1), "L": ("LOCK", 2), "X": ("SESSIONS", 1), "W": ("LINT", 1),
+    "P": ("LANGUAGE", 1), "Y": ("LANGUAGE", 1), "V": ("VERIFIER", 1), "C": ("CODE_FILE", 1), "K": ("MACHINE", 1), "E": ("LINES", 1),
+    "O": ("SCRIPT", 1), "N": ("ROUTER", 1), "D": ("DOMAIN", 1), "J": ("ROUTER", 1), "H": ("HISTORY", 1), "L": ("LOCK", 2), "X": ("SESSIONS", 1),
+    "W": ("LINT", 1),
 }
 OTHER_CODES = ["G1", "G2", "G3"]
+# What documents show in Rattle: the document, how far it is indented there, its text, and the test that has it word for word.
+SHOWN = (
+    ("docs/SESSIONS.md", "", r"(?ms)^/// A link over two streams\..*?^}\n\nimpl.*?^}\n", "crates/test_calls/src/channels.rt"),
+    ("docs/EMBEDDING.md", "    ", r"(?ms)^/// The metric that a filter gives a route .*?^}\n", "crates/test_calls/src/embedding_tests.rt"),
+)
+# What docs/PROMISES.md names beside what the sources define: commands and programs, a mark, a variable, a field, and a trait of Rust.
+OTHER_NAMES = set("changes diff eval failures history kill lint socat test NCF2 NCROUTE_SIZE unsent Send".split())
 # A filter that is refused.
 MISTAKE = "filter mistake { acept; }"
 SIZE = 8
@@ -130,11 +140,36 @@ def played(ncroute, tell, counts):
             tell(name, "blocks of terminals", [(" ".join(block[-1]), terminals.play(block, ncroute.environment())) for block in blocks])
 
 
+def shown_elsewhere():
+    """What is shown in Rattle, and what is wrong with it: the test has it in other words."""
+    for name, indent, form, test in SHOWN:
+        found = re.search(form, re.sub(rf"(?m)^{indent}", "", read(name)))
+        yield f"{name}: {test}", not (found and found[0] in read(test)) and "the test has it otherwise"
+
+
+def defined():
+    """The names that the sources define: calls, types, clauses, definitions, wrong bodies and crates."""
+    found = set(re.findall(r"\w+", read("crates.txt") + read("include/gomthau_filter.h")))
+    for path in TOP.glob("crates/*/src/**/*.rt"):
+        found |= set(re.findall(r"\b(?:ensures|fn|struct|enum|trait|type|const) (\w+)", path.read_text(encoding="utf-8")))
+    for path in TOP.glob("crates/*/specs/**/*.antt"):
+        found |= set(re.findall(r"(?m)^ *(?:unfoldable )?(?:pub )?(?:data |record )?(\w+)", path.read_text(encoding="utf-8")))
+    return found | {path.stem for path in TOP.glob("crates/*/*/*.edit")}
+
+
+def named_in(text):
+    """The names that a document mentions."""
+    return sorted(set(re.findall(r"`([A-Za-z_]\w*(?:::\w+)*)`", without_code_blocks(text))))
+
+
+def without_code_blocks(text):
+    text = re.sub(r"^```.*?^```", "", text, flags=re.M | re.S)
+    return "\n".join(line for line in text.split("\n") if not line.startswith("    "))
+
+
 def without_code(text):
     """A document less what it shows as code, which has no links."""
-    text = re.sub(r"^```.*?^```", "", text, flags=re.M | re.S)
-    lines = [line for line in text.split("\n") if not line.startswith("    ")]
-    return re.sub(r"`[^`\n]*`", "", "\n".join(lines))
+    return re.sub(r"`[^`\n]*`", "", without_code_blocks(text))
 
 
 def anchors(text):
@@ -215,6 +250,10 @@ def main():
         if rows:
             tell(name, "links", rows)
     tell("docs/CALLS.md", "page", [("docs/CALLS.md", read("docs/CALLS.md") != list_calls.page() and "scripts/list_calls.py prints another one")])
+    tell("docs", "examples in Rattle", list(shown_elsewhere()))
+    there = defined() | OTHER_NAMES
+    tell("docs/PROMISES.md", "names", [(name, not set(name.split("::")) <= there and "no source defines it")
+                                       for name in named_in(read("docs/PROMISES.md"))])
     explained(ncroute, tell)
     played(ncroute, tell, counts)
     ncroute.close()

@@ -317,9 +317,9 @@ def forms_taken(_):
     """The first of these forms that is taken, and comes out as something else or not at all."""
     for form in UNKNOWN_FORMS:
         with tempfile.TemporaryDirectory() as folder:
-            pathlib.Path(folder, "KINDS.md").write_text(f"# Title\n\n## Heading\n\nText.\n\n{form}\n")
+            pathlib.Path(folder, "LANGUAGE.md").write_text(f"# Title\n\n## Heading\n\nText.\n\n{form}\n")
             try:
-                manual.Document("KINDS", folder)
+                manual.Document("LANGUAGE", folder)
             except SystemExit:
                 continue
         return f"{form!r} is taken"

@@ -13,6 +13,9 @@ the refused call again; then it also says what the call answered). A test that p
 Anything else is a fault: a wrong answer (a failed assertion, or an expectation, which is told without `error: `), a bad access, a test that does not
 end within five minutes.
 
+Tests and program are those that the gate has built, under a small library that is loaded before the C library and refuses one allocation: all of them
+are tried in a minute. `rt try --test --fail-alloc` takes one number a run, and a run takes half a minute.
+
 A run of the program that meets one ends with status 1 and the code of what was refused, and has written the first lines of its whole answer,
 each whole; or it did without, and ended as ever. `net` meets a refusal also where its threads have ended and it replays what came of them.
 """

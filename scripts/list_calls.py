@@ -16,7 +16,7 @@ input. The clauses themselves stand in the source, at the call, in the words of 
 name. [PROMISES.md](PROMISES.md) says in sentences what the most important ones come to, and what is only tested.
 
 A crate's wrong bodies are edits that turn the meaning of one of its functions, which the checker has to refuse: first those of `must-fail/`, which
-the gate tries each time, and then those of `wrong-bodies/` ([TESTING.md](PROMISES.md#wrong-bodies)).
+the gate tries each time, and then those of `wrong-bodies/` ([what they show](PROMISES.md#wrong-bodies)).
 
 `scripts/list_calls.py` makes this page from the sources."""
 # Crates whose calls nobody uses outside of tests and measurements.

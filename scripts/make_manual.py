@@ -86,8 +86,8 @@ def head(page, about):
     return [f'.TH {name.upper()} {section} "" "Gomthau" "Gomthau"', ".nh", ".ad l", ".SH NAME", f"{roff(name)} \\- {about}"]
 
 
-def of_command(command):
-    """What the help of a command says, as roff."""
+def of_command(command, is_documented):
+    """What the help of a command says, as roff. Its running text is left out where a document has it, and more."""
     lines = [".SH SYNOPSIS", ".nf", roff(command.usage), ".fi"]
     if command.commands:
         lines += [".SH COMMANDS"] + [line for name, about in command.commands for line in (".TP", f".B {roff(name)}", roff(about))]
@@ -97,7 +97,7 @@ def of_command(command):
     for option in command.options:
         value = f" \\fI{option.value}\\fR" if option.value else ""
         lines += [".TP", f"\\fB{roff(', '.join(option.names))}\\fR{value}", roff(option.text)]
-    if command.rest:
+    if command.rest and not is_documented:
         lines += [".SH DESCRIPTION", ".nf", roff("\n\n".join(command.rest)), ".fi"]
     return lines
 
@@ -110,10 +110,10 @@ def related(page, documents, known):
 
 def pages(commands, documents):
     """Each man page, by its file: one for each command, with the document about it, and one for each other document."""
-    texts = {}
+    texts, documented = {}, {document.page for document in documents}
     for command in commands:
         page = (f"{NAME}-{command.name}" if command.name else NAME, 1)
-        texts[page] = head(page, roff(command.about)) + of_command(command)
+        texts[page] = head(page, roff(command.about)) + of_command(command, page in documented)
     for document in documents:
         if document.page[1] != 1:
             texts[document.page] = head(document.page, document.plain(document.title)) + [".SH DESCRIPTION", *document.lines]
