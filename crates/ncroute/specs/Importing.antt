@@ -231,6 +231,15 @@ abbrev pub TellsEnd : ConfigView → Option TokenFault → Streams → Streams �
 TellsEnd config None before after is_cut = (after ≡ before) × (is_cut ≡ false)
 TellsEnd config (Some fault) before after is_cut = Writes (byte_line config (fault_place fault) end_words) before after × (is_cut ≡ true)
 
+-- `opens name` says what may come of opening a file of this name.
+module _ (opens : List ℕ → Result (Option (List ℕ)) Error → Type 0) where
+  -- it is said whether there is no folder of the path that is given: then its name was told, once
+  abbrev pub LacksFolder : Option (String Global) → Streams → Streams → Bool → Type 0
+  LacksFolder folder before after false = after ≡ before
+  LacksFolder None before after true = ⊥
+  LacksFolder (Some folder) before after true =
+      (error : Error) × (words : List ℕ) × opens (string_bytes folder) (Err error) × Tells (unmade_line (string_bytes folder) words) before after
+
 -- `creates name` says what may come of making a file of this name: what it holds at first, or why there is none. `leaves name` says what a
 -- new file of this name held when it was closed.
 module _ (creates : List ℕ → Result (Option (List ℕ)) Error → Type 0) (leaves : List ℕ → Option (List ℕ) → Type 0) where
@@ -317,17 +326,10 @@ module _ (creates : List ℕ → Result (Option (List ℕ)) Error → Type 0) (l
 
   -- `opens name` says what may come of opening a file of this name.
   module _ (opens : List ℕ → Result (Option (List ℕ)) Error → Type 0) where
-    -- it is said whether there is no folder of the path that is given: then its name was told, once
-    abbrev pub LacksFolder : Option (String Global) → Streams → Streams → Bool → Type 0
-    LacksFolder folder before after false = after ≡ before
-    LacksFolder None before after true = ⊥
-    LacksFolder (Some folder) before after true =
-        (error : Error) × (words : List ℕ) × opens (string_bytes folder) (Err error) × Tells (unmade_line (string_bytes folder) words) before after
-
     -- The configuration that a source is was read, with the files that it includes, and imported, and the exit status says whether something
     -- was left out: a file that is included, or what `ImportsCut` names. Or the source was not read, and nothing was written. Or there is no
     -- folder for the filters.
     unfoldable pub ImportsSource : Importing → Source → Streams → Streams → ℕ → Type 0
     ImportsSource how source before after status =
         ((config : ConfigView) × (mid : Streams) × ReadsConfig opens source config before mid × ImportsRead how config mid after status)
-        ⊎ ((SkipsText opens source before after × (status ≡ 1)) ⊎ (LacksFolder how.folder before after true × (status ≡ 1)))
+        ⊎ ((SkipsText opens source before after × (status ≡ 1)) ⊎ (LacksFolder opens how.folder before after true × (status ≡ 1)))
