@@ -16,4 +16,5 @@ mod MadeTexts
 mod PlanAdded
 mod Routed
 mod Taken
+mod ThreeTexts
 mod WrongRows

@@ -5,7 +5,7 @@ use Rattle.filter_reports.specs.Cuts.{IsCut}
 use Rattle.line_protocol.specs.declared.faults.StreamFault.TheVariants.{Memory}
 use Rattle.ncroute.specs.Reading.{told_line}
 
-none_appended : (tells : Option (List ℕ)) → Appends tells tells []
+pub none_appended : (tells : Option (List ℕ)) → Appends tells tells []
 none_appended None = tt
 none_appended (Some bytes) = let same : bytes ≡ bytes ++ [] = search rules in same
 

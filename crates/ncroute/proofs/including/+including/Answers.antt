@@ -16,14 +16,14 @@ push_included-returns-in-Left g t c =
 pub push_included-returns-in-Some-2 : goal.push_included-returns-in-Some-2
 push_included-returns-in-Some-2 g t c =
     let looks = rw c.in-Read.is at c.in_ok-why.ensures in
-    let reads = rw c.in-Some-2.is at c.in_ok-text-in-Read.ensures in
+    let reads = rw c.in-Some-2.is at c.in_ok-text-in-Read.ensures.read in
     put_there (g.F.Folder.opens c.args.files.now) c.args.included.now _ _ _ _ c.push_source.result c.args.depth c.in-Some.depth c.in-Read.source
     c.in-Some-2.text.items c.as_slice-text.result.now _ (omega arith) c.as_slice-text.ensures.value looks reads c.push_source.ensures
 
 pub push_included-returns-in-None : goal.push_included-returns-in-None
 push_included-returns-in-None g t c =
     let looks = rw c.in-Read.is at c.in_ok-why.ensures in
-    let skips = rw c.in-None.is at c.in_ok-text-in-Read.ensures in
+    let skips = rw c.in-None.is at c.in_ok-text-in-Read.ensures.read in
     not_read (g.F.Folder.opens c.args.files.now) c.args.included.now _ _ _ _ c.leave_out-in-None.result c.args.depth c.in-Some.depth c.in-Read.source _
     (omega arith) looks skips c.leave_out-in-None.ensures
 

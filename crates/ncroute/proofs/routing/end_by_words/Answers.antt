@@ -1,7 +1,8 @@
 -- The line that is cut is that of the fault.
-use Rattle.std.proofs.Common.{◌≡◌, ℕ, List, IfErr, subst, ◌∙◌}
+use Rattle.std.proofs.Common.{◌≡◌, ℕ, List, IfErr, refl, subst, ◌∙◌}
 use Rattle.filter_reports.specs.Cuts.{IsCut}
 use Rattle.filter_reports.specs.Faults.{stream_fault}
+use Rattle.ncroute.proofs.Untold.{none_appended}
 use Rattle.ncroute.proofs.routing.end_by_words.Goals as goal
 
 pub returns-in-Ok-clause-cut : goal.returns-in-Ok-clause-cut
@@ -10,3 +11,6 @@ returns-in-Ok-clause-cut g c =
     let tells = g.E.Write.contents c.end_by_line.new.errors in
     subst (λ (line : List ℕ). IfErr c.end_by_line.result (λ untold. (untold.status ≡ 2) × IsCut (stream_fault untold.why) told tells line))
     (c.as_slice.ensures.value ∙ c.in-Ok.ensures) c.end_by_line.ensures.cut
+
+pub returns-in-Err-clause-cut : goal.returns-in-Err-clause-cut
+returns-in-Err-clause-cut g c = (refl, none_appended (g.E.Write.contents c.args.errors.now))

@@ -1,0 +1,56 @@
+use Rattle.std.proofs.Common.{inl, inr, map, refl}
+use Rattle.std.proofs.lemmas.Result.{IfErr-weaker, IfOk-weaker}
+use Rattle.std.specs.Prelude.{string_bytes}
+use Rattle.router_files.specs.Files.{statement_of}
+use Rattle.ncroute.specs.Configured.{CutsText, ServesText}
+use Rattle.ncroute.proofs.configured.serve_text.Goals as goal
+
+pub returns-in_default-clause-served : goal.returns-in_default-clause-served
+unfolding ServesText
+returns-in_default-clause-served g c =
+    rw (← c.console.view_is) (IfOk-weaker c.end_by_memory.result _ _ (λ status told. inr (told, refl, refl)) c.end_by_memory.ensures.told)
+
+pub returns-in_default-clause-untold : goal.returns-in_default-clause-untold
+unfolding CutsText
+returns-in_default-clause-untold g c =
+    rw (← c.console.view_is) (IfErr-weaker c.end_by_memory.result _ _ (λ untold told. inr (told, refl, refl)) c.end_by_memory.ensures.cut)
+
+pub returns-in-Ok-read_statements-clause-served : goal.returns-in-Ok-read_statements-clause-served
+unfolding ServesText
+returns-in-Ok-read_statements-clause-served g c =
+    let file = rw c.as_str.ensures.value at c.in-Ok-read_statements.ensures in
+    IfOk-weaker c.serve_statements.result _ _
+    (λ status does. inl (
+      string_bytes c.in-Ok.folder,
+      c.in-Ok.ensures,
+      inl (map statement_of c.in-Ok-read_statements.statements.items, file, does),
+    ))
+    (rw c.as_slice-statements.ensures.value at c.serve_statements.ensures.served)
+
+pub returns-in-Ok-read_statements-clause-untold : goal.returns-in-Ok-read_statements-clause-untold
+unfolding CutsText
+returns-in-Ok-read_statements-clause-untold g c =
+    let file = rw c.as_str.ensures.value at c.in-Ok-read_statements.ensures in
+    IfErr-weaker c.serve_statements.result _ _
+    (λ untold does. inl (
+      string_bytes c.in-Ok.folder,
+      c.in-Ok.ensures,
+      inl (map statement_of c.in-Ok-read_statements.statements.items, file, does),
+    ))
+    (rw c.as_slice-statements.ensures.value at c.serve_statements.ensures.untold)
+
+pub returns-in-Err-clause-served : goal.returns-in-Err-clause-served
+unfolding ServesText
+returns-in-Err-clause-served g c =
+    let wrong = rw c.as_str.ensures.value at c.in-Err.ensures in
+    rw (← c.console.view_is) (IfOk-weaker c.end_by_wrong.result _ _
+    (λ status told. inl (string_bytes c.in-Ok.folder, c.in-Ok.ensures, inr (c.in-Err.wrong, wrong, (told, refl, refl))))
+    c.end_by_wrong.ensures.told)
+
+pub returns-in-Err-clause-untold : goal.returns-in-Err-clause-untold
+unfolding CutsText
+returns-in-Err-clause-untold g c =
+    let wrong = rw c.as_str.ensures.value at c.in-Err.ensures in
+    rw (← c.console.view_is) (IfErr-weaker c.end_by_wrong.result _ _
+    (λ untold told. inl (string_bytes c.in-Ok.folder, c.in-Ok.ensures, inr (c.in-Err.wrong, wrong, (told, refl, refl))))
+    c.end_by_wrong.ensures.cut)
