@@ -171,6 +171,8 @@ pub record IsRunning (given : List Row) (terminals : Terminals) (has_files : Boo
 pub record IsRouting (given : List Row) (words : RouterWords) : Type 0 where
   pub config : option_map (λ copy. string_bytes copy) words.config ≡ word_of (codes "config") given
   pub checks : words.checks ≡ is_set (codes "check") given
+  pub domain : option_map (λ copy. string_bytes copy) words.domain ≡ word_of (codes "domain") given
+  pub allows_other : words.allows_other ≡ is_set (codes "allow-other-domain") given
   pub size : words.size ≡ number_of 32 (codes "size") given
   pub node : words.node ≡ number_of 32 (codes "node") given
   pub limit : words.limit ≡ number_of 32 (codes "limit") given

@@ -90,6 +90,7 @@ all_taken =
     ∷ takes command.Domain (codes "explain") When ∷ takes command.Domain (codes "file") Argument
     ∷ takes command.Replay (codes "file") Arguments
     ∷ takes command.Router (codes "config") Text ∷ takes command.Router (codes "check") Flag
+    ∷ takes command.Router (codes "domain") Text ∷ takes command.Router (codes "allow-other-domain") Flag
     ∷ takes command.Router (codes "size") Number ∷ takes command.Router (codes "node") Number ∷ takes command.Router (codes "limit") Number
     ∷ takes command.Router (codes "queue") Number ∷ takes command.Router (codes "retry") Number ∷ takes command.Router (codes "hold") Number
     ∷ takes command.Router (codes "prefix") Texts

@@ -204,6 +204,8 @@ static PARAMETERS: [(&str, Parameter); 66] = [
     ("replay", REPLAYED),
     ("router", CONFIG),
     ("router", CHECK),
+    ("router", WHOLE_DOMAIN),
+    ("router", OTHER_DOMAIN),
     ("router", ROUTER_SIZE),
     ("router", NODE),
     ("router", ROOM),
@@ -484,6 +486,24 @@ const CHECK: Parameter = Parameter {
     name: "check",
     value: "",
     help: "Read the options and verify the filters, say what is wrong with them, and start nothing",
+    kind: ParameterKind::Flag,
+    is_required: false,
+};
+
+/// The file of a router's whole domain.
+const WHOLE_DOMAIN: Parameter = Parameter {
+    name: "domain",
+    value: "FILE",
+    help: "Take size, prefixes, links and filters from FILE, a script of `ncroute domain`",
+    kind: ParameterKind::Text,
+    is_required: false,
+};
+
+/// A neighbour's domain may have been set up by another file.
+const OTHER_DOMAIN: Parameter = Parameter {
+    name: "allow-other-domain",
+    value: "",
+    help: "Speak with neighbours that were started from another file of the domain, too",
     kind: ParameterKind::Flag,
     is_required: false,
 };

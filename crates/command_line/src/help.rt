@@ -339,6 +339,12 @@ A line of the FILE of --config says an option without its dashes, with blanks be
 parts: `size 4`, `link 1 in out`, `filter near near.filter`, `stay`. Names of files count from
 the folder of FILE. A word that begins with # begins a comment.
 
+--domain takes size, prefixes, links and filters of node ME from the script by which
+`ncroute domain` predicts the routes of the whole domain; --link says where the streams of
+each of its links are. A line `include NAME FILE` there is `load NAME` with the text of FILE.
+A digest of the domain goes with each greeting: two routers that were started from different
+domains say so, and are not up with one another, unless --allow-other-domain is given.
+
 The last entries of the history are kept in memory. With --save all of them are in FOLDER, or
 the last ones with --segments, and one that is not saved yet is not forgotten.
 

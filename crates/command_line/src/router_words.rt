@@ -17,6 +17,10 @@ pub struct RouterWords {
     pub config: Option<String>,
     /// The options are looked at, and nothing is started.
     pub checks: bool,
+    /// The file of the whole domain.
+    pub domain: Option<String>,
+    /// A neighbour's domain may have been set up by another file.
+    pub allows_other: bool,
     /// The number of nodes of the domain.
     pub size: Option<u32>,
     /// The node that the router is.
@@ -63,6 +67,8 @@ fn routing_in(
     Ok(RouterWords {
         config: text_in(alloc, matches, "config")?,
         checks: is_given(matches, "check"),
+        domain: text_in(alloc, matches, "domain")?,
+        allows_other: is_given(matches, "allow-other-domain"),
         size: number_given(matches, "size"),
         node: number_given(matches, "node"),
         limit: number_given(matches, "limit"),

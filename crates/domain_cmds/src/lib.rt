@@ -38,4 +38,5 @@ mod without;
 pub use command::{Command, DomainSize, Question};
 pub use engine::{run_domain, run_watched_domain};
 pub use laws::{failures_stand_still_as_cuts, marks_are_of_a_plan};
+pub use planning::Planning;
 pub use read::read_command;

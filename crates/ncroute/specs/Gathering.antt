@@ -35,6 +35,8 @@ says words option.Settle = is_some words.settle
 says words option.Save = is_some words.save
 says words option.Routes = is_some words.routes
 says words option.Stay = words.stays
+says words option.Domain = is_some words.domain
+says words option.AllowOtherDomain = words.allows_other
 says words option.Prefix = false
 says words option.Filter = false
 says words option.Import = false
@@ -140,6 +142,9 @@ filters_in statement = filters_said statement.said
 pub record Gathers (words : RouterWords) (statements : List StatementView) (all : RouterWords) : Type 0 where
   pub config : all.config ≡ None
   pub checks : all.checks ≡ words.checks
+  pub domain : option_map (λ text. string_bytes text) all.domain
+      ≡ text_of (option_map (λ text. string_bytes text) words.domain) option.Domain statements
+  pub allows_other : all.allows_other ≡ (words.allows_other || is_some (nth_stated option.AllowOtherDomain 0 statements))
   pub size : all.size ≡ number_of words.size option.Size statements
   pub node : all.node ≡ number_of words.node option.Node statements
   pub limit : all.limit ≡ number_of words.limit option.Limit statements

@@ -9,6 +9,7 @@ use Rattle.command_line.specs.declared.requests.Engine.{Engine}
 use Rattle.command_line.specs.declared.requests.Engine.TheVariants.{Router, Domain}
 use Rattle.command_line.specs.declared.requests.Source.{Source}
 use Rattle.command_line.specs.declared.requests.Source.TheVariants.{Input, File}
+use Rattle.ncroute.specs.Domains.{CutsIncluding, Includes, LacksIncluded}
 use Rattle.ncroute.specs.Ending.{status_of}
 use Rattle.ncroute.specs.Reading.{Reads, SkipsUnread, StopsReading}
 use Rattle.ncroute.specs.Streaming.{Streams}
@@ -61,18 +62,34 @@ pub record StopsScript (fault : StreamFault) (engine : Engine) (is_explained : B
 
 -- `opens name` says what may come of opening a file of this name.
 module _ (opens : List ℕ → Result (Option (List ℕ)) Error → Type 0) where
+  -- A text of a file was carried out. That of a domain's script is first put together with the filters that it includes; where one of them is not
+  -- there or is refused, standard error was told, and no line is answered.
+  abbrev pub RunsText : Engine → Source → Bool → List ℕ → Streams → Streams → ℕ → Type 0
+  RunsText Router source is_explained script before after status =
+      RunsScript Router is_explained (Some script) before after status
+  RunsText Domain source is_explained script before after status =
+      ((whole : List ℕ) × (mid : Streams) × Includes opens source script whole before mid
+      × RunsScript Domain is_explained (Some whole) mid after status)
+      ⊎ (LacksIncluded opens source script before after × (status ≡ script_fault Domain))
+
+  abbrev pub StopsText : StreamFault → Engine → Source → Bool → List ℕ → Streams → Streams → Type 0
+  StopsText fault Router source is_explained script before after = StopsScript fault Router is_explained (Some script) before after
+  StopsText fault Domain source is_explained script before after = CutsIncluding opens fault source script before after
+      ⊎ ((whole : List ℕ) × (mid : Streams) × Includes opens source script whole before mid
+      × StopsScript fault Domain is_explained (Some whole) mid after)
+
   -- The script of a file was read to its end, or to the limit, and carried out; or it was not read.
   abbrev pub RunsFile : Engine → Source → Bool → Streams → Streams → ℕ → Type 0
   RunsFile engine source is_explained before after status =
       ((script : List ℕ) × (mid : Streams) × Reads opens input_limit source script before mid
-      × RunsScript engine is_explained (Some script) mid after status)
+      × RunsText engine source is_explained script mid after status)
       ⊎ (SkipsUnread opens input_limit source before after × (status ≡ script_fault engine))
 
   -- A fault ended it.
   abbrev pub StopsFile : StreamFault → Engine → Source → Bool → Streams → Streams → Type 0
   StopsFile fault engine source is_explained before after = StopsReading opens fault input_limit source before after
       ⊎ ((script : List ℕ) × (mid : Streams) × Reads opens input_limit source script before mid
-      × StopsScript fault engine is_explained (Some script) mid after)
+      × StopsText fault engine source is_explained script mid after)
 
   -- A script was carried out: line by line as standard input has it, or from a file.
   abbrev pub RunsSource : Engine → Source → Bool → Streams → Streams → ℕ → Type 0

@@ -12,11 +12,12 @@ ghost use Rattle.ncroute.specs.Configured as spec;
 ghost use Rattle.ncroute.specs.Stated.{origin_of};
 
 use crate::console::Console;
+use crate::domain_router::serve_in_domain;
 use crate::ending::{FAILED, fault_line};
 use crate::folders::HistoryFolders;
 use crate::gathering::{Clash, find_clash, gather};
 use crate::including::{path_beside, read_config};
-use crate::routing::{Untold, end_by_line, serve_words};
+use crate::routing::{Untold, end_by_line};
 use crate::stated::{Origin, no_file};
 use crate::texts::Folder;
 use crate::wrong_lines::{clash_line, refused_line};
@@ -125,7 +126,7 @@ where
         return end_by_clash(alloc, &mut console.errors, origin.name, clash);
     }
     match gather(alloc, words, origin.statements) {
-        Ok(all) => serve_words::<R, FI, FO, T, I, W, E>(rt, alloc, &all, origin, console, voice),
+        Ok(all) => serve_in_domain::<R, FI, FO, T, I, W, E>(rt, alloc, &all, origin, console, voice),
         Err(_) => end_by_memory(&mut console.errors),
     }
 }
@@ -273,6 +274,6 @@ where
         Some(name) => {
             serve_file::<R, FI, FO, T, I, W, E>(rt, alloc, words, name.as_str(), console, voice)
         }
-        None => serve_words::<R, FI, FO, T, I, W, E>(rt, alloc, words, no_file(), console, voice),
+        None => serve_in_domain::<R, FI, FO, T, I, W, E>(rt, alloc, words, no_file(), console, voice),
     }
 }

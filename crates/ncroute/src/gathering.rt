@@ -58,6 +58,8 @@ fn says(words: &RouterWords, option: RouterOption) -> bool
         RouterOption::Save => words.save.is_some(),
         RouterOption::Routes => words.routes.is_some(),
         RouterOption::Stay => words.stays,
+        RouterOption::Domain => words.domain.is_some(),
+        RouterOption::AllowOtherDomain => words.allows_other,
         RouterOption::Prefix
         | RouterOption::Filter
         | RouterOption::Import
@@ -324,6 +326,9 @@ pub fn gather(
     Ok(RouterWords {
         config: None,
         checks: words.checks,
+        domain: text_of(alloc, &words.domain, statements, RouterOption::Domain)?,
+        allows_other: words.allows_other
+            || nth_stated(statements, RouterOption::AllowOtherDomain, 0).is_some(),
         size: number_of(words.size, statements, RouterOption::Size),
         node: number_of(words.node, statements, RouterOption::Node),
         limit: number_of(words.limit, statements, RouterOption::Limit),

@@ -48,11 +48,11 @@ use std::thread::Threads;
 const SETTLE: u32 = 10;
 
 /// The exit status where the words are wrong.
-const WRONG_WORDS: u8 = 2;
+pub const WRONG_WORDS: u8 = 2;
 
 /// What kept a router from being set up.
 #[derive(Clone, Copy)]
-enum SetupFault<'a> {
+pub enum SetupFault<'a> {
     /// The words are wrong.
     Words(PlanFault<'a>),
     /// A fault of the program.
@@ -102,7 +102,7 @@ fn end_by_words<E: Write>(
 }
 
 /// Tells people what kept a router from being set up: the exit status.
-fn end_unset<E: Write>(
+pub fn end_unset<E: Write>(
     alloc: Global,
     errors: &mut E,
     origin: Origin<'_>,
@@ -155,7 +155,7 @@ fn end_by_fault<E: Write>(errors: &mut E, fault: DaemonFault) -> Result<u8, Unto
 }
 
 /// Makes the folder in which the history is saved, if one is named. There is none where it is not made, which people are told.
-fn make_save<F: HistoryFolders, E: Write>(
+pub fn make_save<F: HistoryFolders, E: Write>(
     files: &F,
     alloc: Global,
     save: &Option<String>,
@@ -189,7 +189,7 @@ fn size_of(plan: &RouterPlan) -> u16
 }
 
 /// Where the routes are told, if they are to be.
-fn feed_of(words: &RouterWords) -> Option<FeedFile<'_>>
+pub fn feed_of(words: &RouterWords) -> Option<FeedFile<'_>>
     ensures { is_some result ≡ is_some words.now.routes }
 {
     match &words.routes {
@@ -347,7 +347,7 @@ fn leave_save<F: HistoryFolders>(
 }
 
 /// Runs a router that is set up: the exit status. The folder of its history is left at last.
-fn run_setting<
+pub fn run_setting<
     R: Threads
         + Wait
         + Clock

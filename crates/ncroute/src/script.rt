@@ -1,10 +1,11 @@
 //! Scripts: a router or a whole domain carries one out, and its refusals are told.
 ghost use Rattle.std.specs.Prelude.{◌≡◌, IfErr, IfOk, IfSome};
 ghost use Rattle.filter_reports.specs.Faults.{stream_fault};
-ghost use Rattle.ncroute.specs.Scripts.{IsAnswered, IsLeftOff, IsQuiet, RunsFile, RunsScript, RunsSource, StopsFile, StopsScript, StopsSource};
+ghost use Rattle.ncroute.specs.Scripts.{IsAnswered, IsLeftOff, IsQuiet, RunsFile, RunsScript, RunsSource, RunsText, StopsFile, StopsScript, StopsSource, StopsText};
 ghost use Rattle.ncroute.specs.Scripts.{TakesLines, script_fault, text_of};
 
 use crate::console::{Console, Loaded};
+use crate::domains::include_filters;
 use crate::ending::{FAILED, FAULT, status_of};
 use crate::texts::{Folder, name_of};
 use crate::watcher::Teller;
@@ -132,6 +133,45 @@ fn carry_out<R: Read, W: Write, E: Write>(
     Ok(status_of(refused))
 }
 
+/// Carries out the script of a file, which has this text. That of a domain may include the files of filters; where one of these is not read or is
+/// refused, people are told, and no line is answered.
+fn run_text<F: Folder, R: Read, W: Write, E: Write>(
+    files: &F,
+    alloc: Global,
+    engine: Engine,
+    source: &Source,
+    is_explained: bool,
+    text: &[u8],
+    console: &mut Console<R, W, E>,
+) -> Result<u8, ProgramFault>
+    ensures finished { IfOk result (RunsText (F.opens files.now) engine source.now is_explained text.now console.old console.new) }
+    ensures stopped { IfErr result (λ fault. StopsText (F.opens files.now) (stream_fault fault) engine source.now is_explained text.now
+        console.old console.new) }
+{
+    let name = name_of(source);
+    match engine {
+        Engine::Router => carry_out(
+            alloc,
+            engine,
+            name,
+            is_explained,
+            Lines::Text(text),
+            console,
+        ),
+        Engine::Domain => match include_filters(files, alloc, source, text, console)? {
+            Some(whole) => carry_out(
+                alloc,
+                engine,
+                name,
+                is_explained,
+                Lines::Text(whole.as_slice()),
+                console,
+            ),
+            None => Ok(script_fault(engine)),
+        },
+    }
+}
+
 /// Carries out the script of a file, and returns the exit status.
 fn run_file<F: Folder, R: Read, W: Write, E: Write>(
     files: &F,
@@ -146,12 +186,13 @@ fn run_file<F: Folder, R: Read, W: Write, E: Write>(
         console.old console.new) }
 {
     match console.read(files, alloc, source, INPUT_LIMIT) {
-        Loaded::Text(text) => carry_out(
+        Loaded::Text(text) => run_text(
+            files,
             alloc,
             engine,
-            name_of(source),
+            source,
             is_explained,
-            Lines::Text(text.as_slice()),
+            text.as_slice(),
             console,
         ),
         Loaded::Skipped => Ok(script_fault(engine)),

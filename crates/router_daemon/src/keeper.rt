@@ -47,6 +47,8 @@ pub(crate) struct Link {
     pub(crate) retry: Option<u32>,
     /// How many seconds this router may be silent before it is dead; 0 for any time.
     pub(crate) hold: u16,
+    /// The digest of its domain, which the neighbour is told.
+    pub(crate) digest: Option<[u8; 8]>,
 }
 
 /// The streams of a link that is open.
@@ -334,6 +336,7 @@ fn open_station<R: Wait + Clock + RandomSource, J: Naming, E: Write>(
         size: link.domain.size,
         node: link.domain.me,
         hold: link.hold,
+        digest: link.digest,
     };
     let now = now(rt).unwrap_or(0);
     shared.signals.stations.open(rt, link.index, speaker, now);

@@ -26,7 +26,7 @@ use history_saver::{SaveFault, SegmentFolder, SegmentSaver};
 use line_protocol::StreamFault;
 use neighbour_session::Domain;
 use router_operator::Naming;
-use router_options::{LinkFiles, RouterPlan};
+use router_options::{DomainMark, LinkFiles, RouterPlan};
 use slot_lock::{Pass, Right, Router};
 use std::alloc::{AllocError, Global};
 use std::io::{Read, Write};
@@ -53,6 +53,16 @@ fn begin_forgetting<S: SegmentFolder + Drop, J: Naming>(
     match Forgetter::begin(alloc, save, &plan.opening, plan.limit, plan.segments, right) {
         Ok(forgetter) => Ok(forgetter),
         Err(fault) => Err(DaemonFault::NotBegun(fault)),
+    }
+}
+
+/// The digest that the domain of a neighbour has to have, where it says one.
+fn wanted_digest(domain: Option<DomainMark>) -> Option<[u8; 8]>
+    ensures { result ≡ spec.wanted_digest domain }
+{
+    match domain {
+        Some(mark) if !mark.allows_other => Some(mark.digest),
+        _ => None,
     }
 }
 
@@ -224,6 +234,7 @@ fn run_named<
         retry,
         hold,
         stays,
+        domain,
         ..
     } = plan;
     let figures = Figures {
@@ -235,7 +246,9 @@ fn run_named<
         domain: Domain {
             size: figures.size,
             me: opening.me(),
+            digest: wanted_digest(domain),
         },
+        digest: domain.map(|mark| mark.digest),
         retry,
         hold,
     };

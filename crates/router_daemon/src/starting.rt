@@ -40,6 +40,8 @@ const SHARES: u32 = 100;
 pub(crate) struct Links {
     /// The router's place in its domain.
     pub(crate) domain: Domain,
+    /// The digest of its domain, which neighbours are told.
+    pub(crate) digest: Option<[u8; 8]>,
     /// How long a closed link waits before it is opened again, in seconds.
     pub(crate) retry: Option<u32>,
     /// How many seconds the router may be silent before it is dead; 0 for any time.
@@ -187,6 +189,7 @@ pub(crate) fn start_links<
             files,
             domain: common.domain,
             retry: common.retry,
+            digest: common.digest,
             hold,
         };
         let ticket = take_part(shared, pass, SHARES)?;

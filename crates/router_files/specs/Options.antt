@@ -19,6 +19,8 @@ name_of option.Settle = codes "settle"
 name_of option.Save = codes "save"
 name_of option.Routes = codes "routes"
 name_of option.Stay = codes "stay"
+name_of option.Domain = codes "domain"
+name_of option.AllowOtherDomain = codes "allow-other-domain"
 name_of option.Prefix = codes "prefix"
 name_of option.Filter = codes "filter"
 name_of option.Import = codes "import"
@@ -38,6 +40,8 @@ form_of option.Settle = codes "settle SECONDS"
 form_of option.Save = codes "save FOLDER"
 form_of option.Routes = codes "routes FILE"
 form_of option.Stay = codes "stay"
+form_of option.Domain = codes "domain FILE"
+form_of option.AllowOtherDomain = codes "allow-other-domain"
 form_of option.Prefix = codes "prefix V PREFIX"
 form_of option.Filter = codes "filter NAME FILE"
 form_of option.Import = codes "import W NAME"
@@ -57,6 +61,8 @@ shape_of option.Settle = Number
 shape_of option.Save = Path
 shape_of option.Routes = Path
 shape_of option.Stay = Alone
+shape_of option.Domain = Path
+shape_of option.AllowOtherDomain = Alone
 shape_of option.Prefix = Pair
 shape_of option.Filter = Named
 shape_of option.Import = Pair
@@ -79,7 +85,8 @@ stands_once option = is_single (shape_of option)
 abbrev pub options : List RouterOption
 options =
     option.Size ∷ option.Node ∷ option.Limit ∷ option.Queue ∷ option.Retry ∷ option.Hold ∷ option.Segments ∷ option.Settle ∷ option.Save
-    ∷ option.Routes ∷ option.Stay ∷ option.Prefix ∷ option.Filter ∷ option.Import ∷ option.Export ∷ option.Link ∷ []
+    ∷ option.Routes ∷ option.Stay ∷ option.Domain ∷ option.AllowOtherDomain
+    ∷ option.Prefix ∷ option.Filter ∷ option.Import ∷ option.Export ∷ option.Link ∷ []
 
 -- an option has a name
 abbrev pub is_named : List ℕ → RouterOption → Bool

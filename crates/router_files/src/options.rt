@@ -27,6 +27,10 @@ pub enum RouterOption {
     Routes,
     /// `stay`
     Stay,
+    /// `domain FILE`
+    Domain,
+    /// `allow-other-domain`
+    AllowOtherDomain,
     /// `prefix V PREFIX`
     Prefix,
     /// `filter NAME FILE`
@@ -57,7 +61,7 @@ pub enum Shape {
 }
 
 /// All of them.
-static OPTIONS: [RouterOption; 16] = [
+static OPTIONS: [RouterOption; 18] = [
     RouterOption::Size,
     RouterOption::Node,
     RouterOption::Limit,
@@ -69,6 +73,8 @@ static OPTIONS: [RouterOption; 16] = [
     RouterOption::Save,
     RouterOption::Routes,
     RouterOption::Stay,
+    RouterOption::Domain,
+    RouterOption::AllowOtherDomain,
     RouterOption::Prefix,
     RouterOption::Filter,
     RouterOption::Import,
@@ -95,6 +101,8 @@ impl RouterOption {
             RouterOption::Save => "save",
             RouterOption::Routes => "routes",
             RouterOption::Stay => "stay",
+            RouterOption::Domain => "domain",
+            RouterOption::AllowOtherDomain => "allow-other-domain",
             RouterOption::Prefix => "prefix",
             RouterOption::Filter => "filter",
             RouterOption::Import => "import",
@@ -119,6 +127,8 @@ impl RouterOption {
             RouterOption::Save => "save FOLDER",
             RouterOption::Routes => "routes FILE",
             RouterOption::Stay => "stay",
+            RouterOption::Domain => "domain FILE",
+            RouterOption::AllowOtherDomain => "allow-other-domain",
             RouterOption::Prefix => "prefix V PREFIX",
             RouterOption::Filter => "filter NAME FILE",
             RouterOption::Import => "import W NAME",
@@ -140,8 +150,8 @@ impl RouterOption {
             | RouterOption::Hold
             | RouterOption::Segments
             | RouterOption::Settle => Shape::Number,
-            RouterOption::Save | RouterOption::Routes => Shape::Path,
-            RouterOption::Stay => Shape::Alone,
+            RouterOption::Save | RouterOption::Routes | RouterOption::Domain => Shape::Path,
+            RouterOption::Stay | RouterOption::AllowOtherDomain => Shape::Alone,
             RouterOption::Prefix | RouterOption::Import | RouterOption::Export => Shape::Pair,
             RouterOption::Filter => Shape::Named,
             RouterOption::Link => Shape::Files,

@@ -111,6 +111,7 @@ new_plan n save stays = record {
   retry = n.retry;
   hold = hold_or n.hold;
   stays = stays;
+  domain = None;
 }
 
 -- ---- an option that is added is the last one of its kind, and all else stays

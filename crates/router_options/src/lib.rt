@@ -7,4 +7,4 @@ mod plan;
 
 pub use fault::{NodeFault, NumberFault, OptionFault};
 pub use parts::{FilterUse, LinkFiles, NodePrefix};
-pub use plan::{Numbers, RouterPlan, SMALLEST_ROOM, USUAL_QUEUE};
+pub use plan::{DomainMark, Numbers, RouterPlan, SMALLEST_ROOM, USUAL_QUEUE};

@@ -57,6 +57,15 @@ pub struct Numbers {
     pub hold: Option<u32>,
 }
 
+/// The file by which the domain of a router was set up.
+#[derive(Clone, Copy, PartialEq, Eq)]
+pub struct DomainMark {
+    /// The digest of the domain.
+    pub digest: [u8; 8],
+    /// A neighbour may have another one.
+    pub allows_other: bool,
+}
+
 /// What a router is told before it begins. A node has at most one prefix that was given, one import filter, one export filter and one link,
 /// and each filter that is used has a name. A contract sees it as a `PlanView`.
 #[derive(Drop)]
@@ -87,6 +96,8 @@ pub struct RouterPlan {
     pub hold: u16,
     /// The router goes on where its standard input ends.
     pub stays: bool,
+    /// The file by which its domain was set up, if one was.
+    pub domain: Option<DomainMark>,
 }
 
 impl Model for RouterPlan {
@@ -94,9 +105,9 @@ impl Model for RouterPlan {
 
     ghost Value = { PlanView };
 
-    ghost view = { λ p. record { opening = p.opening; placed = p.placed.items; limit = p.limit; queue = p.queue; filters = p.filters.items; imports = p.imports.items; exports = p.exports.items; links = p.links.items; save = p.save; segments = p.segments; retry = p.retry; hold = p.hold; stays = p.stays } };
+    ghost view = { λ p. record { opening = p.opening; placed = p.placed.items; limit = p.limit; queue = p.queue; filters = p.filters.items; imports = p.imports.items; exports = p.exports.items; links = p.links.items; save = p.save; segments = p.segments; retry = p.retry; hold = p.hold; stays = p.stays; domain = p.domain } };
 
-    ghost invariant = { λ p. IsPlan (record { opening = p.opening; placed = p.placed.items; limit = p.limit; queue = p.queue; filters = p.filters.items; imports = p.imports.items; exports = p.exports.items; links = p.links.items; save = p.save; segments = p.segments; retry = p.retry; hold = p.hold; stays = p.stays }) };
+    ghost invariant = { λ p. IsPlan (record { opening = p.opening; placed = p.placed.items; limit = p.limit; queue = p.queue; filters = p.filters.items; imports = p.imports.items; exports = p.exports.items; links = p.links.items; save = p.save; segments = p.segments; retry = p.retry; hold = p.hold; stays = p.stays; domain = p.domain }) };
 }
 
 /// Whether a domain has so many nodes.
@@ -264,7 +275,15 @@ impl RouterPlan {
             retry: numbers.retry,
             hold: hold_or(numbers.hold) as u16,
             stays,
+            domain: None,
         })
+    }
+
+    /// Notes by which file the domain was set up.
+    pub fn set_domain(&mut self, mark: DomainMark)
+        ensures { self.new ≡ record self.old { domain = Some mark } }
+    {
+        self.domain = Some(mark);
     }
 
     /// Reads a prefix, `V=PREFIX`, of a node that was given none.

@@ -1,0 +1,321 @@
+//! The file of a domain is read.
+ghost use Rattle.std.specs.Prelude.{◌≡◌, ◌≢◌, ◌<◌, ◌^◌, IfErr, IfOk, IfSome, Some, None, length};
+ghost use Rattle.std.specs.Option.{option_map};
+ghost use Rattle.domain_files.specs.Files as spec;
+
+use crate::lines::next_line;
+use domain_cmds::{Command, Planning, read_command};
+use domain_routes::Plan;
+use line_protocol::{LineReply, is_skipped};
+use operator_cmds::{CommandFault, Direction, NamedFilters, RefusedLine, confirm, refuse};
+use std::alloc::{AllocError, Global};
+use std::marker::Model;
+
+/// That what passes between two nodes goes through the filter of a name.
+#[derive(Drop)]
+pub(crate) struct NamedUse {
+    /// What the first node receives from the second, or what it tells it.
+    pub(crate) direction: Direction,
+    /// The first node.
+    pub(crate) u: u16,
+    /// The second.
+    pub(crate) w: u16,
+    /// The name.
+    pub(crate) name: Vec<u8>,
+}
+
+/// A domain as its file sets it up. A contract sees it as a `FileView`.
+#[derive(Drop)]
+pub struct DomainFile {
+    /// The domain.
+    planning: Planning,
+    /// The uses of its filters, in the order of their lines. Of two of one direction between the same nodes the later one counts.
+    uses: Vec<NamedUse>,
+}
+
+impl Model for DomainFile {
+    ghost use Rattle.std.specs.Prelude.{map};
+    ghost use Rattle.domain_files.specs.Files.{FileView, AreUses, use_of};
+
+    ghost Value = { FileView };
+
+    ghost view = { λ f. record { planning = f.planning; uses = map use_of f.uses.items } };
+
+    // What is used between two nodes is the filter that has the name now.
+    ghost invariant = { λ f. AreUses f.planning (map use_of f.uses.items) };
+}
+
+impl DomainFile {
+    ghost use Rattle.domain_files.specs.Files.{file_before};
+
+    /// The domain.
+    pub fn plan(&self) -> &Plan
+        ensures { result.now ≡ self.now.planning.plan }
+    {
+        self.planning.plan()
+    }
+
+    /// The filters that have names.
+    pub fn filters(&self) -> &NamedFilters
+        ensures { result.now.entries ≡ self.now.planning.filters }
+    {
+        self.planning.filters()
+    }
+
+    /// The uses of its filters.
+    pub(crate) fn uses(&self) -> &[NamedUse]
+        ensures { map spec.use_of result.now ≡ self.now.uses }
+    {
+        self.uses.as_slice()
+    }
+
+    /// Whether a filter has this name.
+    fn has_name(&self, name: &[u8]) -> bool
+        ensures { result ≡ spec.has_name self.now.planning name.now }
+    {
+        self.planning.filters().get(name).is_some()
+    }
+}
+
+/// A line of a domain's file that is refused.
+#[derive(Drop)]
+pub struct WrongLine {
+    /// Its number, from 1.
+    pub number: u32,
+    /// The line.
+    pub line: Vec<u8>,
+    /// The answer that refuses it.
+    pub answer: Vec<u8>,
+    /// What the lines before it set up.
+    pub before: Option<DomainFile>,
+}
+
+impl WrongLine {
+    /// The line as those see it who tell people why a line of a script is refused.
+    pub fn shown(&self) -> RefusedLine<'_>
+        ensures number { result.number ≡ self.now.number }
+        ensures line { result.line.now ≡ self.now.line.items }
+        ensures answer { result.answer.now ≡ self.now.answer.items }
+    {
+        let planning = self.before.as_ref().map(|file| &file.planning);
+        RefusedLine {
+            number: self.number,
+            line: self.line.as_slice(),
+            answer: self.answer.as_slice(),
+            size: planning.map(|planning| planning.size()),
+            filters: planning.map(|planning| planning.filters()),
+            told: planning.and_then(|planning| planning.told()),
+        }
+    }
+}
+
+/// Why a text is not the file of a domain.
+#[derive(Drop)]
+pub enum WrongFile {
+    /// This line is refused.
+    Refused(WrongLine),
+    /// The line of this number gives a name to a filter that another one has.
+    NameAgain(u32),
+    /// No line says `domain`.
+    NoDomain,
+    /// Memory was refused.
+    Memory,
+}
+
+impl From<AllocError> for WrongFile {
+    ghost use Rattle.std.specs.Prelude.{◌≡◌};
+    ghost use Rattle.domain_files.specs.declared.reading.WrongFile.TheVariants.{Memory};
+
+    ghost from_gives = { λ _ why. why ≡ Memory };
+
+    fn from(_: AllocError) -> WrongFile {
+        WrongFile::Memory
+    }
+}
+
+/// What a command uses, if it says that a filter is used.
+fn used_by(alloc: Global, command: &Command<'_>) -> Result<Option<NamedUse>, AllocError>
+    ensures { IfOk result (λ used. option_map spec.use_of used ≡ spec.used_by (spec.view_of command.now)) }
+{
+    match command {
+        Command::Use {
+            direction,
+            u,
+            w,
+            name,
+        } => Ok(Some(NamedUse {
+            direction: *direction,
+            u: *u,
+            w: *w,
+            name: Vec::from_slice(alloc, name)?,
+        })),
+        _ => Ok(None),
+    }
+}
+
+/// The name that a command gives to a filter.
+fn name_given<'a>(command: &Command<'a>) -> Option<&'a [u8]>
+    ensures { option_map (λ name. name.now) result ≡ spec.name_given (spec.view_of command.now) }
+{
+    match command {
+        Command::Load { name, .. } | Command::Code { name, .. } => Some(name),
+        _ => None,
+    }
+}
+
+/// Whether a command asks, or remembers routes, and so changes nothing but that prefixes stay.
+fn is_asking(command: &Command<'_>) -> bool
+    ensures { result ≡ spec.is_asking (spec.view_of command.now) }
+{
+    matches!(command, Command::Ask(_) | Command::Mark)
+}
+
+/// What a line came to.
+#[derive(Clone, Copy, PartialEq, Eq)]
+enum Carried {
+    /// It is carried out.
+    Done,
+    /// It is refused, by the answer that was written.
+    Refused,
+    /// It gives a name to a filter that another one has.
+    NameAgain,
+}
+
+impl DomainFile {
+    /// Carries out a command, which may be refused by an answer.
+    fn carry_out(
+        &mut self,
+        alloc: Global,
+        number: u32,
+        command: Command<'_>,
+        answer: &mut Vec<u8>,
+    ) -> Result<Carried, AllocError>
+        ensures done { IfOk result (λ carried. (carried ≡ Carried.Done) → spec.Carries self.old number (spec.view_of command.entry) self.new) }
+        ensures refused { IfOk result (λ carried. (carried ≡ Carried.Refused) → spec.Refuses self.old number (spec.view_of command.entry) answer.new.items) }
+        ensures again { IfOk result (λ carried. (carried ≡ Carried.NameAgain) → spec.GivesNameAgain self.old (spec.view_of command.entry)) }
+    {
+        if is_asking(&command) {
+            self.planning.begin();
+            return Ok(Carried::Done);
+        }
+        if let Some(name) = name_given(&command) {
+            if self.has_name(name) {
+                return Ok(Carried::NameAgain);
+            }
+        }
+        let used = used_by(alloc, &command)?;
+        match self.planning.carry_out(alloc, number, command, answer)? {
+            LineReply::Answered => {
+                if let Some(used) = used {
+                    self.uses.push(used)?;
+                }
+                Ok(Carried::Done)
+            }
+            LineReply::Refused | LineReply::Ended => Ok(Carried::Refused),
+        }
+    }
+}
+
+/// What is read of a domain's file up to a line.
+#[derive(Drop)]
+struct Reading {
+    /// What the lines set up, once one said `domain`.
+    file: Option<DomainFile>,
+    /// The answer to the line that was read last.
+    answer: Vec<u8>,
+}
+
+impl Reading {
+    /// Carries out a command.
+    fn carry_out(
+        &mut self,
+        alloc: Global,
+        number: u32,
+        command: Command<'_>,
+    ) -> Result<Carried, AllocError>
+        ensures done { IfOk result (λ carried. (carried ≡ Carried.Done) → spec.CarriesFirst self.old.file number (spec.view_of command.entry) self.new.file) }
+        ensures refused { IfOk result (λ carried. (carried ≡ Carried.Refused) →
+            spec.RefusesFirst self.old.file number (spec.view_of command.entry) self.new.answer.items) }
+        ensures again { IfOk result (λ carried. (carried ≡ Carried.NameAgain) →
+            IfSome self.old.file (λ file. spec.GivesNameAgain file (spec.view_of command.entry))) }
+    {
+        match &mut self.file {
+            Some(file) => file.carry_out(alloc, number, command, &mut self.answer),
+            None => match command {
+                Command::Domain(size) => {
+                    self.file = Some(DomainFile {
+                        planning: Planning::new(alloc, size)?,
+                        uses: Vec::new(alloc),
+                    });
+                    Ok(Carried::Done)
+                }
+                _ => {
+                    // As the script of a domain says it, whose first command is `domain`.
+                    refuse(&mut self.answer, "O4", u64::from(number))?;
+                    Ok(Carried::Refused)
+                }
+            },
+        }
+    }
+
+    /// Reads a line.
+    fn take(&mut self, alloc: Global, number: u32, line: &[u8]) -> Result<Carried, AllocError>
+        ensures done { IfOk result (λ carried. (carried ≡ Carried.Done) → spec.TakesLine self.old.file number line.now self.new.file) }
+        ensures refused { IfOk result (λ carried. (carried ≡ Carried.Refused) → spec.RefusesLine self.old.file number line.now self.new.answer.items) }
+        ensures again { IfOk result (λ carried. (carried ≡ Carried.NameAgain) → spec.NamesAgain self.old.file line.now) }
+    {
+        self.answer.clear();
+        if is_skipped(line) {
+            return Ok(Carried::Done);
+        }
+        match read_command(alloc, line) {
+            Ok(command) => self.carry_out(alloc, number, command),
+            Err(CommandFault::Memory) => Err(AllocError),
+            Err(why) => {
+                refuse(&mut self.answer, why.code(), u64::from(number))?;
+                Ok(Carried::Refused)
+            }
+        }
+    }
+}
+
+/// The line that is refused.
+fn wrong_line(alloc: Global, number: u32, line: &[u8], reading: Reading) -> WrongFile
+    ensures { spec.IsWrongLine number line.now reading.answer.items result }
+{
+    match Vec::from_slice(alloc, line) {
+        Ok(line) => WrongFile::Refused(WrongLine {
+            number,
+            line,
+            answer: reading.answer,
+            before: reading.file,
+        }),
+        Err(_) => WrongFile::Memory,
+    }
+}
+
+/// Reads the file of a domain, in which the files of filters are included already.
+pub fn read_domain(alloc: Global, text: &[u8]) -> Result<DomainFile, WrongFile>
+    requires { length text.now < 2 ^ 32 }
+    ensures read { IfOk result (spec.IsFile text.now) }
+    ensures wrong { IfErr result (spec.IsNoFile text.now) }
+{
+    let mut reading = Reading {
+        file: None,
+        answer: Vec::new(alloc),
+    };
+    let mut left = text;
+    let mut number = 0;
+    while let Some(cut) = next_line(left) {
+        number += 1;
+        match reading.take(alloc, number, cut.line)? {
+            Carried::Done => left = cut.rest,
+            Carried::Refused => return Err(wrong_line(alloc, number, cut.line, reading)),
+            Carried::NameAgain => return Err(WrongFile::NameAgain(number)),
+        }
+    }
+    match reading.file {
+        Some(file) => Ok(file),
+        None => Err(WrongFile::NoDomain),
+    }
+}
