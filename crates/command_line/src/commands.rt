@@ -158,7 +158,7 @@ static COMMANDS: [(&str, &str); 15] = [
 ];
 
 /// The options and arguments of each command, in the order in which its help shows them.
-static PARAMETERS: [(&str, Parameter); 66] = [
+static PARAMETERS: [(&str, Parameter); 68] = [
     ("check", SIZE),
     ("check", CODE),
     ("check", NAMES),

@@ -20,6 +20,8 @@ use Rattle.domain_cmds.specs.Script.{AnswersPlanned, begin, new_planning}
 use Rattle.filter_verifier.specs.VerifiedView.{VerifiedView}
 use Rattle.domain_cmds.specs.State.{PlanningView, filter_named}
 use Rattle.domain_cmds.specs.declared.command.Command.{Command}
+use Rattle.domain_files.specs.declared.reading.Carried.{Carried}
+use Rattle.domain_files.specs.declared.reading.Carried.TheVariants as carried
 use Rattle.domain_files.specs.declared.reading.NamedUse.{NamedUse}
 use Rattle.domain_files.specs.declared.reading.WrongFile.{WrongFile}
 use Rattle.domain_files.specs.declared.reading.WrongFile.TheVariants as wrong
@@ -73,6 +75,13 @@ filter_of_name p (Some name) = filter_named p.filters name
 pub record AreUses (p : PlanningView) (uses : List UseView) : Type 0 where
   pub imports : (u w : ℕ) → (peer p.plan u w).imports ≡ filter_of_name p (name_between direction.Import u w uses)
   pub exports : (u w : ℕ) → (peer p.plan u w).exports ≡ filter_of_name p (name_between direction.Export u w uses)
+
+-- ---- what a line comes to: it is carried out, or refused by an answer, or gives a name again
+
+abbrev pub ComesTo : Type 0 → Type 0 → Type 0 → Carried → Type 0
+ComesTo IsDone IsRefused IsAgain carried.Done = IsDone
+ComesTo IsDone IsRefused IsAgain carried.Refused = IsRefused
+ComesTo IsDone IsRefused IsAgain carried.NameAgain = IsAgain
 
 -- ---- a command
 
@@ -136,6 +145,10 @@ CarriesFirst (Some f) number c after = (later : FileView) × Carries f number c 
 abbrev pub RefusesFirst : Option FileView → ℕ → CommandView → List ℕ → Type 0
 RefusesFirst None number c text = IsNoBeginning number c text
 RefusesFirst (Some f) number c text = Refuses f number c text
+
+abbrev pub NamesAgainFirst : Option FileView → CommandView → Type 0
+NamesAgainFirst None c = ⊥
+NamesAgainFirst (Some f) c = GivesNameAgain f c
 
 -- ---- a line
 

@@ -92,6 +92,8 @@ pub fn domain_digest(alloc: Global, plan: &Plan) -> Result<[u8; 8], AllocError>
     for u in 0..plan.size() {
         digest_node(alloc, &mut hasher, plan, u)?;
     }
-    let [a, b, c, d, e, f, g, h, ..] = hasher.finalize();
-    Ok([a, b, c, d, e, f, g, h])
+    let all = hasher.finalize();
+    Ok([
+        all[0], all[1], all[2], all[3], all[4], all[5], all[6], all[7],
+    ])
 }

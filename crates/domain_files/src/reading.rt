@@ -1,5 +1,6 @@
 //! The file of a domain is read.
-ghost use Rattle.std.specs.Prelude.{◌≡◌, ◌≢◌, ◌<◌, ◌^◌, IfErr, IfOk, IfSome, Some, None, length};
+ghost use Rattle.std.specs.Prelude.{◌≡◌, ◌<◌, ◌^◌, [], IfErr, IfOk, length, map};
+ghost use Rattle.std.specs.Str.Lines.{lines};
 ghost use Rattle.std.specs.Option.{option_map};
 ghost use Rattle.domain_files.specs.Files as spec;
 
@@ -46,8 +47,6 @@ impl Model for DomainFile {
 }
 
 impl DomainFile {
-    ghost use Rattle.domain_files.specs.Files.{file_before};
-
     /// The domain.
     pub fn plan(&self) -> &Plan
         ensures { result.now ≡ self.now.planning.plan }
@@ -147,7 +146,7 @@ fn used_by(alloc: Global, command: &Command<'_>) -> Result<Option<NamedUse>, All
             direction: *direction,
             u: *u,
             w: *w,
-            name: Vec::from_slice(alloc, name)?,
+            name: Vec::from_slice(alloc, *name)?,
         })),
         _ => Ok(None),
     }
@@ -158,7 +157,8 @@ fn name_given<'a>(command: &Command<'a>) -> Option<&'a [u8]>
     ensures { option_map (λ name. name.now) result ≡ spec.name_given (spec.view_of command.now) }
 {
     match command {
-        Command::Load { name, .. } | Command::Code { name, .. } => Some(name),
+        Command::Load { name, .. } => Some(*name),
+        Command::Code { name, .. } => Some(*name),
         _ => None,
     }
 }
@@ -190,9 +190,10 @@ impl DomainFile {
         command: Command<'_>,
         answer: &mut Vec<u8>,
     ) -> Result<Carried, AllocError>
-        ensures done { IfOk result (λ carried. (carried ≡ Carried.Done) → spec.Carries self.old number (spec.view_of command.entry) self.new) }
-        ensures refused { IfOk result (λ carried. (carried ≡ Carried.Refused) → spec.Refuses self.old number (spec.view_of command.entry) answer.new.items) }
-        ensures again { IfOk result (λ carried. (carried ≡ Carried.NameAgain) → spec.GivesNameAgain self.old (spec.view_of command.entry)) }
+        requires { answer.old.items ≡ [] }
+        ensures { IfOk result (spec.ComesTo (spec.Carries self.old number (spec.view_of command.entry) self.new)
+            (spec.Refuses self.old number (spec.view_of command.entry) answer.new.items)
+            (spec.GivesNameAgain self.old (spec.view_of command.entry))) }
     {
         if is_asking(&command) {
             self.planning.begin();
@@ -233,11 +234,10 @@ impl Reading {
         number: u32,
         command: Command<'_>,
     ) -> Result<Carried, AllocError>
-        ensures done { IfOk result (λ carried. (carried ≡ Carried.Done) → spec.CarriesFirst self.old.file number (spec.view_of command.entry) self.new.file) }
-        ensures refused { IfOk result (λ carried. (carried ≡ Carried.Refused) →
-            spec.RefusesFirst self.old.file number (spec.view_of command.entry) self.new.answer.items) }
-        ensures again { IfOk result (λ carried. (carried ≡ Carried.NameAgain) →
-            IfSome self.old.file (λ file. spec.GivesNameAgain file (spec.view_of command.entry))) }
+        requires { self.old.answer.items ≡ [] }
+        ensures { IfOk result (spec.ComesTo (spec.CarriesFirst self.old.file number (spec.view_of command.entry) self.new.file)
+            (spec.RefusesFirst self.old.file number (spec.view_of command.entry) self.new.answer.items)
+            (spec.NamesAgainFirst self.old.file (spec.view_of command.entry))) }
     {
         match &mut self.file {
             Some(file) => file.carry_out(alloc, number, command, &mut self.answer),
@@ -260,9 +260,8 @@ impl Reading {
 
     /// Reads a line.
     fn take(&mut self, alloc: Global, number: u32, line: &[u8]) -> Result<Carried, AllocError>
-        ensures done { IfOk result (λ carried. (carried ≡ Carried.Done) → spec.TakesLine self.old.file number line.now self.new.file) }
-        ensures refused { IfOk result (λ carried. (carried ≡ Carried.Refused) → spec.RefusesLine self.old.file number line.now self.new.answer.items) }
-        ensures again { IfOk result (λ carried. (carried ≡ Carried.NameAgain) → spec.NamesAgain self.old.file line.now) }
+        ensures { IfOk result (spec.ComesTo (spec.TakesLine self.old.file number line.now self.new.file)
+            (spec.RefusesLine self.old.file number line.now self.new.answer.items) (spec.NamesAgain self.old.file line.now)) }
     {
         self.answer.clear();
         if is_skipped(line) {
@@ -283,12 +282,13 @@ impl Reading {
 fn wrong_line(alloc: Global, number: u32, line: &[u8], reading: Reading) -> WrongFile
     ensures { spec.IsWrongLine number line.now reading.answer.items result }
 {
+    let Reading { file, answer } = reading;
     match Vec::from_slice(alloc, line) {
         Ok(line) => WrongFile::Refused(WrongLine {
             number,
             line,
-            answer: reading.answer,
-            before: reading.file,
+            answer,
+            before: file,
         }),
         Err(_) => WrongFile::Memory,
     }
@@ -296,7 +296,7 @@ fn wrong_line(alloc: Global, number: u32, line: &[u8], reading: Reading) -> Wron
 
 /// Reads the file of a domain, in which the files of filters are included already.
 pub fn read_domain(alloc: Global, text: &[u8]) -> Result<DomainFile, WrongFile>
-    requires { length text.now < 2 ^ 32 }
+    requires { length (lines text.now) < 2 ^ 32 }
     ensures read { IfOk result (spec.IsFile text.now) }
     ensures wrong { IfErr result (spec.IsNoFile text.now) }
 {
@@ -314,8 +314,6 @@ pub fn read_domain(alloc: Global, text: &[u8]) -> Result<DomainFile, WrongFile>
             Carried::NameAgain => return Err(WrongFile::NameAgain(number)),
         }
     }
-    match reading.file {
-        Some(file) => Ok(file),
-        None => Err(WrongFile::NoDomain),
-    }
+    let Reading { file, .. } = reading;
+    file.ok_or(WrongFile::NoDomain)
 }

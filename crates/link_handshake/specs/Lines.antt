@@ -1,6 +1,6 @@
 -- What is written on a link of version 2. (This project's own choice.)
-use Rattle.std.specs.Prelude.{ℕ, ◌^◌, ◌<◌, ◌≤◌, List, [], ◌∷◌, ◌++◌, Option, Some, None, codes, decimal}
-use Rattle.hex.specs.Hex.{encode_lower}
+use Rattle.std.specs.Prelude.{◌≡◌, ℕ, ◌^◌, ◌<◌, ◌≤◌, List, [], ◌∷◌, ◌++◌, Option, Some, None, IfSome, length, codes, decimal}
+use Rattle.hex.specs.Hex.{IsBytes, encode_lower}
 use Rattle.link_handshake.specs.declared.greeting.Greeting.{Greeting}
 
 -- how many seconds a HOLD has at most
@@ -32,7 +32,12 @@ greeting_text g = mark ++ spaced g.size (spaced g.node (spaced g.hold (spaced g.
 abbrev pub greeting_line : Greeting → List ℕ
 greeting_line g = greeting_text g ++ 10 ∷ []
 
--- the numbers of a greeting are within their limits, and that of its attempt is not 0; its digest has 8 bytes, as each one
+-- a digest has 8 bytes
+pub record IsDigest (digest : List ℕ) : Type 0 where
+  pub long : length digest ≡ 8
+  pub bytes : IsBytes digest
+
+-- the numbers of a greeting are within their limits, and that of its attempt is not 0; and its digest is one, if it has one
 pub record FitsGreeting (g : Greeting) : Type 0 where
   pub size : g.size ≤ most_nodes
   pub node : g.node ≤ most_nodes
@@ -40,3 +45,4 @@ pub record FitsGreeting (g : Greeting) : Type 0 where
   pub some : 0 < g.number
   pub number : g.number < 2 ^ 32
   pub heard : g.heard < 2 ^ 32
+  pub digest : IfSome g.digest IsDigest

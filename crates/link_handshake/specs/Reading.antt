@@ -1,6 +1,7 @@
 -- What a line of version 2 says. (This project's own choice.)
-use Rattle.std.specs.Prelude.{ℕ, ◌==◌, if◌then◌else◌, List, [], ◌∷◌, length, take, drop, Option, Some, None, bytes_eq, decimal}
+use Rattle.std.specs.Prelude.{ℕ, ◌==◌, if◌then◌else◌, List, [], ◌∷◌, length, take, drop, Option, Some, None, Result, Ok, Err, bytes_eq, decimal}
 use Rattle.hex.specs.Hex.{decode_sized, encode_lower}
+use Rattle.hex.specs.declared.error.FromHexError.{FromHexError}
 use Rattle.message_streams.specs.Reading.{message_in}
 use Rattle.netchange_core.specs.declared.message.Message.{Message}
 use Rattle.prefix_patterns.specs.Reading.{◌>>=◌, number_in, parts_at}
@@ -27,10 +28,12 @@ abbrev pub after_mark : List ℕ → Option (List ℕ)
 after_mark line = if bytes_eq (take (length mark) line) mark then Some (drop (length mark) line) else None
 
 -- the digest that a word writes, with small letters
+abbrev pub if_written : List ℕ → Result (List ℕ) FromHexError → Option (List ℕ)
+if_written word (Ok digest) = if bytes_eq (encode_lower digest) word then Some digest else None
+if_written word (Err why) = None
+
 unfoldable pub digest_in : List ℕ → Option (List ℕ)
-digest_in word = do
-  digest ← ok (decode_sized word 8)
-  if bytes_eq (encode_lower digest) word then Some digest else None
+digest_in word = if_written word (decode_sized word 8)
 
 -- the last words of a greeting: the last number that it heard, and the digest of its domain, if it says one
 abbrev pub with_digest : List ℕ × List ℕ → Option (ℕ × Option (List ℕ))

@@ -1,5 +1,5 @@
 -- What the program does for `router --domain`, and its exit status. (This project's own choice.)
-use Rattle.std.specs.Prelude.{◌≡◌, ◌⊎◌, ◌×◌, ℕ, Bool, true, false, List, [], Option, Some, None, Result, Ok, MatchOption, string_bytes}
+use Rattle.std.specs.Prelude.{◌≡◌, ◌⊎◌, ℕ, Bool, true, false, List, [], Option, Some, None, Result, Ok, MatchOption, string_bytes}
 use Rattle.std.specs.Io.KnownBytes.{Appends}
 use Rattle.std.specs.declared.io.Error.{Error}
 use Rattle.command_line.specs.declared.router_words.RouterWords.{RouterWords}

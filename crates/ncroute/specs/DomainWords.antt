@@ -1,5 +1,5 @@
 -- What the file of a domain says to one of its routers, as if the command line had said it. (This project's own choice.)
-use Rattle.std.specs.Prelude.{◌≡◌, ◌×◌, ◌<◌, ⊥, ℕ, ◌==◌, Bool, true, false, List, [], ◌∷◌, ◌++◌, Option, Some, None, String, if◌then◌else◌}
+use Rattle.std.specs.Prelude.{◌≡◌, ◌<◌, ⊥, ℕ, ◌==◌, Bool, true, false, List, [], ◌∷◌, ◌++◌, Option, Some, None, String, if◌then◌else◌}
 use Rattle.std.specs.Prelude.{is_some, length, map, nat_lt, slice_get, string_bytes, decimal}
 use Rattle.std.specs.List.{All, enumerate_from, list_any}
 use Rattle.std.specs.Option.{option_map}
