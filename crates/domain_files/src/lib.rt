@@ -15,6 +15,7 @@
 
 mod digest;
 mod include;
+mod laws;
 mod lines;
 mod node;
 mod reading;
@@ -22,6 +23,7 @@ mod text;
 
 pub use digest::domain_digest;
 pub use include::{Include, include_in};
+pub use laws::questions_change_no_plan;
 pub use lines::{Line, next_line};
 pub use node::{FilterAt, NodeFile};
 pub use reading::{DomainFile, WrongFile, WrongLine, read_domain};
