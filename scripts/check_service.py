@@ -111,7 +111,10 @@ def folders_missing(prefix):
         for name in ("etc", "run"):
             os.mkdir(f"{root}/{name}")
         users = ran("systemd-sysusers", f"--root={root}", f"{prefix}/lib/sysusers.d/ncroute.conf")
-        found = ran("systemd-tmpfiles", "--create", f"--root={root}", f"{prefix}/lib/tmpfiles.d/ncroute.conf")
+        lines = pathlib.Path(prefix, "lib/tmpfiles.d/ncroute.conf").read_text(encoding="utf-8")
+        # Who is not root gives no folder to a group.
+        pathlib.Path(root, "lines.conf").write_text(lines.replace(" root ncroute ", " - - ") if os.geteuid() else lines, encoding="utf-8")
+        found = ran("systemd-tmpfiles", "--create", f"--root={root}", f"{root}/lines.conf")
         modes = [oct(os.stat(f"{root}{path}").st_mode) for path in ("/run/ncroute", "/etc/ncroute") if os.path.isdir(root + path)]
         return None if (found, modes) == ((0, ""), ["0o40750"] * 2) else f"{users}, {found}: {modes}"
 
@@ -266,8 +269,6 @@ def main():
         for name, needed, differs in CHECKS:
             if why := lack_of(*filter(None, [needed])):
                 counts.skip(name, why)
-            elif needed == "systemd-tmpfiles" and os.geteuid():
-                counts.skip(name, "only root gives a folder to a group")
             else:
                 counts.judge(name, differs(prefix))
         if why := lack_of("ip", "mkfifo", "sh", "socat"):
