@@ -1,7 +1,7 @@
 -- The laws of lines of version 2.
 use Rattle.std.proofs.Common.{◌≡◌, ◌≢◌, ℕ, ◌^◌, ◌+◌, ◌<◌, ◌≤◌, ◌==◌, ◌&&◌, nat_le, Bool, true, false, cond, List, [], ◌∷◌, ◌++◌, length, take, drop}
 use Rattle.std.proofs.Common.{Option, Some, None, All, refl, sym, ◌∙◌, ap, subst, arith, decimal, length-append, append_assoc, append-nil}
-use Rattle.std.proofs.Common.{take-append-drop, ◌↔◌, ◌/◌, ◌%◌, suc, IfSome, Result, Ok, Err, slice_index, tt}
+use Rattle.std.proofs.Common.{take-append-drop, ◌↔◌, ◌/◌, ◌%◌, suc, IfSome, Result, Ok, Err, slice_index, ◌*◌}
 use Rattle.hex.specs.Hex.{IsBytes, decode_of, decode_sized, encode_lower, encode_with, lower_digits}
 use Rattle.hex.specs.declared.error.FromHexError.{FromHexError}
 use Rattle.hex.proofs.HexLemmas.{decode_of-ok, decode_sized-encode_lower, decode_sized-ok, decode_sized-twice, length-encode_with}
@@ -101,7 +101,7 @@ last_words-text heard (Some digest) fits is =
 pub record IsLast (text : List ℕ) (last : ℕ × Option (List ℕ)) : Type 0 where
   pub heard : last.0 < 2 ^ 32
   pub digest : IfSome last.1 IsDigest
-  pub text : text ≡ decimal last.0 ++ digest_part last.1
+  pub written : text ≡ decimal last.0 ++ digest_part last.1
 
 some_same : (a b : ℕ × Option (List ℕ)) → Some a ≡ Some b → a ≡ b
 some_same a b e = cc
@@ -112,7 +112,7 @@ last_of-found text None last at e =
     bind_some (exact_number 4294967295 text) _ last e (λ n number e.
     let found = exact_number-found 4294967295 text n number in
     subst (IsLast text) (some_same (n, None) last e)
-    (record { heard = omega (arith, found.0); digest = tt; text = found.1 ∙ sym (append-nil (decimal n)) }))
+    (record { heard = omega (arith, found.0); digest = tt; written = found.1 ∙ sym (append-nil (decimal n)) }))
 last_of-found text (Some parts) last at e =
     bind_some (exact_number 4294967295 parts.0) _ last e (λ n number e.
     bind_some (digest_in parts.1) _ last e (λ digest written e.
@@ -122,7 +122,7 @@ last_of-found text (Some parts) last at e =
     subst (IsLast text) (some_same (n, Some digest) last e) (record {
       heard = omega (arith, found.0);
       digest = word.0;
-      text = joined ∙ ap (λ l. l ++ 32 ∷ parts.1) found.1 ∙ ap (λ l. decimal n ++ 32 ∷ l) word.1;
+      written = joined ∙ ap (λ l. l ++ 32 ∷ parts.1) found.1 ∙ ap (λ l. decimal n ++ 32 ∷ l) word.1;
     })))
 
 last_words-found : (text : List ℕ) (last : ℕ × Option (List ℕ)) → last_words text ≡ Some last → IsLast text last
@@ -188,7 +188,7 @@ greeting_in-found line g e =
     let d = first_number-found 3600 node.1 hold.0 hold.1 at_hold in
     let f = first_number-found 4294967295 hold.1 number.0 number.1 at_number in
     let h = last_words-found number.1 last at_last in
-    let t4 = ap (spaced number.0) h.text in
+    let t4 = ap (spaced number.0) h.written in
     let t3 = f.1 ∙ t4 in
     let t2 = d.1 ∙ ap (spaced hold.0) t3 in
     let t1 = b.1 ∙ ap (spaced node.0) t2 in
