@@ -248,6 +248,7 @@ The input is commands, one a line. Empty lines and lines that begin with # are s
   domain N               a domain of N nodes (2 to 250), without links
   prefix V P             P is the prefix of node V; otherwise it is 10.V.0.0/16
   load NAME TEXT         name a filter: the rest of the line is its text
+  include NAME FILE      name the filter of FILE, beside the file that the commands are in
   code NAME HEX          name a filter by its code file in hexadecimal
   link U W, cut U W      U and W are neighbours from now on, or no more
   import U W NAME        the filter of what U hears from W
