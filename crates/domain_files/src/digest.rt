@@ -66,12 +66,7 @@ fn push_node(alloc: Global, out: &mut Vec<u8>, plan: &Plan, u: u16) -> Result<()
 }
 
 /// Hands on what is told of a node.
-fn digest_node(
-    alloc: Global,
-    hasher: &mut Sha256,
-    plan: &Plan,
-    u: u16,
-) -> Result<(), AllocError>
+fn digest_node(alloc: Global, hasher: &mut Sha256, plan: &Plan, u: u16) -> Result<(), AllocError>
     requires { u < plan.now.size }
     ensures { OnOk result ((told : List ℕ) → Sha256.holds hasher.old told → Sha256.holds hasher.new (told ++ spec.node_lines plan.now u)) }
 {

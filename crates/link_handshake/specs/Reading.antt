@@ -64,7 +64,12 @@ greeting_in line = do
   number ← first_number 4294967295 hold.1
   last ← last_words number.1
   if number.0 == 0 then None else Some (record {
-    size = size.0; node = node.0; hold = hold.0; number = number.0; heard = last.0; digest = last.1
+    size = size.0;
+    node = node.0;
+    hold = hold.0;
+    number = number.0;
+    heard = last.0;
+    digest = last.1;
   })
 
 -- a greeting that was found, or else nothing

@@ -126,7 +126,9 @@ where
         return end_by_clash(alloc, &mut console.errors, origin.name, clash);
     }
     match gather(alloc, words, origin.statements) {
-        Ok(all) => serve_in_domain::<R, FI, FO, T, I, W, E>(rt, alloc, &all, origin, console, voice),
+        Ok(all) => serve_in_domain::<R, FI, FO, T, I, W, E>(
+            rt, alloc, &all, origin, console, voice,
+        ),
         Err(_) => end_by_memory(&mut console.errors),
     }
 }
@@ -274,6 +276,13 @@ where
         Some(name) => {
             serve_file::<R, FI, FO, T, I, W, E>(rt, alloc, words, name.as_str(), console, voice)
         }
-        None => serve_in_domain::<R, FI, FO, T, I, W, E>(rt, alloc, words, no_file(), console, voice),
+        None => serve_in_domain::<R, FI, FO, T, I, W, E>(
+            rt,
+            alloc,
+            words,
+            no_file(),
+            console,
+            voice,
+        ),
     }
 }

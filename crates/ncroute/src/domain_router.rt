@@ -207,12 +207,7 @@ where
             return end_by_program(&mut console.errors, ProgramFault::MEMORY);
         }
         Err(fault) => {
-            return end_unset(
-                alloc,
-                &mut console.errors,
-                origin,
-                SetupFault::Words(fault),
-            );
+            return end_unset(alloc, &mut console.errors, origin, SetupFault::Words(fault));
         }
     };
     if let Some(node) = &node {

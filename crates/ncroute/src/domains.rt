@@ -195,7 +195,8 @@ fn tell_wrong<E: Write>(
             Ok(())
         }
         WrongFile::NameAgain(number) => {
-            let words = b"a filter has this name already, and a router knows its filters by their names";
+            let words =
+                b"a filter has this name already, and a router knows its filters by their names";
             let line = wrong_words(alloc, name, Some(*number), words)?;
             write_line(errors, line.as_slice())
         }

@@ -95,7 +95,11 @@ fn push_with_digest(text: &mut String, before: &str, digest: [u8; 8]) -> Result<
 {
     text.push_str(before)?;
     let digits = digest_digits(digest);
-    text.push_str(str::from_utf8(&digits).unwrap_or(""))
+    match str::from_utf8(&digits) {
+        Ok(digits) => text.push_str(digits),
+        // Digits are text.
+        Err(_) => Ok(()),
+    }
 }
 
 /// Adds that the neighbour's domain has another digest.
