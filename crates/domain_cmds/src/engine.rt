@@ -6,6 +6,7 @@ use crate::command::Command;
 use crate::fault::StateFault;
 use crate::planning::Planning;
 use crate::read::read_command;
+use crate::resting::RestingPlan;
 use line_protocol::{LineReply, Service, StreamFault, answer_lines};
 use operator_cmds::{CommandFault, Nobody, RefusedLine, Watch, confirm, refuse};
 use std::alloc::{AllocError, Global};
@@ -55,6 +56,21 @@ impl Engine {
         Engine { planning: None }
     }
 
+    /// The domain, once it is set up.
+    pub(crate) fn planning_mut(&mut self) -> Option<&mut Planning> {
+        self.planning.as_mut()
+    }
+
+    /// The plan of the domain, once it is set up.
+    pub(crate) fn into_domain(self) -> Option<RestingPlan>
+        ensures { result ≡ option_map (λ planning. planning.plan) self.planning }
+    {
+        match self.planning {
+            Some(planning) => Some(planning.into_domain()),
+            None => None,
+        }
+    }
+
     /// A line that this script refused, and what the script knows.
     fn refused_line<'a>(
         &'a self,
@@ -99,11 +115,11 @@ impl Engine {
 
 /// A domain's script and who watches it.
 #[derive(Drop)]
-struct Watched<S: Watch + Drop> {
+pub(crate) struct Watched<S: Watch + Drop> {
     /// The script.
-    engine: Engine,
+    pub(crate) engine: Engine,
     /// Who watches it.
-    watcher: S,
+    pub(crate) watcher: S,
 }
 
 impl<S: Watch + Drop> Service for Watched<S> {

@@ -9,9 +9,12 @@ use crate::asking::answer_question;
 use crate::command::{Command, DomainSize, Question};
 use crate::fault::StateFault;
 use crate::filters::Filters;
+use crate::origins::Origins;
 use crate::playing::{Change, Playing};
 use crate::resting::RestingPlan;
 use crate::routes::Column;
+use crate::said::said_of;
+use domain_reports::{Shell, push_domain, push_page};
 use domain_routes::{Between, Plan};
 use filter_source::Diagnosis;
 use line_protocol::LineReply;
@@ -28,6 +31,8 @@ pub(crate) struct Planning {
     domain: RestingPlan,
     /// The filter of each name.
     filters: Filters,
+    /// Where they come from, and where they are used.
+    origins: Origins,
     /// A command came after which prefixes stay.
     begun: bool,
     /// All routes at rest at the last `mark`.
@@ -134,6 +139,7 @@ impl Planning {
         Ok(Planning {
             domain: RestingPlan::new(plan),
             filters: Filters::new(alloc, size.nodes),
+            origins: Origins::new(alloc),
             begun: false,
             marked: None,
             since: None,
@@ -195,6 +201,7 @@ impl Planning {
             } => self.use_filter(number, direction, u, w, name, out),
             Command::Anew(u) => self.begin_anew(number, u, out),
             Command::Mark => self.mark(alloc, out),
+            Command::Json => self.answer_json(alloc, out),
             Command::Ask(question) => self.ask(alloc, number, question, out),
         }
     }
@@ -232,7 +239,13 @@ impl Planning {
         ensures ok { IfOk result (Answers (λ answer. spec.AnswersLoad (gives source.entry) (lacks source.entry) self.old number name.now answer self.new) out.old.items out.new.items) }
         ensures err { OnErr result (StartsWith out.new.items out.old.items) }
     {
-        self.filters.load(alloc, number, name, source, out)
+        let reply = self.filters.load(alloc, number, name, source, out)?;
+        if reply == LineReply::Answered
+            && let Some(filter) = self.filters.get(name)?
+        {
+            self.origins.note(alloc, number, name, source, filter)?;
+        }
+        Ok(reply)
     }
 
     /// Answers `link` and `cut`: two nodes are neighbours from now on, or no more.
@@ -283,6 +296,7 @@ impl Planning {
         }
         let played = Arc::try_clone(&filter)?;
         self.playing.note(Change::Filter(direction, u, w, played))?;
+        self.origins.note_use(direction, u, w, name)?;
         let size = self.size();
         self.domain.set_filter(direction, u, w, filter);
         loosen_filter(&mut self.since, size, direction, u, w);
@@ -330,6 +344,33 @@ impl Planning {
             number,
             out,
         )
+    }
+
+    /// Answers `json`: the whole domain, for programs.
+    fn answer_json(&mut self, alloc: Global, out: &mut Vec<u8>) -> Result<LineReply, AllocError> {
+        self.begun = true;
+        let said = said_of(alloc, &mut self.domain, &self.origins)?;
+        push_domain(alloc, out, &said.report())?;
+        Ok(LineReply::Answered)
+    }
+
+    /// Adds the page of the domain, whose script has this name.
+    pub(crate) fn push_page(
+        &mut self,
+        alloc: Global,
+        out: &mut Vec<u8>,
+        shell: Shell<'_>,
+        name: &[u8],
+    ) -> Result<(), AllocError> {
+        let said = said_of(alloc, &mut self.domain, &self.origins)?;
+        push_page(alloc, out, shell, name, &said.report())
+    }
+
+    /// Its prefixes, links and filters.
+    pub(crate) fn into_domain(self) -> RestingPlan
+        ensures { result ≡ self.plan }
+    {
+        self.domain
     }
 
     /// Answers `mark`: remembers all routes at rest.

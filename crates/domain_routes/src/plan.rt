@@ -209,6 +209,11 @@ impl Plan {
         self.rows[usize::from(w)].drop_exports(u);
     }
 
+    /// What a distance from a node comes to under a filter.
+    pub fn filtered(&self, filter: &Option<Arc<Verified>>, v: u16, dist: u16) -> u16 {
+        filtered_distance(&self.opening, filter, v, dist)
+    }
+
     /// What the second node's distance from a destination comes to at the first, under the filters between them.
     pub(crate) fn toll(&self, v: u16, u: u16, w: u16, dist: u16) -> u16
         requires v { v < self.now.size }

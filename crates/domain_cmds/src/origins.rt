@@ -1,0 +1,153 @@
+//! Where the filters of a script come from, and where they are used.
+//!
+//! **All filters that were verified are kept**, also one whose name another has now: links may use it still. A plan holds filters and no names, so
+//! what uses which is noted here as the script says it.
+
+use filter_reports::write_listing;
+use filter_verifier::Verified;
+use operator_cmds::{Direction, FilterSource};
+use std::alloc::{AllocError, Global};
+use std::sync::Arc;
+
+/// A filter that got a name.
+#[derive(Drop)]
+pub(crate) struct Origin {
+    /// The name.
+    pub(crate) name: Vec<u8>,
+    /// The number of the line.
+    pub(crate) line: u32,
+    /// The text, where it was not given as code.
+    pub(crate) text: Option<Vec<u8>>,
+    /// The listing of its code.
+    pub(crate) listing: Vec<u8>,
+    /// The filter.
+    pub(crate) filter: Arc<Verified>,
+}
+
+/// That a node has what passes between it and another go through a filter.
+#[derive(Clone, Copy)]
+struct Use {
+    direction: Direction,
+    u: u16,
+    w: u16,
+    /// The filter's place among all.
+    place: usize,
+}
+
+/// All filters of a script, in the order of their lines, and their uses.
+#[derive(Drop)]
+pub(crate) struct Origins {
+    all: Vec<Origin>,
+    uses: Vec<Use>,
+}
+
+/// Whether two directions are the same.
+fn is_same_way(a: Direction, b: Direction) -> bool {
+    match (a, b) {
+        (Direction::Import, Direction::Import) | (Direction::Export, Direction::Export) => true,
+        _ => false,
+    }
+}
+
+/// The listing of a source.
+fn listing_of(alloc: Global, source: FilterSource<'_>) -> Result<Vec<u8>, AllocError> {
+    let mut listing = Vec::new(alloc);
+    let written = match source {
+        FilterSource::Text(text) => write_listing(alloc, text, &mut listing, None, false),
+        FilterSource::File(bytes) => {
+            let digits = hex::encode(alloc, bytes)?;
+            write_listing(alloc, digits.as_bytes(), &mut listing, None, true)
+        }
+    };
+    match written {
+        Ok(_) => Ok(listing),
+        Err(_) => Err(AllocError),
+    }
+}
+
+impl Origins {
+    /// No filters.
+    pub(crate) fn new(alloc: Global) -> Origins {
+        Origins {
+            all: Vec::new(alloc),
+            uses: Vec::new(alloc),
+        }
+    }
+
+    /// All filters.
+    pub(crate) fn all(&self) -> &[Origin] {
+        self.all.as_slice()
+    }
+
+    /// A filter got a name.
+    pub(crate) fn note(
+        &mut self,
+        alloc: Global,
+        line: u32,
+        name: &[u8],
+        source: FilterSource<'_>,
+        filter: Arc<Verified>,
+    ) -> Result<(), AllocError> {
+        let text = match source {
+            FilterSource::Text(text) => Some(Vec::from_slice(alloc, text)?),
+            FilterSource::File(_) => None,
+        };
+        let origin = Origin {
+            name: Vec::from_slice(alloc, name)?,
+            line,
+            text,
+            listing: listing_of(alloc, source)?,
+            filter,
+        };
+        self.all.push(origin)?;
+        Ok(())
+    }
+
+    /// The place of the filter that has a name now: the last that got it.
+    fn place_of(&self, name: &[u8]) -> Option<usize> {
+        let mut found = None;
+        for place in 0..self.all.len() {
+            if self.all[place].name.as_slice() == name {
+                found = Some(place);
+            }
+        }
+        found
+    }
+
+    /// A node has what passes between it and another go through the filter that has a name now.
+    pub(crate) fn note_use(
+        &mut self,
+        direction: Direction,
+        u: u16,
+        w: u16,
+        name: &[u8],
+    ) -> Result<(), AllocError> {
+        let Some(place) = self.place_of(name) else {
+            return Ok(());
+        };
+        for it in 0..self.uses.len() {
+            let used = self.uses[it];
+            if is_same_way(used.direction, direction) && used.u == u && used.w == w {
+                self.uses[it].place = place;
+                return Ok(());
+            }
+        }
+        self.uses.push(Use {
+            direction,
+            u,
+            w,
+            place,
+        })?;
+        Ok(())
+    }
+
+    /// The place of the filter through which a node has go what passes between it and another, if there is one.
+    pub(crate) fn used(&self, direction: Direction, u: u16, w: u16) -> Option<usize> {
+        for used in &self.uses {
+            if is_same_way(used.direction, direction) && used.u == u && used.w == w {
+                return Some(used.place);
+            }
+        }
+        None
+    }
+}

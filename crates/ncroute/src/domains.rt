@@ -1,0 +1,110 @@
+//! What the change of one domain to another does.
+//!
+//! **`domain --compare` ends with 1 only where something is lost**, and with 0 only where nothing is. What keeps it from knowing is 3, also a
+//! command that is refused: a domain without it is not the one that was meant. BEFORE is read and carried out before FILE is read.
+
+use crate::console::{Console, Loaded};
+use crate::ending::{FAULT, status_of_found};
+use crate::texts::{Folder, name_of, tell_of};
+use crate::watcher::Teller;
+use command_line::{Engine, Source};
+use domain_cmds::{Left, LeftDomain, compare_domains, leave_domain};
+use filter_reports::ProgramFault;
+use line_protocol::{INPUT_LIMIT, StreamFault};
+use operator_cmds::Nobody;
+use report_formats::Format;
+use std::alloc::Global;
+use std::io::{Read, Write};
+
+/// Carries out a script that people know by a name.
+fn leave<E: Write>(
+    alloc: Global,
+    name: &[u8],
+    script: &[u8],
+    is_explained: bool,
+    errors: &mut E,
+) -> Result<Left, StreamFault> {
+    if is_explained {
+        let teller = Teller {
+            engine: Engine::Domain,
+            name,
+            errors,
+        };
+        leave_domain(alloc, script, teller)
+    } else {
+        leave_domain(alloc, script, Nobody)
+    }
+}
+
+/// The domain that a script left behind. Where there is none, people are told why.
+fn domain_of<E: Write>(
+    alloc: Global,
+    name: &[u8],
+    left: Left,
+    errors: &mut E,
+) -> Result<Option<LeftDomain>, ProgramFault> {
+    let words = match left {
+        Left::Domain(domain) => return Ok(Some(domain)),
+        Left::Nothing => "this script sets up no domain",
+        Left::Refused => "a line of this script is refused, so nothing is compared",
+    };
+    tell_of(alloc, errors, name, words, b"\n")?;
+    Ok(None)
+}
+
+/// Reads a script and carries it out. Where it leaves no domain behind, people are told why.
+fn left_by<F: Folder, R: Read, W: Write, E: Write>(
+    files: &F,
+    alloc: Global,
+    source: &Source,
+    is_explained: bool,
+    console: &mut Console<R, W, E>,
+) -> Result<Option<LeftDomain>, ProgramFault> {
+    let name = name_of(source);
+    match console.read(files, alloc, source, INPUT_LIMIT) {
+        Loaded::Text(script) => {
+            let errors = &mut console.errors;
+            let left = leave(alloc, name, script.as_slice(), is_explained, errors)?;
+            domain_of(alloc, name, left, &mut console.errors)
+        }
+        Loaded::Skipped => Ok(None),
+        Loaded::Stopped(fault) => Err(fault),
+    }
+}
+
+/// Writes what the change of one domain to another does, and returns the exit status.
+fn compare_left<R: Read, W: Write, E: Write>(
+    alloc: Global,
+    format: Format,
+    old: LeftDomain,
+    new: LeftDomain,
+    name: &[u8],
+    console: &mut Console<R, W, E>,
+) -> Result<u8, ProgramFault> {
+    if old.size() != new.size() {
+        let words = "this domain has not as many nodes as the one before it";
+        tell_of(alloc, &mut console.errors, name, words, b"\n")?;
+        return Ok(FAULT);
+    }
+    let is_lost = compare_domains(alloc, format, old, new, &mut console.writer)?;
+    Ok(status_of_found(is_lost))
+}
+
+/// Writes what the change of the domain of one script to that of another does, and returns the exit status.
+pub fn compare_scripts<F: Folder, R: Read, W: Write, E: Write>(
+    files: &F,
+    alloc: Global,
+    format: Format,
+    old: &Source,
+    new: &Source,
+    is_explained: bool,
+    console: &mut Console<R, W, E>,
+) -> Result<u8, ProgramFault> {
+    let Some(before) = left_by(files, alloc, old, is_explained, console)? else {
+        return Ok(FAULT);
+    };
+    let Some(after) = left_by(files, alloc, new, is_explained, console)? else {
+        return Ok(FAULT);
+    };
+    compare_left(alloc, format, before, after, name_of(new), console)
+}
