@@ -1,6 +1,6 @@
 //! The words of `domain`.
-ghost use Rattle.std.specs.Prelude.{◌≡◌, IfOk, false};
-ghost use Rattle.command_line.specs.Given.{given_in};
+ghost use Rattle.std.specs.Prelude.{◌≡◌, IfOk, None, codes, false};
+ghost use Rattle.command_line.specs.Given.{given_in, word_of};
 ghost use Rattle.command_line.specs.Meaning as spec;
 ghost use Rattle.command_line.specs.declared.command_names.CommandName.TheVariants as command;
 
@@ -30,7 +30,10 @@ fn script_in(
     alloc: Global,
     matches: &ArgMatches<'_>,
     terminals: Terminals,
-) -> Result<Request, AllocError> {
+) -> Result<Request, AllocError>
+    requires { word_of (codes "compare") (given_in matches.now) ≡ None }
+    ensures { IfOk result (spec.AskFor command.Domain (given_in matches.now) terminals) }
+{
     let (source, is_explained) = told_source(alloc, matches, terminals)?;
     match text_in(alloc, matches, "page")? {
         Some(page) => Ok(Request::Page {

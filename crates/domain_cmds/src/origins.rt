@@ -2,14 +2,19 @@
 //!
 //! **All filters that were verified are kept**, also one whose name another has now: links may use it still. A plan holds filters and no names, so
 //! what uses which is noted here as the script says it.
+ghost use Rattle.std.specs.Prelude.{◌≡◌, ◌++◌, ◌∷◌, [], IfOk, OnErr, OnOk, None, false, true};
+ghost use Rattle.filter_reports.specs.Listing.{IsListed};
+ghost use Rattle.operator_cmds.specs.Script.{gives};
+ghost use Rattle.domain_cmds.specs.Origins as spec;
 
 use filter_reports::write_listing;
 use filter_verifier::Verified;
 use operator_cmds::{Direction, FilterSource};
 use std::alloc::{AllocError, Global};
+use std::marker::Model;
 use std::sync::Arc;
 
-/// A filter that got a name.
+/// A filter that got a name. A contract sees it as an `OriginView`.
 #[derive(Drop)]
 pub(crate) struct Origin {
     /// The name.
@@ -24,7 +29,22 @@ pub(crate) struct Origin {
     pub(crate) filter: Arc<Verified>,
 }
 
-/// That a node has what passes between it and another go through a filter.
+impl Model for Origin {
+    ghost use Rattle.std.specs.Option.{option_map};
+    ghost use Rattle.domain_cmds.specs.Origins.{OriginView};
+
+    ghost Value = { OriginView };
+
+    ghost view = { λ o. record {
+      name = o.name.items;
+      line = o.line;
+      text = option_map (λ text. text.items) o.text;
+      listing = o.listing.items;
+      filter = o.filter.value;
+    } };
+}
+
+/// That a node has what passes between it and another go through a filter. A contract sees it as a `UseView`.
 #[derive(Clone, Copy)]
 struct Use {
     direction: Direction,
@@ -34,23 +54,43 @@ struct Use {
     place: usize,
 }
 
-/// All filters of a script, in the order of their lines, and their uses.
+impl Model for Use {
+    ghost use Rattle.domain_cmds.specs.Origins.{UseView};
+
+    ghost Value = { UseView };
+
+    ghost view = { λ used. record { direction = used.direction; u = used.u; w = used.w; place = used.place } };
+}
+
+/// All filters of a script, in the order of their lines, and their uses. A contract sees them as an `OriginsView`.
 #[derive(Drop)]
 pub(crate) struct Origins {
     all: Vec<Origin>,
     uses: Vec<Use>,
 }
 
+impl Model for Origins {
+    ghost use Rattle.domain_cmds.specs.Origins.{OriginsView};
+
+    ghost Value = { OriginsView };
+
+    ghost view = { λ o. record { all = o.all.items; uses = o.uses.items } };
+}
+
 /// Whether two directions are the same.
-fn is_same_way(a: Direction, b: Direction) -> bool {
+fn is_same_way(a: Direction, b: Direction) -> bool
+    ensures { result ≡ spec.is_same_way a b }
+{
     match (a, b) {
         (Direction::Import, Direction::Import) | (Direction::Export, Direction::Export) => true,
         _ => false,
     }
 }
 
-/// The listing of a source.
-fn listing_of(alloc: Global, source: FilterSource<'_>) -> Result<Vec<u8>, AllocError> {
+/// The listing of a source that gives code.
+fn listing_of(alloc: Global, source: FilterSource<'_>) -> Result<Vec<u8>, AllocError>
+    ensures { IfOk result (spec.IsListingOf source.entry) }
+{
     let mut listing = Vec::new(alloc);
     let written = match source {
         FilterSource::Text(text) => write_listing(alloc, text, &mut listing, None, false),
@@ -67,7 +107,9 @@ fn listing_of(alloc: Global, source: FilterSource<'_>) -> Result<Vec<u8>, AllocE
 
 impl Origins {
     /// No filters.
-    pub(crate) fn new(alloc: Global) -> Origins {
+    pub(crate) fn new(alloc: Global) -> Origins
+        ensures { result ≡ record { all = []; uses = [] } }
+    {
         Origins {
             all: Vec::new(alloc),
             uses: Vec::new(alloc),
@@ -75,7 +117,9 @@ impl Origins {
     }
 
     /// All filters.
-    pub(crate) fn all(&self) -> &[Origin] {
+    pub(crate) fn all(&self) -> &[Origin]
+        ensures { result.now ≡ self.now.all }
+    {
         self.all.as_slice()
     }
 
@@ -87,7 +131,10 @@ impl Origins {
         name: &[u8],
         source: FilterSource<'_>,
         filter: Arc<Verified>,
-    ) -> Result<(), AllocError> {
+    ) -> Result<(), AllocError>
+        ensures ok { OnOk result (spec.Notes line name.now source.entry filter.value self.old self.new) }
+        ensures err { OnErr result (self.new ≡ self.old) }
+    {
         let text = match source {
             FilterSource::Text(text) => Some(Vec::from_slice(alloc, text)?),
             FilterSource::File(_) => None,
@@ -104,7 +151,9 @@ impl Origins {
     }
 
     /// The place of the filter that has a name now: the last that got it.
-    fn place_of(&self, name: &[u8]) -> Option<usize> {
+    fn place_of(&self, name: &[u8]) -> Option<usize>
+        ensures { result ≡ spec.last_named self.now.all name.now }
+    {
         let mut found = None;
         for place in 0..self.all.len() {
             if self.all[place].name.as_slice() == name {
@@ -121,7 +170,10 @@ impl Origins {
         u: u16,
         w: u16,
         name: &[u8],
-    ) -> Result<(), AllocError> {
+    ) -> Result<(), AllocError>
+        ensures ok { OnOk result (spec.NotesUse direction u w (spec.last_named self.old.all name.now) self.old self.new) }
+        ensures err { OnErr result (self.new ≡ self.old) }
+    {
         let Some(place) = self.place_of(name) else {
             return Ok(());
         };
@@ -142,7 +194,9 @@ impl Origins {
     }
 
     /// The place of the filter through which a node has go what passes between it and another, if there is one.
-    pub(crate) fn used(&self, direction: Direction, u: u16, w: u16) -> Option<usize> {
+    pub(crate) fn used(&self, direction: Direction, u: u16, w: u16) -> Option<usize>
+        ensures { result ≡ spec.used_in self.now.uses direction u w }
+    {
         for used in &self.uses {
             if is_same_way(used.direction, direction) && used.u == u && used.w == w {
                 return Some(used.place);

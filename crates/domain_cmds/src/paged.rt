@@ -1,4 +1,7 @@
 //! The script of a domain, behind whose last line the page of the domain is written.
+ghost use Rattle.std.specs.Prelude.{IfOk, IfSome};
+ghost use Rattle.domain_cmds.specs.Paging.{IsPaged, PagesDomain};
+ghost use Rattle.domain_reports.specs.declared.page.Shell.{Shell as TheShell};
 
 use crate::engine::{Engine, Watched};
 use domain_reports::page_shell;
@@ -22,7 +25,10 @@ fn write_page<P: Write>(
     engine: &mut Engine,
     name: &[u8],
     page: &mut P,
-) -> Result<bool, AllocError> {
+) -> Result<bool, AllocError>
+    ensures { IfOk result (λ is_written. (shell : TheShell) × IsPaged shell name.now engine.old.planning (P.contents page.old) (P.contents page.new)
+        is_written) }
+{
     match engine.planning_mut() {
         Some(planning) => {
             let mut text = Vec::new(alloc);
@@ -41,7 +47,10 @@ pub fn run_paged_domain<R: Read, W: Write, S: Watch + Drop, P: Write>(
     watcher: S,
     name: &[u8],
     page: &mut P,
-) -> Result<Paged, StreamFault> {
+) -> Result<Paged, StreamFault>
+    ensures { IfOk result (λ paged. IfSome (R.remaining reader.old) (λ input. PagesDomain name.now input (R.remaining reader.new)
+        (W.contents writer.old) (W.contents writer.new) (P.contents page.old) (P.contents page.new) paged)) }
+{
     let mut service = Watched {
         engine: Engine::new(),
         watcher,

@@ -3,6 +3,7 @@ ghost use Rattle.std.specs.Prelude.{◌≡◌, ◌≢◌, ◌<◌, IfOk, IfSome,
 ghost use Rattle.std.specs.Io.{StartsWith};
 ghost use Rattle.std.specs.Option.{option_map};
 ghost use Rattle.domain_routes.specs.Still as rest;
+ghost use Rattle.domain_cmds.specs.Paging as paging;
 ghost use Rattle.domain_cmds.specs.Script as spec;
 
 use crate::asking::answer_question;
@@ -46,6 +47,7 @@ pub(crate) struct Planning {
 impl Model for Planning {
     ghost use Rattle.std.specs.Prelude.{◌≡◌, IfSome};
     ghost use Rattle.std.specs.Option.{option_map};
+    ghost use Rattle.domain_cmds.specs.Origins.{AreLastOf, AreOriginsOf};
     ghost use Rattle.domain_cmds.specs.State.{PlanningView};
 
     ghost Value = { PlanningView };
@@ -58,8 +60,9 @@ impl Model for Planning {
       since = p.since;
     } };
 
-    // The filters fit the domain, and so do the plans between which it stayed.
-    ghost invariant = { λ p. (p.filters.size ≡ p.domain.size) × IfSome p.since (λ between. between.most.size ≡ p.domain.size) };
+    // The filters fit the domain, and so do the plans between which it stayed. Where its filters come from is known.
+    ghost invariant = { λ p. (p.filters.size ≡ p.domain.size) × IfSome p.since (λ between. between.most.size ≡ p.domain.size)
+        × AreOriginsOf p.domain p.origins × AreLastOf p.origins p.filters.named };
 }
 
 /// Why two nodes that have a link, or none, are not to have one, or none.
@@ -240,12 +243,29 @@ impl Planning {
         ensures err { OnErr result (StartsWith out.new.items out.old.items) }
     {
         let reply = self.filters.load(alloc, number, name, source, out)?;
-        if reply == LineReply::Answered
-            && let Some(filter) = self.filters.get(name)?
-        {
-            self.origins.note(alloc, number, name, source, filter)?;
+        if reply == LineReply::Answered {
+            self.note_origin(alloc, number, name, source)?;
         }
         Ok(reply)
+    }
+
+    /// Notes where the filter comes from that has a name now. Where memory is refused, the name is free again.
+    fn note_origin(
+        &mut self,
+        alloc: Global,
+        number: u32,
+        name: &[u8],
+        source: FilterSource<'_>,
+    ) -> Result<(), AllocError> {
+        let noted = match self.filters.get(name) {
+            Ok(Some(filter)) => self.origins.note(alloc, number, name, source, filter),
+            Ok(None) => Ok(()),
+            Err(error) => Err(error),
+        };
+        if noted.is_err() {
+            self.filters.forget(name);
+        }
+        noted
     }
 
     /// Answers `link` and `cut`: two nodes are neighbours from now on, or no more.
@@ -347,7 +367,10 @@ impl Planning {
     }
 
     /// Answers `json`: the whole domain, for programs.
-    fn answer_json(&mut self, alloc: Global, out: &mut Vec<u8>) -> Result<LineReply, AllocError> {
+    fn answer_json(&mut self, alloc: Global, out: &mut Vec<u8>) -> Result<LineReply, AllocError>
+        ensures ok { IfOk result (Answers (λ answer. spec.Asks (spec.IsToldDomain self.old.plan) self.old answer self.new) out.old.items out.new.items) }
+        ensures err { OnErr result (StartsWith out.new.items out.old.items) }
+    {
         self.begun = true;
         let said = said_of(alloc, &mut self.domain, &self.origins)?;
         push_domain(alloc, out, &said.report())?;
@@ -361,7 +384,10 @@ impl Planning {
         out: &mut Vec<u8>,
         shell: Shell<'_>,
         name: &[u8],
-    ) -> Result<(), AllocError> {
+    ) -> Result<(), AllocError>
+        ensures ok { OnOk result (paging.AddsPage shell name.now self.old.plan out.old.items out.new.items) }
+        ensures same { self.new ≡ self.old }
+    {
         let said = said_of(alloc, &mut self.domain, &self.origins)?;
         push_page(alloc, out, shell, name, &said.report())
     }

@@ -1,7 +1,7 @@
 //! A domain, its routes at rest and its failures, as programs read them.
-ghost use Rattle.std.specs.Prelude.{◌≡◌, ◌<◌, ◌≤◌, IfOk, OnOk, map};
-ghost use Rattle.domain_routes.specs.PlanView.{is_linked};
-ghost use Rattle.netchange_core.specs.Kept.{filter_of};
+ghost use Rattle.std.specs.Prelude.{◌≡◌, ◌++◌, ◌<◌, All, IfOk, OnOk, map};
+ghost use Rattle.domain_reports.specs.Views.{domain_view, effect_view, filter_view};
+ghost use Rattle.netchange_core.specs.Kept.{FitsSize, filter_of};
 ghost use Rattle.domain_cmds.specs.Said as spec;
 
 use crate::failure::{Failing, Failure};
@@ -19,9 +19,10 @@ use filter_verifier::Verified;
 use netchange_core::Via;
 use operator_cmds::Direction;
 use std::alloc::{AllocError, Global};
+use std::marker::Model;
 use std::sync::Arc;
 
-/// What is said of a domain.
+/// What is said of a domain. A contract sees it as a `DomainView`.
 #[derive(Drop)]
 pub(crate) struct Said<'a> {
     /// The number of nodes.
@@ -44,9 +45,30 @@ pub(crate) struct Said<'a> {
     node_failures: Vec<FailureReport>,
 }
 
+impl<'a> Model for Said<'a> {
+    ghost use Rattle.std.specs.Prelude.{map};
+    ghost use Rattle.domain_reports.specs.Views.{DomainView, filter_view};
+
+    ghost Value = { DomainView };
+
+    ghost view = { λ s. record {
+      size = s.size;
+      prefixes = map (λ prefix. prefix.items) s.prefixes.items;
+      links = s.links.items;
+      filters = map filter_view s.filters.items;
+      tables = map (λ table. table.items) s.tables.items;
+      longest = s.longest;
+      phases = s.phases;
+      link_failures = s.link_failures.items;
+      node_failures = s.node_failures.items;
+    } };
+}
+
 impl<'a> Said<'a> {
     /// All of it.
-    pub(crate) fn report(&self) -> DomainReport<'_> {
+    pub(crate) fn report(&self) -> DomainReport<'_>
+        ensures { domain_view result ≡ self.now }
+    {
         DomainReport {
             size: self.size,
             prefixes: self.prefixes.as_slice(),
@@ -302,7 +324,7 @@ pub(crate) fn said_of<'a>(
     origins: &'a Origins,
 ) -> Result<Said<'a>, AllocError>
     requires fits { All (λ origin. origin.filter.size ≡ domain.old.size) origins.now.all }
-    ensures said { IfOk result (λ said. spec.IsSaid domain.old origins.now (spec.said_view said)) }
+    ensures said { IfOk result (λ said. spec.IsSaid domain.old origins.now said) }
     ensures same { domain.new ≡ domain.old }
 {
     let all = domain.all_routes(alloc)?;

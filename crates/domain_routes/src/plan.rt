@@ -13,6 +13,8 @@ ghost use Rattle.domain_routes.specs.Edits.{exporting, importing, linking, unfil
 ghost use Rattle.domain_routes.specs.PlanView.{IsPlan, IsSize, is_linked, opening_of, peer, stranger};
 ghost use Rattle.domain_routes.specs.Still.{HasFewerLinks};
 ghost use Rattle.domain_routes.specs.Topology.{toll};
+ghost use Rattle.netchange_core.specs.FilteredDistance.{filtered_distance};
+ghost use Rattle.netchange_core.specs.Kept.{FitsSize, filter_of};
 
 use crate::peer::Peer;
 use crate::row::Row;
@@ -210,7 +212,12 @@ impl Plan {
     }
 
     /// What a distance from a node comes to under a filter.
-    pub fn filtered(&self, filter: &Option<Arc<Verified>>, v: u16, dist: u16) -> u16 {
+    pub fn filtered(&self, filter: &Option<Arc<Verified>>, v: u16, dist: u16) -> u16
+        requires fits { FitsSize self.now.size (filter_of filter.now) }
+        requires node { v < self.now.size }
+        requires reachable { dist ≤ self.now.size }
+        ensures { result ≡ filtered_distance (opening_of self.now) (filter_of filter.now) v dist }
+    {
         filtered_distance(&self.opening, filter, v, dist)
     }
 
