@@ -2,7 +2,7 @@
 //!
 //! **A contract sees the filters that have a name as a list of names with filters, in no order**: the value of a type with a model holds no
 //! function.
-ghost use Rattle.std.specs.Prelude.{◌≡◌, [], IfOk, IfSome, OnErr};
+ghost use Rattle.std.specs.Prelude.{◌≡◌, ◌≢◌, ℕ, List, [], IfOk, IfSome, None, OnErr};
 ghost use Rattle.std.specs.Io.{StartsWith};
 ghost use Rattle.std.specs.Option.{option_map};
 ghost use Rattle.operator_cmds.specs.Replies.{Answers};

@@ -1,9 +1,11 @@
 //! A domain that is set up: its plan, and what its script did with it.
-ghost use Rattle.std.specs.Prelude.{◌≡◌, ◌≢◌, ◌<◌, IfOk, IfSome, IsTrue, OnErr};
+ghost use Rattle.std.specs.Prelude.{◌≡◌, ◌≢◌, ◌<◌, ℕ, List, IfOk, IfSome, IsTrue, MatchOption, None, OnErr, OnOk};
 ghost use Rattle.std.specs.Io.{StartsWith};
 ghost use Rattle.std.specs.Option.{option_map};
 ghost use Rattle.domain_routes.specs.Still as rest;
+ghost use Rattle.domain_cmds.specs.Origins.{Notes};
 ghost use Rattle.domain_cmds.specs.Paging as paging;
+ghost use Rattle.domain_cmds.specs.State.{filter_named};
 ghost use Rattle.domain_cmds.specs.Script as spec;
 
 use crate::asking::answer_question;
@@ -127,11 +129,36 @@ fn loosen_node(since: &mut Option<Between>, plan: &Plan, u: u16)
     }
 }
 
+/// Notes where the filter comes from that has a name now. Where memory is refused, the name is free again.
+fn note_origin(
+    alloc: Global,
+    filters: &mut Filters,
+    origins: &mut Origins,
+    number: u32,
+    name: &[u8],
+    source: FilterSource<'_>,
+) -> Result<(), AllocError>
+    ensures ok { OnOk result ((filters.new ≡ filters.old) × MatchOption (filter_named filters.old.named name.now) (origins.new ≡ origins.old)
+        (λ filter. Notes number name.now source.entry filter origins.old origins.new)) }
+    ensures err { OnErr result ((origins.new ≡ origins.old) × (filter_named filters.new.named name.now ≡ None)) }
+    ensures others { OnErr result ((other : List ℕ) → other ≢ name.now → filter_named filters.new.named other ≡ filter_named filters.old.named other) }
+    ensures size { filters.new.size ≡ filters.old.size }
+{
+    let noted = match filters.get(name) {
+        Ok(Some(filter)) => origins.note(alloc, number, name, source, filter),
+        Ok(None) => Ok(()),
+        Err(error) => Err(error),
+    };
+    if noted.is_err() {
+        filters.forget(name);
+    }
+    noted
+}
+
 impl Planning {
     ghost use Rattle.operator_cmds.specs.Replies.{Answers};
     ghost use Rattle.operator_cmds.specs.Script.{gives, lacks};
     ghost use Rattle.domain_cmds.specs.CommandView.{view_of};
-    ghost use Rattle.domain_cmds.specs.State.{filter_named};
 
     /// A domain of so many nodes without links, with the default prefixes.
     pub(crate) fn new(alloc: Global, size: DomainSize) -> Result<Planning, AllocError>
@@ -244,28 +271,16 @@ impl Planning {
     {
         let reply = self.filters.load(alloc, number, name, source, out)?;
         if reply == LineReply::Answered {
-            self.note_origin(alloc, number, name, source)?;
+            note_origin(
+                alloc,
+                &mut self.filters,
+                &mut self.origins,
+                number,
+                name,
+                source,
+            )?;
         }
         Ok(reply)
-    }
-
-    /// Notes where the filter comes from that has a name now. Where memory is refused, the name is free again.
-    fn note_origin(
-        &mut self,
-        alloc: Global,
-        number: u32,
-        name: &[u8],
-        source: FilterSource<'_>,
-    ) -> Result<(), AllocError> {
-        let noted = match self.filters.get(name) {
-            Ok(Some(filter)) => self.origins.note(alloc, number, name, source, filter),
-            Ok(None) => Ok(()),
-            Err(error) => Err(error),
-        };
-        if noted.is_err() {
-            self.filters.forget(name);
-        }
-        noted
     }
 
     /// Answers `link` and `cut`: two nodes are neighbours from now on, or no more.

@@ -4,6 +4,7 @@ pub mod Checked
 pub mod Checking
 pub mod Comparing
 pub mod Configured
+pub mod Domains
 pub mod Ending
 pub mod Filters
 pub mod Gathering
@@ -15,6 +16,7 @@ pub mod Linting
 pub mod Loading
 pub mod Marking
 pub mod Networking
+pub mod Paging
 pub mod Places
 pub mod Planning
 pub mod Reading

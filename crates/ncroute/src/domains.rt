@@ -2,6 +2,10 @@
 //!
 //! **`domain --compare` ends with 1 only where something is lost**, and with 0 only where nothing is. What keeps it from knowing is 3, also a
 //! command that is refused: a domain without it is not the one that was meant. BEFORE is read and carried out before FILE is read.
+ghost use Rattle.std.specs.Prelude.{◌≡◌, IfErr, IfOk};
+ghost use Rattle.domain_cmds.specs.Left.{Leaves};
+ghost use Rattle.ncroute.specs.Domains as spec;
+ghost use Rattle.ncroute.specs.Scripts.{IsQuiet};
 
 use crate::console::{Console, Loaded};
 use crate::ending::{FAULT, status_of_found};
@@ -23,7 +27,10 @@ fn leave<E: Write>(
     script: &[u8],
     is_explained: bool,
     errors: &mut E,
-) -> Result<Left, StreamFault> {
+) -> Result<Left, StreamFault>
+    ensures leaves { IfOk result (Leaves script.now) }
+    ensures quiet { IsQuiet is_explained (E.contents errors.old) (E.contents errors.new) }
+{
     if is_explained {
         let teller = Teller {
             engine: Engine::Domain,
@@ -36,17 +43,43 @@ fn leave<E: Write>(
     }
 }
 
+/// What is told of a script that sets no domain up.
+#[tactic(auto, unfolding(crate::specs::Domains::nothing_words))]
+fn nothing_words() -> &'static str
+    ensures { result.now ≡ spec.nothing_words }
+{
+    "this script sets up no domain"
+}
+
+/// What is told of a script of which a line is refused.
+#[tactic(auto, unfolding(crate::specs::Domains::refused_words))]
+fn refused_words() -> &'static str
+    ensures { result.now ≡ spec.refused_words }
+{
+    "a line of this script is refused, so nothing is compared"
+}
+
+/// What is told of a domain that has another size than the one before it.
+#[tactic(auto, unfolding(crate::specs::Domains::unlike_words))]
+fn unlike_words() -> &'static str
+    ensures { result.now ≡ spec.unlike_words }
+{
+    "this domain has not as many nodes as the one before it"
+}
+
 /// The domain that a script left behind. Where there is none, people are told why.
 fn domain_of<E: Write>(
     alloc: Global,
     name: &[u8],
     left: Left,
     errors: &mut E,
-) -> Result<Option<LeftDomain>, ProgramFault> {
+) -> Result<Option<LeftDomain>, ProgramFault>
+    ensures { IfOk result (λ domain. spec.IsDomainOf name.now left (E.contents errors.old) (E.contents errors.new) domain) }
+{
     let words = match left {
         Left::Domain(domain) => return Ok(Some(domain)),
-        Left::Nothing => "this script sets up no domain",
-        Left::Refused => "a line of this script is refused, so nothing is compared",
+        Left::Nothing => nothing_words(),
+        Left::Refused => refused_words(),
     };
     tell_of(alloc, errors, name, words, b"\n")?;
     Ok(None)
@@ -59,7 +92,10 @@ fn left_by<F: Folder, R: Read, W: Write, E: Write>(
     source: &Source,
     is_explained: bool,
     console: &mut Console<R, W, E>,
-) -> Result<Option<LeftDomain>, ProgramFault> {
+) -> Result<Option<LeftDomain>, ProgramFault>
+    ensures left { IfOk result (λ domain. spec.LeftBy (F.opens files.now) source.now is_explained console.old console.new domain) }
+    ensures unwritten { console.new.holds ≡ console.old.holds }
+{
     let name = name_of(source);
     match console.read(files, alloc, source, INPUT_LIMIT) {
         Loaded::Text(script) => {
@@ -80,10 +116,12 @@ fn compare_left<R: Read, W: Write, E: Write>(
     new: LeftDomain,
     name: &[u8],
     console: &mut Console<R, W, E>,
-) -> Result<u8, ProgramFault> {
+) -> Result<u8, ProgramFault>
+    ensures finished { IfOk result (spec.ComparesPlans format old name.now new console.old console.new) }
+    ensures stopped { IfErr result (λ _. spec.StopsDomains format console.old console.new) }
+{
     if old.size() != new.size() {
-        let words = "this domain has not as many nodes as the one before it";
-        tell_of(alloc, &mut console.errors, name, words, b"\n")?;
+        tell_of(alloc, &mut console.errors, name, unlike_words(), b"\n")?;
         return Ok(FAULT);
     }
     let is_lost = compare_domains(alloc, format, old, new, &mut console.writer)?;
@@ -99,7 +137,10 @@ pub fn compare_scripts<F: Folder, R: Read, W: Write, E: Write>(
     new: &Source,
     is_explained: bool,
     console: &mut Console<R, W, E>,
-) -> Result<u8, ProgramFault> {
+) -> Result<u8, ProgramFault>
+    ensures finished { IfOk result (spec.ComparesDomains (F.opens files.now) format old.now new.now is_explained console.old console.new) }
+    ensures stopped { IfErr result (λ _. spec.StopsDomains format console.old console.new) }
+{
     let Some(before) = left_by(files, alloc, old, is_explained, console)? else {
         return Ok(FAULT);
     };
