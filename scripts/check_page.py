@@ -167,14 +167,12 @@ def failure_row(data, failure):
 def by_program(place, name, script, data):
     """What the program writes as JSON is what its answers come to."""
     said = page_oracle.asked(place.program, ["domain"], script.rstrip(b"\n") + b"\njson\n")[-1]
-    if not said.startswith("{"):
-        return place.counts.skip(f"{name}: json", "this program writes no JSON of a domain")
-    place.expect(f"{name}: json", json.loads(said) == data and said == page_oracle.in_json(data))
+    place.expect(f"{name}: json", said == page_oracle.in_json(data), said)
     (place.folder / "script").write_bytes(script)
     (place.folder / "out.html").unlink(missing_ok=True)
     ran = subprocess.run([place.program, "domain", "script", "--page", "out.html"], cwd=place.folder, capture_output=True)
     is_same = ran.returncode == 0 and (place.folder / "out.html").read_text(encoding="utf-8") == page_oracle.page("script", data)
-    return place.expect(f"{name}: page", is_same, ran.stderr)
+    place.expect(f"{name}: page", is_same, ran.stderr)
 
 
 def nodes_have_room(place, name):

@@ -290,8 +290,7 @@ domains have as many nodes. What is printed is what the change from one to the o
   gained U:V ..          U reaches V from now on
   changed U:V ..         U reaches V at another distance, or through another neighbour
   failures COUNT         and as many lines: link U W, or node U, and what its failure does
-  .. loses L keeps K     it parts L nodes from another that it did not part before, and
-                         parts K no longer
+  .. loses L keeps K     it takes L routes that it did not take before, and K no longer
 
 Example:
   printf 'domain 3\\nlink 0 1\\nlink 1 2\\nroute 0 2\\n' | ncroute domain

@@ -37,27 +37,26 @@ turned turn size before after = lists_below size (turned_of turn size before aft
 
 -- ---- failures
 
--- A failure parts one node from another now, which it did not then: now they are together without it. What the change itself parts, no
--- failure is blamed for.
-abbrev pub is_parted_anew : ℕ → Failing → List (List Best) → List (List Best) → List (List Best) → ℕ → ℕ → Bool
-is_parted_anew size what then_failed now now_failed u v = is_lost size what now now_failed u v && reaches size then_failed u v
+-- A failure takes the route of one node to another now, which it did not take then: now there is one without it, and then there was one with it.
+abbrev pub is_taken_anew : ℕ → Failing → List (List Best) → List (List Best) → List (List Best) → ℕ → ℕ → Bool
+is_taken_anew size what then_failed now now_failed u v = is_lost size what now now_failed u v && reaches size then_failed u v
 
-abbrev pub parted_anew_of : ℕ → Failing → List (List Best) → List (List Best) → List (List Best) → ℕ → ℕ
-parted_anew_of size what then_failed now now_failed u = count_below size (is_parted_anew size what then_failed now now_failed u)
+abbrev pub taken_anew_of : ℕ → Failing → List (List Best) → List (List Best) → List (List Best) → ℕ → ℕ
+taken_anew_of size what then_failed now now_failed u = count_below size (is_taken_anew size what then_failed now now_failed u)
 
-abbrev pub parted_anew : ℕ → Failing → List (List Best) → List (List Best) → List (List Best) → ℕ
-parted_anew size what then_failed now now_failed = sum_below size (parted_anew_of size what then_failed now now_failed)
+abbrev pub taken_anew : ℕ → Failing → List (List Best) → List (List Best) → List (List Best) → ℕ
+taken_anew size what then_failed now now_failed = sum_below size (taken_anew_of size what then_failed now now_failed)
 
 -- all routes at rest where something has failed: without a link that is not there the plan is what it was
 abbrev pub AreRoutesWithout : Failing → PlanView → List (List Best) → Type 0
 AreRoutesWithout what plan routes = (later : PlanView) × IsCutOff what plan later × AreAllRoutes later routes
 
--- how many a failure parts that it did not part before the change, and how many it parts no longer
+-- how many routes a failure takes that it did not take before the change, and how many it takes no longer
 abbrev pub harm_of : ℕ → Failing → List (List Best) → List (List Best) → List (List Best) → List (List Best) → Harm
 harm_of size what before before_failed after after_failed = record {
   what = what;
-  loses = parted_anew size what before_failed after after_failed;
-  keeps = parted_anew size what after_failed before before_failed;
+  loses = taken_anew size what before_failed after after_failed;
+  keeps = taken_anew size what after_failed before before_failed;
 }
 
 abbrev pub IsHarm : PlanView → PlanView → List (List Best) → List (List Best) → Failing → Harm → Type 0
@@ -120,7 +119,7 @@ abbrev pub IsComparison : PlanView → PlanView → ComparisonView → Type 0
 IsComparison p q found = (before : List (List Best)) × AreAllRoutes p before × (after : List (List Best)) × AreAllRoutes q after
     × (harms : List Harm) × AreHarms p q before after (all_failing p q) harms × (found ≡ comparison_of p.size before after harms)
 
--- some failure parts what it did not part
+-- some failure takes routes that it did not take
 abbrev pub has_loss : List Harm → Bool
 has_loss [] = false
 has_loss (harm ∷ more) = nat_lt 0 harm.loses || has_loss more

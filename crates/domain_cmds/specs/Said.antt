@@ -5,6 +5,7 @@ use Rattle.prefix_patterns.specs.Spelling.{prefix_text}
 use Rattle.filter_verifier.specs.VerifiedView.{VerifiedView}
 use Rattle.filter_verifier.specs.Bounds.{cost, peak}
 use Rattle.netchange_core.specs.FilteredDistance.{filtered_distance}
+use Rattle.netchange_core.specs.OpeningView.{OpeningView}
 use Rattle.netchange_core.specs.declared.reply.Via.{Via}
 use Rattle.netchange_core.specs.declared.reply.Via.TheVariants as via
 use Rattle.operator_cmds.specs.declared.event.Direction.TheVariants.{Export, Import}
@@ -82,20 +83,20 @@ table_of size all u = lists_below size (λ v. route_report (route_of size all u 
 abbrev pub tables_of : ℕ → List (List Best) → List (List RouteReport)
 tables_of size all = lists_below size (λ u. table_of size all u ∷ [])
 
--- ---- filters
+-- ---- filters; `o` is what they are shown of the domain
 
 -- what each distance from a node comes to
-abbrev pub distances_under : PlanView → Option VerifiedView → ℕ → List ℕ
-distances_under plan filter v = lists_below plan.size (λ dist. filtered_distance (opening_of plan) filter v dist ∷ [])
+abbrev pub distances_under : OpeningView → Option VerifiedView → ℕ → List ℕ
+distances_under o filter v = lists_below o.size (λ dist. filtered_distance o filter v dist ∷ [])
 
 -- what distances from these nodes come to
-abbrev pub IsEffect : PlanView → Option VerifiedView → said.EffectView → Type 0
-IsEffect plan filter effect = All (λ v. (v < plan.size) × (effect.distances ≡ distances_under plan filter v)) effect.nodes
+abbrev pub IsEffect : OpeningView → Option VerifiedView → said.EffectView → Type 0
+IsEffect o filter effect = All (λ v. (v < o.size) × (effect.distances ≡ distances_under o filter v)) effect.nodes
 
 -- what is said of all nodes, of each once: of those of which all distances come to the same at once
-pub record AreEffects (plan : PlanView) (filter : Option VerifiedView) (effects : List said.EffectView) : Type 0 where
-  pub right : All (IsEffect plan filter) effects
-  pub all : (v : ℕ) → v < plan.size → Contains v (flat_map (λ effect. effect.nodes) effects)
+pub record AreEffects (o : OpeningView) (filter : Option VerifiedView) (effects : List said.EffectView) : Type 0 where
+  pub right : All (IsEffect o filter) effects
+  pub all : (v : ℕ) → v < o.size → Contains v (flat_map (λ effect. effect.nodes) effects)
   pub once : AllDistinct (flat_map (λ effect. effect.nodes) effects)
   pub apart : AllDistinct (map (λ effect. effect.distances) effects)
 
@@ -107,20 +108,20 @@ AddsNode distances v old new = ((before behind : List said.EffectView) × (nodes
     × (new ≡ before ++ record { distances = distances; nodes = nodes ++ v ∷ [] } ∷ behind))
     ⊎ (All (λ effect. effect.distances ≢ distances) old × (new ≡ old ++ record { distances = distances; nodes = v ∷ [] } ∷ []))
 
-pub record IsFilterReport (plan : PlanView) (origin : OriginView) (filter : said.FilterView) : Type 0 where
+pub record IsFilterReport (o : OpeningView) (origin : OriginView) (filter : said.FilterView) : Type 0 where
   pub name : filter.name ≡ origin.name
   pub line : filter.line ≡ origin.line
   pub text : filter.text ≡ origin.text
   pub listing : filter.listing ≡ origin.listing
   pub budget : filter.budget ≡ cost origin.filter.program.instrs 0
   pub depth : filter.depth ≡ peak origin.filter.program.instrs 0 0
-  pub effects : AreEffects plan (Some origin.filter) filter.effects
+  pub effects : AreEffects o (Some origin.filter) filter.effects
 
-abbrev pub AreFilterReports : PlanView → List OriginView → List said.FilterView → Type 0
-AreFilterReports plan [] [] = Unit {0}
-AreFilterReports plan [] (filter ∷ more) = ⊥
-AreFilterReports plan (origin ∷ others) [] = ⊥
-AreFilterReports plan (origin ∷ others) (filter ∷ more) = IsFilterReport plan origin filter × AreFilterReports plan others more
+abbrev pub AreFilterReports : OpeningView → List OriginView → List said.FilterView → Type 0
+AreFilterReports o [] [] = Unit {0}
+AreFilterReports o [] (filter ∷ more) = ⊥
+AreFilterReports o (origin ∷ others) [] = ⊥
+AreFilterReports o (origin ∷ others) (filter ∷ more) = IsFilterReport o origin filter × AreFilterReports o others more
 
 -- ---- a domain, and a comparison
 
@@ -135,7 +136,7 @@ pub record IsSaid (plan : PlanView) (origins : OriginsView) (domain : said.Domai
   pub size : domain.size ≡ plan.size
   pub prefixes : domain.prefixes ≡ map prefix_text plan.prefixes
   pub links : domain.links ≡ link_reports plan origins
-  pub filters : AreFilterReports plan origins.all domain.filters
+  pub filters : AreFilterReports (opening_of plan) origins.all domain.filters
   pub tables : domain.tables ≡ tables_of plan.size routes
   pub longest : domain.longest ≡ longest plan.size (distances plan.size routes)
   pub phases : domain.phases ≡ phases_to_rest plan.size (distances plan.size routes)

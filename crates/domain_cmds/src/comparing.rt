@@ -1,7 +1,7 @@
 //! What a change of a domain does.
 //!
-//! **A failure is blamed for what it does anew alone.** It parts two nodes anew that are together without it, and were together with it before.
-//! So what the change itself parts is no failure's, and a node that gains its only link makes no failure of others worse.
+//! **A failure is blamed for what it does anew alone.** It takes a route anew that there is without it now, and that there was with it before. So
+//! what the change itself takes is no failure's, and a node that gets its only link makes no failure worse.
 ghost use Rattle.std.specs.Prelude.{◌≡◌, ◌<◌, ◌≤◌, ◌&&◌, ◌||◌, ◌++◌, ◌∷◌, [], if◌then◌else◌, nat_lt, IfOk, IsTrue, OnOk};
 ghost use Rattle.domain_routes.specs.PlanView.{is_linked};
 ghost use Rattle.domain_cmds.specs.Comparing as spec;
@@ -32,9 +32,9 @@ pub(crate) enum Turn {
 pub(crate) struct Harm {
     /// What fails.
     pub(crate) what: Failing,
-    /// How many nodes it parts from another that it did not part before.
+    /// How many routes it takes that it did not take before.
     pub(crate) loses: u32,
-    /// How many it parts no longer.
+    /// How many it takes no longer.
     pub(crate) keeps: u32,
 }
 
@@ -126,8 +126,8 @@ fn turned(
     Ok(found)
 }
 
-/// Whether a failure parts one node from another now, which it did not then.
-fn is_parted_anew(
+/// Whether a failure takes the route of one node to another now, which it did not then.
+fn is_taken_anew(
     size: u16,
     what: Failing,
     then_failed: &[Column],
@@ -136,13 +136,13 @@ fn is_parted_anew(
     u: u16,
     v: u16,
 ) -> bool
-    ensures { result ≡ spec.is_parted_anew size what then_failed.now now.now now_failed.now u v }
+    ensures { result ≡ spec.is_taken_anew size what then_failed.now now.now now_failed.now u v }
 {
     is_lost(size, what, now, now_failed, u, v) && reaches(size, then_failed, u, v)
 }
 
-/// From how many nodes a failure parts one now, from which it did not then.
-fn parted_anew_of(
+/// How many routes of a node a failure takes now, which it did not then.
+fn taken_anew_of(
     size: u16,
     what: Failing,
     then_failed: &[Column],
@@ -150,29 +150,29 @@ fn parted_anew_of(
     now_failed: &[Column],
     u: u16,
 ) -> u32
-    ensures value { result ≡ spec.parted_anew_of size what then_failed.now now.now now_failed.now u }
+    ensures value { result ≡ spec.taken_anew_of size what then_failed.now now.now now_failed.now u }
     ensures few { result ≤ size }
 {
     let mut count = 0;
     for v in 0..size {
-        count += one_if(is_parted_anew(size, what, then_failed, now, now_failed, u, v));
+        count += one_if(is_taken_anew(size, what, then_failed, now, now_failed, u, v));
     }
     count
 }
 
-/// How many nodes a failure parts from another now, from which it did not then.
-fn parted_anew(
+/// How many routes a failure takes now, which it did not then.
+fn taken_anew(
     size: u16,
     what: Failing,
     then_failed: &[Column],
     now: &[Column],
     now_failed: &[Column],
 ) -> u32
-    ensures { result ≡ spec.parted_anew size what then_failed.now now.now now_failed.now }
+    ensures { result ≡ spec.taken_anew size what then_failed.now now.now now_failed.now }
 {
     let mut sum = 0;
     for u in 0..size {
-        sum += parted_anew_of(size, what, then_failed, now, now_failed, u);
+        sum += taken_anew_of(size, what, then_failed, now, now_failed, u);
     }
     sum
 }
@@ -190,8 +190,8 @@ fn harm_of(
 {
     Harm {
         what,
-        loses: parted_anew(size, what, before_failed, after, after_failed),
-        keeps: parted_anew(size, what, after_failed, before, before_failed),
+        loses: taken_anew(size, what, before_failed, after, after_failed),
+        keeps: taken_anew(size, what, after_failed, before, before_failed),
     }
 }
 
@@ -413,7 +413,7 @@ pub(crate) fn comparison_of(
     })
 }
 
-/// Whether some failure parts nodes that it did not part before.
+/// Whether some failure takes routes that it did not take before.
 fn has_loss(harms: &[Harm]) -> bool
     ensures { result ≡ spec.has_loss harms.now }
 {

@@ -1,5 +1,6 @@
 //! A domain, its routes at rest and its failures, as programs read them.
 ghost use Rattle.std.specs.Prelude.{◌≡◌, ◌++◌, ◌<◌, All, IfOk, OnOk, map};
+ghost use Rattle.domain_routes.specs.PlanView.{opening_of};
 ghost use Rattle.domain_reports.specs.Views.{domain_view, effect_view, filter_view};
 ghost use Rattle.netchange_core.specs.Kept.{FitsSize, filter_of};
 ghost use Rattle.domain_cmds.specs.Said as spec;
@@ -16,7 +17,7 @@ use domain_reports::{
 use domain_routes::Plan;
 use filter_reports::push_prefix;
 use filter_verifier::Verified;
-use netchange_core::Via;
+use netchange_core::{Opening, Via, filtered_distance};
 use operator_cmds::Direction;
 use std::alloc::{AllocError, Global};
 use std::marker::Model;
@@ -147,20 +148,29 @@ fn link_reports(
     Ok(links)
 }
 
+/// What filters are shown of a domain.
+fn opening_of(alloc: Global, plan: &Plan) -> Result<Opening, AllocError>
+    ensures { IfOk result (λ opening. opening ≡ opening_of plan.now) }
+{
+    let prefixes = Vec::from_slice(alloc, plan.prefixes())?;
+    Ok(Opening::new(plan.size(), 0, prefixes).unwrap())
+}
+
 /// What each distance from a node comes to under a filter.
 fn distances_of(
     alloc: Global,
-    plan: &Plan,
+    opening: &Opening,
     filter: &Option<Arc<Verified>>,
     v: u16,
 ) -> Result<Vec<u16>, AllocError>
-    requires fits { FitsSize plan.now.size (filter_of filter.now) }
-    requires node { v < plan.now.size }
-    ensures { IfOk result (λ distances. distances.items ≡ spec.distances_under plan.now (filter_of filter.now) v) }
+    requires fits { FitsSize opening.now.size (filter_of filter.now) }
+    requires node { v < opening.now.size }
+    ensures { IfOk result (λ distances. distances.items ≡ spec.distances_under opening.now (filter_of filter.now) v) }
 {
-    let mut distances = Vec::with_capacity(alloc, usize::from(plan.size()))?;
-    for dist in 0..plan.size() {
-        distances.push(plan.filtered(filter, v, dist))?;
+    let size = opening.size();
+    let mut distances = Vec::with_capacity(alloc, usize::from(size))?;
+    for dist in 0..size {
+        distances.push(filtered_distance(opening, filter, v, dist))?;
     }
     Ok(distances)
 }
@@ -189,15 +199,15 @@ fn add_node(
 /// What a filter makes of all distances.
 fn effects_of(
     alloc: Global,
-    plan: &Plan,
+    opening: &Opening,
     filter: &Option<Arc<Verified>>,
 ) -> Result<Vec<Effect>, AllocError>
-    requires fits { FitsSize plan.now.size (filter_of filter.now) }
-    ensures { IfOk result (λ effects. spec.AreEffects plan.now (filter_of filter.now) (map effect_view effects.items)) }
+    requires fits { FitsSize opening.now.size (filter_of filter.now) }
+    ensures { IfOk result (λ effects. spec.AreEffects opening.now (filter_of filter.now) (map effect_view effects.items)) }
 {
     let mut effects = Vec::new(alloc);
-    for v in 0..plan.size() {
-        let distances = distances_of(alloc, plan, filter, v)?;
+    for v in 0..opening.size() {
+        let distances = distances_of(alloc, opening, filter, v)?;
         add_node(alloc, &mut effects, distances, v)?;
     }
     Ok(effects)
@@ -206,11 +216,11 @@ fn effects_of(
 /// What is said of a filter that got a name.
 fn filter_report<'a>(
     alloc: Global,
-    plan: &Plan,
+    opening: &Opening,
     origin: &'a Origin,
 ) -> Result<FilterReport<'a>, AllocError>
-    requires fits { origin.now.filter.size ≡ plan.now.size }
-    ensures { IfOk result (λ report. spec.IsFilterReport plan.now origin.now (filter_view report)) }
+    requires fits { origin.now.filter.size ≡ opening.now.size }
+    ensures { IfOk result (λ report. spec.IsFilterReport opening.now origin.now (filter_view report)) }
 {
     let filter = Some(Arc::try_clone(&origin.filter)?);
     Ok(FilterReport {
@@ -220,7 +230,7 @@ fn filter_report<'a>(
         listing: origin.listing.as_slice(),
         budget: origin.filter.budget(),
         depth: origin.filter.depth(),
-        effects: effects_of(alloc, plan, &filter)?,
+        effects: effects_of(alloc, opening, &filter)?,
     })
 }
 
@@ -231,12 +241,12 @@ fn filter_reports<'a>(
     origins: &'a Origins,
 ) -> Result<Vec<FilterReport<'a>>, AllocError>
     requires fits { All (λ origin. origin.filter.size ≡ plan.now.size) origins.now.all }
-    ensures { IfOk result (λ reports. spec.AreFilterReports plan.now origins.now.all (map filter_view reports.items)) }
+    ensures { IfOk result (λ reports. spec.AreFilterReports (opening_of plan.now) origins.now.all (map filter_view reports.items)) }
 {
-    let all = origins.all();
+    let (opening, all) = (opening_of(alloc, plan)?, origins.all());
     let mut reports = Vec::with_capacity(alloc, all.len())?;
     for origin in all {
-        reports.push(filter_report(alloc, plan, origin)?)?;
+        reports.push(filter_report(alloc, &opening, origin)?)?;
     }
     Ok(reports)
 }

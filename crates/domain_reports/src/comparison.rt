@@ -16,9 +16,9 @@ use std::alloc::{AllocError, Global};
 pub struct HarmReport {
     /// What fails.
     pub what: Fails,
-    /// How many nodes it parts from another that it did not part before.
+    /// How many routes it takes that it did not take before.
     pub loses: u32,
-    /// How many it parts no longer.
+    /// How many it takes no longer.
     pub keeps: u32,
 }
 

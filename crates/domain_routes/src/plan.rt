@@ -13,8 +13,6 @@ ghost use Rattle.domain_routes.specs.Edits.{exporting, importing, linking, unfil
 ghost use Rattle.domain_routes.specs.PlanView.{IsPlan, IsSize, is_linked, opening_of, peer, stranger};
 ghost use Rattle.domain_routes.specs.Still.{HasFewerLinks};
 ghost use Rattle.domain_routes.specs.Topology.{toll};
-ghost use Rattle.netchange_core.specs.FilteredDistance.{filtered_distance};
-ghost use Rattle.netchange_core.specs.Kept.{FitsSize, filter_of};
 
 use crate::peer::Peer;
 use crate::row::Row;
@@ -209,16 +207,6 @@ impl Plan {
     {
         self.rows[usize::from(u)].drop_imports(w);
         self.rows[usize::from(w)].drop_exports(u);
-    }
-
-    /// What a distance from a node comes to under a filter.
-    pub fn filtered(&self, filter: &Option<Arc<Verified>>, v: u16, dist: u16) -> u16
-        requires fits { FitsSize self.now.size (filter_of filter.now) }
-        requires node { v < self.now.size }
-        requires reachable { dist ≤ self.now.size }
-        ensures { result ≡ filtered_distance (opening_of self.now) (filter_of filter.now) v dist }
-    {
-        filtered_distance(&self.opening, filter, v, dist)
     }
 
     /// What the second node's distance from a destination comes to at the first, under the filters between them.
