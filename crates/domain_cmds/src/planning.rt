@@ -400,7 +400,7 @@ impl Planning {
         shell: Shell<'_>,
         name: &[u8],
     ) -> Result<(), AllocError>
-        ensures ok { OnOk result (paging.AddsPage shell name.now self.old.plan out.old.items out.new.items) }
+        ensures ok { OnOk result (paging.AddsPage shell.entry name.now self.old.plan out.old.items out.new.items) }
         ensures same { self.new ≡ self.old }
     {
         let said = said_of(alloc, &mut self.domain, &self.origins)?;

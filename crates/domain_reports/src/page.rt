@@ -66,7 +66,7 @@ pub fn push_page(
     name: &[u8],
     domain: &DomainReport<'_>,
 ) -> Result<(), AllocError>
-    ensures { OnOk result (out.new.items ≡ out.old.items ++ spec.page_text shell name.now (domain_view domain.now)) }
+    ensures { OnOk result (out.new.items ≡ out.old.items ++ spec.page_text shell.entry name.now (domain_view domain.now)) }
 {
     let file = text_value(alloc, name)?;
     let value = domain_value(alloc, domain)?;
