@@ -17,9 +17,7 @@ use crate::filter_words::WrongFilter;
 use crate::given::{number_given, word_given};
 use crate::lint_words::lint_in;
 use crate::numbers::negative_number;
-use crate::requests::{
-    Request, check_in, eval_in, import_in, list_in, replay_in, rewrite_in,
-};
+use crate::requests::{Request, check_in, eval_in, import_in, list_in, replay_in, rewrite_in};
 use crate::router_words::{RouterWords, router_in};
 use crate::run_words::run_in;
 use crate::telling::choices;
@@ -182,7 +180,9 @@ fn domain_words<R: Eprint>(
         return Ok(Invocation::Shown(WRONG_WORDS));
     }
     if formats_no_comparison(domain) {
-        let _ = eprintln!(rt; "error: --format says how a comparison is written: it goes with --compare");
+        let _ = eprintln!(rt;
+            "error: --format says how a comparison is written: it goes with --compare"
+        );
         return Ok(Invocation::Shown(WRONG_WORDS));
     }
     asked(domain_in(alloc, domain, terminals))

@@ -40,12 +40,12 @@ is_same_way Import Export = false
 is_same_way Export Import = false
 
 abbrev pub is_use_of : Direction → ℕ → ℕ → UseView → Bool
-is_use_of way u w use = is_same_way use.direction way && use.u == u && use.w == w
+is_use_of way u w known = is_same_way known.direction way && known.u == u && known.w == w
 
 -- the place of the filter through which a node has go what passes between it and another
 abbrev pub used_in : List UseView → Direction → ℕ → ℕ → Option ℕ
 used_in [] way u w = None
-used_in (use ∷ more) way u w = if is_use_of way u w use then Some use.place else used_in more way u w
+used_in (known ∷ more) way u w = if is_use_of way u w known then Some known.place else used_in more way u w
 
 -- The text is one that gives the code, and the listing is that of the code: that of the text, or of a code file in hexadecimal.
 abbrev pub IsSourceOf : Option (List ℕ) → List ℕ → VerifiedView → Type 0

@@ -12,7 +12,7 @@ use crate::reach::{longest, phases_to_rest};
 use crate::resting::RestingPlan;
 use crate::routes::{Column, route_of};
 use domain_reports::{
-    DomainReport, Effect, FailureReport, Fails, FilterReport, LinkReport, RouteReport,
+    DomainReport, Effect, Fails, FailureReport, FilterReport, LinkReport, RouteReport,
 };
 use domain_routes::Plan;
 use filter_reports::push_prefix;

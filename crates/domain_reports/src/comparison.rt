@@ -60,10 +60,7 @@ fn harms_value(alloc: Global, harms: &[HarmReport]) -> Result<Value, AllocError>
 }
 
 /// A comparison as an object.
-fn comparison_value(
-    alloc: Global,
-    comparison: &ComparisonReport<'_>,
-) -> Result<Value, AllocError>
+fn comparison_value(alloc: Global, comparison: &ComparisonReport<'_>) -> Result<Value, AllocError>
     ensures value { IfOk result (λ value. view value ≡ spec.comparison_data (comparison_view comparison.now)) }
     ensures floats { IfOk result (λ value. has_float (view value) ≡ false) }
 {

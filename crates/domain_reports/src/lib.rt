@@ -20,7 +20,7 @@ mod shell;
 
 pub use comparison::{ComparisonReport, HarmReport, push_comparison};
 pub use domain::{DomainReport, RouteReport, push_domain};
-pub use failure::{FailureReport, Fails};
+pub use failure::{Fails, FailureReport};
 pub use filter::{Effect, FilterReport};
 pub use laws::data_has_no_bracket;
 pub use link::LinkReport;

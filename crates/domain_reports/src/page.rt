@@ -46,7 +46,12 @@ fn push_unbracketed(out: &mut Vec<u8>, bytes: &[u8]) -> Result<(), AllocError>
 
 /// Adds a value in an element of this name.
 #[tactic(auto, unfolding(crate::specs::Pages::behind_data))]
-fn push_element(alloc: Global, out: &mut Vec<u8>, name: &[u8], value: &Value) -> Result<(), AllocError>
+fn push_element(
+    alloc: Global,
+    out: &mut Vec<u8>,
+    name: &[u8],
+    value: &Value,
+) -> Result<(), AllocError>
     requires { has_float (view value.now) ≡ false }
     ensures { OnOk result (out.new.items ≡ out.old.items ++ spec.data_element name.now (view value.now)) }
 {
