@@ -13,6 +13,7 @@ use Rattle.operator_cmds.specs.declared.event.Direction.{Direction}
 use Rattle.operator_cmds.specs.declared.event.Direction.TheVariants.{Export, Import}
 use Rattle.domain_routes.specs.PlanView.{PeerView, PlanView, peer}
 use Rattle.domain_cmds.specs.State.{Named, filter_named}
+use Rattle.domain_cmds.specs.declared.origins.Use.{Use}
 
 -- a filter that got a name at a line: its text, where it was not given as code, the listing of its code, and the filter itself
 pub record OriginView : Type 0 where
@@ -22,16 +23,10 @@ pub record OriginView : Type 0 where
   pub listing : List ℕ
   pub filter : VerifiedView
 
--- that a node has what passes between it and another go through the filter at a place among all
-pub record UseView : Type 0 where
-  pub direction : Direction
-  pub u : ℕ
-  pub w : ℕ
-  pub place : ℕ
-
+-- all filters that got names, and where they are used
 pub record OriginsView : Type 0 where
   pub all : List OriginView
-  pub uses : List UseView
+  pub uses : List Use
 
 abbrev pub is_same_way : Direction → Direction → Bool
 is_same_way Import Import = true
@@ -39,11 +34,11 @@ is_same_way Export Export = true
 is_same_way Import Export = false
 is_same_way Export Import = false
 
-abbrev pub is_use_of : Direction → ℕ → ℕ → UseView → Bool
+abbrev pub is_use_of : Direction → ℕ → ℕ → Use → Bool
 is_use_of way u w known = is_same_way known.direction way && known.u == u && known.w == w
 
 -- the place of the filter through which a node has go what passes between it and another
-abbrev pub used_in : List UseView → Direction → ℕ → ℕ → Option ℕ
+abbrev pub used_in : List Use → Direction → ℕ → ℕ → Option ℕ
 used_in [] way u w = None
 used_in (known ∷ more) way u w = if is_use_of way u w known then Some known.place else used_in more way u w
 

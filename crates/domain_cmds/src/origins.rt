@@ -44,22 +44,17 @@ impl Model for Origin {
     } };
 }
 
-/// That a node has what passes between it and another go through a filter. A contract sees it as a `UseView`.
+/// That a node has what passes between it and another go through a filter.
 #[derive(Clone, Copy)]
-struct Use {
+pub(crate) struct Use {
+    /// Whether the node receives it, or tells it.
     direction: Direction,
+    /// The node.
     u: u16,
+    /// The other one.
     w: u16,
     /// The filter's place among all.
     place: usize,
-}
-
-impl Model for Use {
-    ghost use Rattle.domain_cmds.specs.Origins.{UseView};
-
-    ghost Value = { UseView };
-
-    ghost view = { λ used. record { direction = used.direction; u = used.u; w = used.w; place = used.place } };
 }
 
 /// All filters of a script, in the order of their lines, and their uses. A contract sees them as an `OriginsView`.
