@@ -1,5 +1,5 @@
 -- What a change of a domain does: the domain before it and the domain after it, of as many nodes. (This project's own choice.)
-use Rattle.std.specs.Prelude.{◌≡◌, ℕ, nat_lt, Bool, true, false, not, ◌&&◌, ◌||◌, if◌then◌else◌, List, [], ◌∷◌, ◌++◌, filter}
+use Rattle.std.specs.Prelude.{◌≡◌, ℕ, nat_lt, Bool, true, false, not, ◌&&◌, ◌||◌, if◌then◌else◌, List, [], ◌∷◌, ◌++◌}
 use Rattle.domain_routes.specs.PlanView.{PlanView, is_linked}
 use Rattle.domain_routes.specs.declared.best.Best.{Best}
 use Rattle.domain_cmds.specs.Failures.{IsCutOff, all_nodes, count_below, is_lost, lists_below, sum_below}
