@@ -31,8 +31,8 @@ pub(crate) fn pairs_value(alloc: Global, pairs: &[(u16, u16)]) -> Result<Value, 
     ensures { IfOk result (λ value. view value ≡ spec.pairs_data pairs.now) }
 {
     let mut list = Vec::with_capacity(alloc, pairs.len())?;
-    for (u, w) in pairs {
-        list.push(pair_value(alloc, *u, *w)?)?;
+    for pair in pairs {
+        list.push(pair_value(alloc, pair.0, pair.1)?)?;
     }
     Ok(Value::Array(list))
 }
