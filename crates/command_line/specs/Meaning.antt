@@ -181,12 +181,14 @@ pub record IsRouting (given : List Row) (words : RouterWords) : Type 0 where
   pub segments : words.segments ≡ number_of 32 (codes "segments") given
   pub routes : option_map (λ copy. string_bytes copy) words.routes ≡ word_of (codes "routes") given
   pub settle : words.settle ≡ number_of 32 (codes "settle") given
+  pub log : option_map (λ copy. string_bytes copy) words.log ≡ word_of (codes "log") given
   pub stays : words.stays ≡ is_set (codes "stay") given
   pub prefixes : map (λ copy. string_bytes copy) words.prefixes.items ≡ words_of (codes "prefix") given
   pub filters : AreFilters given words.filters.items
   pub imports : map (λ copy. string_bytes copy) words.imports.items ≡ words_of (codes "import") given
   pub exports : map (λ copy. string_bytes copy) words.exports.items ≡ words_of (codes "export") given
   pub links : map (λ copy. string_bytes copy) words.links.items ≡ words_of (codes "link") given
+  pub controls : map (λ copy. string_bytes copy) words.controls.items ≡ words_of (codes "control") given
 
 -- what the words behind a command set in a request
 abbrev pub Sets : CommandName → List Row → Terminals → Request → Type 0

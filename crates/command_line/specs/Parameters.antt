@@ -95,7 +95,8 @@ all_taken =
     ∷ takes command.Router (codes "prefix") Texts
     ∷ takes command.Router (codes "filter") Texts ∷ takes command.Router (codes "import") Texts ∷ takes command.Router (codes "export") Texts
     ∷ takes command.Router (codes "link") Texts ∷ takes command.Router (codes "save") Text ∷ takes command.Router (codes "segments") Number
-    ∷ takes command.Router (codes "routes") Text ∷ takes command.Router (codes "settle") Number ∷ takes command.Router (codes "stay") Flag
+    ∷ takes command.Router (codes "routes") Text ∷ takes command.Router (codes "settle") Number
+    ∷ takes command.Router (codes "control") Texts ∷ takes command.Router (codes "log") Text ∷ takes command.Router (codes "stay") Flag
     ∷ takes command.Run (codes "filter") Texts ∷ takes command.Run (codes "save") Text ∷ takes command.Run (codes "stop") Flag
     ∷ takes command.Run (codes "explain") When ∷ takes command.Run (codes "file") Arguments ∷ []
 

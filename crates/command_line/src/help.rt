@@ -333,10 +333,12 @@ D. When its stream ends, or it is silent for its HOLD, it is down, and standard 
 
 Standard input has the operator's commands, as `ncroute run` answers them, without
 `network`, `prefix`, `recv` and `take`. `up`, and `down` of a node with a link, are refused
-as O9. `quit` ends the router, and so does the end of standard input without --stay.
+as O9. `status` and `status json` tell of the router and its links, and `routes json` the
+routes. `quit` ends the router, and so does the end of standard input without --stay. Each
+--control serves one operator more, to whom `ncroute-ctl` speaks.
 
 A line of the FILE of --config says an option without its dashes, with blanks between its
-parts: `size 4`, `link 1 in out`, `filter near near.filter`, `stay`. Names of files count from
+parts: `size 4`, `link 1 in out`, `control in out look`, `stay`. Names of files count from
 the folder of FILE. A word that begins with # begins a comment.
 
 The last entries of the history are kept in memory. With --save all of them are in FOLDER, or

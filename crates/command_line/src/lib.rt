@@ -23,6 +23,7 @@ mod test_words;
 mod trying_words;
 mod words;
 
+pub use commands::VERSION;
 pub use diff_words::Comparing;
 pub use filter_words::{NamedFile, WrongFilter, filters_in};
 pub use lint_words::Linting;
