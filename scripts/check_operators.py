@@ -98,7 +98,7 @@ class Rows(RunRows):
         for entry in run.saved():
             words = entry.split()
             if words[1:3] in (["import", str(node)], ["export", str(node)]):
-                found.append(" ".join(words[1:4]))
+                found.append(f"{words[1]} {node} {words[4]}")
             elif words[1:3] == ["show", str(node)]:
                 found.append(" ".join(words[1:3]))
         return found
@@ -270,8 +270,10 @@ class Rows(RunRows):
                 os.rename(log, old)
                 run.neighbours[2].close()
                 text = awaited(lambda: log.read_text() if log.exists() else "", lambda text: "closed" in text, PATIENCE)
-                self.judge("renamed", LOGGED.sub(r"\2", text) == "link 2: the neighbour ended its stream: closed\n", text)
-                self.judge("standard error", run.said("") == "link 2: the neighbour ended its stream: closed\n", run.said(""))
+                # How many messages are left out depends on how busy the machine is.
+                wanted = r"link 2: the neighbour ended its stream: closed\n(link 2: messages left out, since later ones replaced them: \d+\n)?"
+                self.judge("renamed", re.fullmatch(wanted, LOGGED.sub(r"\2", text)), text)
+                self.judge("standard error", re.fullmatch(wanted, run.said("")), run.said(""))
                 self.end(run)
                 text = log.read_text()
                 self.judge("ends", text.endswith(" router: ends\n"), text)
@@ -356,6 +358,14 @@ class Rows(RunRows):
         ran = subprocess.run([CTL, "-c", config, *words], input=text, capture_output=True, text=True, check=False)
         return ran.returncode, ran.stdout, ran.stderr
 
+    def together(self, config):
+        """Many who speak at the same time are answered what each of them asked."""
+        asked = [(f"show {node}", f"route {0 if node == 0 else 8} {'local' if node == 0 else 'none'}\n") for node in range(8)] * 3
+        with concurrent.futures.ThreadPoolExecutor(OPERATORS) as pool:
+            answers = list(pool.map(lambda each: self.ctl(config, "-w", str(PATIENCE), *each[0].split()), asked))
+        wrong = [(each, answer) for each, answer in zip(asked, answers) if answer != (0, each[1], "")]
+        self.judge("at the same time", not wrong, wrong[:3])
+
     def row_ncroute_ctl(self):
         """It finds the control in the router's file, and its answers do not mix."""
         with tempfile.TemporaryDirectory() as folder:
@@ -381,11 +391,7 @@ class Rows(RunRows):
                 self.judge("refused", found == (1, "refused O1 1\n", ""), found)
                 found = self.ctl(config, text="# not said\n\nload near filter near { accept; }\nimport 1 near\nneighbours\n")
                 self.judge("lines", found == (0, "verified 1 0\ndone 0\nneighbours\n", ""), found)
-                with concurrent.futures.ThreadPoolExecutor(OPERATORS) as pool:
-                    asked = [(f"show {node}", f"route {0 if node == 0 else 8} {'local' if node == 0 else 'none'}\n") for node in range(8)] * 3
-                    answers = list(pool.map(lambda each: self.ctl(config, *each[0].split()), asked))
-                wrong = [(each, answer) for each, answer in zip(asked, answers) if answer != (0, each[1], "")]
-                self.judge("at the same time", not wrong, wrong[:3])
+                self.together(config)
                 found = self.ctl(config, "quit")
                 self.judge("quit", found == (0, "ok\n", ""), found)
                 self.judge("ends", router.process.wait(timeout=PATIENCE) == 0, router.process.returncode)

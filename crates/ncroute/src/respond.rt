@@ -77,7 +77,13 @@ fn status_of_router<
     I: Read,
     W: Write,
     E: Write,
->(rt: &R, alloc: Global, words: &RouterWords, console: &mut Console<I, W, E>, outlets: Outlets<T>) -> u8
+>(
+    rt: &R,
+    alloc: Global,
+    words: &RouterWords,
+    console: &mut Console<I, W, E>,
+    outlets: Outlets<T>,
+) -> u8
 where
     R::Segments: Send + 'static,
     ensures { ServesConfigured (R.opens rt.now) (R.makes rt.now) (R.keeps rt.now) words.now console.old console.new result

@@ -124,14 +124,7 @@ fn tell_unopened<R: Wait + Clock, J: Naming, E: Write>(
 }
 
 /// Opens both files of a control: first that which the operator's lines come from. To open a FIFO waits until its other end is opened.
-fn open_files<
-    R: Wait + Clock,
-    I: Read + Drop,
-    O: Write,
-    D: LinkFolder<I, O>,
-    J: Naming,
-    E: Write,
->(
+fn open_files<R: Wait + Clock, I: Read + Drop, O: Write, D: LinkFolder<I, O>, J: Naming, E: Write>(
     rt: &R,
     alloc: Global,
     folder: &D,
@@ -228,11 +221,7 @@ fn serve_looks<R: Wait + Clock, I: Read, O: Write, J: Naming, E: Write>(
 }
 
 /// Ends the router, since an operator said so.
-fn end_router<R: Wait, J: Naming, E: Write>(
-    rt: &R,
-    shared: &Shared<J, E>,
-    ear: &Option<Arc<Ear>>,
-) {
+fn end_router<R: Wait, J: Naming, E: Write>(rt: &R, shared: &Shared<J, E>, ear: &Option<Arc<Ear>>) {
     shared.signals.attendance.quit(rt);
     if let Some(ear) = ear {
         ear.close(rt);
@@ -252,26 +241,10 @@ fn serve_files<R: Wait + Clock, I: Read + Drop, O: Write + Drop, J: Naming, E: W
     mut output: O,
 ) -> Option<Absent<J>> {
     let (has_quit, after) = if looks {
-        let after = serve_looks(
-            rt,
-            alloc,
-            shared,
-            controls,
-            absent,
-            &mut input,
-            &mut output,
-        );
+        let after = serve_looks(rt, alloc, shared, controls, absent, &mut input, &mut output);
         (false, after)
     } else {
-        serve_changes(
-            rt,
-            alloc,
-            shared,
-            controls,
-            absent,
-            &mut input,
-            &mut output,
-        )
+        serve_changes(rt, alloc, shared, controls, absent, &mut input, &mut output)
     };
     drop(input);
     drop(output);
@@ -313,9 +286,7 @@ fn control<
         let pause = match opened {
             Some((input, output)) => {
                 let looks = files.looks;
-                absent = serve_files(
-                    &rt, alloc, &shared, &controls, looks, absent, input, output,
-                )?;
+                absent = serve_files(&rt, alloc, &shared, &controls, looks, absent, input, output)?;
                 BREATH
             }
             None => PAUSE,

@@ -53,7 +53,10 @@ impl<R: Files<File = File>> LinkFolder<File, File> for R {
     }
 
     fn open_log(&self, name: &str) -> io::Result<File> {
-        OpenOptions::new().append(true).create(true).open(self, name)
+        OpenOptions::new()
+            .append(true)
+            .create(true)
+            .open(self, name)
     }
 
     fn is_kept(&self, name: &str) -> bool {

@@ -171,8 +171,7 @@ impl<R, I: Read> StandardInput<R, I> {
 impl<
     R: Threads + Wait + Copy + Send + Drop + 'static,
     I: Read + Send + Drop + 'static,
-> StandardInput<R, I>
-{
+> StandardInput<R, I> {
     /// Has a thread of its own read it, if it is to be shared and none does.
     fn share(&mut self) {
         if self.input.is_none() || !self.ear.is_shared(&self.rt) {
@@ -191,11 +190,8 @@ impl<
     }
 }
 
-impl<
-    R: Threads + Wait + Copy + Send + Drop + 'static,
-    I: Read + Send + Drop + 'static,
-> Read for StandardInput<R, I>
-{
+impl<R: Threads + Wait + Copy + Send + Drop + 'static, I: Read + Send + Drop + 'static> Read
+    for StandardInput<R, I> {
     fn read(&mut self, buf: &mut [u8]) -> io::Result<usize> {
         self.share();
         match &mut self.input {

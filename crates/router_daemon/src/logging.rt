@@ -72,11 +72,7 @@ fn tell_unlogged<R: Wait, J: Naming, E: Write>(
     if let Ok(shown) = shown_of(alloc, why) {
         let shown = shown.as_str();
         let mut errors = shared.errors.lock(rt);
-        tell_event(
-            alloc,
-            &mut *errors,
-            Event::Unlogged(Fault { name, shown }),
-        );
+        tell_event(alloc, &mut *errors, Event::Unlogged(Fault { name, shown }));
     }
 }
 
@@ -88,14 +84,7 @@ struct LogFile<O: Write> {
 }
 
 /// Writes a text to a log. What the file does not take is lost.
-fn write_log<
-    R: Wait,
-    I: Read,
-    O: Write + Drop,
-    D: LinkFolder<I, O>,
-    J: Naming,
-    E: Write,
->(
+fn write_log<R: Wait, I: Read, O: Write + Drop, D: LinkFolder<I, O>, J: Naming, E: Write>(
     rt: &R,
     alloc: Global,
     folder: &D,
@@ -156,13 +145,7 @@ fn keep_log<
     D: LinkFolder<I, O> + Drop,
     J: Naming,
     E: Write + Drop,
->(
-    rt: R,
-    alloc: Global,
-    folder: Arc<D>,
-    shared: Arc<Shared<J, E>>,
-    mut keeping: Keeping,
-) {
+>(rt: R, alloc: Global, folder: Arc<D>, shared: Arc<Shared<J, E>>, mut keeping: Keeping) {
     let mut piece = [0; PIECE];
     let mut file = LogFile {
         stream: None,

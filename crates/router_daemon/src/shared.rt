@@ -38,7 +38,8 @@ impl<J: Naming, E: Write> Shared<J, E> {
         }
         self.signals.log(rt, event);
         if let Event::Closed { node, why } = event {
-            self.signals.note_ended(rt, node, why_words(alloc, why).ok());
+            self.signals
+                .note_ended(rt, node, why_words(alloc, why).ok());
         }
     }
 }

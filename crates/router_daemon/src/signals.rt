@@ -160,7 +160,12 @@ impl Signals {
 
     /// Notes why the link to a node is closed.
     pub(crate) fn note_ended<R: Wait>(&self, rt: &R, node: u16, why: Option<String>) {
-        if let Some(link) = self.nodes.as_slice().iter().position(|other| *other == node) {
+        if let Some(link) = self
+            .nodes
+            .as_slice()
+            .iter()
+            .position(|other| *other == node)
+        {
             self.tallies.note_ended(rt, link, why);
         }
     }
@@ -377,13 +382,7 @@ impl Listener for Signals {
         self.news.note(rt, answer.at);
     }
 
-    fn replaced<R: Wait + Clock>(
-        &self,
-        rt: &R,
-        direction: Direction,
-        node: u16,
-        name: &[u8],
-    ) {
+    fn replaced<R: Wait + Clock>(&self, rt: &R, direction: Direction, node: u16, name: &[u8]) {
         if let Ok(name) = str::from_utf8(name) {
             self.log(
                 rt,

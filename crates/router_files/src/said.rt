@@ -261,12 +261,7 @@ fn ends_over(alloc: Global, input: &str, output: &str) -> Result<String, LineFau
 }
 
 /// Two files of a control.
-fn ends_in(
-    alloc: Global,
-    folder: &str,
-    input: &str,
-    output: &str,
-) -> Result<String, LineFault>
+fn ends_in(alloc: Global, folder: &str, input: &str, output: &str) -> Result<String, LineFault>
     ensures { spec.IsText result (spec.ends_of folder.now input.now output.now) }
 {
     let input = path_of(alloc, folder, input)?;
@@ -275,12 +270,7 @@ fn ends_in(
 }
 
 /// Two files of a control whose operator may look alone, as the command line has them.
-fn looking_in(
-    alloc: Global,
-    folder: &str,
-    input: &str,
-    output: &str,
-) -> Result<Said, LineFault>
+fn looking_in(alloc: Global, folder: &str, input: &str, output: &str) -> Result<Said, LineFault>
     ensures { spec.IsSaid result (spec.looking_of folder.now input.now output.now) }
 {
     let mut text = ends_in(alloc, folder, input, output)?;

@@ -8,10 +8,11 @@ use Rattle.operator_cmds.specs.Commands.{Read, command_in}
 use Rattle.operator_cmds.specs.Faults.{fault_code}
 use Rattle.router_operator.specs.OperatorView.{OperatorView}
 use Rattle.router_operator.specs.Operators as operator
-use Rattle.router_operator.specs.Operators.{AnswersTelling, Refuses, SeesMore}
+use Rattle.router_operator.specs.Operators.{AnswersRoutes, AnswersStatus, Refuses, SeesMore}
 use Rattle.router_operator.specs.Questions.{question_in}
 use Rattle.router_operator.specs.Running.{Stays, input_limit}
 use Rattle.router_operator.specs.declared.questions.Question.{Question}
+use Rattle.router_operator.specs.declared.questions.Question.TheVariants as question
 
 -- what looks is answered as for who may change; all else is refused
 abbrev pub AnswersCommand : OperatorView → ℕ → CommandView → Answer → OperatorView → Type 0
@@ -23,9 +24,12 @@ abbrev pub AnswersRead : OperatorView → ℕ → Read → Answer → OperatorVi
 AnswersRead before number (Ok command) answer after = AnswersCommand before number command answer after
 AnswersRead before number (Err why) answer after = Refuses (fault_code why) number before answer after
 
+-- and so is `quit`
 abbrev pub AnswersAsked : OperatorView → ℕ → List ℕ → Option Question → Answer → OperatorView → Type 0
 AnswersAsked before number line None answer after = AnswersRead before number (command_in line) answer after
-AnswersAsked before number line (Some question) answer after = AnswersTelling before number question answer after
+AnswersAsked before number line (Some question.Quit) answer after = Refuses (codes "O11") number before answer after
+AnswersAsked before number line (Some (question.Status form)) answer after = AnswersStatus before form answer after
+AnswersAsked before number line (Some question.Routes) answer after = AnswersRoutes before answer after
 
 -- they may be given this answer to the line of this number
 abbrev pub AnswersLine : OperatorView → ℕ → List ℕ → Answer → OperatorView → Type 0

@@ -33,6 +33,7 @@ use Rattle.router_operator.specs.declared.questions.Question.{Question}
 use Rattle.router_operator.specs.declared.questions.Question.TheVariants as question
 use Rattle.router_status.specs.Objects.{routes_json}
 use Rattle.router_status.specs.Status.{StatusView, completed}
+use Rattle.router_status.specs.declared.lib.Form.{Form}
 
 -- ---- what a line asks for
 
@@ -121,14 +122,14 @@ pub record Looks (before after : OperatorView) : Type 0 where
 abbrev pub AnswersLook : (ℕ → JournalView → Answer) → OperatorView → Answer → OperatorView → Type 0
 AnswersLook look before answer after = Looks before after × (answer ≡ look after.pass.fragment.forgot (journal_seen after))
 
--- What the router is about is answered from that one history and from what is known beside it, of which nothing is said here; and so are the
--- routes, for a program. Whoever may look alone is refused `quit`.
-abbrev pub AnswersTelling : OperatorView → ℕ → Question → Answer → OperatorView → Type 0
-AnswersTelling before number (question.Status form) answer after = (known : StatusView) × AnswersLook
+-- what the router is about is answered from that one history, and from what is known beside it, of which nothing is said here
+abbrev pub AnswersStatus : OperatorView → Form → Answer → OperatorView → Type 0
+AnswersStatus before form answer after = (known : StatusView) × AnswersLook
     (λ first journal. answered (status_words form (completed first journal known))) before answer after
-AnswersTelling before number question.Routes answer after =
-    AnswersLook (λ first journal. answered (routes_json (tables_of journal))) before answer after
-AnswersTelling before number question.Quit answer after = Refuses (codes "O11") number before answer after
+
+-- and so are the routes, for a program
+abbrev pub AnswersRoutes : OperatorView → Answer → OperatorView → Type 0
+AnswersRoutes before answer after = AnswersLook (λ first journal. answered (routes_json (tables_of journal))) before answer after
 
 -- a look for the node's present session, and then its Down
 abbrev pub AnswersDown : ℕ → OperatorView → Answer → OperatorView → Type 0
@@ -171,7 +172,8 @@ Quits before answer after =
 abbrev pub AnswersAsked : OperatorView → ℕ → List ℕ → Option Question → Answer → OperatorView → Type 0
 AnswersAsked before number line None answer after = AnswersRead before number (command_in line) answer after
 AnswersAsked before number line (Some question.Quit) answer after = Quits before answer after
-AnswersAsked before number line (Some asked) answer after = AnswersTelling before number asked answer after
+AnswersAsked before number line (Some (question.Status form)) answer after = AnswersStatus before form answer after
+AnswersAsked before number line (Some question.Routes) answer after = AnswersRoutes before answer after
 
 -- the operator may be given this answer to the line of this number, and is then the later operator
 abbrev pub AnswersLine : OperatorView → ℕ → List ℕ → Answer → OperatorView → Type 0

@@ -3,14 +3,15 @@
 //! **`quit` is refused, too**: it ends the router for all. Whoever only looks leaves by the end of their lines.
 ghost use Rattle.std.specs.Prelude.{◌≡◌, IfErr, IfOk, IfSome, OnErr};
 ghost use Rattle.std.specs.Io.{StartsWith};
+ghost use Rattle.operator_cmds.specs.Commands.{command_in};
 ghost use Rattle.operator_cmds.specs.Replies.{Answers};
 ghost use Rattle.router_operator.specs.Lookers as spec;
 ghost use Rattle.slot_lock.specs.Passes.{IsPassOf};
 
 use crate::listener::Listener;
 use crate::naming::Naming;
-use crate::operator::{INPUT_LIMIT, Operator};
-use crate::questions::question_in;
+use crate::operator::{INPUT_LIMIT, LOOKS_ALONE, Operator};
+use crate::questions::{Question, question_in};
 use filter_verifier::Verified;
 use line_protocol::{LineReply, Service, StreamFault, answer_lines_within};
 use operator_cmds::{CommandFault, read_command, refuse};
@@ -48,13 +49,11 @@ impl<'a, R: Wait + Clock, L: Listener, J: Naming> Service for Looker<'a, R, L, J
         line: &[u8],
         out: &mut Vec<u8>,
     ) -> Result<LineReply, AllocError> {
-        if let Some(question) = question_in(line) {
-            return self.operator.tell(alloc, number, question, out);
-        }
-        match read_command(alloc, line) {
-            Ok(command) => self.operator.look_alone(alloc, number, command, out),
-            Err(CommandFault::Memory) => Err(AllocError),
-            Err(why) => refuse(out, why.code(), u64::from(number)),
+        match question_in(line) {
+            Some(Question::Quit) => refuse(out, LOOKS_ALONE, u64::from(number)),
+            Some(Question::Status(form)) => self.operator.status(alloc, number, form, out),
+            Some(Question::Routes) => self.operator.routes(alloc, number, out),
+            None => self.command(alloc, number, line, out),
         }
     }
 }
@@ -65,6 +64,26 @@ impl<'a, R: Wait + Clock, L: Listener, J: Naming> Looker<'a, R, L, J> {
         ensures { result ≡ operator }
     {
         Looker { operator }
+    }
+
+    /// Answers a line that is no question: a command.
+    fn command(
+        &mut self,
+        alloc: Global,
+        number: u32,
+        line: &[u8],
+        out: &mut Vec<u8>,
+    ) -> Result<LineReply, AllocError>
+        ensures ok { IfOk result (Answers (λ answer. spec.AnswersRead self.old number (command_in line.now) answer self.new)
+            out.old.items out.new.items) }
+        ensures err { OnErr result (StartsWith out.new.items out.old.items) }
+        ensures left { OnErr result (spec.BreaksOff self.old self.new) }
+    {
+        match read_command(alloc, line) {
+            Ok(command) => self.operator.look_alone(alloc, number, command, out),
+            Err(CommandFault::Memory) => Err(AllocError),
+            Err(why) => refuse(out, why.code(), u64::from(number)),
+        }
     }
 
     /// The pass by which they looked, and the filters that have names.

@@ -26,6 +26,7 @@ use operator_cmds::{
     Command, CommandFault, Direction, FilterSource, confirm, name_source, read_command, refuse,
     session_number,
 };
+use router_status::Form;
 use slot_lock::{Pass, Router};
 use std::alloc::{AllocError, Global};
 use std::collections::BTreeMap;
@@ -48,7 +49,7 @@ const UNKNOWN_FILTER: &str = "O6";
 const LINK_DOES_IT: &str = "O9";
 
 /// The code of what changes the router, or ends it, where an operator may look alone.
-const LOOKS_ALONE: &str = "O11";
+pub(crate) const LOOKS_ALONE: &str = "O11";
 
 /// The operator of a router that others call too. A contract sees it as an `OperatorView`.
 #[derive(Drop)]
@@ -96,7 +97,8 @@ impl<'a, R: Wait + Clock, L: Listener, J: Naming> Service for Operator<'a, R, L,
     ) -> Result<LineReply, AllocError> {
         match question_in(line) {
             Some(Question::Quit) => self.quit(out),
-            Some(question) => self.tell(alloc, number, question, out),
+            Some(Question::Status(form)) => self.status(alloc, number, form, out),
+            Some(Question::Routes) => self.routes(alloc, number, out),
             None => self.command(alloc, number, line, out),
         }
     }
@@ -339,26 +341,34 @@ impl<'a, R: Wait + Clock, L: Listener, J: Naming> Operator<'a, R, L, J> {
         answer_call(self.rt, self.listener, self.limit, exported, called, out)
     }
 
-    /// Answers a question that a look answers: `status`, `status json` and `routes json`.
-    pub(crate) fn tell(
+    /// Answers `status` and `status json`.
+    pub(crate) fn status(
         &mut self,
         alloc: Global,
         number: u32,
-        question: Question,
+        form: Form,
         out: &mut Vec<u8>,
     ) -> Result<LineReply, AllocError>
-        ensures ok { IfOk result (Answers (λ answer. spec.AnswersTelling self.old number question answer self.new) out.old.items out.new.items) }
+        ensures ok { IfOk result (Answers (λ answer. spec.AnswersStatus self.old form answer self.new) out.old.items out.new.items) }
         ensures err { OnErr result (StartsWith out.new.items out.old.items) }
         ensures left { OnErr result (spec.SeesMore self.old self.new) }
     {
-        match question {
-            Question::Status(form) => {
-                let status = self.listener.status(self.rt, alloc)?;
-                self.look(alloc, number, Asked::Status(status, form), out)
-            }
-            Question::Routes => self.look(alloc, number, Asked::Routes, out),
-            Question::Quit => refuse(out, LOOKS_ALONE, u64::from(number)),
-        }
+        let status = self.listener.status(self.rt, alloc)?;
+        self.look(alloc, number, Asked::Status(status, form), out)
+    }
+
+    /// Answers `routes json`.
+    pub(crate) fn routes(
+        &mut self,
+        alloc: Global,
+        number: u32,
+        out: &mut Vec<u8>,
+    ) -> Result<LineReply, AllocError>
+        ensures ok { IfOk result (Answers (λ answer. spec.AnswersRoutes self.old answer self.new) out.old.items out.new.items) }
+        ensures err { OnErr result (StartsWith out.new.items out.old.items) }
+        ensures left { OnErr result (spec.SeesMore self.old self.new) }
+    {
+        self.look(alloc, number, Asked::Routes, out)
     }
 
     /// Answers a command that looks, and refuses any other.

@@ -1,5 +1,5 @@
 -- What a router tells programs, as JSON. (RFC 8259, by the kit's `serde_json`; the names of the members are this project's own choice.)
-use Rattle.std.specs.Prelude.{ℕ, zero, suc, Bool, List, [], ◌∷◌, ◌++◌, Option, Some, None, codes, map, nat_lt, slice_index}
+use Rattle.std.specs.Prelude.{ℕ, zero, suc, Bool, List, [], ◌∷◌, ◌++◌, Option, Some, None, codes, map, nat_lt, slice_index_or}
 use Rattle.netchange_core.specs.Best.{best}
 use Rattle.netchange_core.specs.World.{World}
 use Rattle.netchange_core.specs.declared.reply.Via.{Via}
@@ -77,7 +77,7 @@ prefix_data prefix = string (prefix_text prefix)
 abbrev pub route_data : World → ℕ → Data
 route_data w node = object (member (codes "distance") (number (unsigned (best w node).dist))
     (member (codes "node") (number (unsigned node))
-    (member (codes "prefix") (prefix_data (slice_index w.opening.prefixes node))
+    (member (codes "prefix") (prefix_data (slice_index_or w.opening.prefixes node []))
     (member (codes "reachable") (boolean (nat_lt (best w node).dist w.opening.size))
     (member (codes "via") (number_or_null (next_hop (best w node).via)) no_members)))))
 
