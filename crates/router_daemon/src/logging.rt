@@ -103,7 +103,7 @@ fn write_log<R: Wait, I: Read, O: Write + Drop, D: LinkFolder<I, O>, J: Naming, 
         }
     }
     let is_done = match &mut file.stream {
-        Some(stream) => write_text(stream, text).is_err() || text.last() == Some(&b'\n'),
+        Some(stream) => write_text(stream, text).is_err() || text.ends_with(b"\n"),
         None => false,
     };
     if is_done {
