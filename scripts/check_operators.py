@@ -229,6 +229,19 @@ class Rows(RunRows):
                 self.judge("served", answer == ["neighbours"], answer)
                 self.end(run)
 
+    def row_file_as_control(self):
+        """A regular file is read once."""
+        with tempfile.TemporaryDirectory() as folder:
+            there, back = pathlib.Path(folder, "commands"), pathlib.Path(folder, "answers")
+            there.write_text("show 1\nneighbours\nload near filter near { accept; }\n", encoding="utf-8")
+            back.touch()
+            with Run(self.program, more=["--control", f"{there},{back}"]) as run:
+                text = awaited(back.read_text, lambda text: text.count("\n") == 3, PATIENCE)
+                time.sleep(SHORT)
+                self.judge("answers", back.read_text() == text == "route 8 none\nneighbours\nverified 1 0\n", text)
+                self.judge("entries", run.entries() == ["0 show 1 route 8 none"], run.entries())
+                self.end(run)
+
     def row_quit_at_a_control(self):
         """It ends a router that has no standard input, and one whose standard input is open; what stands there without a line feed counts."""
         for stays in (True, False):

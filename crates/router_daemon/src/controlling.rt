@@ -255,7 +255,8 @@ fn serve_files<R: Wait + Clock, I: Read + Drop, O: Write + Drop, J: Naming, E: W
     Some(after)
 }
 
-/// Serves an operator at files of their own, opening after opening, until they (None) or somebody else ends the router.
+/// Serves an operator at files of their own, opening after opening, until they end the router (None), or somebody else does. A file that keeps what is
+/// written to it is read once: its lines would be answered over and over.
 fn control<
     R: Wait + Clock + Drop,
     I: Read + Drop,
@@ -287,6 +288,9 @@ fn control<
             Some((input, output)) => {
                 let looks = files.looks;
                 absent = serve_files(&rt, alloc, &shared, &controls, looks, absent, input, output)?;
+                if folder.is_kept(files.input.as_str()) {
+                    return None;
+                }
                 BREATH
             }
             None => PAUSE,
