@@ -33,7 +33,7 @@ use Rattle.router_operator.specs.declared.questions.Question.{Question}
 use Rattle.router_operator.specs.declared.questions.Question.TheVariants as question
 use Rattle.router_status.specs.Objects.{routes_json}
 use Rattle.router_status.specs.Status.{StatusView, completed}
-use Rattle.router_status.specs.declared.lib.Form.{Form}
+use Rattle.router_status.specs.declared.form.Form.{Form}
 
 -- ---- what a line asks for
 

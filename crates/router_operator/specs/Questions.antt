@@ -8,8 +8,8 @@ use Rattle.router_operator.specs.declared.questions.Question.TheVariants.{Quit, 
 use Rattle.router_status.specs.Lines.{status_text}
 use Rattle.router_status.specs.Objects.{status_json}
 use Rattle.router_status.specs.Status.{StatusView}
-use Rattle.router_status.specs.declared.lib.Form.{Form}
-use Rattle.router_status.specs.declared.lib.Form.TheVariants.{Text, Json}
+use Rattle.router_status.specs.declared.form.Form.{Form}
+use Rattle.router_status.specs.declared.form.Form.TheVariants.{Text, Json}
 
 -- one word: `quit`, `status`
 abbrev pub question_of : List ℕ → Option Question

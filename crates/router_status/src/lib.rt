@@ -6,21 +6,14 @@
 //! what is told of the router.
 #![tactic(auto)]
 
+mod form;
 mod object;
 mod routes;
 mod status;
 mod text;
 
+pub use form::Form;
 pub use object::push_status_object;
 pub use routes::push_routes_object;
 pub use status::{LinkState, LinkStatus, Status};
 pub use text::push_status;
-
-/// How an answer is written.
-#[derive(Clone, Copy)]
-pub enum Form {
-    /// As a line for people.
-    Text,
-    /// As an object, in a line of JSON.
-    Json,
-}
