@@ -284,7 +284,8 @@ class Rows(RunRows):
                 run.neighbours[2].close()
                 text = awaited(lambda: log.read_text() if log.exists() else "", lambda text: "closed" in text, PATIENCE)
                 # How many messages are left out depends on how busy the machine is.
-                wanted = r"link 2: the neighbour ended its stream: closed\n(link 2: messages left out, since later ones replaced them: \d+\n)?"
+                left_out = r"(link 2: messages left out, since later ones replaced them: \d+\n)?"
+                wanted = left_out + r"link 2: the neighbour ended its stream: closed\n" + left_out
                 self.judge("renamed", re.fullmatch(wanted, LOGGED.sub(r"\2", text)), text)
                 self.judge("standard error", re.fullmatch(wanted, run.said("")), run.said(""))
                 self.end(run)

@@ -27,19 +27,36 @@ abbrev pub ended_text : Option (List ℕ) → List ℕ
 ended_text None = []
 ended_text (Some why) = codes " ended " ++ why
 
+-- what is counted of a link
+abbrev pub sessions_text : LinkView → List ℕ
+sessions_text link = number_text (codes "since") link.since ++ number_text (codes "sessions") link.sessions
+
+abbrev pub messages_text : LinkView → List ℕ
+messages_text link =
+    number_text (codes "received") link.received ++ number_text (codes "sent") link.sent ++ number_text (codes "waiting") link.waiting
+
 abbrev pub counts_text : LinkView → List ℕ
-counts_text link = number_text (codes "since") link.since ++ number_text (codes "sessions") link.sessions
-    ++ number_text (codes "received") link.received ++ number_text (codes "sent") link.sent
-    ++ number_text (codes "waiting") link.waiting ++ known_text (codes "unheard") link.unheard
+counts_text link = sessions_text link ++ messages_text link ++ known_text (codes "unheard") link.unheard
+
+abbrev pub neighbour_text : LinkView → List ℕ
+neighbour_text link = codes " | link " ++ decimal link.node ++ state_text link.state
 
 abbrev pub link_text : LinkView → List ℕ
-link_text link = codes " | link " ++ decimal link.node ++ state_text link.state ++ counts_text link ++ ended_text link.ended
+link_text link = neighbour_text link ++ counts_text link ++ ended_text link.ended
+
+-- the router itself
+abbrev pub node_text : StatusView → List ℕ
+node_text status = number_text (codes "node") status.node ++ number_text (codes "size") status.size ++ number_text (codes "up") status.up
+
+abbrev pub history_text : StatusView → List ℕ
+history_text status = number_text (codes "entries") status.entries ++ number_text (codes "forgotten") status.forgotten
+    ++ number_text (codes "room") status.room ++ known_text (codes "saved") status.saved
+
+abbrev pub version_text : List ℕ → List ℕ
+version_text version = codes " version " ++ version
 
 abbrev pub router_text : StatusView → List ℕ
-router_text status = codes "status" ++ number_text (codes "node") status.node ++ number_text (codes "size") status.size
-    ++ number_text (codes "up") status.up ++ number_text (codes "entries") status.entries
-    ++ number_text (codes "forgotten") status.forgotten ++ number_text (codes "room") status.room
-    ++ known_text (codes "saved") status.saved ++ codes " version " ++ status.version
+router_text status = codes "status" ++ node_text status ++ history_text status ++ version_text status.version
 
 -- without its line feed
 abbrev pub status_text : StatusView → List ℕ
