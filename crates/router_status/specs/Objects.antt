@@ -82,7 +82,7 @@ route_data w node = object (member (codes "distance") (number (unsigned (best w 
     (member (codes "via") (number_or_null (next_hop (best w node).via)) no_members)))))
 
 -- those of all nodes below one, from 0 upwards
-abbrev pub below : ℕ → (ℕ → Data) → List Data
+unfoldable pub below : ℕ → (ℕ → Data) → List Data
 below zero data_of = []
 below (suc n) data_of = below n data_of ++ data_of n ∷ []
 

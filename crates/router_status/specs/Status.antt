@@ -69,6 +69,10 @@ waiting_in w node (Some session) = length (neighbour_at w.neighbours node).queue
 abbrev pub waiting_for : World → ℕ → ℕ
 waiting_for w node = waiting_in w node (session_of w node)
 
+-- a link is told how many messages wait for its neighbour
+abbrev pub filled : World → LinkStatus → LinkStatus
+filled w link = record link { waiting = waiting_for w link.node }
+
 abbrev pub with_waiting : World → LinkView → LinkView
 with_waiting w link = record link { waiting = waiting_for w link.node }
 
