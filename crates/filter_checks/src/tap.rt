@@ -172,7 +172,7 @@ fn push_escaped_byte(out: &mut Vec<u8>, byte: u8) -> Result<(), AllocError>
     ensures { OnOk result (out.new.items ≡ out.old.items ++ spec.escaped_byte byte) }
 {
     if is_special(byte) {
-        out.push(b'\\')?;
+        return out.extend_from_slice(&[b'\\', byte]);
     }
     out.push(byte)?;
     Ok(())

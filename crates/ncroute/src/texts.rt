@@ -304,7 +304,12 @@ fn broken_line(alloc: Global, source: &Source, error: &Error) -> Result<Vec<u8>,
     ensures { IfOk result (λ line. (words : List ℕ) × (line.items ≡ unread_line source.now words)) }
 {
     let words = format!(in alloc; "{error}")?;
-    told_line(alloc, name_of(source), reason_in(words.as_str()), b" (E1)\n")
+    told_line(
+        alloc,
+        name_of(source),
+        reason_in(words.as_str()),
+        b" (E1)\n",
+    )
 }
 
 /// What is said of the text of a filter that is longer than its limit.
