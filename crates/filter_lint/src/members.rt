@@ -61,11 +61,11 @@ pub fn push_warning_words(
     alloc: Global,
     out: &mut Vec<u8>,
     sets: &[PatternSet],
-    cause: Cause,
+    cause: &Cause,
 ) -> Result<(), AllocError>
-    ensures { OnOk result (out.new.items ≡ out.old.items ++ coded (lines.words sets.now cause) (lines.code_of cause)) }
+    ensures { OnOk result (out.new.items ≡ out.old.items ++ coded (lines.words sets.now cause.now) (lines.code_of cause.now)) }
 {
-    push_words(alloc, out, sets, cause)?;
+    push_words(alloc, out, sets, *cause)?;
     out.extend_from_slice(b" (")?;
     out.extend_from_slice(cause.code())?;
     out.extend_from_slice(b")")

@@ -124,7 +124,7 @@ fn push_note(
     out.extend_from_slice(b" filter ")?;
     push_shown(alloc, out, draft.name)?;
     out.extend_from_slice(b": ")?;
-    push_warning_words(alloc, out, code.verified.code().sets(), warning.cause)?;
+    push_warning_words(alloc, out, code.verified.code().sets(), &warning.cause)?;
     out.push(b'\n')?;
     Ok(())
 }
