@@ -9,7 +9,7 @@ ghost use Rattle.ncroute.specs.Importing.{LacksFolder, SavesFilter, SavesText, T
 ghost use Rattle.ncroute.specs.Importing.{end_words, ends_in_slash, fate_words, file_name, file_path, head_for, head_of, inner_path};
 ghost use Rattle.ncroute.specs.Importing.{is_outside, made_line, origin_line, origins_for, outside_line, path_words};
 ghost use Rattle.ncroute.specs.Importing.{slash_behind, strange_words, text_for, text_in};
-ghost use Rattle.ncroute.specs.Noting.{notes_text, place_from};
+ghost use Rattle.ncroute.specs.Noting.{place_from};
 ghost use Rattle.ncroute.specs.Places.{config_of, place_of};
 ghost use Rattle.ncroute.specs.Streaming.{Tells, Writes};
 ghost use Rattle.filter_reports.specs.Check.{IsRefused};
@@ -31,7 +31,7 @@ use bird_import::{
 };
 use command_line::{Importing, Source};
 use filter_parser::{Around, Unparsed};
-use filter_reports::{PlacedCode, ProgramFault, placed_code, push_shown, refusal_words};
+use filter_reports::{ProgramFault, placed_code, push_shown, refusal_words};
 use filter_source::{Diagnosis, Failure, Refusal, SOURCE_LIMIT, push_verified};
 use filter_tokens::TokenFault;
 use filter_verifier::Verified;
@@ -208,7 +208,7 @@ fn refused(
 {
     Ok(Made {
         text: None,
-        at: place_from(written, told.byte, at),
+        at: place_from(written.origins.as_slice(), told.byte, at),
         words: refusal_words(alloc, written.text.as_slice(), told)?,
         notes: Vec::new(alloc),
     })
@@ -243,30 +243,6 @@ fn refuse_text(
     refused(alloc, at, written, &told)
 }
 
-/// What is written and told of a filter whose text has this verified code.
-fn kept(
-    alloc: Global,
-    placed: &PlacedConfig<'_>,
-    draft: &Draft<'_>,
-    written: FilterText,
-    code: &PlacedCode,
-) -> Result<Made, AllocError>
-    ensures text { IfOk result (λ made. text_in made ≡ Some written.text.items) }
-    ensures words { IfOk result (λ made. made.words.items ≡ verified_line code.now.verified.program) }
-    ensures place { IfOk result (λ made. made.at ≡ draft.now.at) }
-    ensures notes { IfOk result (λ made. made.notes.items ≡ notes_text placed.now draft.now.name.now draft.now.at written.text.items
-        written.origins.items code.now.verified code.now.places.items) }
-{
-    let words = verified_line(alloc, &code.verified)?;
-    let notes = notes_of(alloc, placed, draft, &written, code)?;
-    Ok(Made {
-        text: Some(written.text),
-        at: draft.at,
-        words,
-        notes,
-    })
-}
-
 /// Verifies the text of a filter for domains of a size.
 fn verify_filter(
     alloc: Global,
@@ -279,7 +255,17 @@ fn verify_filter(
     ensures noted { IfOk result (IsNotedText placed.now draft.now.name.now size draft.now.at written.text.items written.origins.items) }
 {
     match placed_code(alloc, written.text.as_slice(), size) {
-        Ok(code) => kept(alloc, placed, draft, written, &code),
+        Ok(code) => {
+            let words = verified_line(alloc, &code.verified)?;
+            let (text, origins) = (written.text.as_slice(), written.origins.as_slice());
+            let notes = notes_of(alloc, placed, draft, text, origins, &code)?;
+            Ok(Made {
+                text: Some(written.text),
+                at: draft.at,
+                words,
+                notes,
+            })
+        }
         Err(Failure::Refused(told)) => refused(alloc, draft.at, &written, &told),
         Err(Failure::Memory) => Err(AllocError),
     }

@@ -9,7 +9,7 @@ ghost use Rattle.ncroute.specs.Places.{config_of, file_of, place_in, texts_of};
 
 use crate::including::{File, Whole, stretch_of};
 use crate::texts::name_of;
-use bird_import::{Draft, FilterText, origin_of};
+use bird_import::{Draft, Origin, origin_of};
 use filter_lint::{Warning, overlap_warnings, push_warning_words};
 use filter_reports::{PlacedCode, Positions, push_position, push_shown};
 use std::alloc::{AllocError, Global};
@@ -97,11 +97,11 @@ impl<'a> PlacedConfig<'a> {
 }
 
 /// The place of a configuration from which a byte of a filter's text comes; that of the filter if there is none.
-pub fn place_from(written: &FilterText, byte: Option<usize>, filter: usize) -> usize
-    ensures { result ≡ place_from written.now.origins.items filter byte }
+pub fn place_from(origins: &[Origin], byte: Option<usize>, filter: usize) -> usize
+    ensures { result ≡ place_from origins.now filter byte }
 {
     match byte {
-        Some(byte) => origin_of(written.origins.as_slice(), byte).unwrap_or(filter),
+        Some(byte) => origin_of(origins, byte).unwrap_or(filter),
         None => filter,
     }
 }
@@ -112,14 +112,14 @@ fn push_note(
     out: &mut Vec<u8>,
     placed: &PlacedConfig<'_>,
     draft: &Draft<'_>,
-    written: &FilterText,
+    origins: &[Origin],
     code: &PlacedCode,
     warning: &Warning,
 ) -> Result<(), AllocError>
     ensures { OnOk result (out.new.items ≡ out.old.items
-        ++ note_line placed.now draft.now.name.now draft.now.at written.now.origins.items code.now.verified.program.sets warning.now) }
+        ++ note_line placed.now draft.now.name.now draft.now.at origins.now code.now.verified.program.sets warning.now) }
 {
-    let at = place_from(written, Some(warning.byte), draft.at);
+    let at = place_from(origins, Some(warning.byte), draft.at);
     placed.push_place(alloc, out, at)?;
     out.extend_from_slice(b" filter ")?;
     push_shown(alloc, out, draft.name)?;
@@ -135,15 +135,15 @@ fn push_notes(
     out: &mut Vec<u8>,
     placed: &PlacedConfig<'_>,
     draft: &Draft<'_>,
-    written: &FilterText,
+    origins: &[Origin],
     code: &PlacedCode,
     warnings: &[Warning],
 ) -> Result<(), AllocError>
     ensures { OnOk result (out.new.items ≡ out.old.items ++ flat_map
-        (note_line placed.now draft.now.name.now draft.now.at written.now.origins.items code.now.verified.program.sets) warnings.now) }
+        (note_line placed.now draft.now.name.now draft.now.at origins.now code.now.verified.program.sets) warnings.now) }
 {
     for warning in warnings {
-        push_note(alloc, out, placed, draft, written, code, warning)?;
+        push_note(alloc, out, placed, draft, origins, code, warning)?;
     }
     Ok(())
 }
@@ -153,20 +153,21 @@ pub fn notes_of(
     alloc: Global,
     placed: &PlacedConfig<'_>,
     draft: &Draft<'_>,
-    written: &FilterText,
+    text: &[u8],
+    origins: &[Origin],
     code: &PlacedCode,
 ) -> Result<Vec<u8>, AllocError>
-    ensures { IfOk result (λ notes. notes.items ≡ notes_text placed.now draft.now.name.now draft.now.at written.now.text.items
-        written.now.origins.items code.now.verified code.now.places.items) }
+    ensures { IfOk result (λ notes. notes.items ≡ notes_text placed.now draft.now.name.now draft.now.at text.now origins.now
+        code.now.verified code.now.places.items) }
 {
-    let warnings = overlap_warnings(alloc, written.text.as_slice(), code)?;
+    let warnings = overlap_warnings(alloc, text, code)?;
     let mut notes = Vec::new(alloc);
     push_notes(
         alloc,
         &mut notes,
         placed,
         draft,
-        written,
+        origins,
         code,
         warnings.as_slice(),
     )?;

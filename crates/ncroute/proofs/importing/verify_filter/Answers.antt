@@ -1,25 +1,8 @@
 use Rattle.std.proofs.Common.{ℕ, false, List, subst}
 use Rattle.filter_reports.specs.Checking.{IsDiagnosis}
-use Rattle.filter_reports.specs.VerifiedFilters.{IsVerifiedOf}
-use Rattle.filter_source.specs.TextPlaces.{ArePlacesOf}
 use Rattle.ncroute.proofs.MadeTexts.{of_told, told_of}
-use Rattle.ncroute.proofs.NotedTexts.{noted_kept, of_kept, unnoted}
+use Rattle.ncroute.proofs.NotedTexts.{unnoted}
 use Rattle.ncroute.proofs.importing.verify_filter.Goals as goal
-
-pub returns-in-Ok-clause-made : goal.returns-in-Ok-clause-made
-returns-in-Ok-clause-made c =
-    let code = c.in-Ok.code in
-    let is = subst (λ (text : List ℕ). IsVerifiedOf c.args.size text code.verified) c.as_slice.ensures.value c.in-Ok.ensures.verified in
-    of_kept c.args.size c.args.draft.now.at c.args.written.text.items c.args.written.origins.items code.verified c.kept.result is
-    c.kept.ensures.text c.kept.ensures.words c.kept.ensures.place
-
-pub returns-in-Ok-clause-noted : goal.returns-in-Ok-clause-noted
-returns-in-Ok-clause-noted c =
-    let code = c.in-Ok.code in
-    let is = subst (λ (text : List ℕ). IsVerifiedOf c.args.size text code.verified) c.as_slice.ensures.value c.in-Ok.ensures.verified in
-    let places = subst (λ (text : List ℕ). ArePlacesOf text code.places.items) c.as_slice.ensures.value c.in-Ok.ensures.places in
-    noted_kept c.args.placed.now c.args.draft.now.name.now c.args.size c.args.draft.now.at c.args.written.text.items c.args.written.origins.items
-    code.verified code.places.items c.kept.result is places c.kept.ensures.text c.kept.ensures.notes
 
 pub returns-in-Err-Refused-clause-made : goal.returns-in-Err-Refused-clause-made
 returns-in-Err-Refused-clause-made c =
