@@ -16,7 +16,6 @@ use prefix_patterns::PatternSet;
 use std::alloc::{AllocError, Global};
 
 /// What W4 says of a filter's code, for domains of a size.
-#[tactic(auto, using(crate::proofs::Hinted::members_found))]
 fn members_of_code(
     alloc: Global,
     text: &[u8],
