@@ -183,11 +183,7 @@ fn not_run_words(alloc: Global, told: &[u8]) -> Result<Vec<u8>, AllocError>
 }
 
 /// The report on a file of this name whose tests were not run.
-fn skipped_report<'a>(
-    alloc: Global,
-    name: &'a [u8],
-    words: &'a [u8],
-) -> Result<Vec<u8>, AllocError>
+fn skipped_report<'a>(alloc: Global, name: &'a [u8], words: &'a [u8]) -> Result<Vec<u8>, AllocError>
     ensures { IfOk result (λ out. out.items ≡ report_line (spec.skipped_view name.now words.now)) }
 {
     let mut out = Vec::new(alloc);
