@@ -46,8 +46,13 @@ module _ (opens : List ℕ → Result (Option (List ℕ)) Error → Type 0) (how
       → IfOk r (Skips how name told tally mid after) → IfOk r (RunsOrSkips opens how source tally before after)
   unfolding RunsOrSkips
   skipped_then words name told before mid after (Ok now) named is ran skips =
-      inr (words, mid, ran, subst (λ (t : List ℕ). Skips how (name_of source) t tally mid after now) is
-      (subst (λ (n : List ℕ). Skips how n told tally mid after now) named skips))
+      inr (
+        words,
+        mid,
+        ran,
+        subst (λ (t : List ℕ). Skips how (name_of source) t tally mid after now) is
+            (subst (λ (n : List ℕ). Skips how n told tally mid after now) named skips),
+      )
   skipped_then words name told before mid after (Err e) named is ran skips = tt
 
   -- or a fault ended that
@@ -58,5 +63,10 @@ module _ (opens : List ℕ → Result (Option (List ℕ)) Error → Type 0) (how
   unfolding StopsOrSkips
   stopped_then words name told before mid after (Ok a) named is ran stopped = tt
   stopped_then words name told before mid after (Err fault) named is ran stopped =
-      inr (words, mid, ran, subst (λ (t : List ℕ). StopsSkipping (stream_fault fault) how (name_of source) t tally mid after) is
-      (subst (λ (n : List ℕ). StopsSkipping (stream_fault fault) how n told tally mid after) named stopped))
+      inr (
+        words,
+        mid,
+        ran,
+        subst (λ (t : List ℕ). StopsSkipping (stream_fault fault) how (name_of source) t tally mid after) is
+            (subst (λ (n : List ℕ). StopsSkipping (stream_fault fault) how n told tally mid after) named stopped),
+      )
