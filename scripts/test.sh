@@ -95,7 +95,7 @@ elif [ -z "${NCROUTE:-}" ]; then
     fi
     echo "the build: $((SECONDS - begun)) s"
 fi
-# Three parts that mostly wait run beside the others, where there are processors for both. What they say comes behind that of the others.
+# Three of the longest parts run beside the others, where there are processors for both. What they say comes behind that of the others.
 beside=""
 if [ "$*" = --quick ] && [ "$(nproc)" -ge 4 ]; then
     beside="kills kernel library"
