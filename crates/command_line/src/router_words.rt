@@ -37,6 +37,8 @@ pub struct RouterWords {
     pub routes: Option<String>,
     /// How many seconds the first table waits at most.
     pub settle: Option<u32>,
+    /// The file of the log.
+    pub log: Option<String>,
     /// The router goes on where its standard input ends.
     pub stays: bool,
     /// The prefixes of nodes, `V=PREFIX`.
@@ -49,6 +51,8 @@ pub struct RouterWords {
     pub exports: Vec<String>,
     /// The links, `W=IN,OUT`.
     pub links: Vec<String>,
+    /// Where operators are served, `IN,OUT` or `IN,OUT,look`.
+    pub controls: Vec<String>,
 }
 
 /// What the words of `router` say, which name these filters.
@@ -73,12 +77,14 @@ fn routing_in(
         segments: number_given(matches, "segments"),
         routes: text_in(alloc, matches, "routes")?,
         settle: number_given(matches, "settle"),
+        log: text_in(alloc, matches, "log")?,
         stays: is_given(matches, "stay"),
         prefixes: values_of(alloc, matches, "prefix")?,
         filters,
         imports: values_of(alloc, matches, "import")?,
         exports: values_of(alloc, matches, "export")?,
         links: values_of(alloc, matches, "link")?,
+        controls: values_of(alloc, matches, "control")?,
     })
 }
 

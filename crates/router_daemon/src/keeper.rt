@@ -18,7 +18,7 @@ use crate::room::{Order, Room};
 use crate::settling::{passes, settle};
 use crate::shared::Shared;
 use crate::signals::Closing;
-use crate::telling::{tell_end, tell_unopened};
+use crate::telling::{Event, Fault, Why, shown_of};
 use crate::watching::now;
 use link_handshake::{Said, Speaker};
 use message_streams::{MessageReader, MessageWriter};
@@ -126,7 +126,7 @@ fn open_streams<'a, I: Read + Drop, O: Write + Drop, D: LinkFolder<I, O>>(
 }
 
 /// Tells people why a session is over, unless another thread tells it or the router is being closed.
-pub(crate) fn tell_unless_closed<R: Wait, J: Naming, E: Write>(
+pub(crate) fn tell_unless_closed<R: Wait + Clock, J: Naming, E: Write>(
     rt: &R,
     alloc: Global,
     shared: &Shared<J, E>,
@@ -136,12 +136,12 @@ pub(crate) fn tell_unless_closed<R: Wait, J: Naming, E: Write>(
     if why == SessionEnd::Closed || shared.signals.is_closing(rt) {
         return;
     }
-    let mut errors = shared.errors.lock(rt);
-    tell_end(alloc, &mut *errors, node, why);
+    let why = Why::Ended(why);
+    shared.tell(rt, alloc, Event::Closed { node, why });
 }
 
 /// Closes a link whose ends did not meet, and tells people why, unless another thread closed it.
-pub(crate) fn close_unmet<R: Wait, J: Naming, E: Write>(
+pub(crate) fn close_unmet<R: Wait + Clock, J: Naming, E: Write>(
     rt: &R,
     alloc: Global,
     shared: &Shared<J, E>,
@@ -155,15 +155,20 @@ pub(crate) fn close_unmet<R: Wait, J: Naming, E: Write>(
 }
 
 /// Tells people that a file of a link was not opened.
-fn tell_of_file<R: Wait, J: Naming, E: Write>(
+fn tell_of_file<R: Wait + Clock, J: Naming, E: Write>(
     rt: &R,
     alloc: Global,
     shared: &Shared<J, E>,
     node: u16,
     unopened: &Unopened<'_>,
 ) {
-    let mut errors = shared.errors.lock(rt);
-    tell_unopened(alloc, &mut *errors, node, unopened.name, &unopened.why);
+    if let Ok(shown) = shown_of(alloc, &unopened.why) {
+        let why = Why::Unopened(Fault {
+            name: unopened.name,
+            shown: shown.as_str(),
+        });
+        shared.tell(rt, alloc, Event::Closed { node, why });
+    }
 }
 
 /// A stream of a session that is over, if it goes on; otherwise it is closed.

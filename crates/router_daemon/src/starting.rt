@@ -12,7 +12,7 @@ use crate::naming::Ticket;
 use crate::outbox::{Counts, Outbox, open_outbox, tell_people};
 use crate::room::Room;
 use crate::shared::Shared;
-use crate::telling::tell_unstarted;
+use crate::telling::{Event, Why};
 use crate::watching::watch_links;
 use crate::writer::write_link;
 use history_saver::SegmentFolder;
@@ -191,8 +191,8 @@ pub(crate) fn start_links<
         };
         let ticket = take_part(shared, pass, SHARES)?;
         if !start_link::<R, I, O, D, J, E>(rt, alloc, folder, shared, link, ticket)? {
-            let mut errors = shared.errors.lock(rt);
-            tell_unstarted(alloc, &mut *errors, node);
+            let why = Why::Unstarted;
+            shared.tell(rt, alloc, Event::Closed { node, why });
         }
     }
     Ok(())

@@ -37,6 +37,10 @@ pub enum RouterOption {
     Export,
     /// `link W IN OUT`
     Link,
+    /// `control IN OUT` or `control IN OUT look`
+    Control,
+    /// `log FILE`
+    Log,
 }
 
 /// What stands behind the name of an option.
@@ -54,10 +58,12 @@ pub enum Shape {
     Named,
     /// A node, and the names of two files.
     Files,
+    /// The names of two files, and maybe a right.
+    Ends,
 }
 
 /// All of them.
-static OPTIONS: [RouterOption; 16] = [
+static OPTIONS: [RouterOption; 18] = [
     RouterOption::Size,
     RouterOption::Node,
     RouterOption::Limit,
@@ -74,6 +80,8 @@ static OPTIONS: [RouterOption; 16] = [
     RouterOption::Import,
     RouterOption::Export,
     RouterOption::Link,
+    RouterOption::Control,
+    RouterOption::Log,
 ];
 
 impl RouterOption {
@@ -100,6 +108,8 @@ impl RouterOption {
             RouterOption::Import => "import",
             RouterOption::Export => "export",
             RouterOption::Link => "link",
+            RouterOption::Control => "control",
+            RouterOption::Log => "log",
         }
     }
 
@@ -124,6 +134,8 @@ impl RouterOption {
             RouterOption::Import => "import W NAME",
             RouterOption::Export => "export W NAME",
             RouterOption::Link => "link W IN OUT",
+            RouterOption::Control => "control IN OUT [look]",
+            RouterOption::Log => "log FILE",
         }
     }
 
@@ -140,11 +152,12 @@ impl RouterOption {
             | RouterOption::Hold
             | RouterOption::Segments
             | RouterOption::Settle => Shape::Number,
-            RouterOption::Save | RouterOption::Routes => Shape::Path,
+            RouterOption::Save | RouterOption::Routes | RouterOption::Log => Shape::Path,
             RouterOption::Stay => Shape::Alone,
             RouterOption::Prefix | RouterOption::Import | RouterOption::Export => Shape::Pair,
             RouterOption::Filter => Shape::Named,
             RouterOption::Link => Shape::Files,
+            RouterOption::Control => Shape::Ends,
         }
     }
 

@@ -17,7 +17,7 @@ ghost use Rattle.router_options.specs.Plans as spec;
 ghost use Rattle.router_options.specs.declared.fault.OptionFault.TheVariants as fault;
 
 use crate::fault::{NodeFault, NumberFault, OptionFault};
-use crate::parts::{FilterUse, LinkFiles, NodePrefix};
+use crate::parts::{ControlFiles, FilterUse, LinkFiles, NodePrefix};
 use filter_code::{LARGEST_SIZE, SMALLEST_SIZE};
 use netchange_core::Opening;
 use operator_cmds::default_prefixes;
@@ -77,6 +77,8 @@ pub struct RouterPlan {
     pub exports: Vec<FilterUse>,
     /// The links.
     pub links: Vec<LinkFiles>,
+    /// Where operators are served, besides standard input.
+    pub controls: Vec<ControlFiles>,
     /// The folder in which the history is saved.
     pub save: Option<String>,
     /// How many segments of it are kept there; all where none is said.
@@ -94,9 +96,9 @@ impl Model for RouterPlan {
 
     ghost Value = { PlanView };
 
-    ghost view = { λ p. record { opening = p.opening; placed = p.placed.items; limit = p.limit; queue = p.queue; filters = p.filters.items; imports = p.imports.items; exports = p.exports.items; links = p.links.items; save = p.save; segments = p.segments; retry = p.retry; hold = p.hold; stays = p.stays } };
+    ghost view = { λ p. record { opening = p.opening; placed = p.placed.items; limit = p.limit; queue = p.queue; filters = p.filters.items; imports = p.imports.items; exports = p.exports.items; links = p.links.items; controls = p.controls.items; save = p.save; segments = p.segments; retry = p.retry; hold = p.hold; stays = p.stays } };
 
-    ghost invariant = { λ p. IsPlan (record { opening = p.opening; placed = p.placed.items; limit = p.limit; queue = p.queue; filters = p.filters.items; imports = p.imports.items; exports = p.exports.items; links = p.links.items; save = p.save; segments = p.segments; retry = p.retry; hold = p.hold; stays = p.stays }) };
+    ghost invariant = { λ p. IsPlan (record { opening = p.opening; placed = p.placed.items; limit = p.limit; queue = p.queue; filters = p.filters.items; imports = p.imports.items; exports = p.exports.items; links = p.links.items; controls = p.controls.items; save = p.save; segments = p.segments; retry = p.retry; hold = p.hold; stays = p.stays }) };
 }
 
 /// Whether a domain has so many nodes.
@@ -259,6 +261,7 @@ impl RouterPlan {
             imports: Vec::new(alloc),
             exports: Vec::new(alloc),
             links: Vec::new(alloc),
+            controls: Vec::new(alloc),
             save,
             segments: numbers.segments,
             retry: numbers.retry,
@@ -376,6 +379,17 @@ impl RouterPlan {
     {
         let link = self.read_link(alloc, text)?;
         self.links.push(link)?;
+        Ok(())
+    }
+
+    /// Adds a control, `IN,OUT` or `IN,OUT,look`.
+    pub fn add_control(&mut self, alloc: Global, text: &str) -> Result<(), OptionFault>
+        ensures added { OnOk result (spec.AddsControl self.old text.now self.new) }
+        ensures refused { IfErr result (spec.RefusesControl self.old text.now) }
+        ensures unchanged { OnErr result (self.new ≡ self.old) }
+    {
+        let files = ControlFiles::read(alloc, text)?;
+        self.controls.push(files)?;
         Ok(())
     }
 }

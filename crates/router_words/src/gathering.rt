@@ -57,12 +57,14 @@ fn says(words: &RouterWords, option: RouterOption) -> bool
         RouterOption::Settle => words.settle.is_some(),
         RouterOption::Save => words.save.is_some(),
         RouterOption::Routes => words.routes.is_some(),
+        RouterOption::Log => words.log.is_some(),
         RouterOption::Stay => words.stays,
         RouterOption::Prefix
         | RouterOption::Filter
         | RouterOption::Import
         | RouterOption::Export
-        | RouterOption::Link => false,
+        | RouterOption::Link
+        | RouterOption::Control => false,
     }
 }
 
@@ -334,6 +336,7 @@ pub fn gather(
         segments: number_of(words.segments, statements, RouterOption::Segments),
         routes: text_of(alloc, &words.routes, statements, RouterOption::Routes)?,
         settle: number_of(words.settle, statements, RouterOption::Settle),
+        log: text_of(alloc, &words.log, statements, RouterOption::Log)?,
         stays: words.stays || nth_stated(statements, RouterOption::Stay, 0).is_some(),
         prefixes: texts_of(
             alloc,
@@ -359,6 +362,12 @@ pub fn gather(
             statements,
             RouterOption::Link,
             words.links.as_slice(),
+        )?,
+        controls: texts_of(
+            alloc,
+            statements,
+            RouterOption::Control,
+            words.controls.as_slice(),
         )?,
     })
 }

@@ -21,6 +21,7 @@ returns c = record {
   segments = c.number_of-7.ensures;
   routes = c.in_ok-text_of-2.ensures;
   settle = c.number_of-8.ensures;
+  log = c.in_ok-text_of-3.ensures;
   stays = elim c.if-words.branch [
     | then-words w ↦ rw (w.result-is, w.if-words.true) refl
     | else-words w ↦ rw (w.result-is, w.is_some.ensures, w.if-words.false, ← w.nth_stated.ensures) (still_there _ w.nth_stated.result)
@@ -30,4 +31,5 @@ returns c = record {
   imports = rw c.as_slice-3.ensures.value at c.in_ok-texts_of-2.ensures;
   exports = rw c.as_slice-4.ensures.value at c.in_ok-texts_of-3.ensures;
   links = rw c.as_slice-5.ensures.value at c.in_ok-texts_of-4.ensures;
+  controls = rw c.as_slice-6.ensures.value at c.in_ok-texts_of-5.ensures;
 }
