@@ -4,8 +4,8 @@
 usage: scripts/lab.py [--keep] [--idle SECONDS] [TOPOLOGY..]        (a script of `ncroute domain`; without one, examples/ring_of_five.domain and
                                                     examples/grid_of_sixteen.domain; NCROUTE=PATH: the program, without which nothing is run)
 
-Of a topology the lines `domain`, `prefix`, `load`, `link`, `import` and `export` count. Between the files of two neighbours stands a `cat` in each
-direction, so that a link can be cut by ending both. For each topology the lab
+Of a topology the lines `domain`, `prefix`, `load`, `link`, `import` and `export` count: all routers are started from one file of them. Between the
+files of two neighbours stands a `cat` in each direction, so that a link can be cut by ending both. For each topology the lab
 
   1. starts the routers, waits until all is quiet, and compares `routes` of each with `table` of `ncroute domain`;
   2. looks at the idle routers for 2 seconds, or for as long as `--idle` says: no entry is made, and hardly any processor time is used;
@@ -80,17 +80,10 @@ class Node:
         self.starts += 1
         lab, topology = self.lab, self.lab.topology
         history = os.path.join(lab.folder, f"{self.number}.{self.starts}.segments")
-        options = ["--retry", "1"]
-        for node, prefix in topology.prefixes:
-            options += ["--prefix", f"{node}={prefix}"]
-        uses = [(kind, other, name) for kind, node, other, name in topology.uses if node == self.number]
-        for name in sorted({name for _, _, name in uses}):
-            options += ["--filter", f"{name}={lab.folder}/{name}.filter"]
-        for kind, other, name in uses:
-            options += [f"--{kind}", f"{other}={name}"]
+        options = ["--retry", "1", "--domain", lab.domain]
         links = {other: (lab.fifo(other, self.number, "in"), lab.fifo(self.number, other, "out")) for other in topology.neighbours(self.number)}
         with open(os.path.join(lab.folder, f"{self.number}.errors"), "ab") as errors:
-            self.router = Router(lab.program, topology.size, self.number, links, history, options, errors=errors)
+            self.router = Router(lab.program, None, self.number, links, history, options, errors=errors)
 
     def saved(self):
         """How many bytes of its history are saved."""
@@ -110,8 +103,12 @@ class Lab:
             for a, b in ((u, w), (w, u)):
                 for end in ("out", "in"):
                     os.mkfifo(self.fifo(a, b, end))
+        # All routers are started from this file, which includes each filter from another one.
+        self.domain = os.path.join(self.folder, "the.domain")
         for name, text in self.topology.filters.items():
             pathlib.Path(self.folder, f"{name}.filter").write_text(text)
+        lines = [f"include {line.split()[1]} {line.split()[1]}.filter" if line.startswith("load ") else line for line in self.topology.lines]
+        pathlib.Path(self.domain).write_text("\n".join([*lines, ""]))
         self.nodes = [Node(self, number) for number in range(self.topology.size)]
 
     def fifo(self, a, b, end):

@@ -27,8 +27,8 @@ class Option:
         return self.names[-1]
 
     def may_come_again(self):
-        """Whether the option may be given more than once: one whose value names what it is for, as NAME=FILE, may."""
-        return bool(self.value) and "=" in self.value
+        """Whether the option may be given more than once: one whose value names what it is for, as NAME=FILE, or has parts, may."""
+        return bool(self.value) and ("=" in self.value or "," in self.value)
 
 
 class Command:
@@ -59,7 +59,7 @@ class Command:
 
 
 def option_of(line):
-    names, value, text = re.fullmatch(r"\s*((?:-\w, )?--[\w-]+)(?: <([\w=,]+)>)?\s{2,}(.*)", line).groups()
+    names, value, text = re.fullmatch(r"\s*((?:-\w, )?--[\w-]+)(?: <([\w=,\[\]]+)>)?\s{2,}(.*)", line).groups()
     return Option(names.split(", "), value, text)
 
 

@@ -10,7 +10,7 @@ use clap::{Arg, Command};
 use std::alloc::{AllocError, Global};
 
 /// The version of the project, and the logic that it is proved in, as `rt version` names it: several kits have it.
-const VERSION: &str = "0.1.0 (Rattle logic dac8208d650f15bf)";
+pub const VERSION: &str = "0.1.0 (Rattle logic dac8208d650f15bf)";
 
 /// The program, with all commands. Options that are one of some words take these.
 pub fn program<'a>(alloc: Global, choices: Choices<'a>) -> Result<Command<'a>, AllocError>
@@ -158,7 +158,7 @@ static COMMANDS: [(&str, &str); 15] = [
 ];
 
 /// The options and arguments of each command, in the order in which its help shows them.
-static PARAMETERS: [(&str, Parameter); 66] = [
+static PARAMETERS: [(&str, Parameter); 73] = [
     ("check", SIZE),
     ("check", CODE),
     ("check", NAMES),
@@ -199,11 +199,16 @@ static PARAMETERS: [(&str, Parameter); 66] = [
     ("test", TEST_FILES),
     ("eval", EXPLAIN),
     ("rewrite", OLD),
+    ("domain", COMPARE),
+    ("domain", FORMAT),
+    ("domain", PAGE),
     ("domain", EXPLAIN),
     ("domain", SCRIPT),
     ("replay", REPLAYED),
     ("router", CONFIG),
     ("router", CHECK),
+    ("router", WHOLE_DOMAIN),
+    ("router", OTHER_DOMAIN),
     ("router", ROUTER_SIZE),
     ("router", NODE),
     ("router", ROOM),
@@ -219,6 +224,8 @@ static PARAMETERS: [(&str, Parameter); 66] = [
     ("router", SEGMENTS),
     ("router", ROUTES),
     ("router", SETTLE),
+    ("router", CONTROL),
+    ("router", LOG),
     ("router", STAY),
     ("run", FILTER),
     ("run", SAVE),
@@ -470,6 +477,24 @@ const REPLAYED: Parameter = Parameter {
     is_required: false,
 };
 
+/// The domain before a change.
+const COMPARE: Parameter = Parameter {
+    name: "compare",
+    value: "BEFORE",
+    help: "Say what a change does: from the domain of the script BEFORE to that of the script FILE",
+    kind: ParameterKind::Text,
+    is_required: false,
+};
+
+/// The file of the page of a domain.
+const PAGE: Parameter = Parameter {
+    name: "page",
+    value: "OUT",
+    help: "Write a page for a browser to OUT, which must not be there yet: the domain as it is behind the last command",
+    kind: ParameterKind::Text,
+    is_required: false,
+};
+
 /// The file in which a router's options are.
 const CONFIG: Parameter = Parameter {
     name: "config",
@@ -484,6 +509,24 @@ const CHECK: Parameter = Parameter {
     name: "check",
     value: "",
     help: "Read the options and verify the filters, say what is wrong with them, and start nothing",
+    kind: ParameterKind::Flag,
+    is_required: false,
+};
+
+/// The file of a router's whole domain.
+const WHOLE_DOMAIN: Parameter = Parameter {
+    name: "domain",
+    value: "FILE",
+    help: "Take size, prefixes, links and filters from FILE, a script of `ncroute domain`",
+    kind: ParameterKind::Text,
+    is_required: false,
+};
+
+/// A neighbour's domain may have been set up by another file.
+const OTHER_DOMAIN: Parameter = Parameter {
+    name: "allow-other-domain",
+    value: "",
+    help: "Speak with neighbours that were started from another file of the domain, too",
     kind: ParameterKind::Flag,
     is_required: false,
 };
@@ -584,6 +627,24 @@ const LINK: Parameter = Parameter {
     value: "W=IN,OUT",
     help: "Read what neighbour W says from IN, and write what it is told to OUT",
     kind: ParameterKind::Texts,
+    is_required: false,
+};
+
+/// Where a router's operators are served.
+const CONTROL: Parameter = Parameter {
+    name: "control",
+    value: "IN,OUT[,look]",
+    help: "Serve an operator at two FIFOs, who may look alone by `look`; may be given many times",
+    kind: ParameterKind::Texts,
+    is_required: false,
+};
+
+/// Where a router keeps its log.
+const LOG: Parameter = Parameter {
+    name: "log",
+    value: "FILE",
+    help: "Add a line to FILE for each event, with its time; FILE may be renamed at any time",
+    kind: ParameterKind::Text,
     is_required: false,
 };
 

@@ -248,6 +248,7 @@ The input is commands, one a line. Empty lines and lines that begin with # are s
   domain N               a domain of N nodes (2 to 250), without links
   prefix V P             P is the prefix of node V; otherwise it is 10.V.0.0/16
   load NAME TEXT         name a filter: the rest of the line is its text
+  include NAME FILE      name the filter of FILE, beside the file that the commands are in
   code NAME HEX          name a filter by its code file in hexadecimal
   link U W, cut U W      U and W are neighbours from now on, or no more
   import U W NAME        the filter of what U hears from W
@@ -264,6 +265,7 @@ The input is commands, one a line. Empty lines and lines that begin with # are s
                          which distances stand still while the changes happen
   failures [nodes]       what the failure of each link, or node, changes by itself
   settle                 have the routers exchange messages until none is left
+  json                   the whole domain and all failures on a line, for programs
 
 Each command is answered on standard output before more input is read:
   ok                     domain, prefix, link, cut, import, export, anew, mark
@@ -283,10 +285,20 @@ Each command is answered on standard output before more input is read:
     D1 to D4     the domain refuses it (AT is the number of its line)
     P, Y, G, V   the filter is refused, as `ncroute check` refuses it; C: its code file
 
+With --compare both scripts are carried out, and none of their answers is printed. Both
+domains have as many nodes. What is printed is what the change from one to the other does:
+  lost U:V ..            U reaches V no longer
+  gained U:V ..          U reaches V from now on
+  changed U:V ..         U reaches V at another distance, or through another neighbour
+  failures COUNT         and as many lines: link U W, or node U, and what its failure does
+  .. loses L keeps K     it takes L routes that it did not take before, and K no longer
+
 Example:
   printf 'domain 3\\nlink 0 1\\nlink 1 2\\nroute 0 2\\n' | ncroute domain
 prints `ok` three times and `route 2 via 1`. The exit status is 0; 1 if a command
-was refused; 2 if the command line is wrong; 3 if a fault ended the run.
+was refused, or a page could not be written; 2 if the command line is wrong; 3 if a fault
+ended the run. With --compare it is 1 if something is lost, by the change or by a failure
+behind it; 3 if a command was refused, or the domains cannot be compared.
 ";
 
 /// Of `net`.
@@ -333,11 +345,19 @@ D. When its stream ends, or it is silent for its HOLD, it is down, and standard 
 
 Standard input has the operator's commands, as `ncroute run` answers them, without
 `network`, `prefix`, `recv` and `take`. `up`, and `down` of a node with a link, are refused
-as O9. `quit` ends the router, and so does the end of standard input without --stay.
+as O9. `status` and `status json` tell of the router and its links, and `routes json` the
+routes. `quit` ends the router, and so does the end of standard input without --stay. Each
+--control serves one operator more, to whom `ncroute-ctl` speaks.
 
 A line of the FILE of --config says an option without its dashes, with blanks between its
-parts: `size 4`, `link 1 in out`, `filter near near.filter`, `stay`. Names of files count from
+parts: `size 4`, `link 1 in out`, `control in out look`, `stay`. Names of files count from
 the folder of FILE. A word that begins with # begins a comment.
+
+--domain takes size, prefixes, links and filters of node ME from the script by which
+`ncroute domain` predicts the routes of the whole domain; --link says where the streams of
+each of its links are. A line `include NAME FILE` there is `load NAME` with the text of FILE.
+A digest of the domain goes with each greeting: two routers that were started from different
+domains say so, and are not up with one another, unless --allow-other-domain is given.
 
 The last entries of the history are kept in memory. With --save all of them are in FOLDER, or
 the last ones with --segments, and one that is not saved yet is not forgotten.

@@ -6,6 +6,7 @@ mod classes;
 mod command_names;
 mod commands;
 mod diff_words;
+mod domain_words;
 mod environment;
 mod filter_words;
 mod format_words;
@@ -23,6 +24,7 @@ mod test_words;
 mod trying_words;
 mod words;
 
+pub use commands::VERSION;
 pub use diff_words::Comparing;
 pub use filter_words::{NamedFile, WrongFilter, filters_in};
 pub use lint_words::Linting;

@@ -1,16 +1,24 @@
 -- The answer of a part of the engine is the answer of the whole.
-use Rattle.std.proofs.Common.{◌≡◌, ℕ, Bool, true, List, Option, Result, IfOk, refl, subst, ap}
+use Rattle.std.proofs.Common.{◌≡◌, ℕ, Bool, true, List, ◌++◌, Option, Result, IfOk, refl, subst, ap}
 use Rattle.filter_code.specs.CodeView.{CodeView}
 use Rattle.filter_source.specs.declared.refusal.Refusal.{Refusal}
 use Rattle.line_protocol.specs.Answers.{Answer}
 use Rattle.line_protocol.specs.declared.answers.LineReply.{LineReply}
+use Rattle.line_protocol.specs.declared.answers.LineReply.TheVariants.{Answered}
 use Rattle.operator_cmds.specs.Replies.{Answers}
 use Rattle.operator_cmds.specs.Script.{AnswersSource}
 use Rattle.operator_cmds.proofs.Answering.{answers}
+use Rattle.domain_reports.specs.Pages.{page_text}
+use Rattle.domain_reports.specs.Reports.{domain_line}
+use Rattle.domain_reports.specs.Views.{DomainView}
+use Rattle.domain_reports.specs.declared.page.Shell.{Shell}
 use Rattle.domain_routes.specs.PlanView.{PlanView}
 use Rattle.domain_routes.specs.Still.{BetweenView}
 use Rattle.domain_routes.specs.declared.best.Best.{Best}
-use Rattle.domain_cmds.specs.Script.{AnswersLoad, AnswersQuestion, Asks}
+use Rattle.domain_cmds.specs.Origins.{AreOriginsOf, OriginsView}
+use Rattle.domain_cmds.specs.Paging.{AddsPage}
+use Rattle.domain_cmds.specs.Said.{IsSaid}
+use Rattle.domain_cmds.specs.Script.{AnswersLoad, AnswersQuestion, Asks, IsToldDomain}
 use Rattle.domain_cmds.specs.State.{FiltersView, Named, PlanningView, filter_named}
 use Rattle.domain_cmds.specs.declared.command.Question.{Question}
 
@@ -48,3 +56,27 @@ module _ {E : Type 0} (done : Result LineReply E) (old new : List ℕ) (p : Plan
       subst (λ (q : PlanningView). IfOk done (Answers (IsDone q) old new)) is
       (answers done (IsSo filters.size) (IsDone (domain plan filters.named begun marked so_far)) old new
       (λ answer a. (subst (λ (n : ℕ). IsSo n answer) fits a, refl)) h)
+
+-- what is said of a domain whose fields are these; `p` is how it was
+module _ (old new : List ℕ) (p : PlanningView) (plan : PlanView) (begun : Bool) (marked : Option (List (List Best))) (so_far : Option BetweenView) where
+  -- the whole domain, which leaves the plan as it was
+  pub said : (later : PlanView) (filters : Named) (origins : OriginsView) (told : DomainView) (line : List ℕ) → domain plan filters begun marked so_far ≡ p
+      → later ≡ plan → AreOriginsOf plan origins → IsSaid plan origins told → line ≡ domain_line told → new ≡ old ++ line
+      → Answers (λ answer. Asks (IsToldDomain p.plan) p answer (domain later filters true marked so_far)) old new Answered
+  said later filters origins told line is same are said_of line_is more =
+      subst
+      (λ (q : PlanningView). Answers (λ answer. Asks (IsToldDomain q.plan) q answer (domain later filters true marked so_far)) old new Answered) is (
+        line,
+        more,
+        (
+          (origins, are, told, said_of, ap (λ (text : List ℕ). record { text = text; reply = Answered }) line_is),
+          ap (λ (x : PlanView). domain x filters true marked so_far) same,
+        ),
+      )
+
+  -- its page
+  pub paged : (filters : Named) (origins : OriginsView) (told : DomainView) (shell : Shell) (name : List ℕ) → domain plan filters begun marked so_far ≡ p
+      → AreOriginsOf plan origins → IsSaid plan origins told → new ≡ old ++ page_text shell name told → AddsPage shell name p.plan old new
+  paged filters origins told shell name is are said_of more =
+      subst (λ (q : PlanningView). AddsPage shell name q.plan old new) is
+      (page_text shell name told, (origins, are, told, said_of, refl), more)

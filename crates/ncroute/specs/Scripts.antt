@@ -1,6 +1,7 @@
 -- What the program does for a script, and its exit status. (This project's own choice.)
 use Rattle.std.specs.Prelude.{◌≡◌, ◌⊎◌, ℕ, Bool, true, List, Option, None, Some, IfSome, Result}
 use Rattle.std.specs.declared.io.Error.{Error}
+use Rattle.filter_reports.specs.Faults.{stream_fault}
 use Rattle.line_protocol.specs.Limits.{input_limit}
 use Rattle.line_protocol.specs.declared.faults.StreamFault.{StreamFault}
 use Rattle.operator_cmds.specs.Running as router
@@ -9,9 +10,12 @@ use Rattle.command_line.specs.declared.requests.Engine.{Engine}
 use Rattle.command_line.specs.declared.requests.Engine.TheVariants.{Router, Domain}
 use Rattle.command_line.specs.declared.requests.Source.{Source}
 use Rattle.command_line.specs.declared.requests.Source.TheVariants.{Input, File}
+use Rattle.ncroute.specs.DomainLoading.{CutsScript, ReadsScript, SkipsScript}
 use Rattle.ncroute.specs.Ending.{status_of}
 use Rattle.ncroute.specs.Reading.{Reads, SkipsUnread, StopsReading}
 use Rattle.ncroute.specs.Streaming.{Streams}
+use Rattle.ncroute.specs.declared.console.Loaded.{Loaded}
+use Rattle.ncroute.specs.declared.console.Loaded.TheVariants as loaded
 use Rattle.ncroute.specs.declared.script.Lines.{Lines}
 use Rattle.ncroute.specs.declared.script.Lines.TheVariants as lines
 
@@ -61,17 +65,35 @@ pub record StopsScript (fault : StreamFault) (engine : Engine) (is_explained : B
 
 -- `opens name` says what may come of opening a file of this name.
 module _ (opens : List ℕ → Result (Option (List ℕ)) Error → Type 0) where
+  -- what came of reading the script of a file: that of a domain has the filters that it includes in their places
+  abbrev pub ReadsLines : Engine → Source → List ℕ → Streams → Streams → Type 0
+  ReadsLines Router source script before after = Reads opens input_limit source script before after
+  ReadsLines Domain source script before after = ReadsScript opens source script before after
+
+  abbrev pub SkipsLines : Engine → Source → Streams → Streams → Type 0
+  SkipsLines Router source before after = SkipsUnread opens input_limit source before after
+  SkipsLines Domain source before after = SkipsScript opens source before after
+
+  abbrev pub CutsLines : Engine → StreamFault → Source → Streams → Streams → Type 0
+  CutsLines Router fault source before after = StopsReading opens fault input_limit source before after
+  CutsLines Domain fault source before after = CutsScript opens fault source before after
+
+  abbrev pub AreLoaded : Engine → Source → Loaded → Streams → Streams → Type 0
+  AreLoaded engine source (loaded.Text script) before after = ReadsLines engine source script.items before after
+  AreLoaded engine source loaded.Skipped before after = SkipsLines engine source before after
+  AreLoaded engine source (loaded.Stopped fault) before after = CutsLines engine (stream_fault fault) source before after
+
   -- The script of a file was read to its end, or to the limit, and carried out; or it was not read.
   abbrev pub RunsFile : Engine → Source → Bool → Streams → Streams → ℕ → Type 0
   RunsFile engine source is_explained before after status =
-      ((script : List ℕ) × (mid : Streams) × Reads opens input_limit source script before mid
+      ((script : List ℕ) × (mid : Streams) × ReadsLines engine source script before mid
       × RunsScript engine is_explained (Some script) mid after status)
-      ⊎ (SkipsUnread opens input_limit source before after × (status ≡ script_fault engine))
+      ⊎ (SkipsLines engine source before after × (status ≡ script_fault engine))
 
   -- A fault ended it.
   abbrev pub StopsFile : StreamFault → Engine → Source → Bool → Streams → Streams → Type 0
-  StopsFile fault engine source is_explained before after = StopsReading opens fault input_limit source before after
-      ⊎ ((script : List ℕ) × (mid : Streams) × Reads opens input_limit source script before mid
+  StopsFile fault engine source is_explained before after = CutsLines engine fault source before after
+      ⊎ ((script : List ℕ) × (mid : Streams) × ReadsLines engine source script before mid
       × StopsScript fault engine is_explained (Some script) mid after)
 
   -- A script was carried out: line by line as standard input has it, or from a file.

@@ -171,7 +171,7 @@ pub fn path_beside(alloc: Global, by: &str, name: &str) -> Result<String, AllocE
 }
 
 /// The path of a file that another one includes by this name.
-fn included_path(alloc: Global, by: &Source, name: &str) -> Result<String, AllocError>
+pub fn included_path(alloc: Global, by: &Source, name: &str) -> Result<String, AllocError>
     ensures { IfOk result (λ path. IsIncludedPath (path_of by.now) name.now (string_bytes path)) }
 {
     match by {

@@ -1,10 +1,11 @@
 //! Scripts: a router or a whole domain carries one out, and its refusals are told.
 ghost use Rattle.std.specs.Prelude.{◌≡◌, IfErr, IfOk, IfSome};
 ghost use Rattle.filter_reports.specs.Faults.{stream_fault};
-ghost use Rattle.ncroute.specs.Scripts.{IsAnswered, IsLeftOff, IsQuiet, RunsFile, RunsScript, RunsSource, StopsFile, StopsScript, StopsSource};
+ghost use Rattle.ncroute.specs.Scripts.{AreLoaded, IsAnswered, IsLeftOff, IsQuiet, RunsFile, RunsScript, RunsSource, StopsFile, StopsScript, StopsSource};
 ghost use Rattle.ncroute.specs.Scripts.{TakesLines, script_fault, text_of};
 
 use crate::console::{Console, Loaded};
+use crate::domain_loading::read_script;
 use crate::ending::{FAILED, FAULT, status_of};
 use crate::texts::{Folder, name_of};
 use crate::watcher::Teller;
@@ -132,6 +133,22 @@ fn carry_out<R: Read, W: Write, E: Write>(
     Ok(status_of(refused))
 }
 
+/// Reads the script of a file: that of a domain with the filters that it includes in their places.
+fn read_lines<F: Folder, R: Read, W: Write, E: Write>(
+    files: &F,
+    alloc: Global,
+    engine: Engine,
+    source: &Source,
+    console: &mut Console<R, W, E>,
+) -> Loaded
+    ensures { AreLoaded (F.opens files.now) engine source.now result console.old console.new }
+{
+    match engine {
+        Engine::Router => console.read(files, alloc, source, INPUT_LIMIT),
+        Engine::Domain => read_script(files, alloc, source, console),
+    }
+}
+
 /// Carries out the script of a file, and returns the exit status.
 fn run_file<F: Folder, R: Read, W: Write, E: Write>(
     files: &F,
@@ -145,7 +162,7 @@ fn run_file<F: Folder, R: Read, W: Write, E: Write>(
     ensures stopped { IfErr result (λ fault. StopsFile (F.opens files.now) (stream_fault fault) engine source.now is_explained
         console.old console.new) }
 {
-    match console.read(files, alloc, source, INPUT_LIMIT) {
+    match read_lines(files, alloc, engine, source, console) {
         Loaded::Text(text) => carry_out(
             alloc,
             engine,

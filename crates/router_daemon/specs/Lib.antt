@@ -2,6 +2,7 @@
 pub mod Codes
 pub mod Running
 -- what only bodies are proved against
+pub mod Attending
 pub mod Forgetting
 pub mod Links
 pub mod Passes

@@ -4,15 +4,20 @@
 //! links are not joined, nor is the one that tells people: they end with the process.
 #![tactic(auto)]
 
+mod attending;
 mod bounding;
 mod closing;
+mod controlling;
 mod crew;
 mod fault;
 mod feeding;
 mod filtering;
 mod folder;
 mod forgetting;
+mod hearing;
 mod keeper;
+mod knowing;
+mod logging;
 mod naming;
 mod news;
 mod opening;
@@ -30,6 +35,7 @@ mod signals;
 mod starting;
 mod station;
 mod stations;
+mod tallies;
 mod telling;
 mod watching;
 mod writer;
@@ -37,5 +43,6 @@ mod writer;
 pub use fault::DaemonFault;
 pub use feeding::FeedFile;
 pub use folder::LinkFolder;
-pub use run::run_router;
+pub use hearing::{Ear, StandardInput};
+pub use run::{Surroundings, run_router};
 pub use setting::{Filters, RouterEnd, Setting};

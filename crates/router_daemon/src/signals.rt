@@ -2,10 +2,17 @@
 ghost use Rattle.std.specs.Prelude.{◌≡◌, IfOk, is_some};
 ghost use Rattle.link_board.specs.Boards.{AllAwake};
 
+use crate::attending::Attendance;
+use crate::knowing::status_of;
+use crate::logging::Log;
 use crate::news::News;
 use crate::stations::Stations;
+use crate::tallies::Tallies;
+use crate::telling::Event;
 use link_board::{Board, Ending};
+use operator_cmds::Direction;
 use router_operator::Listener;
+use router_status::Status;
 use slot_lock::Answer;
 use std::alloc::{AllocError, Global};
 use std::rt::Clock;
@@ -39,6 +46,27 @@ pub(crate) struct Signals {
     room_bell: Condvar,
     /// What who tells the routes waits for.
     pub(crate) news: News,
+    /// Where operators at files of their own are attended to.
+    pub(crate) attendance: Attendance,
+    /// The nodes that have links, in the order of the links.
+    pub(crate) nodes: Vec<u16>,
+    /// What is counted of the links.
+    pub(crate) tallies: Tallies,
+    /// How many entries of the history are saved, if it is.
+    pub(crate) saved: Mutex<Option<u64>>,
+    /// The version of the program.
+    pub(crate) version: &'static str,
+    /// The log, if one is kept.
+    log: Option<Log>,
+}
+
+/// What is known of a router when it begins.
+#[derive(Clone, Copy)]
+pub(crate) struct Beginning {
+    /// The version of the program.
+    pub(crate) version: &'static str,
+    /// The time, in milliseconds of a clock that never goes back.
+    pub(crate) time: u64,
 }
 
 /// That the router is being closed, if a board says so.
@@ -97,8 +125,13 @@ fn ring_writers(board: &mut Board, bells: &[Condvar])
 }
 
 impl Signals {
-    /// The signals of a router with links to these nodes.
-    pub(crate) fn new(alloc: Global, nodes: &[u16]) -> Result<Signals, AllocError> {
+    /// The signals of a router with links to these nodes, of which this is known when it begins.
+    pub(crate) fn new(
+        alloc: Global,
+        nodes: &[u16],
+        beginning: Beginning,
+        log: Option<Log>,
+    ) -> Result<Signals, AllocError> {
         Ok(Signals {
             board: Mutex::new(Board::new(alloc, nodes)?),
             stations: Stations::new(alloc, nodes.len())?,
@@ -109,7 +142,32 @@ impl Signals {
             room_end: Mutex::new(None),
             room_bell: Condvar::new(),
             news: News::new(alloc, nodes.len())?,
+            attendance: Attendance::new(),
+            nodes: Vec::from_slice(alloc, nodes)?,
+            tallies: Tallies::new(alloc, nodes.len(), beginning.time)?,
+            saved: Mutex::new(None),
+            version: beginning.version,
+            log,
         })
+    }
+
+    /// Puts an event into the log, if one is kept.
+    pub(crate) fn log<R: Wait + Clock>(&self, rt: &R, event: Event<'_>) {
+        if let Some(log) = &self.log {
+            log.put(rt, event);
+        }
+    }
+
+    /// Notes why the link to a node is closed.
+    pub(crate) fn note_ended<R: Wait>(&self, rt: &R, node: u16, why: Option<String>) {
+        if let Some(link) = self
+            .nodes
+            .as_slice()
+            .iter()
+            .position(|other| *other == node)
+        {
+            self.tallies.note_ended(rt, link, why);
+        }
     }
 
     /// Wakes whom the board says, and lets go of it.
@@ -247,8 +305,17 @@ impl Signals {
         }
     }
 
+    /// Notes that a session of a link began.
+    fn note_up<R: Wait + Clock>(&self, rt: &R, link: usize, session: u32) {
+        self.tallies.note_begun(rt, link);
+        if let Some(node) = self.nodes.get(link) {
+            let node = *node;
+            self.log(rt, Event::Up { node, session });
+        }
+    }
+
     /// Begins a session of a link, whose Up has this answer. False where one is there already or the router is being closed.
-    pub(crate) fn begin<R: Wait>(
+    pub(crate) fn begin<R: Wait + Clock>(
         &self,
         rt: &R,
         link: usize,
@@ -258,6 +325,9 @@ impl Signals {
         let mut board = self.board.lock(rt);
         let begins = board.begin(link, session, answer.at);
         self.wake(board);
+        if begins {
+            self.note_up(rt, link, session);
+        }
         self.news.note(rt, answer.at);
         self.news.note_there(rt, link);
         begins
@@ -265,11 +335,20 @@ impl Signals {
 
     /// Ends a session of a link: the answer says who is the first who does, who is to enter its Down, and to say when that is settled. The
     /// end of the link begins anew then. If it is who reads the link that ends it, the line that is why is heard next.
-    pub(crate) fn end<R: Wait>(&self, rt: &R, link: usize, session: u32, by_line: bool) -> Ending
+    pub(crate) fn end<R: Wait + Clock>(
+        &self,
+        rt: &R,
+        link: usize,
+        session: u32,
+        by_line: bool,
+    ) -> Ending
         ensures { (result.link ≡ link) × (result.session ≡ session) }
     {
         let mut board = self.board.lock(rt);
         let ending = board.end(link, session);
+        if ending.is_first() {
+            self.tallies.note_over(rt, link);
+        }
         if ending.is_first() && !board.is_closing() {
             self.stations.begin_anew(rt, link, by_line);
         }
@@ -301,5 +380,22 @@ impl Listener for Signals {
         board.note_exported(node, answer.at, &answer.reply);
         self.wake(board);
         self.news.note(rt, answer.at);
+    }
+
+    fn replaced<R: Wait + Clock>(&self, rt: &R, direction: Direction, node: u16, name: &[u8]) {
+        if let Ok(name) = str::from_utf8(name) {
+            self.log(
+                rt,
+                Event::Replaced {
+                    direction,
+                    node,
+                    name,
+                },
+            );
+        }
+    }
+
+    fn status<R: Wait + Clock>(&self, rt: &R, alloc: Global) -> Result<Status, AllocError> {
+        status_of(rt, alloc, self)
     }
 }
