@@ -50,7 +50,7 @@ case "$*" in
         ;;
 esac
 folder="$(mktemp -d)" || exit
-trap 'rm -rf "$folder"' EXIT
+trap 'jobs -p | xargs -r kill; rm -rf "$folder"' EXIT
 trap 'exit 130' INT TERM
 output="$folder/output"
 passed=0 failed=0 skipped=0
@@ -95,7 +95,15 @@ elif [ -z "${NCROUTE:-}" ]; then
     fi
     echo "the build: $((SECONDS - begun)) s"
 fi
+# Three of the longest parts run beside the others, where there are processors for both. What they say comes behind that of the others.
+beside=""
+if [ "$*" = --quick ] && [ "$(nproc)" -ge 4 ]; then
+    beside="kills kernel library"
+    # shellcheck disable=SC2086
+    scripts/test.sh $beside >"$folder/beside" 2>&1 &
+fi
 for part in $parts; do
+    [[ " $beside " != *" $part "* ]] || continue
     read -ra words <<<"$(sed -nE "s/^$part +\| ([^|]*) \|.*/\1/p" $list)"
     # `memory` refuses also the allocations of tests, which only a proof builds.
     [ "$part" != memory ] || [ -n "$is_proved" ] || words+=(runs)
@@ -103,6 +111,10 @@ for part in $parts; do
     add "scripts/${words[0]}" "${words[@]:1}"
     echo "$part: $((SECONDS - begun)) s"
 done
+if [ -n "$beside" ]; then
+    wait $!
+    add sed '/^no proof was made/d' "$folder/beside"
+fi
 if [ -z "$is_proved" ]; then
     echo "no proof was made: \`rt ci\` did not run, nor did the tests of the crates, those whose allocations \`memory\` refuses among them"
 fi
