@@ -150,6 +150,16 @@ def tap_tests(shown):
     return tests
 
 
+def kept_in_xml(text):
+    """A text without what XML cannot have."""
+    return "".join("\ufffd" if ord(c) < 32 or 127 <= ord(c) < 160 or c in "\ufffe\uffff" else c for c in text)
+
+
+def unescaped(text):
+    """What stands in a line of a file whose tests were not run, without the backslash before a `#` and before a backslash."""
+    return re.sub(r"\\([\\#])", r"\1", text)
+
+
 def judge_test(place, name):
     """The same of `test`, whose stream has a test for each report and each element."""
     reports, told, status = place.reports("test", "--limit", "1000", "--", name)
@@ -161,16 +171,17 @@ def judge_test(place, name):
     tests = tap_tests(shown)
     if not len(tests) == len(reports) == len(cases):
         yield f"{tests}, {reports} and {document!r}"
-    kept = "".join("\ufffd" if ord(c) < 32 or 127 <= ord(c) < 160 or c in "\ufffe\uffff" else c for c in name)
+    kept = kept_in_xml(name)
     for (holds, text, found), report, case in zip(tests, reports, cases):
         yield from misfits(report, name)
-        is_run = not text.endswith("not run, since a file was refused or not read")
+        is_run = ": not run: " not in text
         severity = "ok" if holds else "error" if is_run and found != "undecided" else "undecided"
         said = "" if holds else f": does not hold: {found}" if severity == "error" else ": undecided"
-        if report["severity"] != severity or (is_run and report["words"] != text + said):
+        if report["severity"] != severity or (report["words"] != text + said if is_run else not unescaped(text).endswith(": " + report["words"])):
             yield f"{text!r} and {report}"
         children = {child.tag: child.get("message") for child in case}
-        expected = {} if holds else {"failure": f"does not hold: {found}"} if severity == "error" else {"error": found or report["words"]}
+        why = found or kept_in_xml(report["words"])
+        expected = {} if holds else {"failure": f"does not hold: {found}"} if severity == "error" else {"error": why}
         if case.get("classname") != kept or case.get("name") != (text if is_run else kept) or children != expected:
             yield f"{text!r} and {case.attrib} with {children}"
 

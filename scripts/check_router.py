@@ -357,7 +357,7 @@ class Rows(FeedRows, SizeRows):
             run.say(b"show 2\nroutes\nquit\n")
             status = run.end()
             said = run.replays()
-            self.judge("status", status == 1, status)
+            self.judge("status", status == 3, status)
             self.judge("replay", said == "replay ok 1", said)
 
     def row_stays_without_operator(self):
@@ -397,7 +397,7 @@ class Rows(FeedRows, SizeRows):
             run.neighbours[2].say(b"3 0\n3 1\n" * 1000 + b"4 0\n")
             self.judge("2 is served", run.asks_until("show 4", "via 2") == "route 1 via 2")
             self.says(run, "history: the history could not be written (E2): not saved until that works again\n")
-            self.judge("quit", run.quit() == ("ok", 1))
+            self.judge("quit", run.quit() == ("ok", 4))
             self.says(run, "history: the history could not be written (E2): its end is not saved\n")
             said = run.replays()
             self.judge("replay", said.startswith(("cut ", "replay ok ")), said)

@@ -345,8 +345,9 @@ the last ones with --segments, and one that is not saved yet is not forgotten.
 Example, in two terminals after `mkfifo a b`:
   ncroute router --size 2 --node 0 --link 1=a,b
   ncroute router --size 2 --node 1 --link 0=b,a
-The exit status is 0; 1 if a filter or FILE was not read, a filter was refused, FOLDER was not
-made, or a fault ended the run or the saving; 2 if the command line or FILE is wrong.
+The exit status is 0; 1 if the router was not started, as where a filter or FILE was not read,
+a filter was refused, or FOLDER was not made; 2 if the command line or FILE is wrong; 3 if the
+operator's lines could not be read or answered; 4 if the end of the history was not saved.
 ";
 
 /// Of `run`.

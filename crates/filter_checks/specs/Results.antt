@@ -1,9 +1,10 @@
 -- What comes of tests, as it is written. (The lines of the first form are those of the Test Anything Protocol; the words of the others are this
 -- project's own choice.)
-use Rattle.std.specs.Prelude.{ℕ, Bool, true, false, List, [], ◌∷◌, ◌++◌, None, Some, codes, flat_map, if◌then◌else◌}
+use Rattle.std.specs.Prelude.{ℕ, List, [], ◌∷◌, ◌++◌, None, Some, codes, flat_map}
 use Rattle.filter_diff.specs.declared.checking.Checked.{Checked}
 use Rattle.filter_diff.specs.declared.checking.Checked.TheVariants as checked
 use Rattle.filter_diff.specs.declared.checking.Counterexample.{Counterexample}
+use Rattle.filter_reports.specs.Places.{before_first_feed}
 use Rattle.report_formats.specs.Cases.{broken_case, document_end, document_head, failed_case, passed_case}
 use Rattle.report_formats.specs.Reports.{ReportView, report_line}
 use Rattle.report_formats.specs.declared.format.TestFormat.{TestFormat}
@@ -68,28 +69,25 @@ results_in formats.Tap name before all = all_lines before all
 results_in formats.Json name before all = flat_map (test_report name) all
 results_in formats.Junit name before all = flat_map (case_of name) all
 
--- why the tests of a file were not run
-unfoldable pub not_run_words : List ℕ
-not_run_words = codes "not run, since a file was refused or not read"
+-- what is said of a file whose tests were not run, by what people are told of the reason: the first line of that
+abbrev pub not_run_words : List ℕ → List ℕ
+not_run_words told = codes "not run: " ++ before_first_feed told
 
-abbrev pub skipped_view : List ℕ → ReportView
-skipped_view name = record {
+abbrev pub skipped_view : List ℕ → List ℕ → ReportView
+skipped_view name words = record {
   severity = severity.Undecided;
   code = None;
   file = name;
   line = None;
   column = None;
-  words = not_run_words;
+  words = words;
 }
 
--- what is written in their place, as an element or a report
-abbrev pub skipped_as : Bool → List ℕ → List ℕ
-skipped_as is_case name = if is_case then broken_case name name not_run_words else report_line (skipped_view name)
-
-abbrev pub skipped_in : TestFormat → ℕ → List ℕ → List ℕ
-skipped_in formats.Tap number name = skipped number name
-skipped_in formats.Json number name = skipped_as false name
-skipped_in formats.Junit number name = skipped_as true name
+-- what is written in their place: a line, a report, or an element
+abbrev pub skipped_in : TestFormat → ℕ → List ℕ → List ℕ → List ℕ
+skipped_in formats.Tap number name told = skipped number name (not_run_words told)
+skipped_in formats.Json number name told = report_line (skipped_view name (not_run_words told))
+skipped_in formats.Junit number name told = broken_case name name (not_run_words told)
 
 -- what is written before all tests, and behind them by their number
 unfoldable pub version_line : List ℕ

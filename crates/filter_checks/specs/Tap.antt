@@ -1,5 +1,5 @@
 -- The lines that tell whether tests hold: those of the Test Anything Protocol, and words for people. (The words are this project's own choice.)
-use Rattle.std.specs.Prelude.{ℕ, ◌+◌, Bool, true, false, List, [], ◌∷◌, ◌++◌, codes, decimal, flat_map}
+use Rattle.std.specs.Prelude.{ℕ, ◌+◌, ◌==◌, ◌||◌, Bool, true, false, if◌then◌else◌, List, [], ◌∷◌, ◌++◌, codes, decimal, flat_map}
 use Rattle.filter_diff.specs.declared.checking.Checked.{Checked}
 use Rattle.filter_diff.specs.declared.checking.Checked.TheVariants as checked
 use Rattle.filter_diff.specs.declared.checking.Counterexample.{Counterexample}
@@ -68,12 +68,24 @@ abbrev pub told_of_all : Bool → List ℕ → List Ran → List ℕ
 told_of_all false name all = []
 told_of_all true name all = flat_map (told_of name) all
 
--- the line in place of the tests of a file that were not run
-unfoldable pub not_run : List ℕ
-not_run = codes ": not run, since a file was refused or not read" ++ 10 ∷ []
+-- a byte that means something else in a description than itself: `#` begins a directive, and a backslash takes that from it
+abbrev pub is_special : ℕ → Bool
+is_special byte = byte == 35 || byte == 92
 
-abbrev pub skipped : ℕ → List ℕ → List ℕ
-skipped number name = codes "not ok " ++ decimal number ++ codes " - " ++ shown name ++ not_run
+-- how it stands there: behind a backslash
+abbrev pub escaped_byte : ℕ → List ℕ
+escaped_byte byte = if is_special byte then 92 ∷ (byte ∷ []) else byte ∷ []
+
+abbrev pub escaped : List ℕ → List ℕ
+escaped text = flat_map escaped_byte text
+
+-- the name of a file as it is shown, and what is said of it
+abbrev pub said_of : List ℕ → List ℕ → List ℕ
+said_of name words = shown name ++ codes ": " ++ words
+
+-- the line in place of the tests of a file that were not run, of which these words say so
+abbrev pub skipped : ℕ → List ℕ → List ℕ → List ℕ
+skipped number name words = codes "not ok " ++ decimal number ++ codes " - " ++ escaped (said_of name words) ++ 10 ∷ []
 
 -- the last line of the stream: how many tests it has
 abbrev pub plan : ℕ → List ℕ

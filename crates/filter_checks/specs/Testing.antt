@@ -3,6 +3,7 @@ use Rattle.std.specs.Prelude.{◌≡◌, ◌≢◌, ◌⊎◌, ℕ, Bool, false,
 use Rattle.std.specs.Io.KnownBytes.{Appends, Keeps}
 use Rattle.filter_code.specs.CodeView.{CodeView}
 use Rattle.filter_reports.specs.Checking.{IsDiagnosis}
+use Rattle.filter_reports.specs.Explanations.{IsExplanation}
 use Rattle.filter_diff.specs.Expectations.{IsFoundOf}
 use Rattle.filter_diff.specs.Parts.{IsEnough}
 use Rattle.filter_diff.specs.declared.checking.Checked.TheVariants as checked
@@ -70,11 +71,12 @@ StopsTests fault format program before limit is_explained name file held holds t
     ⊎ ((lines : List ℕ) × (words : List ℕ) × (failed : Failures) × IsReport format program before limit is_explained name file lines words failed
     × (fault ≡ Write) × CutsReport lines words held holds tells told)
 
--- The filter's text spells a filter, and the tests of its code were run; or it is refused, which was told, and nothing written.
+-- The filter's text spells a filter, and the tests of its code were run; or it is refused, which was told and is explained, and nothing was written.
 abbrev pub TestsNamed : TestFormat → ℕ → ℕ → Bool → List ℕ → FileView → Named → Option (List ℕ) → Option (List ℕ) → Option (List ℕ) → Option (List ℕ)
     → Tested → Type 0
-TestsNamed format before limit is_explained name file filter held holds tells told tested.Refused = (why : Diagnosis)
+TestsNamed format before limit is_explained name file filter held holds tells told (tested.Refused words) = (why : Diagnosis)
     × IsDiagnosis file.size false filter.text why × Keeps held holds × TellsOf is_explained filter.name filter.text (Some why) tells told
+    × IsExplanation filter.name filter.text why words.items
 TestsNamed format before limit is_explained name file filter held holds tells told (tested.Ran failed) = (f : FilterView)
     × (is_f : IsFilterOf filter.text file.size f) × RunsTests format is_f.program before limit is_explained name file held holds tells told failed
 

@@ -2,12 +2,14 @@
 //!
 //! **JUnit's document has no counts at its head.** They are known at its end, and build servers count the tests themselves.
 ghost use Rattle.std.specs.Prelude.{◌≡◌, ◌+◌, ◌<◌, ◌^◌, ◌++◌, IfOk, OnOk, flat_map, length};
+ghost use Rattle.report_formats.specs.Cases.{broken_case};
 ghost use Rattle.report_formats.specs.Reports.{report_line};
 ghost use Rattle.filter_checks.specs.Results as spec;
 
 use crate::tap::{all_lines, plan_line, push_found, skipped_line};
 use crate::testing::Ran;
 use filter_diff::{Checked, Counterexample};
+use filter_reports::place_in;
 use report_formats::{
     Report, Severity, TestFormat, document_end, document_head, push_broken, push_failed,
     push_passed, push_report,
@@ -170,56 +172,62 @@ pub(crate) fn results_in(
     Ok(out)
 }
 
-/// Why the tests of a file were not run.
-#[tactic(auto, unfolding(crate::specs::Results::not_run_words))]
-fn not_run_words() -> &'static [u8]
-    ensures { result.now ≡ spec.not_run_words }
+/// What is said of a file whose tests were not run, by what people are told of it: the first line of that.
+fn not_run_words(alloc: Global, told: &[u8]) -> Result<Vec<u8>, AllocError>
+    ensures { IfOk result (λ words. words.items ≡ spec.not_run_words told.now) }
 {
-    b"not run, since a file was refused or not read"
+    let mut words = Vec::new(alloc);
+    words.extend_from_slice(b"not run: ")?;
+    words.extend_from_slice(place_in(told, 0).behind)?;
+    Ok(words)
 }
 
-/// Puts what is written of a file of this name whose tests were not run at the end of `out`, where that is no line of its own kind.
-fn push_skipped(
-    alloc: Global,
-    out: &mut Vec<u8>,
-    name: &[u8],
-    is_case: bool,
-) -> Result<(), AllocError>
-    ensures { OnOk result (out.new.items ≡ out.old.items ++ spec.skipped_as is_case name.now) }
+/// The report on a file of this name whose tests were not run.
+fn skipped_report<'a>(alloc: Global, name: &'a [u8], words: &'a [u8]) -> Result<Vec<u8>, AllocError>
+    ensures { IfOk result (λ out. out.items ≡ report_line (spec.skipped_view name.now words.now)) }
 {
-    if is_case {
-        return push_broken(alloc, out, name, name, not_run_words());
-    }
+    let mut out = Vec::new(alloc);
     push_report(
         alloc,
-        out,
+        &mut out,
         &Report {
             severity: Severity::Undecided,
             code: None,
             file: name,
             line: None,
             column: None,
-            words: not_run_words(),
+            words,
         },
-    )
+    )?;
+    Ok(out)
 }
 
-/// What is written in place of the tests of a file of this name that were not run, by its number in the stream.
+/// Its element.
+fn skipped_case(alloc: Global, name: &[u8], words: &[u8]) -> Result<Vec<u8>, AllocError>
+    ensures { IfOk result (λ out. out.items ≡ broken_case name.now name.now words.now) }
+{
+    let mut out = Vec::new(alloc);
+    push_broken(alloc, &mut out, name, name, words)?;
+    Ok(out)
+}
+
+/// What is written in place of the tests of a file of this name that were not run, by its number in the stream and by what people are told of the
+/// reason.
 pub fn skipped_in(
     alloc: Global,
     format: TestFormat,
     number: u64,
     name: &[u8],
+    told: &[u8],
 ) -> Result<Vec<u8>, AllocError>
-    ensures { IfOk result (λ out. out.items ≡ spec.skipped_in format number name.now) }
+    ensures { IfOk result (λ out. out.items ≡ spec.skipped_in format number name.now told.now) }
 {
-    let mut out = Vec::new(alloc);
+    let words = not_run_words(alloc, told)?;
     match format {
-        TestFormat::Tap => return skipped_line(alloc, number, name),
-        TestFormat::Json => push_skipped(alloc, &mut out, name, false)?,
-        TestFormat::Junit => push_skipped(alloc, &mut out, name, true)?,
+        TestFormat::Tap => skipped_line(alloc, number, name, words.as_slice()),
+        TestFormat::Json => skipped_report(alloc, name, words.as_slice()),
+        TestFormat::Junit => skipped_case(alloc, name, words.as_slice()),
     }
-    Ok(out)
 }
 
 /// The first line of the Test Anything Protocol.

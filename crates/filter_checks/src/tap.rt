@@ -2,6 +2,9 @@
 //!
 //! **The output is that of the Test Anything Protocol**, which harnesses read. The plan comes last, since the tests of all files are numbered on,
 //! and how many there are is known at the end.
+//!
+//! **In what is said of a file whose tests were not run a `#` stands behind a backslash.** The words may have what stands in a file. Behind a bare
+//! `#` a harness takes `TODO` for leave to fail.
 ghost use Rattle.std.specs.Prelude.{◌≡◌, ◌+◌, ◌<◌, ◌^◌, ◌++◌, IfOk, OnOk, count_by, length};
 ghost use Rattle.prefix_patterns.specs.Spelling.{prefix_text};
 ghost use Rattle.filter_checks.specs.Tap as spec;
@@ -157,24 +160,61 @@ pub(crate) fn count_undecided(all: &[Ran]) -> usize
     all.iter().filter(|ran| is_undecided(ran)).count()
 }
 
-/// Why the tests of a file were not run.
-#[tactic(auto, unfolding(crate::specs::Tap::not_run))]
-fn not_run() -> &'static [u8]
-    ensures { result.now ≡ spec.not_run }
+/// Whether a byte means something else in a description than itself.
+fn is_special(byte: u8) -> bool
+    ensures { result ≡ spec.is_special byte }
 {
-    b": not run, since a file was refused or not read\n"
+    byte == b'#' || byte == b'\\'
 }
 
-/// The line in place of the tests of a file of this name that were not run, by its number in the stream.
-pub(crate) fn skipped_line(alloc: Global, number: u64, name: &[u8]) -> Result<Vec<u8>, AllocError>
-    ensures { IfOk result (λ out. out.items ≡ spec.skipped number name.now) }
+/// Puts a byte at the end of `out`, as it stands in a description.
+fn push_escaped_byte(out: &mut Vec<u8>, byte: u8) -> Result<(), AllocError>
+    ensures { OnOk result (out.new.items ≡ out.old.items ++ spec.escaped_byte byte) }
 {
+    if is_special(byte) {
+        return out.extend_from_slice(&[b'\\', byte]);
+    }
+    out.push(byte)?;
+    Ok(())
+}
+
+/// Puts a text at the end of `out`, as it stands in a description.
+fn push_escaped(out: &mut Vec<u8>, text: &[u8]) -> Result<(), AllocError>
+    ensures { OnOk result (out.new.items ≡ out.old.items ++ spec.escaped text.now) }
+{
+    for byte in text {
+        push_escaped_byte(out, *byte)?;
+    }
+    Ok(())
+}
+
+/// The name of a file as it is shown, and what is said of it.
+fn said_of(alloc: Global, name: &[u8], words: &[u8]) -> Result<Vec<u8>, AllocError>
+    ensures { IfOk result (λ said. said.items ≡ spec.said_of name.now words.now) }
+{
+    let mut said = Vec::new(alloc);
+    push_shown(alloc, &mut said, name)?;
+    said.extend_from_slice(b": ")?;
+    said.extend_from_slice(words)?;
+    Ok(said)
+}
+
+/// The line in place of the tests of a file of this name that were not run, by its number in the stream and by what is said of the file.
+pub(crate) fn skipped_line(
+    alloc: Global,
+    number: u64,
+    name: &[u8],
+    words: &[u8],
+) -> Result<Vec<u8>, AllocError>
+    ensures { IfOk result (λ out. out.items ≡ spec.skipped number name.now words.now) }
+{
+    let said = said_of(alloc, name, words)?;
     let mut out = Vec::new(alloc);
     out.extend_from_slice(b"not ok ")?;
     push_decimal(&mut out, number)?;
     out.extend_from_slice(b" - ")?;
-    push_shown(alloc, &mut out, name)?;
-    out.extend_from_slice(not_run())?;
+    push_escaped(&mut out, said.as_slice())?;
+    out.push(b'\n')?;
     Ok(out)
 }
 

@@ -20,7 +20,7 @@ use crate::tap::{count_undecided, count_wrong, told_of_all};
 use crate::test_file::{Test, TestFile};
 use filter_code::Code;
 use filter_diff::{Checked, check_expectation};
-use filter_reports::{NamedText, ProgramFault, tell_refusal, verified_filter};
+use filter_reports::{NamedText, ProgramFault, explain, tell_refusal, verified_filter};
 use filter_source::Failure;
 use filter_verifier::Verified;
 use line_protocol::{StreamFault, write_text};
@@ -49,10 +49,10 @@ pub struct Failures {
 }
 
 /// What comes of the tests of a file.
-#[derive(Clone, Copy)]
+#[derive(Drop)]
 pub enum Tested {
-    /// The filter is refused, and no test was run.
-    Refused,
+    /// The filter is refused, for which this is the explanation, and no test was run.
+    Refused(Vec<u8>),
     /// The tests were run, and so many of them do not hold or are not decided.
     Ran(Failures),
 }
@@ -198,7 +198,7 @@ fn run_tests<W: Write, E: Write>(
 
 /// Runs the tests of a file by a filter that a text spells, and writes the lines of each, before which the stream has the lines of
 /// `before` others. A test that does not hold is told on `errors` too, under the name of the test file, in words where `is_explained` says so. A
-/// filter that is refused is told on `errors` under its own name, and no test is run. Each test tries at most `limit` classes of routes.
+/// filter that is refused is told on `errors` under its own name, and no test is run: its explanation is returned. Each test tries at most `limit` classes of routes.
 pub fn test_named<W: Write, E: Write>(
     alloc: Global,
     format: TestFormat,
@@ -234,6 +234,7 @@ pub fn test_named<W: Write, E: Write>(
             Ok(Tested::Ran(failed))
         }
         Err(Failure::Refused(told)) => {
+            let words = explain(alloc, filter.name, filter.text, &told)?;
             tell_refusal(
                 alloc,
                 errors,
@@ -242,7 +243,7 @@ pub fn test_named<W: Write, E: Write>(
                 &Some(told),
                 is_explained,
             )?;
-            Ok(Tested::Refused)
+            Ok(Tested::Refused(words))
         }
         Err(Failure::Memory) => Err(ProgramFault::MEMORY),
     }

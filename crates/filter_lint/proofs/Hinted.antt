@@ -1,10 +1,10 @@
 -- What is said of an instruction as it stands is so.
 use Rattle.std.proofs.Common.{◌≡◌, ◌≢◌, ℕ, ◌+◌, ◌*◌, ◌==◌, Bool, true, false, ◌&&◌, nat_le, nat_lt}
-use Rattle.std.proofs.Common.{if◌then◌else◌, List, length, Option, Some, None, IfSome, refl, arith}
+use Rattle.std.proofs.Common.{if◌then◌else◌, List, length, Option, Some, None, IfSome, IfOk, Result, Ok, Err, Vec, Global, refl, arith}
 use Rattle.std.specs.Prelude.{All, option_and_then, slice_get}
 use Rattle.std.specs.List.{list_any}
 use Rattle.std.proofs.lemmas.Bool.Decides.{nat_tests}
-use Rattle.std.proofs.lemmas.List.Elements.{All-append, All-nil}
+use Rattle.std.proofs.lemmas.List.Elements.{All-append, All-nil, All-same}
 use Rattle.std.proofs.lemmas.Map.Keys.{any_passes_from_place}
 use Rattle.filter_code.specs.CodeView.{CodeView}
 use Rattle.filter_code.specs.declared.instruction.Instr.{Instr}
@@ -18,7 +18,7 @@ use Rattle.filter_lint.specs.Hints.{hints}
 use Rattle.filter_lint.specs.Known.{top_one, top_two}
 use Rattle.filter_lint.specs.Metrics.{sets_metric, unreachable_at}
 use Rattle.filter_lint.specs.Overlaps.{bounds_of, overlap_at, overlapped, overlaps_of}
-use Rattle.filter_lint.specs.Sets.{asked_by, asks_ints, covered_at, covered_of, covering, overlaps_by, overlaps_where}
+use Rattle.filter_lint.specs.Sets.{asked_by, asks_ints, covered_at, covered_of, covering, overlapping_members, overlaps_by, overlaps_where}
 use Rattle.filter_lint.specs.SurveyedFilters.{SurveyedFilterView, is_first, known_at, known_of}
 use Rattle.filter_lint.specs.Truths.{IsTrueOf}
 use Rattle.filter_lint.specs.Variables.{declared_by, is_load_of, unread_at}
@@ -282,6 +282,17 @@ module _ (program : CodeView) (size : ℕ) (text places : List ℕ) where
   sets_are_so k (Some i) is None there = All-nil (IsTrueOf program size places)
   sets_are_so k (Some i) is (Some byte) there = of_question k byte i is there
 
+  -- those on members of sets
+  pub members_are_so : All (IsTrueOf program size places) (overlapping_members here)
+  members_are_so = each_of (IsTrueOf program size places) (overlaps_by here)
+      (λ k. sets_are_so k (slice_get program.instrs k) refl (slice_get places k) refl) (length program.instrs)
+
+  -- those that were found are the same
+  pub members_found : {E : Type 0} (r : Result (Vec Warning Global) E) → IfOk r (λ found. found.items ≡ overlapping_members here)
+      → IfOk r (λ found. All (IsTrueOf program size places) found.items)
+  members_found (Ok found) same = All-same (IsTrueOf program size places) found.items (overlapping_members here) same members_are_so
+  members_found (Err e) same = tt
+
   -- all of them
   pub hints_are_so : All (IsTrueOf program size places) (hints here)
   hints_are_so =
@@ -290,7 +301,7 @@ module _ (program : CodeView) (size : ℕ) (text places : List ℕ) where
       All-append P _ _
       (all_below P (wraps_at here) (λ k. operation_is_so k (slice_get program.instrs k) refl (slice_get places k) refl) all)
       (All-append P _ _
-      (each_of P (overlaps_by here) (λ k. sets_are_so k (slice_get program.instrs k) refl (slice_get places k) refl) all)
+      members_are_so
       (All-append P _ _
       (all_below P (unread_at here) (λ k. variable_is_so k (slice_get program.instrs k) refl (slice_get places k) refl) all)
       (all_below P (unreachable_at here) (λ k. metric_is_so k (slice_get program.instrs k) refl (slice_get places k) refl) all)))

@@ -1,5 +1,5 @@
 -- Ranges of ints that share a number.
-use Rattle.std.proofs.Common.{◌≡◌, ℕ, ◌<◌, ◌≤◌, min, nat_le, Bool, true, List, length}
+use Rattle.std.proofs.Common.{◌≡◌, ℕ, ◌<◌, ◌≤◌, min, true, List, length}
 use Rattle.std.proofs.Common.{take, Option, Some, None, refl, subst, ◌∙◌, arith}
 use Rattle.std.specs.Prelude.{max, option_and_then, position, slice_get}
 use Rattle.std.proofs.lemmas.List.{get_or-take, length-take}

@@ -1,7 +1,9 @@
 -- What callers cite.
 pub mod Allowing
 pub mod Linting
+pub mod Sets
 pub mod SurveyedFilters
+pub mod Truths
 pub mod WarningLines
 -- What only the bodies of this crate are proved against.
 pub mod Arithmetic
@@ -16,8 +18,6 @@ pub mod Lowering
 pub mod Metrics
 pub mod Overlaps
 pub mod Rules
-pub mod Sets
 pub mod Sites
-pub mod Truths
 pub mod Variables
 pub mod Watching

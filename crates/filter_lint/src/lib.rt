@@ -17,6 +17,7 @@ mod host_bits;
 mod known;
 mod linting;
 mod lowering;
+mod members;
 mod metrics;
 mod overlaps;
 mod rules;
@@ -30,5 +31,6 @@ mod warning_reports;
 mod watching;
 
 pub use linting::{Linted, lint_named, tell_host_bits, warn_named};
+pub use members::{overlap_warnings, push_warning_words};
 pub use site::Site;
 pub use warning::{Bounds, Cause, Operation, Warning};

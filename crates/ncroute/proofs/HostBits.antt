@@ -1,5 +1,5 @@
 -- Where the prefixes with host bits of a text are told, it has tokens.
-use Rattle.std.proofs.Common.{◌≡◌, ℕ, Bool, true, false, List, Option, Some, None, cond}
+use Rattle.std.proofs.Common.{◌≡◌, ℕ, Bool, true, false, List, Option, Some, None}
 use Rattle.std.specs.Prelude.{is_some, if◌then◌else◌}
 use Rattle.filter_reports.specs.Checking.{AreTokensUnlessRefused}
 use Rattle.filter_source.specs.declared.diagnosis.Diagnosis.{Diagnosis}
@@ -7,7 +7,6 @@ use Rattle.filter_tokens.specs.Tokenization.{IsTokenization}
 use Rattle.filter_tokens.specs.declared.token.Token.{Token}
 use Rattle.command_line.specs.declared.requests.Checking.{Checking}
 use Rattle.ncroute.specs.Linting.{wanted_of, wanted_unasked, wanted_with}
-use Rattle.ncroute.specs.declared.linting.Wanted.{Wanted}
 use Rattle.ncroute.specs.declared.linting.Wanted.TheVariants as wanted
 
 -- by what is asked for, and of what

@@ -13,6 +13,7 @@ mod JoinedRead
 mod Linted
 mod Loaded
 mod MadeTexts
+mod NotedTexts
 mod PlanAdded
 mod Routed
 mod Taken

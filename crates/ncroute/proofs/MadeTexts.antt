@@ -16,7 +16,8 @@ use Rattle.filter_source.specs.declared.failure.Failure.{Failure}
 use Rattle.filter_source.specs.declared.failure.Failure.TheVariants as failure
 use Rattle.filter_reports.specs.Explanations.{AreRefusalWords}
 use Rattle.ncroute.specs.Importing.{IsLeftFor, IsMadeOfText, IsMadeOfWords, IsRefusedText, IsToldFor}
-use Rattle.ncroute.specs.Importing.{IsToldUnset, KeepsText, KeepsWords, place_from, text_in}
+use Rattle.ncroute.specs.Importing.{IsToldUnset, KeepsText, KeepsWords, text_in}
+use Rattle.ncroute.specs.Noting.{place_from}
 use Rattle.ncroute.specs.declared.importing.Made.{Made}
 
 -- the text is taken

@@ -14,7 +14,7 @@ use Rattle.router_daemon.specs.declared.fault.DaemonFault.TheVariants as fault
 use Rattle.router_operator.specs.OperatorView.{Names}
 use Rattle.router_options.specs.PlanView.{PlanView}
 use Rattle.command_line.specs.declared.router_words.RouterWords.{RouterWords}
-use Rattle.ncroute.specs.Routing.{CutsPlan, Operated, RunsPlan, ServesRouter, StopsSettingUp, router_line, setup_line, setup_status}
+use Rattle.ncroute.specs.Routing.{CutsPlan, Operated, RunsPlan, ServesRouter, StopsSettingUp, fault_status, router_line, setup_line, setup_status}
 use Rattle.router_words.specs.Stated.{OriginView}
 use Rattle.ncroute.specs.Streaming.{Streams}
 use Rattle.ncroute.specs.declared.routing.SetupFault.{SetupFault}
@@ -46,13 +46,13 @@ untouched operated P Q follows fault.Memory fails = follows fails
 module _ (plan : PlanView) (names : Names) (before after : Streams) (why : DaemonFault)
     (fails : Fails (Operated plan names before after) ((after.reads ≡ before.reads) × (after.holds ≡ before.holds)) why) where
   pub faulted : (keeps : List ℕ → Option FolderView → Type 0) (save : Option (String Global)) (kept : Option (Option FolderView)) (result : Result ℕ Untold)
-      → IfOk result (λ status. (status ≡ 1) × Appends before.tells after.tells (router_line why))
+      → IfOk result (λ status. (status ≡ fault_status why) × Appends before.tells after.tells (router_line why))
       → IfOk result (RunsPlan keeps save plan names kept before after)
-  faulted keeps save kept (Ok status) told = inr (record { why = why; fails = fails; told = told.1 }, told.0)
+  faulted keeps save kept (Ok status) told = inr (record { why = why; ended = told.0; fails = fails; told = told.1 })
   faulted keeps save kept (Err untold) told = tt
 
   pub cut_short : (result : Result ℕ Untold)
-      → IfErr result (λ untold. (untold.status ≡ 1) × IsCut (stream_fault untold.why) before.tells after.tells (router_line why))
+      → IfErr result (λ untold. (untold.status ≡ fault_status why) × IsCut (stream_fault untold.why) before.tells after.tells (router_line why))
       → IfErr result (λ untold. CutsPlan (stream_fault untold.why) plan names before after untold.status)
   cut_short (Ok status) cut = tt
-  cut_short (Err untold) cut = (record { why = why; fails = fails; told = cut.1 }, cut.0)
+  cut_short (Err untold) cut = record { why = why; ended = cut.0; fails = fails; told = cut.1 }

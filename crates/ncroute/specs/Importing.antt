@@ -1,17 +1,19 @@
 -- What the program does with a configuration of BIRD whose filters are imported. (This project's own choice.)
 use Rattle.std.specs.Prelude.{◌≡◌, ◌⊎◌, ◌||◌, ◌&&◌, ◌==◌, ◌-◌, ◌++◌, ℕ, nat_le, nat_lt, Bool, true, false, not, if◌then◌else◌}
 use Rattle.std.specs.Prelude.{is_some, List, [], ◌∷◌, Option, Some, None, Result, Ok, Err}
-use Rattle.std.specs.Prelude.{codes, length, map, slice_get, string_bytes, unwrap_or}
+use Rattle.std.specs.Prelude.{codes, length, map, slice_get, string_bytes}
 use Rattle.std.specs.Option.{option_map}
 use Rattle.std.specs.Str.{is_utf8}
 use Rattle.std.specs.Io.KnownBytes.{Appends}
 use Rattle.std.specs.declared.alloc.Global.{Global}
+use Rattle.std.specs.IoError.{error_kind}
 use Rattle.std.specs.declared.io.Error.{Error}
+use Rattle.std.specs.declared.io.ErrorKind.TheVariants.{NotFound}
 use Rattle.std.specs.declared.string.String.{String}
 use Rattle.bird_import.specs.Cutting.{IsCutInto}
 use Rattle.bird_import.specs.Items.{definitions_in, items_in, view_of_item}
 use Rattle.bird_import.specs.Judged.{HaveDrafts}
-use Rattle.bird_import.specs.Laying.{origin_of, origins_of, text_of}
+use Rattle.bird_import.specs.Laying.{origins_of, text_of}
 use Rattle.bird_import.specs.Reasons.{AreReasonWords}
 use Rattle.bird_import.specs.Texts.{Fated, IsTaken}
 use Rattle.bird_import.specs.declared.config.Config.{Config}
@@ -42,6 +44,7 @@ use Rattle.line_protocol.specs.Runs.{AppendsFront}
 use Rattle.ncroute.specs.Ending.{status_of_found}
 use Rattle.ncroute.specs.Following.{DoesFirst}
 use Rattle.ncroute.specs.Including.{ReadsConfig, SkipsText}
+use Rattle.ncroute.specs.Noting.{HasNotes, place_from}
 use Rattle.ncroute.specs.Places.{ConfigView, place_of}
 use Rattle.ncroute.specs.Reading.{unmade_line, unwritten_line}
 use Rattle.ncroute.specs.Streaming.{Streams, Tells, Writes}
@@ -83,11 +86,6 @@ pub record IsVerifiedText (size : ℕ) (text line : List ℕ) : Type 0 where
   pub verified : VerifiedView
   pub is : IsVerifiedOf size text verified
   pub bounds : line ≡ verified_line verified.program
-
--- the place of a configuration from which a byte of a filter's text comes, and that of the filter where there is none
-abbrev pub place_from : List Origin → ℕ → Option ℕ → ℕ
-place_from origins at None = at
-place_from origins at (Some byte) = unwrap_or (origin_of origins byte) at
 
 -- A text is refused for domains of a size, and so it is told, at the place from which the byte comes that is told of it.
 pub record IsRefusedText (size at : ℕ) (text : List ℕ) (origins : List Origin) (made : Made) : Type 0 where
@@ -162,6 +160,23 @@ IsMadeBy config size from to (Drafted words) made =
 abbrev pub IsMade : ConfigView → ℕ → Draft → Made → Type 0
 IsMade config size draft made = IsMadeBy config size draft.at draft.end draft.outcome made
 
+-- Beside its text, if one is kept, what else is said of it is made: nothing where none is kept.
+abbrev pub KeepsNotes : ConfigView → List ℕ → ℕ → ℕ → List ℕ → List Origin → Made → Option (List ℕ) → Type 0
+KeepsNotes config name size at text origins made None = made.notes.items ≡ []
+KeepsNotes config name size at text origins made (Some kept) = HasNotes config name size at text origins made.notes.items
+
+abbrev pub IsNotedText : ConfigView → List ℕ → ℕ → ℕ → List ℕ → List Origin → Made → Type 0
+IsNotedText config name size at text origins made = KeepsNotes config name size at text origins made (text_in made)
+
+-- So it is of a draft.
+abbrev pub IsNotedBy : ConfigView → List ℕ → ℕ → ℕ → ℕ → Outcome → Made → Type 0
+IsNotedBy config name size from to (LeftOut reason) made = made.notes.items ≡ []
+IsNotedBy config name size from to (Drafted words) made =
+    IsNotedText config name size from (text_for config from to words.items) (origins_for config from to words.items) made
+
+abbrev pub IsNoted : ConfigView → ℕ → Draft → Made → Type 0
+IsNoted config size draft made = IsNotedBy config draft.name.now size draft.at draft.end draft.outcome made
+
 -- the parts of a configuration are all definitions, filters and functions that its words have
 pub record HasParts (words : List Word) (parts : Config) : Type 0 where
   pub of_words : parts.words.now ≡ words
@@ -184,6 +199,10 @@ slash_behind folder = if ends_in_slash folder then [] else 47 ∷ []
 unfoldable pub file_name : List ℕ → List ℕ
 file_name name = if is_utf8 name then name else []
 
+-- the path of a folder as one of the things that it holds, which no file has
+abbrev pub inner_path : List ℕ → List ℕ
+inner_path folder = folder ++ codes "/."
+
 -- the path of a filter's file in a folder
 abbrev pub file_path : List ℕ → List ℕ → List ℕ
 file_path folder name = folder ++ slash_behind folder ++ file_name name ++ codes ".filter"
@@ -198,10 +217,10 @@ abbrev pub fate_words : Bool → List ℕ → List ℕ
 fate_words true words = codes " " ++ words
 fate_words false words = codes ": " ++ words ++ codes ": this filter was left out" ++ 10 ∷ []
 
--- the line of a filter: its place, its name as it is shown, the name of its file, and what comes of it
+-- the line of a filter: its place, its name as it is shown, the name of its file, and what comes of it; and the lines of what else is said of it
 abbrev pub made_line : ConfigView → List ℕ → Made → Option (List ℕ) → List ℕ
 made_line config name made path = place_of config made.at ++ codes " filter " ++ shown name ++ path_words path
-    ++ fate_words (is_some (text_in made)) made.words.items
+    ++ fate_words (is_some (text_in made)) made.words.items ++ made.notes.items
 
 -- the line that tells something of a byte of a configuration
 abbrev pub byte_line : ConfigView → ℕ → List ℕ → List ℕ
@@ -233,12 +252,22 @@ TellsEnd config (Some fault) before after is_cut = Writes (byte_line config (fau
 
 -- `opens name` says what may come of opening a file of this name.
 module _ (opens : List ℕ → Result (Option (List ℕ)) Error → Type 0) where
-  -- it is said whether there is no folder of the path that is given: then its name was told, once
+  -- There is something of a path, or another reason why it was not opened.
+  abbrev pub IsThere : List ℕ → Type 0
+  IsThere path = ((held : Option (List ℕ)) × opens path (Ok held))
+      ⊎ ((error : Error) × opens path (Err error) × (error_kind error ≡ NotFound → ⊥))
+
+  -- There is nothing of it.
+  abbrev pub IsMissing : List ℕ → Error → Type 0
+  IsMissing path error = opens path (Err error) × (error_kind error ≡ NotFound)
+
+  -- it is said whether a folder is given that is not there: then its name was told, once
   abbrev pub LacksFolder : Option (String Global) → Streams → Streams → Bool → Type 0
-  LacksFolder folder before after false = after ≡ before
+  LacksFolder None before after false = after ≡ before
+  LacksFolder (Some folder) before after false = (after ≡ before) × IsThere (inner_path (string_bytes folder))
   LacksFolder None before after true = ⊥
-  LacksFolder (Some folder) before after true =
-      (error : Error) × (words : List ℕ) × opens (string_bytes folder) (Err error) × Tells (unmade_line (string_bytes folder) words) before after
+  LacksFolder (Some folder) before after true = (error : Error) × (words : List ℕ)
+      × IsMissing (inner_path (string_bytes folder)) error × Tells (unmade_line (string_bytes folder) words) before after
 
 -- `creates name` says what may come of making a file of this name: what it holds at first, or why there is none. `leaves name` says what a
 -- new file of this name held when it was closed.
@@ -280,10 +309,11 @@ module _ (creates : List ℕ → Result (Option (List ℕ)) Error → Type 0) (l
   ImportsMade (Some folder) (Some text) config name made before after is_left =
       SavesFilter config name made text (file_path (string_bytes folder) name) before after is_left
 
-  -- A filter was made of a draft, and imported.
+  -- A filter was made of a draft, with what else is said of it, and imported.
   pub record ImportsDraft (how : Importing) (config : ConfigView) (draft : Draft) (before after : Streams) (is_left : Bool) : Type 0 where
     pub made : Made
     pub is_made : IsMade config how.size draft made
+    pub is_noted : IsNoted config how.size draft made
     pub imported : ImportsMade how.folder (text_in made) config draft.name.now made before after is_left
 
   -- The filters among the parts of a configuration were imported, in order, and it is said whether one of them is left out.
@@ -327,9 +357,14 @@ module _ (creates : List ℕ → Result (Option (List ℕ)) Error → Type 0) (l
   -- `opens name` says what may come of opening a file of this name.
   module _ (opens : List ℕ → Result (Option (List ℕ)) Error → Type 0) where
     -- The configuration that a source is was read, with the files that it includes, and imported, and the exit status says whether something
-    -- was left out: a file that is included, or what `ImportsCut` names. Or the source was not read, and nothing was written. Or there is no
-    -- folder for the filters.
+    -- was left out: a file that is included, or what `ImportsCut` names. Or the source was not read, and nothing was written.
+    unfoldable pub ImportsText : Importing → Source → Streams → Streams → ℕ → Type 0
+    ImportsText how source before after status =
+        ((config : ConfigView) × (mid : Streams) × ReadsConfig opens source config before mid × ImportsRead how config mid after status)
+        ⊎ (SkipsText opens source before after × (status ≡ 1))
+
+    -- So it was where no folder is given for the filters, or one that is there. Otherwise that was told, and nothing read.
     unfoldable pub ImportsSource : Importing → Source → Streams → Streams → ℕ → Type 0
     ImportsSource how source before after status =
-        ((config : ConfigView) × (mid : Streams) × ReadsConfig opens source config before mid × ImportsRead how config mid after status)
-        ⊎ ((SkipsText opens source before after × (status ≡ 1)) ⊎ (LacksFolder opens how.folder before after true × (status ≡ 1)))
+        ((mid : Streams) × LacksFolder opens how.folder before mid false × ImportsText how source mid after status)
+        ⊎ (LacksFolder opens how.folder before after true × (status ≡ 1))

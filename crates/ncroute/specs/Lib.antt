@@ -14,6 +14,7 @@ pub mod Linting
 pub mod Loading
 pub mod Marking
 pub mod Networking
+pub mod Noting
 pub mod Places
 pub mod Planning
 pub mod Reading

@@ -15,6 +15,8 @@ use Rattle.command_line.specs.declared.requests.Source.TheVariants.{Input, File}
 use Rattle.ncroute.specs.Streaming.{Streams}
 use Rattle.ncroute.specs.declared.console.Loaded.{Loaded}
 use Rattle.ncroute.specs.declared.console.Loaded.TheVariants as loaded
+use Rattle.ncroute.specs.declared.console.Kept.{Kept}
+use Rattle.ncroute.specs.declared.console.Kept.TheVariants as kept
 use Rattle.ncroute.specs.declared.texts.Unread.{Unread}
 use Rattle.ncroute.specs.declared.texts.Unread.TheVariants as unread
 
@@ -78,19 +80,31 @@ LeavesInput limit unread.Input known left = ConsumesAtMost (limit + 1) known lef
 LeavesInput limit unread.Memory known left = ConsumesAtMost (limit + 1) known left
 LeavesInput limit unread.TooLong known left = ⊥
 
--- Standard error was told that a source was not read: of a file with a reason, and of a filter that is too long with its limit. `told` is what it held, `tells` what it holds now.
-abbrev pub TellsUnread : Source → Unread → Option (List ℕ) → Option (List ℕ) → Type 0
-TellsUnread source (unread.Broken reason) told tells = (words : List ℕ) × Appends told tells (unread_line source words)
-TellsUnread source unread.Input told tells = ⊥
-TellsUnread source unread.Memory told tells = ⊥
-TellsUnread source unread.TooLong told tells = Appends told tells (long_line source)
+-- the line that tells why a source was not read: of a file with a reason, and of a filter that is too long with its limit
+abbrev pub IsUnreadLine : Source → Unread → List ℕ → Type 0
+IsUnreadLine source (unread.Broken reason) line = (words : List ℕ) × (line ≡ unread_line source words)
+IsUnreadLine source unread.Input line = ⊥
+IsUnreadLine source unread.Memory line = ⊥
+IsUnreadLine source unread.TooLong line = line ≡ long_line source
 
--- It was not told, or not whole, and this is the fault that comes of it: standard input that fails is E1, and refused memory is E3.
+-- there is no such line, for this fault: standard input that fails is E1, and refused memory is E3
+abbrev pub LacksLine : Unread → StreamFault → Type 0
+LacksLine (unread.Broken reason) ended = ended ≡ fault.Memory
+LacksLine unread.Input ended = ended ≡ fault.Read
+LacksLine unread.Memory ended = ended ≡ fault.Memory
+LacksLine unread.TooLong ended = ended ≡ fault.Memory
+
+-- Standard error was told in this line that a source was not read. `told` is what it held, `tells` what it holds now.
+abbrev pub TellsLine : Source → Unread → List ℕ → Option (List ℕ) → Option (List ℕ) → Type 0
+TellsLine source why line told tells = IsUnreadLine source why line × Appends told tells line
+
+abbrev pub TellsUnread : Source → Unread → Option (List ℕ) → Option (List ℕ) → Type 0
+TellsUnread source why told tells = (line : List ℕ) × TellsLine source why line told tells
+
+-- It was not told, or not whole, and this is the fault that comes of it.
 abbrev pub StopsTelling : StreamFault → Source → Unread → Option (List ℕ) → Option (List ℕ) → Type 0
-StopsTelling ended source (unread.Broken reason) told tells = (words : List ℕ) × IsCut ended told tells (unread_line source words)
-StopsTelling ended source unread.Input told tells = (ended ≡ fault.Read) × (tells ≡ told)
-StopsTelling ended source unread.Memory told tells = (ended ≡ fault.Memory) × (tells ≡ told)
-StopsTelling ended source unread.TooLong told tells = IsCut ended told tells (long_line source)
+StopsTelling ended source why told tells = (LacksLine why ended × (tells ≡ told))
+    ⊎ ((line : List ℕ) × IsUnreadLine source why line × IsCut ended told tells line)
 
 -- a text that was read goes at most one byte beyond its limit
 abbrev pub IsWithin : ℕ → Loaded → Type 0
@@ -132,12 +146,25 @@ module _ (opens : List ℕ → Result (Option (List ℕ)) Error → Type 0) wher
     pub told : TellsUnread source why before.tells after.tells
     pub holds : after.holds ≡ before.holds
 
+  -- The same, in this line.
+  pub record SkipsIn (limit : ℕ) (source : Source) (line : List ℕ) (before after : Streams) : Type 0 where
+    pub why : Unread
+    pub unread : IsUnread limit source why before.reads after.reads
+    pub told : TellsLine source why line before.tells after.tells
+    pub holds : after.holds ≡ before.holds
+
   -- A fault kept a source from being read or told of, and nothing was written.
   pub record StopsReading (fault : StreamFault) (limit : ℕ) (source : Source) (before after : Streams) : Type 0 where
     pub why : Unread
     pub unread : IsUnread limit source why before.reads after.reads
     pub told : StopsTelling fault source why before.tells after.tells
     pub holds : after.holds ≡ before.holds
+
+  -- what came of reading a source, where the line is kept that tells why one was not read
+  abbrev pub IsKept : ℕ → Source → Kept → Streams → Streams → Type 0
+  IsKept limit source (kept.Text text) before after = Reads limit source text.items before after
+  IsKept limit source (kept.Skipped line) before after = SkipsIn limit source line.items before after
+  IsKept limit source (kept.Stopped fault) before after = StopsReading (stream_fault fault) limit source before after
 
   -- what came of reading a source
   abbrev pub IsLoaded : ℕ → Source → Loaded → Streams → Streams → Type 0

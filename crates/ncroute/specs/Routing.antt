@@ -16,6 +16,7 @@ use Rattle.router_daemon.specs.Codes.{fault_code}
 use Rattle.router_daemon.specs.Running as daemon
 use Rattle.router_daemon.specs.Running.{Fails, RunsAsOne, Saves}
 use Rattle.router_daemon.specs.declared.fault.DaemonFault.{DaemonFault}
+use Rattle.router_daemon.specs.declared.fault.DaemonFault.TheVariants as fault
 use Rattle.router_operator.specs.OperatorView.{Names}
 use Rattle.router_options.specs.PlanView.{PlanView}
 use Rattle.command_line.specs.declared.router_words.RouterWords.{RouterWords}
@@ -38,6 +39,16 @@ save_line fault = codes "ncroute: " ++ save_code fault ++ 10 ∷ []
 -- the line that tells of a fault of a router
 abbrev pub router_line : DaemonFault → List ℕ
 router_line fault = codes "ncroute: " ++ fault_code fault ++ 10 ∷ []
+
+-- the exit status of a router that a fault ended: its operator's lines broke off; the end of its history is not saved; it was not begun
+abbrev pub fault_status : DaemonFault → ℕ
+fault_status (fault.Stream why) = 3
+fault_status (fault.Save why) = 4
+fault_status (fault.Call why) = 1
+fault_status (fault.Lock why) = 1
+fault_status (fault.NotBegun why) = 1
+fault_status fault.NotStarted = 1
+fault_status fault.Memory = 1
 
 -- the line that tells what kept a router from being set up, and the exit status
 abbrev pub setup_line : OriginView → SetupFault → List ℕ
@@ -140,22 +151,23 @@ pub record RunsToEnd (keeps : List ℕ → Option FolderView → Type 0) (save :
   pub left : LeavesSave keeps save saver
   pub quiet : after.tells ≡ before.tells
 
--- A fault ended it, and `TellsLine told tells line` says what standard error was told of the line of the fault.
+-- A fault ended it, and `TellsLine told tells line` says what standard error was told of the line of the fault. The exit status tells which.
 pub record EndsInFault (TellsLine : Option (List ℕ) → Option (List ℕ) → List ℕ → Type 0) (plan : PlanView) (names : Names)
-    (before after : Streams) : Type 0 where
+    (before after : Streams) (status : ℕ) : Type 0 where
   pub why : DaemonFault
+  pub ended : status ≡ fault_status why
   pub fails : Fails (Operated plan names before after) ((after.reads ≡ before.reads) × (after.holds ≡ before.holds)) why
   pub told : TellsLine before.tells after.tells (router_line why)
 
--- The exit status tells which. The whole line of the fault was told.
+-- It ran to its end, and the exit status is 0; or a fault ended it, of which the whole line was told.
 abbrev pub RunsPlan : (List ℕ → Option FolderView → Type 0) → Option (String Global) → PlanView → Names → Option (Option FolderView)
     → Streams → Streams → ℕ → Type 0
 RunsPlan keeps save plan names kept before after status = (RunsToEnd keeps save plan names kept before after × (status ≡ 0))
-    ⊎ (EndsInFault Appends plan names before after × (status ≡ 1))
+    ⊎ EndsInFault Appends plan names before after status
 
 -- A fault ended it, and another one cut what standard error was told of that.
 abbrev pub CutsPlan : StreamFault → PlanView → Names → Streams → Streams → ℕ → Type 0
-CutsPlan cut plan names before after status = EndsInFault (IsCut cut) plan names before after × (status ≡ 1)
+CutsPlan cut plan names before after status = EndsInFault (IsCut cut) plan names before after status
 
 -- `opens name` says what may come of opening a file of this name, `makes name` what may come of making a folder of this name, and `keeps name`
 -- what one held when it was left.

@@ -8,11 +8,11 @@
 ghost use Rattle.std.specs.Prelude.{◌≡◌, ◌<◌, ◌^◌, IfErr, OnOk};
 ghost use Rattle.filter_reports.specs.Faults.{stream_fault};
 ghost use Rattle.ncroute.specs.Ending.{fault_line};
-ghost use Rattle.ncroute.specs.Reading.{IsLoaded, IsWithin};
+ghost use Rattle.ncroute.specs.Reading.{IsKept, IsLoaded, IsWithin};
 ghost use Rattle.ncroute.specs.Streaming.{CutsTelling, CutsWriting, Tells, TellsFront, Writes};
 
 use crate::ending::report_fault;
-use crate::texts::{Folder, read_source, tell_unread, write_line};
+use crate::texts::{Folder, read_source, tell_unread, tell_unread_line, write_line};
 use command_line::Source;
 use filter_reports::ProgramFault;
 use line_protocol::StreamFault;
@@ -27,6 +27,17 @@ pub enum Loaded {
     Text(Vec<u8>),
     /// It cannot be read, which people were told.
     Skipped,
+    /// This fault kept it from being read or told of.
+    Stopped(ProgramFault),
+}
+
+/// What came of reading a source, where the line is kept that people are told of one that cannot be read.
+#[derive(Drop)]
+pub enum Kept {
+    /// Its text.
+    Text(Vec<u8>),
+    /// It cannot be read, and this line says why.
+    Skipped(Vec<u8>),
     /// This fault kept it from being read or told of.
     Stopped(ProgramFault),
 }
@@ -68,6 +79,26 @@ impl<R: Read, W: Write, E: Write> Console<R, W, E> {
             Err(why) => match tell_unread(alloc, &mut self.errors, source, why) {
                 Ok(()) => Loaded::Skipped,
                 Err(fault) => Loaded::Stopped(fault),
+            },
+        }
+    }
+
+    /// Reads a source as `read` does, and keeps what people are told of one that cannot be read.
+    pub fn read_keeping<F: Folder>(
+        &mut self,
+        files: &F,
+        alloc: Global,
+        source: &Source,
+        limit: usize,
+    ) -> Kept
+        requires { limit < 2 ^ 32 }
+        ensures { IsKept (F.opens files.now) limit source.now result self.old self.new }
+    {
+        match read_source(files, alloc, source, limit, &mut self.reader) {
+            Ok(text) => Kept::Text(text),
+            Err(why) => match tell_unread_line(alloc, &mut self.errors, source, why) {
+                Ok(line) => Kept::Skipped(line),
+                Err(fault) => Kept::Stopped(fault),
             },
         }
     }

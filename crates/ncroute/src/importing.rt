@@ -3,12 +3,13 @@ ghost use Rattle.std.specs.Option.{option_map};
 ghost use Rattle.std.specs.Prelude.{◌≡◌, ◌≤◌, ℕ, false, [], ◌∷◌, ◌++◌, IfOk, IfSome, Ok, OnOk, Some, is_some, length, string_bytes};
 ghost use Rattle.ncroute.specs.Following.{DoesFirst};
 ghost use Rattle.ncroute.specs.Importing.{AreWordsFor, ImportsConfig, ImportsCut, ImportsDraft, ImportsMade};
-ghost use Rattle.ncroute.specs.Importing.{ImportsParts, ImportsRead, ImportsSource, ImportsWords, IsMade};
-ghost use Rattle.ncroute.specs.Importing.{IsMadeOfText, IsMadeOfWords, IsRefusedText, IsToldFor};
+ghost use Rattle.ncroute.specs.Importing.{ImportsParts, ImportsRead, ImportsSource, ImportsText, ImportsWords, IsMade};
+ghost use Rattle.ncroute.specs.Importing.{IsMadeOfText, IsMadeOfWords, IsNoted, IsNotedText, IsRefusedText, IsToldFor};
 ghost use Rattle.ncroute.specs.Importing.{LacksFolder, SavesFilter, SavesText, TellsEnd, TellsStrange, TellsWord, byte_line};
-ghost use Rattle.ncroute.specs.Importing.{end_words, ends_in_slash, fate_words, file_name, file_path, head_for, head_of};
+ghost use Rattle.ncroute.specs.Importing.{end_words, ends_in_slash, fate_words, file_name, file_path, head_for, head_of, inner_path};
 ghost use Rattle.ncroute.specs.Importing.{is_outside, made_line, origin_line, origins_for, outside_line, path_words};
-ghost use Rattle.ncroute.specs.Importing.{place_from, slash_behind, strange_words, text_for, text_in};
+ghost use Rattle.ncroute.specs.Importing.{slash_behind, strange_words, text_for, text_in};
+ghost use Rattle.ncroute.specs.Noting.{place_from};
 ghost use Rattle.ncroute.specs.Places.{config_of, place_of};
 ghost use Rattle.ncroute.specs.Streaming.{Tells, Writes};
 ghost use Rattle.filter_reports.specs.Check.{IsRefused};
@@ -22,15 +23,15 @@ use crate::checking::is_any;
 use crate::console::Console;
 use crate::ending::{FAILED, status_of_found};
 use crate::including::{Whole, push_texts, read_whole};
-use crate::placed::PlacedConfig;
+use crate::placed::{PlacedConfig, notes_of, place_from};
 use crate::texts::{Folder, tell_unmade, tell_unwritten};
 use bird_import::{
     Config, Cut, Draft, Fate, FilterText, Outcome, Why, Word, WordKind, cut_words,
-    find_definitions, find_items, make_drafts, origin_of, reason_words, write_filter,
+    find_definitions, find_items, make_drafts, reason_words, write_filter,
 };
 use command_line::{Importing, Source};
 use filter_parser::{Around, Unparsed};
-use filter_reports::{ProgramFault, push_shown, refusal_words, verified_filter};
+use filter_reports::{ProgramFault, placed_code, push_shown, refusal_words};
 use filter_source::{Diagnosis, Failure, Refusal, SOURCE_LIMIT, push_verified};
 use filter_tokens::TokenFault;
 use filter_verifier::Verified;
@@ -50,6 +51,8 @@ struct Made {
     at: usize,
     /// `verified BUDGET DEPTH` with a line feed, or why it is left out.
     words: Vec<u8>,
+    /// The lines of what else is said of it. None of one that is left out.
+    notes: Vec<u8>,
 }
 
 /// The words of a reason, as they are shown.
@@ -66,11 +69,13 @@ fn shown_reason(alloc: Global, why: Why<'_>) -> Result<Vec<u8>, AllocError>
 fn left_out(alloc: Global, at: usize, why: Why<'_>) -> Result<Made, AllocError>
     ensures text { IfOk result (λ made. text_in made ≡ None) }
     ensures told { IfOk result (IsToldFor at why.entry) }
+    ensures notes { IfOk result (λ made. made.notes.items ≡ []) }
 {
     Ok(Made {
         text: None,
         at,
         words: shown_reason(alloc, why)?,
+        notes: Vec::new(alloc),
     })
 }
 
@@ -170,30 +175,22 @@ fn make_filter(
     draft: &Draft<'_>,
     words: &[Word<'_>],
 ) -> Result<Made, AllocError>
-    ensures { IfOk result (IsMadeOfWords size draft.now.at words.now (text_for placed.now draft.now.at draft.now.end words.now)
+    ensures made { IfOk result (IsMadeOfWords size draft.now.at words.now (text_for placed.now draft.now.at draft.now.end words.now)
         (origins_for placed.now draft.now.at draft.now.end words.now)) }
+    ensures noted { IfOk result (IsNotedText placed.now draft.now.name.now size draft.now.at
+        (text_for placed.now draft.now.at draft.now.end words.now) (origins_for placed.now draft.now.at draft.now.end words.now)) }
 {
     let head = head_for(alloc, placed, draft, words)?;
     let written = write_filter(alloc, head.as_slice(), words)?;
     let fate = written.fate;
     match fate {
-        Fate::Taken => verify_filter(alloc, size, draft.at, written),
+        Fate::Taken => verify_filter(alloc, placed, size, draft, written),
         Fate::Refused(why) => refuse_text(alloc, draft.at, &written, why),
         Fate::Garbled => left_out(alloc, draft.at, Why::Unwritten),
         Fate::Unset(index) => {
             let word = words[index];
             left_out(alloc, word.at, Why::Unset(word.bytes))
         }
-    }
-}
-
-/// The place of a configuration from which a byte of a filter's text comes; that of the filter if there is none.
-fn place_from(written: &FilterText, byte: Option<usize>, filter: usize) -> usize
-    ensures { result ≡ place_from written.now.origins.items filter byte }
-{
-    match byte {
-        Some(byte) => origin_of(written.origins.as_slice(), byte).unwrap_or(filter),
-        None => filter,
     }
 }
 
@@ -207,11 +204,13 @@ fn refused(
     ensures text { IfOk result (λ made. text_in made ≡ None) }
     ensures words { IfOk result (λ made. AreRefusalWords told.now made.words.items) }
     ensures place { IfOk result (λ made. made.at ≡ place_from written.now.origins.items at told.now.byte) }
+    ensures notes { IfOk result (λ made. made.notes.items ≡ []) }
 {
     Ok(Made {
         text: None,
-        at: place_from(written, told.byte, at),
+        at: place_from(written.origins.as_slice(), told.byte, at),
         words: refusal_words(alloc, written.text.as_slice(), told)?,
+        notes: Vec::new(alloc),
     })
 }
 
@@ -238,30 +237,36 @@ fn refuse_text(
     requires round { TellsRound written.now.text.items why.fault why.around }
     ensures text { IfOk result (λ made. text_in made ≡ None) }
     ensures told { IfOk result (λ made. (size : ℕ) → IsRefusedText size at written.now.text.items written.now.origins.items made) }
+    ensures notes { IfOk result (λ made. made.notes.items ≡ []) }
 {
     let told = source_diagnosis(written.text.as_slice(), why);
     refused(alloc, at, written, &told)
 }
 
-/// Verifies the text of a filter, which begins at a place, for domains of a size.
+/// Verifies the text of a filter for domains of a size.
 fn verify_filter(
     alloc: Global,
+    placed: &PlacedConfig<'_>,
     size: u32,
-    at: usize,
+    draft: &Draft<'_>,
     written: FilterText,
 ) -> Result<Made, AllocError>
-    ensures { IfOk result (IsMadeOfText size at written.text.items written.origins.items) }
+    ensures made { IfOk result (IsMadeOfText size draft.now.at written.text.items written.origins.items) }
+    ensures noted { IfOk result (IsNotedText placed.now draft.now.name.now size draft.now.at written.text.items written.origins.items) }
 {
-    match verified_filter(alloc, written.text.as_slice(), size) {
-        Ok(verified) => {
-            let words = verified_line(alloc, &verified)?;
+    match placed_code(alloc, written.text.as_slice(), size) {
+        Ok(code) => {
+            let words = verified_line(alloc, &code.verified)?;
+            let (text, origins) = (written.text.as_slice(), written.origins.as_slice());
+            let notes = notes_of(alloc, placed, draft, text, origins, &code)?;
             Ok(Made {
                 text: Some(written.text),
-                at,
+                at: draft.at,
                 words,
+                notes,
             })
         }
-        Err(Failure::Refused(told)) => refused(alloc, at, &written, &told),
+        Err(Failure::Refused(told)) => refused(alloc, draft.at, &written, &told),
         Err(Failure::Memory) => Err(AllocError),
     }
 }
@@ -273,7 +278,8 @@ fn make(
     size: u32,
     draft: &Draft<'_>,
 ) -> Result<Made, AllocError>
-    ensures { IfOk result (IsMade placed.now size draft.now) }
+    ensures made { IfOk result (IsMade placed.now size draft.now) }
+    ensures noted { IfOk result (IsNoted placed.now size draft.now) }
 {
     match &draft.outcome {
         Outcome::LeftOut(reason) => left_out(alloc, reason.at, reason.why),
@@ -364,7 +370,7 @@ fn save<F: Folder, R: Read, W: Write, E: Write>(
     }
 }
 
-/// The line that tells what comes of a filter. `path` is the name of its file, where it has one.
+/// The line that tells what comes of a filter, and those of what else is said of it. `path` is the name of its file, where it has one.
 fn made_line(
     alloc: Global,
     placed: &PlacedConfig<'_>,
@@ -380,6 +386,7 @@ fn made_line(
     push_shown(alloc, &mut line, name)?;
     push_path(alloc, &mut line, path)?;
     push_fate(&mut line, made)?;
+    line.extend_from_slice(made.notes.as_slice())?;
     Ok(line)
 }
 
@@ -685,6 +692,15 @@ fn import_read<F: Folder, R: Read, W: Write, E: Write>(
     Ok(status_of_found(is_any(whole.is_partial, is_left)))
 }
 
+/// The path of a folder as one of the things that it holds. A file has no such path, and neither has a FIFO, so that nothing waits to open it.
+fn inner_path(alloc: Global, folder: &str) -> Result<String, AllocError>
+    ensures { IfOk result (λ path. string_bytes path ≡ inner_path folder.now) }
+{
+    let mut path = String::from_str(alloc, folder)?;
+    path.push_str("/.")?;
+    Ok(path)
+}
+
 /// Tells that there is no folder of a path, if there is none. Returns whether there is none.
 fn lacks_path<F: Folder, R: Read, W: Write, E: Write>(
     files: &F,
@@ -694,7 +710,8 @@ fn lacks_path<F: Folder, R: Read, W: Write, E: Write>(
 ) -> Result<bool, ProgramFault>
     ensures { IfOk result (LacksFolder (F.opens files.now) (Some folder.now) console.old console.new) }
 {
-    let Err(error) = files.open(folder.as_str()) else {
+    let path = inner_path(alloc, folder.as_str())?;
+    let Err(error) = files.open(path.as_str()) else {
         return Ok(false);
     };
     if !matches!(error.kind(), ErrorKind::NotFound) {
@@ -719,6 +736,25 @@ fn lacks_folder<F: Folder, R: Read, W: Write, E: Write>(
     }
 }
 
+/// Imports the filters of the configuration that a source is, where there is a folder for them, and returns the exit status: 0, or 1 where
+/// something was left out.
+#[tactic(auto, unfolding(crate::specs::Importing::ImportsText))]
+fn import_text<F: Folder, R: Read, W: Write, E: Write>(
+    files: &F,
+    alloc: Global,
+    how: &Importing,
+    source: &Source,
+    console: &mut Console<R, W, E>,
+) -> Result<u8, ProgramFault>
+    ensures status { IfOk result (λ status. status ≤ 1) }
+    ensures finished { IfOk result (ImportsText (F.creates files.now) (F.leaves files.now) (F.opens files.now) how.now source.now console.old console.new) }
+{
+    match read_whole(files, alloc, source, console)? {
+        Some(whole) => import_read(files, alloc, how, &whole, console),
+        None => Ok(FAILED),
+    }
+}
+
 /// Imports the filters of the configuration that a source is, and returns the exit status: 0, or 1 where something was left out, or the folder
 /// for the filters is not there.
 #[tactic(auto, unfolding(crate::specs::Importing::ImportsSource))]
@@ -735,8 +771,5 @@ pub fn import_source<F: Folder, R: Read, W: Write, E: Write>(
     if lacks_folder(files, alloc, how, console)? {
         return Ok(FAILED);
     }
-    match read_whole(files, alloc, source, console)? {
-        Some(whole) => import_read(files, alloc, how, &whole, console),
-        None => Ok(FAILED),
-    }
+    import_text(files, alloc, how, source, console)
 }

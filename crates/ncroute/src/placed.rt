@@ -1,10 +1,17 @@
-//! A configuration that is read, with the places of its bytes at hand.
-ghost use Rattle.std.specs.Prelude.{◌≡◌, ◌++◌, IfOk, OnOk, map, slice_get};
+//! A configuration that is read, with the places of its bytes at hand, and what is told at places of it of a filter that is taken.
+//!
+//! **`import` warns of members of a set that overlap, as `lint` does.** BIRD looks a number up in a tree of the ranges of a set, and misses some where
+//! two of them share one. Both read such a set, and no other row tells of it. `lint` finds these members in the text that was written; here each is
+//! told at the place of the configuration that it comes from.
+ghost use Rattle.std.specs.Prelude.{◌≡◌, ◌++◌, IfOk, OnOk, flat_map, map, slice_get};
+ghost use Rattle.ncroute.specs.Noting.{note_line, notes_text, place_from};
 ghost use Rattle.ncroute.specs.Places.{config_of, file_of, place_in, texts_of};
 
 use crate::including::{File, Whole, stretch_of};
 use crate::texts::name_of;
-use filter_reports::{Positions, push_position, push_shown};
+use bird_import::{Draft, Origin, origin_of};
+use filter_lint::{Warning, overlap_warnings, push_warning_words};
+use filter_reports::{PlacedCode, Positions, push_position, push_shown};
 use std::alloc::{AllocError, Global};
 use std::marker::Model;
 
@@ -87,4 +94,82 @@ impl<'a> PlacedConfig<'a> {
             None => Ok(()),
         }
     }
+}
+
+/// The place of a configuration from which a byte of a filter's text comes; that of the filter if there is none.
+pub fn place_from(origins: &[Origin], byte: Option<usize>, filter: usize) -> usize
+    ensures { result ≡ place_from origins.now filter byte }
+{
+    match byte {
+        Some(byte) => origin_of(origins, byte).unwrap_or(filter),
+        None => filter,
+    }
+}
+
+/// Puts the line of a warning at the end of `out`.
+fn push_note(
+    alloc: Global,
+    out: &mut Vec<u8>,
+    placed: &PlacedConfig<'_>,
+    draft: &Draft<'_>,
+    origins: &[Origin],
+    code: &PlacedCode,
+    warning: &Warning,
+) -> Result<(), AllocError>
+    ensures { OnOk result (out.new.items ≡ out.old.items
+        ++ note_line placed.now draft.now.name.now draft.now.at origins.now code.now.verified.program.sets warning.now) }
+{
+    let at = place_from(origins, Some(warning.byte), draft.at);
+    placed.push_place(alloc, out, at)?;
+    out.extend_from_slice(b" filter ")?;
+    push_shown(alloc, out, draft.name)?;
+    out.extend_from_slice(b": ")?;
+    push_warning_words(alloc, out, code.verified.code().sets(), &warning.cause)?;
+    out.push(b'\n')?;
+    Ok(())
+}
+
+/// Puts the lines of warnings at the end of `out`.
+fn push_notes(
+    alloc: Global,
+    out: &mut Vec<u8>,
+    placed: &PlacedConfig<'_>,
+    draft: &Draft<'_>,
+    origins: &[Origin],
+    code: &PlacedCode,
+    warnings: &[Warning],
+) -> Result<(), AllocError>
+    ensures { OnOk result (out.new.items ≡ out.old.items ++ flat_map
+        (note_line placed.now draft.now.name.now draft.now.at origins.now code.now.verified.program.sets) warnings.now) }
+{
+    for warning in warnings {
+        push_note(alloc, out, placed, draft, origins, code, warning)?;
+    }
+    Ok(())
+}
+
+/// The lines of what is said of a filter whose text has this verified code.
+pub fn notes_of(
+    alloc: Global,
+    placed: &PlacedConfig<'_>,
+    draft: &Draft<'_>,
+    text: &[u8],
+    origins: &[Origin],
+    code: &PlacedCode,
+) -> Result<Vec<u8>, AllocError>
+    ensures { IfOk result (λ notes. notes.items ≡ notes_text placed.now draft.now.name.now draft.now.at text.now origins.now
+        code.now.verified code.now.places.items) }
+{
+    let warnings = overlap_warnings(alloc, text, code)?;
+    let mut notes = Vec::new(alloc);
+    push_notes(
+        alloc,
+        &mut notes,
+        placed,
+        draft,
+        origins,
+        code,
+        warnings.as_slice(),
+    )?;
+    Ok(notes)
 }

@@ -7,7 +7,8 @@
 //! starts in one folder would not be one history, and one that goes on in a folder would first have to see that what is there is whole.
 //!
 //! **`router` ends with 0 where it ran to its end, whatever its operator was refused**, since a router is not worse for a line that was mistyped. A
-//! filter that is refused ends it with 1, as a fault does: in both cases there is no router, and standard error says why.
+//! filter that is refused ends it with 1, as a fault does that keeps a router from beginning: in both cases there is no router, and standard error says
+//! why. Who starts routers asks more of one that ran: 3 says that its operator was lost, and 4 that its history was.
 //!
 //! **People are told of links by a handle of standard error of their own**, which the threads of links share. So what `serve_router` promises of
 //! the other handle, on which it tells why a router is not there, does not depend on when a link is closed.
@@ -49,6 +50,12 @@ const SETTLE: u32 = 10;
 
 /// The exit status where the words are wrong.
 const WRONG_WORDS: u8 = 2;
+
+/// The exit status where the operator's lines could not be read or answered.
+const BROKEN_OFF: u8 = 3;
+
+/// The exit status where the end of the history is not saved.
+const UNSAVED: u8 = 4;
 
 /// What kept a router from being set up.
 #[derive(Clone, Copy)]
@@ -145,13 +152,28 @@ fn router_line(fault: DaemonFault) -> &'static str
     }
 }
 
+/// The exit status of a router that a fault ended.
+fn fault_status(fault: DaemonFault) -> u8
+    ensures { result ≡ spec.fault_status fault }
+{
+    match fault {
+        DaemonFault::Stream(_) => BROKEN_OFF,
+        DaemonFault::Save(_) => UNSAVED,
+        DaemonFault::Call(_)
+        | DaemonFault::Lock(_)
+        | DaemonFault::NotBegun(_)
+        | DaemonFault::NotStarted
+        | DaemonFault::Memory => FAILED,
+    }
+}
+
 /// Tells people of the fault that ended a router: the exit status.
 fn end_by_fault<E: Write>(errors: &mut E, fault: DaemonFault) -> Result<u8, Untold>
-    ensures told { IfOk result (λ ended. (ended ≡ 1) × Appends (E.contents errors.old) (E.contents errors.new) (spec.router_line fault)) }
-    ensures cut { IfErr result (λ untold. (untold.status ≡ 1)
+    ensures told { IfOk result (λ ended. (ended ≡ spec.fault_status fault) × Appends (E.contents errors.old) (E.contents errors.new) (spec.router_line fault)) }
+    ensures cut { IfErr result (λ untold. (untold.status ≡ spec.fault_status fault)
         × IsCut (stream_fault untold.why) (E.contents errors.old) (E.contents errors.new) (spec.router_line fault)) }
 {
-    end_by_line(errors, FAILED, router_line(fault).as_bytes())
+    end_by_line(errors, fault_status(fault), router_line(fault).as_bytes())
 }
 
 /// Makes the folder in which the history is saved, if one is named. There is none where it is not made, which people are told.

@@ -3,8 +3,9 @@
 //! **`test` ends with 0 only where each test holds, and with 1 only where one does not.** Where none is found that does not, but one is undecided,
 //! it is 3.
 //!
-//! **A test file that is refused or not read, or whose filter is, stands in the stream as one test that does not hold.** It has its name, and the
-//! files behind it are run: a harness takes the stream for failed, and one bad file hides no other. Its status is 3, too.
+//! **A test file that is refused or not read, or whose filter is, stands in the stream as one test that does not hold.** It has its name and the
+//! reason, and the files behind it are run: a harness takes the stream for failed, and one bad file hides no other. Its status is 3, too. The reason
+//! is in words, whatever `--explain` says: that is about standard error, and the stream is for people.
 ghost use Rattle.std.specs.Prelude.{◌≡◌, ◌+◌, ◌<◌, ◌^◌, IfErr, IfOk, OnOk};
 ghost use Rattle.filter_checks.specs.Files.{file_view};
 ghost use Rattle.filter_checks.specs.Results.{end_in, head_in};
@@ -13,7 +14,7 @@ ghost use Rattle.filter_reports.specs.Naming.{named};
 ghost use Rattle.ncroute.specs.Streaming.{CutsWriting, Writes};
 ghost use Rattle.ncroute.specs.Testing as spec;
 
-use crate::console::{Console, Loaded};
+use crate::console::{Console, Kept};
 use crate::ending::{FAILED, FAULT};
 use crate::texts::{Folder, name_of};
 use command_line::{Source, Testing};
@@ -38,14 +39,23 @@ pub struct Tally {
     pub has_undecided: bool,
 }
 
-/// The tally after so many tests more.
-fn tally_after(tally: Tally, more: usize, tested: Tested) -> Option<Tally>
+/// What comes of the tests of a source.
+#[derive(Drop)]
+pub enum Outcome {
+    /// They were run, and this is the tally by then.
+    Ran(Tally),
+    /// They were not run, since a file was refused or not read. The first line of these words says why.
+    Skipped(Vec<u8>),
+}
+
+/// What comes of tests that are so many more than those of the tally.
+fn tally_after(tally: Tally, more: usize, tested: Tested) -> Outcome
     requires { tally.count + more < 2 ^ 64 }
     ensures { result ≡ spec.tally_after tally more tested }
 {
     match tested {
-        Tested::Refused => None,
-        Tested::Ran(failed) => Some(Tally {
+        Tested::Refused(words) => Outcome::Skipped(words),
+        Tested::Ran(failed) => Outcome::Ran(Tally {
             count: tally.count + more as u64,
             has_failed: tally.has_failed || failed.wrong > 0,
             has_undecided: tally.has_undecided || failed.undecided > 0,
@@ -53,28 +63,30 @@ fn tally_after(tally: Tally, more: usize, tested: Tested) -> Option<Tally>
     }
 }
 
-/// Tells why the text of a file of this name is no test file.
+/// Tells why the text of a file of this name is no test file, and keeps it in words.
 fn tell_fault<R: Read, W: Write, E: Write>(
     alloc: Global,
     how: Testing,
     name: &[u8],
     why: TestFileFault,
     console: &mut Console<R, W, E>,
-) -> Result<Option<Tally>, ProgramFault>
+) -> Result<Outcome, ProgramFault>
     ensures finished { IfOk result (spec.TellsFault how name.now why console.old console.new) }
     ensures cut { IfErr result (λ fault. spec.CutsFault (stream_fault fault) how name.now why console.old console.new) }
 {
-    match fault_text(alloc, how.is_explained, name, why) {
-        Ok(text) => match console.tell(text.as_slice()) {
-            Ok(()) => Ok(None),
-            Err(fault) => Err(fault),
+    match fault_text(alloc, true, name, why) {
+        Ok(words) => match fault_text(alloc, how.is_explained, name, why) {
+            Ok(text) => match console.tell(text.as_slice()) {
+                Ok(()) => Ok(Outcome::Skipped(words)),
+                Err(fault) => Err(fault),
+            },
+            Err(_) => Err(ProgramFault::MEMORY),
         },
         Err(_) => Err(ProgramFault::MEMORY),
     }
 }
 
-/// Runs the tests of a file by the filter of a text, if they can be counted. Returns how many were run by then, or nothing where the
-/// filter is refused.
+/// Runs the tests of a file by the filter of a text, if they can be counted. Returns how many were run by then, or why the filter is refused.
 #[tactic(auto, unfolding(crate::specs::Testing::StopsBy))]
 fn run_by<R: Read, W: Write, E: Write>(
     alloc: Global,
@@ -84,7 +96,7 @@ fn run_by<R: Read, W: Write, E: Write>(
     filter: &NamedText<'_>,
     tally: Tally,
     console: &mut Console<R, W, E>,
-) -> Result<Option<Tally>, ProgramFault>
+) -> Result<Outcome, ProgramFault>
     ensures finished { IfOk result (spec.RunsBy how name.now (file_view file.now) (named filter.now) tally console.old console.new) }
     ensures stopped { IfErr result (λ fault. spec.StopsBy (stream_fault fault) how name.now (file_view file.now) (named filter.now) tally
         console.old console.new) }
@@ -122,22 +134,22 @@ fn run_beside<F: Folder, R: Read, W: Write, E: Write>(
     source: &Source,
     tally: Tally,
     console: &mut Console<R, W, E>,
-) -> Result<Option<Tally>, ProgramFault>
+) -> Result<Outcome, ProgramFault>
     ensures finished { IfOk result (spec.RunsBeside (F.opens files.now) how name.now (file_view file.now) source.now tally
         console.old console.new) }
     ensures stopped { IfErr result (λ fault. spec.StopsBeside (F.opens files.now) (stream_fault fault) how name.now (file_view file.now) source.now tally
         console.old console.new) }
 {
-    match console.read(files, alloc, source, SOURCE_LIMIT) {
-        Loaded::Text(text) => {
+    match console.read_keeping(files, alloc, source, SOURCE_LIMIT) {
+        Kept::Text(text) => {
             let filter = NamedText {
                 name: name_of(source),
                 text: text.as_slice(),
             };
             run_by(alloc, how, name, file, &filter, tally, console)
         }
-        Loaded::Skipped => Ok(None),
-        Loaded::Stopped(fault) => Err(fault),
+        Kept::Skipped(line) => Ok(Outcome::Skipped(line)),
+        Kept::Stopped(fault) => Err(fault),
     }
 }
 
@@ -152,7 +164,7 @@ fn run_at<F: Folder, R: Read, W: Write, E: Write>(
     path: &[u8],
     tally: Tally,
     console: &mut Console<R, W, E>,
-) -> Result<Option<Tally>, ProgramFault>
+) -> Result<Outcome, ProgramFault>
     ensures finished { IfOk result (spec.RunsAt (F.opens files.now) how name.now (file_view file.now) path.now tally console.old console.new) }
     ensures stopped { IfErr result (λ fault. spec.StopsAt (F.opens files.now) (stream_fault fault) how name.now (file_view file.now) path.now tally
         console.old console.new) }
@@ -179,7 +191,7 @@ fn run_file<F: Folder, R: Read, W: Write, E: Write>(
     file: &TestFile,
     tally: Tally,
     console: &mut Console<R, W, E>,
-) -> Result<Option<Tally>, ProgramFault>
+) -> Result<Outcome, ProgramFault>
     ensures finished { IfOk result (spec.RunsFile (F.opens files.now) how name.now (file_view file.now) tally console.old console.new) }
     ensures stopped { IfErr result (λ fault. spec.StopsFile (F.opens files.now) (stream_fault fault) how name.now (file_view file.now) tally
         console.old console.new) }
@@ -209,7 +221,7 @@ fn run_text<F: Folder, R: Read, W: Write, E: Write>(
     text: &[u8],
     tally: Tally,
     console: &mut Console<R, W, E>,
-) -> Result<Option<Tally>, ProgramFault>
+) -> Result<Outcome, ProgramFault>
     ensures finished { IfOk result (spec.RunsText (F.opens files.now) how name.now text.now tally console.old console.new) }
     ensures stopped { IfErr result (λ fault. spec.StopsText (F.opens files.now) (stream_fault fault) how name.now text.now tally
         console.old console.new) }
@@ -221,7 +233,7 @@ fn run_text<F: Folder, R: Read, W: Write, E: Write>(
     }
 }
 
-/// Runs the tests of a source. Returns how many were run by then, or nothing where a file is refused or not read, which is told.
+/// Runs the tests of a source. Returns how many were run by then, or why a file is refused or not read, which is told.
 #[tactic(auto, unfolding(crate::specs::Testing::RunsTests, crate::specs::Testing::StopsTests))]
 fn run_source<F: Folder, R: Read, W: Write, E: Write>(
     files: &F,
@@ -230,38 +242,40 @@ fn run_source<F: Folder, R: Read, W: Write, E: Write>(
     source: &Source,
     tally: Tally,
     console: &mut Console<R, W, E>,
-) -> Result<Option<Tally>, ProgramFault>
+) -> Result<Outcome, ProgramFault>
     ensures finished { IfOk result (spec.RunsTests (F.opens files.now) how source.now tally console.old console.new) }
     ensures stopped { IfErr result (λ fault. spec.StopsTests (F.opens files.now) (stream_fault fault) how source.now tally
         console.old console.new) }
 {
-    match console.read(files, alloc, source, SOURCE_LIMIT) {
-        Loaded::Text(text) => {
+    match console.read_keeping(files, alloc, source, SOURCE_LIMIT) {
+        Kept::Text(text) => {
             let (name, text) = (name_of(source), text.as_slice());
             run_text(files, alloc, how, name, text, tally, console)
         }
-        Loaded::Skipped => Ok(None),
-        Loaded::Stopped(fault) => Err(fault),
+        Kept::Skipped(line) => Ok(Outcome::Skipped(line)),
+        Kept::Stopped(fault) => Err(fault),
     }
 }
 
-/// Writes that the tests of a source of this name were not run. In the stream that is one test that does not hold, and it is undecided.
+/// Writes that the tests of a source of this name were not run, and why, by what people are told of it. In the stream that is one test that does
+/// not hold, and it is undecided.
 #[tactic(auto, unfolding(crate::specs::Testing::StopsSkipping))]
 fn skip_source<R: Read, W: Write, E: Write>(
     alloc: Global,
     how: Testing,
     name: &[u8],
+    told: &[u8],
     tally: Tally,
     console: &mut Console<R, W, E>,
 ) -> Result<Tally, ProgramFault>
-    ensures finished { IfOk result (spec.Skips how name.now tally console.old console.new) }
-    ensures stopped { IfErr result (λ fault. spec.StopsSkipping (stream_fault fault) how name.now tally console.old console.new) }
+    ensures finished { IfOk result (spec.Skips how name.now told.now tally console.old console.new) }
+    ensures stopped { IfErr result (λ fault. spec.StopsSkipping (stream_fault fault) how name.now told.now tally console.old console.new) }
 {
     if tally.count == u64::MAX {
         return Err(ProgramFault::Stream(StreamFault::TooLong));
     }
     let count = tally.count + 1;
-    match skipped_in(alloc, how.format, count, name) {
+    match skipped_in(alloc, how.format, count, name, told) {
         Ok(line) => match console.write(line.as_slice()) {
             Ok(()) => Ok(Tally {
                 count,
@@ -289,8 +303,11 @@ fn run_or_skip<F: Folder, R: Read, W: Write, E: Write>(
         console.old console.new) }
 {
     match run_source(files, alloc, how, source, tally, console) {
-        Ok(Some(after)) => Ok(after),
-        Ok(None) => skip_source(alloc, how, name_of(source), tally, console),
+        Ok(Outcome::Ran(after)) => Ok(after),
+        Ok(Outcome::Skipped(told)) => {
+            let (name, told) = (name_of(source), told.as_slice());
+            skip_source(alloc, how, name, told, tally, console)
+        }
         Err(fault) => Err(fault),
     }
 }

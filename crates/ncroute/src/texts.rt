@@ -5,7 +5,8 @@ ghost use Rattle.std.specs.declared.io.Error.{Error as TheError};
 ghost use Rattle.filter_reports.specs.Cuts.{IsCut};
 ghost use Rattle.filter_reports.specs.Faults.{stream_fault};
 ghost use Rattle.ncroute.specs.Reading.{IsCause, IsOfFile, IsRead, IsUnread, LeavesFile, LeavesInput, ReadsFile, ReadsInput, ReadsWhole};
-ghost use Rattle.ncroute.specs.Reading.{StopsTelling, TellsUnread, long_line, long_words, name_of, told_line};
+ghost use Rattle.ncroute.specs.Reading.{IsUnreadLine, LacksLine, StopsTelling, TellsLine, TellsUnread};
+ghost use Rattle.ncroute.specs.Reading.{long_line, long_words, name_of, told_line};
 ghost use Rattle.ncroute.specs.Reading.{unmade_line, unread_line, unwritten_line, unwritten_words};
 
 use command_line::Source;
@@ -298,19 +299,17 @@ pub fn tell_unwritten<E: Write>(
     )
 }
 
-/// Tells that a source was not read, and the reason in the error.
-fn tell_broken<E: Write>(
-    alloc: Global,
-    errors: &mut E,
-    source: &Source,
-    error: &Error,
-) -> Result<(), ProgramFault>
-    ensures ok { OnOk result ((words : List ℕ)
-        × Appends (E.contents errors.old) (E.contents errors.new) (unread_line source.now words)) }
-    ensures err { IfErr result (λ fault. (words : List ℕ)
-        × IsCut (stream_fault fault) (E.contents errors.old) (E.contents errors.new) (unread_line source.now words)) }
+/// The line that tells that a source was not read, with the reason in the error.
+fn broken_line(alloc: Global, source: &Source, error: &Error) -> Result<Vec<u8>, AllocError>
+    ensures { IfOk result (λ line. (words : List ℕ) × (line.items ≡ unread_line source.now words)) }
 {
-    tell_reason(alloc, errors, name_of(source), error, b" (E1)\n")
+    let words = format!(in alloc; "{error}")?;
+    told_line(
+        alloc,
+        name_of(source),
+        reason_in(words.as_str()),
+        b" (E1)\n",
+    )
 }
 
 /// What is said of the text of a filter that is longer than its limit.
@@ -321,16 +320,53 @@ fn long_words() -> &'static str
     "longer than 1048576 bytes"
 }
 
-/// Tells that the text of a filter is longer than its limit.
-fn tell_long<E: Write>(alloc: Global, errors: &mut E, source: &Source) -> Result<(), ProgramFault>
-    ensures ok { OnOk result (Appends (E.contents errors.old) (E.contents errors.new) (long_line source.now)) }
-    ensures err { IfErr result (λ fault.
-        IsCut (stream_fault fault) (E.contents errors.old) (E.contents errors.new) (long_line source.now)) }
+/// The line that tells that the text of a filter is longer than its limit.
+fn long_line(alloc: Global, source: &Source) -> Result<Vec<u8>, AllocError>
+    ensures { IfOk result (λ line. line.items ≡ long_line source.now) }
 {
-    tell_of(alloc, errors, name_of(source), long_words(), b" (E4)\n")
+    told_line(alloc, name_of(source), long_words(), b" (E4)\n")
 }
 
-/// Tells on `errors` that a source was not read. Standard input has no name to tell: its fault is handed on.
+/// The line that tells why a source was not read. Standard input has no name to tell: its fault is handed on.
+fn unread_line(alloc: Global, source: &Source, why: Unread) -> Result<Vec<u8>, ProgramFault>
+    ensures line { IfOk result (λ line. IsUnreadLine source.now why line.items) }
+    ensures lacking { IfErr result (λ fault. LacksLine why (stream_fault fault)) }
+{
+    match why {
+        Unread::Broken(reason) => match broken_line(alloc, source, &reason) {
+            Ok(line) => Ok(line),
+            Err(_) => Err(ProgramFault::MEMORY),
+        },
+        Unread::Input => Err(ProgramFault::Stream(StreamFault::Read)),
+        Unread::Memory => Err(ProgramFault::MEMORY),
+        Unread::TooLong => match long_line(alloc, source) {
+            Ok(line) => Ok(line),
+            Err(_) => Err(ProgramFault::MEMORY),
+        },
+    }
+}
+
+/// Tells on `errors` that a source was not read, and returns the line that says so.
+pub fn tell_unread_line<E: Write>(
+    alloc: Global,
+    errors: &mut E,
+    source: &Source,
+    why: Unread,
+) -> Result<Vec<u8>, ProgramFault>
+    ensures told { IfOk result (λ line. TellsLine source.now why line.items (E.contents errors.old) (E.contents errors.new)) }
+    ensures stopped { IfErr result (λ fault. StopsTelling (stream_fault fault) source.now why
+        (E.contents errors.old) (E.contents errors.new)) }
+{
+    match unread_line(alloc, source, why) {
+        Ok(line) => match write_line(errors, line.as_slice()) {
+            Ok(()) => Ok(line),
+            Err(fault) => Err(fault),
+        },
+        Err(fault) => Err(fault),
+    }
+}
+
+/// Tells on `errors` that a source was not read.
 pub fn tell_unread<E: Write>(
     alloc: Global,
     errors: &mut E,
@@ -341,10 +377,8 @@ pub fn tell_unread<E: Write>(
     ensures stopped { IfErr result (λ fault. StopsTelling (stream_fault fault) source.now why
         (E.contents errors.old) (E.contents errors.new)) }
 {
-    match why {
-        Unread::Broken(reason) => tell_broken(alloc, errors, source, &reason),
-        Unread::Input => Err(ProgramFault::Stream(StreamFault::Read)),
-        Unread::Memory => Err(ProgramFault::MEMORY),
-        Unread::TooLong => tell_long(alloc, errors, source),
+    match tell_unread_line(alloc, errors, source, why) {
+        Ok(_) => Ok(()),
+        Err(fault) => Err(fault),
     }
 }

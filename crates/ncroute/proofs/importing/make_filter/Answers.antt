@@ -3,10 +3,11 @@ use Rattle.bird_import.specs.Laying.{origins_of, text_of}
 use Rattle.bird_import.specs.Texts.{Fated}
 use Rattle.bird_import.specs.declared.text.Fate.TheVariants as fate
 use Rattle.ncroute.proofs.MadeTexts.{is_among, of_left, of_same, of_size, of_text, of_unset}
+use Rattle.ncroute.proofs.NotedTexts.{noted_same, unnoted}
 use Rattle.ncroute.proofs.importing.make_filter.Goals as goal
 
-pub returns-in-Taken : goal.returns-in-Taken
-returns-in-Taken c =
+pub returns-in-Taken-clause-made : goal.returns-in-Taken-clause-made
+returns-in-Taken-clause-made c =
     let size = c.args.size in
     let at = c.args.draft.now.at in
     let words = c.args.words.now in
@@ -18,10 +19,10 @@ returns-in-Taken c =
     let alike = c.in_ok-written.ensures.origins ∙ ap (λ (head : List ℕ). origins_of head words) is_head in
     let taken = subst (Fated words text) c.in-Taken.is c.in_ok-written.ensures.fate in
     of_same size at words c.verify_filter.result same alike
-    (of_text size at words text origins c.verify_filter.result taken c.verify_filter.ensures)
+    (of_text size at words text origins c.verify_filter.result taken c.verify_filter.ensures.made)
 
-pub returns-in-Refused : goal.returns-in-Refused
-returns-in-Refused c =
+pub returns-in-Refused-clause-made : goal.returns-in-Refused-clause-made
+returns-in-Refused-clause-made c =
     let size = c.args.size in
     let at = c.args.draft.now.at in
     let words = c.args.words.now in
@@ -37,8 +38,8 @@ returns-in-Refused c =
     (of_left size at words text origins (fate.Refused why) c.refuse_text.result fated
     (of_size size at text origins c.refuse_text.result c.refuse_text.ensures.told) c.refuse_text.ensures.text)
 
-pub returns-in-Garbled : goal.returns-in-Garbled
-returns-in-Garbled c =
+pub returns-in-Garbled-clause-made : goal.returns-in-Garbled-clause-made
+returns-in-Garbled-clause-made c =
     let size = c.args.size in
     let at = c.args.draft.now.at in
     let words = c.args.words.now in
@@ -52,8 +53,8 @@ returns-in-Garbled c =
     of_same size at words c.left_out.result same alike
     (of_left size at words text origins fate.Garbled c.left_out.result fated c.left_out.ensures.told c.left_out.ensures.text)
 
-pub returns : goal.returns
-returns c =
+pub returns-clause-made : goal.returns-clause-made
+returns-clause-made c =
     let size = c.args.size in
     let at = c.args.draft.now.at in
     let words = c.args.words.now in
@@ -68,6 +69,56 @@ returns c =
     let fated = subst (Fated words text) c.in-Unset.is c.in_ok-written.ensures.fate in
     let told = of_unset words index _ r (is_among words index fated.named.0) c.left_out-in-Unset.ensures.told in
     of_same size at words r same alike (of_left size at words text origins (fate.Unset index) r fated told c.left_out-in-Unset.ensures.text)
+
+pub returns-in-Taken-clause-noted : goal.returns-in-Taken-clause-noted
+returns-in-Taken-clause-noted c =
+    let size = c.args.size in
+    let at = c.args.draft.now.at in
+    let words = c.args.words.now in
+    let written = c.in_ok-written.written in
+    let is_head = c.as_slice.ensures.value ∙ c.in_ok-head.ensures in
+    let same = c.in_ok-written.ensures.text ∙ ap (λ (head : List ℕ). text_of head words) is_head in
+    let alike = c.in_ok-written.ensures.origins ∙ ap (λ (head : List ℕ). origins_of head words) is_head in
+    noted_same c.args.placed.now c.args.draft.now.name.now size at c.verify_filter.result same alike c.verify_filter.ensures.noted
+
+pub returns-in-Refused-clause-noted : goal.returns-in-Refused-clause-noted
+returns-in-Refused-clause-noted c =
+    let size = c.args.size in
+    let at = c.args.draft.now.at in
+    let words = c.args.words.now in
+    let written = c.in_ok-written.written in
+    let is_head = c.as_slice.ensures.value ∙ c.in_ok-head.ensures in
+    let same = c.in_ok-written.ensures.text ∙ ap (λ (head : List ℕ). text_of head words) is_head in
+    let alike = c.in_ok-written.ensures.origins ∙ ap (λ (head : List ℕ). origins_of head words) is_head in
+    noted_same c.args.placed.now c.args.draft.now.name.now size at c.refuse_text.result same alike
+    (unnoted c.args.placed.now c.args.draft.now.name.now size at written.text.items written.origins.items c.refuse_text.result c.refuse_text.ensures.text
+    c.refuse_text.ensures.notes)
+
+pub returns-in-Garbled-clause-noted : goal.returns-in-Garbled-clause-noted
+returns-in-Garbled-clause-noted c =
+    let size = c.args.size in
+    let at = c.args.draft.now.at in
+    let words = c.args.words.now in
+    let written = c.in_ok-written.written in
+    let is_head = c.as_slice.ensures.value ∙ c.in_ok-head.ensures in
+    let same = c.in_ok-written.ensures.text ∙ ap (λ (head : List ℕ). text_of head words) is_head in
+    let alike = c.in_ok-written.ensures.origins ∙ ap (λ (head : List ℕ). origins_of head words) is_head in
+    noted_same c.args.placed.now c.args.draft.now.name.now size at c.left_out.result same alike
+    (unnoted c.args.placed.now c.args.draft.now.name.now size at written.text.items written.origins.items c.left_out.result c.left_out.ensures.text
+    c.left_out.ensures.notes)
+
+pub returns-clause-noted : goal.returns-clause-noted
+returns-clause-noted c =
+    let size = c.args.size in
+    let at = c.args.draft.now.at in
+    let words = c.args.words.now in
+    let written = c.in_ok-written.written in
+    let is_head = c.as_slice.ensures.value ∙ c.in_ok-head.ensures in
+    let same = c.in_ok-written.ensures.text ∙ ap (λ (head : List ℕ). text_of head words) is_head in
+    let alike = c.in_ok-written.ensures.origins ∙ ap (λ (head : List ℕ). origins_of head words) is_head in
+    noted_same c.args.placed.now c.args.draft.now.name.now size at c.left_out-in-Unset.result same alike
+    (unnoted c.args.placed.now c.args.draft.now.name.now size at written.text.items written.origins.items c.left_out-in-Unset.result c.left_out-in-Unset.ensures.text
+    c.left_out-in-Unset.ensures.notes)
 
 pub bounds-words-index : goal.bounds-words-index
 bounds-words-index c =

@@ -1,4 +1,4 @@
-use Rattle.std.proofs.Common.{◌≡◌, ℕ, false, List, subst, sym, inl}
+use Rattle.std.proofs.Common.{ℕ, false, List, subst, sym, inl}
 use Rattle.filter_reports.specs.Check.{IsRefused}
 use Rattle.filter_parser.specs.Surroundings.{TellsRound}
 use Rattle.filter_parser.specs.Unspelled.{IsUnspelled}
