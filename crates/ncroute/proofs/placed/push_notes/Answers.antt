@@ -1,4 +1,3 @@
-use Rattle.std.proofs.lemmas.List.{get_or_default}
 use Rattle.ncroute.specs.Noting.{note_line}
 use Rattle.ncroute.proofs.NotedTexts.{one_line_more}
 use Rattle.ncroute.proofs.placed.push_notes.Goals as goal
@@ -6,5 +5,5 @@ use Rattle.ncroute.proofs.placed.push_notes.Goals as goal
 pub loop-warning-preserved : goal.loop-warning-preserved
 loop-warning-preserved c =
     one_line_more (note_line c.args.placed.now c.args.draft.now.name.now c.args.draft.now.at c.args.origins.now c.args.code.now.verified.program.sets)
-    _ _ _ c.args.warnings.now c.loop-warning.warning-index _ c.loop-warning-test.true
-    (get_or_default _ _ _ _ c.loop-warning-test.true) c.loop-warning.invariant c.in_ok-push_note.ensures
+    c.args.out.now.items c.loop-warning.out.items c.push_note.new.out.items c.args.warnings.now c.loop-warning.warning-index c.warning-item.result
+    c.loop-warning-test.true c.warning-item.is c.loop-warning.invariant c.in_ok-push_note.ensures
