@@ -1,3 +1,4 @@
+pub mod Attending
 pub mod Entering
 pub mod Greetings
 pub mod KeptEntries

@@ -2,8 +2,6 @@
 //!
 //! **A router ends between two lines of its operators.** Each line that was answered was so before the history is saved for the last time, so that
 //! what its operator knows of stands in the history that is saved.
-ghost use Rattle.std.specs.Prelude.{◌≡◌, ◌⊎◌, ℕ, List, [], OnErr, OnOk, IfOk, ◌++◌};
-ghost use Rattle.std.specs.Io.{StartsWith};
 
 use line_protocol::{LineReply, Service};
 use std::alloc::{AllocError, Global};

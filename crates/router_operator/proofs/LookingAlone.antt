@@ -1,17 +1,20 @@
 -- Whoever looks alone enters nothing, names nothing, and sees the history grow.
-use Rattle.std.proofs.Common.{◌≡◌, ℕ, List, [], ◌∷◌, Option, Some, None, Ok, Err, refl, ap, ◌∙◌, inl, inr}
+use Rattle.std.proofs.Common.{◌≡◌, ℕ, List, [], ◌∷◌, Option, Some, None, Result, Ok, Err, IfOk, refl, ap, ◌∙◌, inl, inr}
 use Rattle.std.specs.Prelude.{codes}
 use Rattle.line_protocol.specs.Answers.{Answer, is_end}
 use Rattle.line_protocol.specs.Lines.{numbered}
 use Rattle.line_protocol.specs.Runs.{Finishes, IsLeft, Reaches, Runs, RunsFront, Stops}
+use Rattle.line_protocol.specs.declared.answers.LineReply.{LineReply}
 use Rattle.line_protocol.specs.declared.faults.StreamFault.{StreamFault}
 use Rattle.line_protocol.specs.declared.faults.StreamFault.TheVariants.{Read, Write, Memory, TooLong}
 use Rattle.operator_cmds.specs.CommandView.{CommandView, Network, Prefix, Load, Code, Import, Export, Up, Down, Receive, Take, Show, Look, History}
 use Rattle.operator_cmds.specs.CommandView.{view_of}
 use Rattle.operator_cmds.specs.Commands.{Read as ReadCommand, command_in}
+use Rattle.operator_cmds.specs.Replies.{Adds, Answers, refused}
 use Rattle.operator_cmds.specs.declared.command.Command.{Command}
 use Rattle.operator_cmds.specs.declared.command.Command.TheVariants as command
 use Rattle.operator_cmds.specs.declared.command.Look.{Look as TablesLook}
+use Rattle.operator_cmds.proofs.Answering.{added}
 use Rattle.operator_cmds.proofs.Unended.{either}
 use Rattle.router_operator.specs.Lookers.{AnswersAsked, AnswersCommand, AnswersLine, AnswersRead, BreaksOff, IsBrokenOff, IsServed, OnlyLooks}
 use Rattle.router_operator.specs.OperatorView.{OperatorView}
@@ -23,7 +26,7 @@ use Rattle.router_operator.specs.declared.questions.Question.TheVariants as ques
 use Rattle.router_operator.proofs.Staying.{by_look, by_same, stays_then}
 
 -- a command that looks at nothing is refused
-pub refuses : (before : OperatorView) (number : ℕ) (c : Command) (answer : Answer) (after : OperatorView)
+refuses : (before : OperatorView) (number : ℕ) (c : Command) (answer : Answer) (after : OperatorView)
     → ((look : TablesLook) → c ≡ command.Look look → ⊥) → ((from : ℕ) → c ≡ command.History from → ⊥)
     → Refuses (codes "O11") number before answer after → AnswersCommand before number (view_of c) answer after
 refuses before number (command.Network n) answer after no_look no_entries h = h
@@ -39,6 +42,23 @@ refuses before number (command.Take node) answer after no_look no_entries h = h
 refuses before number (command.Show node) answer after no_look no_entries h = h
 refuses before number (command.Look look) answer after no_look no_entries h = absurd (no_look look refl)
 refuses before number (command.History from) answer after no_look no_entries h = absurd (no_entries from refl)
+
+-- and so it is answered
+pub refused_alone : {E : Type 0} (before after : OperatorView) (number at : ℕ) (c : Command) (r : Result LineReply E) (old new : List ℕ)
+    → ((look : TablesLook) → c ≡ command.Look look → ⊥) → ((from : ℕ) → c ≡ command.History from → ⊥) → after ≡ before → at ≡ number
+    → IfOk r (Adds (refused (codes "O11") at) old new)
+    → IfOk r (Answers (λ answer. AnswersCommand before number (view_of c) answer after) old new)
+refused_alone before after number at c r old new no_look no_entries same place h =
+    added r (refused (codes "O11") at) (λ answer. AnswersCommand before number (view_of c) answer after) old new
+    (λ answer is. refuses before number c answer after no_look no_entries (is ∙ ap (λ (n : ℕ). refused (codes "O11") n) place, same)) h
+
+-- and so is `quit`
+pub no_quit : {E : Type 0} (before after : OperatorView) (number at : ℕ) (line : List ℕ) (r : Result LineReply E) (old new : List ℕ)
+    → after ≡ before → at ≡ number → IfOk r (Adds (refused (codes "O11") at) old new)
+    → IfOk r (Answers (λ answer. AnswersAsked before number line (Some question.Quit) answer after) old new)
+no_quit before after number at line r old new same place h =
+    added r (refused (codes "O11") at) (λ answer. AnswersAsked before number line (Some question.Quit) answer after) old new
+    (λ answer is. (is ∙ ap (λ (n : ℕ). refused (codes "O11") n) place, same)) h
 
 alone_same : (before after : OperatorView) → after ≡ before → OnlyLooks before after
 alone_same before after e = record {
@@ -57,8 +77,8 @@ alone_look before after h = record {
 alone_then : (a b c : OperatorView) → OnlyLooks a b → OnlyLooks b c → OnlyLooks a c
 alone_then a b c p q = record { mine = q.mine ∙ p.mine; names = q.names ∙ p.names; stays = stays_then a b c p.stays q.stays }
 
-by_command : (before : OperatorView) (number : ℕ) (command : CommandView) (answer : Answer) (after : OperatorView)
-    → AnswersCommand before number command answer after → OnlyLooks before after
+by_command : (before : OperatorView) (number : ℕ) (c : CommandView) (answer : Answer) (after : OperatorView)
+    → AnswersCommand before number c answer after → OnlyLooks before after
 by_command before number (Look look) answer after h = alone_look before after h.0
 by_command before number (History from) answer after h = alone_look before after h.0
 by_command before number (Network size me limit) answer after h = alone_same before after h.1
@@ -75,7 +95,7 @@ by_command before number (Show node) answer after h = alone_same before after h.
 
 by_read : (before : OperatorView) (number : ℕ) (read : ReadCommand) (answer : Answer) (after : OperatorView)
     → AnswersRead before number read answer after → OnlyLooks before after
-by_read before number (Ok command) answer after h = by_command before number command answer after h
+by_read before number (Ok c) answer after h = by_command before number c answer after h
 by_read before number (Err why) answer after h = alone_same before after h.1
 
 by_line : (before : OperatorView) (number : ℕ) (line : List ℕ) (answer : Answer) (after : OperatorView)

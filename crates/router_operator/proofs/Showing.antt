@@ -1,5 +1,5 @@
 -- What is told of a journal is told of each history that it may have the end of.
-use Rattle.std.proofs.Common.{◌≡◌, ◌∙◌, ap, subst, ℕ, List, Option, Result, Ok, Err, IfOk}
+use Rattle.std.proofs.Common.{◌≡◌, ◌∙◌, ap, subst, ℕ, List, Result, Ok, Err, IfOk}
 use Rattle.line_protocol.specs.declared.answers.LineReply.{LineReply}
 use Rattle.netchange_core.specs.World.{World}
 use Rattle.operator_cmds.specs.Looks.{history_looked, looked}

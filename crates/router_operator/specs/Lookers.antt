@@ -1,5 +1,5 @@
 -- What an operator is answered who may look alone, and what becomes of them. (This project's own choice.)
-use Rattle.std.specs.Prelude.{◌≡◌, ◌⊎◌, ℕ, List, Option, Some, None, Ok, Err, codes}
+use Rattle.std.specs.Prelude.{◌≡◌, ℕ, List, Option, Some, None, Ok, Err, codes}
 use Rattle.line_protocol.specs.Answers.{Answer}
 use Rattle.line_protocol.specs.Runs.{Finishes, Stops}
 use Rattle.line_protocol.specs.declared.faults.StreamFault.{StreamFault}
