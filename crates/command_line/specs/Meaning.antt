@@ -188,12 +188,28 @@ pub record IsRouting (given : List Row) (words : RouterWords) : Type 0 where
   pub exports : map (λ copy. string_bytes copy) words.exports.items ≡ words_of (codes "export") given
   pub links : map (λ copy. string_bytes copy) words.links.items ≡ words_of (codes "link") given
 
+-- `domain` is asked for a page and for a comparison, of which there is none on a page
+abbrev pub pages_a_comparison : List Row → Bool
+pages_a_comparison given = is_some (word_of (codes "page") given) && is_some (word_of (codes "compare") given)
+
+-- it is said how a comparison is written, and none is asked for
+abbrev pub formats_no_comparison : List Row → Bool
+formats_no_comparison given = is_some (word_of (codes "format") given) && not (is_some (word_of (codes "compare") given))
+
 -- what the words behind a command set in a request
 abbrev pub Sets : CommandName → List Row → Terminals → Request → Type 0
 Sets command.Check given terminals (request.Check how sources) =
     SaysSize given how.size × IsChecking given terminals (list_any is_file sources.items) how
 Sets command.Diff given terminals (request.Diff how old new) = SaysSize given how.size × (how ≡ comparing_of given terminals how.size)
-Sets command.Domain given terminals (request.Script engine.Domain source is_told) = is_told ≡ tells given terminals (is_file source)
+Sets command.Domain given terminals (request.Script engine.Domain source is_told) =
+    (is_told ≡ tells given terminals (is_file source)) × (word_of (codes "page") given ≡ None) × (word_of (codes "compare") given ≡ None)
+    × (word_of (codes "format") given ≡ None)
+Sets command.Domain given terminals (request.Page source is_told page) =
+    (is_told ≡ tells given terminals (is_file source)) × (word_of (codes "page") given ≡ Some (string_bytes page))
+    × (word_of (codes "compare") given ≡ None) × (word_of (codes "format") given ≡ None)
+Sets command.Domain given terminals (request.Compare format old new is_told) =
+    (is_told ≡ tells given terminals true) × (format ≡ format_of given) × (is_some (word_of (codes "compare") given) ≡ true)
+    × (word_of (codes "page") given ≡ None)
 Sets command.Eval given terminals (request.Eval is_told) = is_told ≡ tells given terminals false
 Sets command.Explain given terminals (request.Explain page) = IsPage (explained given) (string_bytes page)
 Sets command.Filter given terminals (request.Filter how source) =
@@ -227,6 +243,7 @@ pub record AskForRouter (given : List Row) (words : RouterWords) : Type 0 where
 abbrev pub AreRefused : CommandName → List Row → Type 0
 AreRefused command.Check given = number_of 32 (codes "size") given ≡ None
 AreRefused command.Diff given = number_of 32 (codes "size") given ≡ None
+AreRefused command.Domain given = (pages_a_comparison given ≡ true) ⊎ (formats_no_comparison given ≡ true)
 AreRefused command.Explain given = page_head (explained given) ≡ None
 AreRefused command.Filter given =
     (asks_twice given ≡ true) ⊎ ((number_of 32 (codes "size") given ≡ None) ⊎ (names_file given ≡ false))

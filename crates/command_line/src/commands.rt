@@ -158,7 +158,7 @@ static COMMANDS: [(&str, &str); 15] = [
 ];
 
 /// The options and arguments of each command, in the order in which its help shows them.
-static PARAMETERS: [(&str, Parameter); 66] = [
+static PARAMETERS: [(&str, Parameter); 69] = [
     ("check", SIZE),
     ("check", CODE),
     ("check", NAMES),
@@ -199,6 +199,9 @@ static PARAMETERS: [(&str, Parameter); 66] = [
     ("test", TEST_FILES),
     ("eval", EXPLAIN),
     ("rewrite", OLD),
+    ("domain", COMPARE),
+    ("domain", FORMAT),
+    ("domain", PAGE),
     ("domain", EXPLAIN),
     ("domain", SCRIPT),
     ("replay", REPLAYED),
@@ -467,6 +470,24 @@ const REPLAYED: Parameter = Parameter {
     value: "FILE",
     help: "The text of a history, or its segments in order, in place of standard input; - is standard input",
     kind: ParameterKind::Arguments,
+    is_required: false,
+};
+
+/// The domain before a change.
+const COMPARE: Parameter = Parameter {
+    name: "compare",
+    value: "BEFORE",
+    help: "Say what a change does: from the domain of the script BEFORE to that of the script FILE",
+    kind: ParameterKind::Text,
+    is_required: false,
+};
+
+/// The file of the page of a domain.
+const PAGE: Parameter = Parameter {
+    name: "page",
+    value: "OUT",
+    help: "Write a page for a browser to OUT, which must not be there yet: the domain as it is behind the last command",
+    kind: ParameterKind::Text,
     is_required: false,
 };
 

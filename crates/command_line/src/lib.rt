@@ -6,6 +6,7 @@ mod classes;
 mod command_names;
 mod commands;
 mod diff_words;
+mod domain_words;
 mod environment;
 mod filter_words;
 mod format_words;

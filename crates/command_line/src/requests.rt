@@ -124,6 +124,17 @@ pub enum Request {
         /// The sources, in order.
         sources: Vec<Source>,
     },
+    /// Say what the change of one domain to another does.
+    Compare {
+        /// How it is written.
+        format: Format,
+        /// Where the script of the domain before the change is.
+        old: Source,
+        /// Where that of the domain after it is.
+        new: Source,
+        /// Why a line is refused is told in words too.
+        is_explained: bool,
+    },
     /// Compare two filters on all routes.
     Diff {
         /// How they are compared.
@@ -174,6 +185,15 @@ pub enum Request {
         how: Linting,
         /// The filters, in order.
         sources: Vec<Source>,
+    },
+    /// Carry out the script of a domain, and write its page behind the last line.
+    Page {
+        /// Where its commands are.
+        source: Source,
+        /// Why a line is refused is told in words too.
+        is_explained: bool,
+        /// The name of the new file of the page.
+        page: String,
     },
     /// Replay the history that sources are the text of.
     Replay {
@@ -470,21 +490,5 @@ pub fn replay_in(
 {
     Ok(Request::Replay {
         sources: files_in(alloc, matches)?,
-    })
-}
-
-/// What the words of `domain` ask for.
-pub fn domain_in(
-    alloc: Global,
-    matches: &ArgMatches<'_>,
-    terminals: Terminals,
-) -> Result<Request, AllocError>
-    ensures { IfOk result (AskFor command.Domain (given_in matches.now) terminals) }
-{
-    let (source, is_explained) = told_source(alloc, matches, terminals)?;
-    Ok(Request::Script {
-        engine: Engine::Domain,
-        source,
-        is_explained,
     })
 }

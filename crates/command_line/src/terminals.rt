@@ -69,7 +69,9 @@ fn count_of(request: &Request) -> usize
         | Request::Lint { sources, .. }
         | Request::Replay { sources }
         | Request::Test { sources, .. } => inputs_among(sources.as_slice()),
-        Request::Diff { old, new, .. } => input_in(old).saturating_add(input_in(new)),
+        Request::Compare { old, new, .. } | Request::Diff { old, new, .. } => {
+            input_in(old).saturating_add(input_in(new))
+        }
         Request::Run { how, source } => {
             filters_among(how.filters.as_slice()).saturating_add(input_in(source))
         }
@@ -78,6 +80,7 @@ fn count_of(request: &Request) -> usize
         }
         Request::Import { source, .. }
         | Request::List { source, .. }
+        | Request::Page { source, .. }
         | Request::Script { source, .. } => input_in(source),
         Request::Filter { source, .. } => input_in(source).saturating_add(1),
         Request::Eval { .. } | Request::Rewrite { .. } => 1,

@@ -10,7 +10,7 @@ use Rattle.domain_routes.specs.Edits.{linking}
 use Rattle.domain_routes.specs.PlanView.{PlanView, is_linked}
 use Rattle.domain_routes.specs.Still.{BetweenView, after_link}
 use Rattle.domain_routes.specs.declared.best.Best.{Best}
-use Rattle.domain_cmds.specs.CommandView.{CommandView, Domain, Prefix, Load, Code, Link, Use, Anew, Mark, Ask}
+use Rattle.domain_cmds.specs.CommandView.{CommandView, Domain, Prefix, Load, Code, Link, Use, Anew, Mark, Json, Ask}
 use Rattle.domain_cmds.specs.Commands.{Read, command_in}
 use Rattle.domain_cmds.specs.Script
 use Rattle.domain_cmds.specs.Script.{AnswersLine}
@@ -83,6 +83,7 @@ module _ (answer : Answer) where
       by_name (filter_named p.filters name) way p number u w after h
   planned p number (Anew u) after h = either (nat_lt u p.plan.size) _ _ (λ q. like answer _ q.0 refl) (λ q. like answer _ q.0 refl) h
   planned p number Mark after h = like answer _ h.2.0 refl
+  planned p number Json after h = like answer _ h.0.4 refl
   planned p number (Ask q) after h = told q p.plan p.marked p.since number h.0
 
   first : (number : ℕ) (c : CommandView) (after : Option PlanningView) → Script.AnswersFirst number c answer after → GoesOn answer
@@ -94,6 +95,7 @@ module _ (answer : Answer) where
   first number (Use way u w name) after h = like answer _ h.0 refl
   first number (Anew u) after h = like answer _ h.0 refl
   first number Mark after h = like answer _ h.0 refl
+  first number Json after h = like answer _ h.0 refl
   first number (Ask q) after h = like answer _ h.0 refl
 
   command : (before : Option PlanningView) (number : ℕ) (c : CommandView) (after : Option PlanningView)

@@ -1,13 +1,12 @@
 -- What failures change, one after another.
-use Rattle.std.proofs.Common.{◌≡◌, ℕ, ◌+◌, Bool, true, false, ◌&&◌, nat_lt, if◌then◌else◌, List, [], ◌∷◌, ◌++◌, refl, sym, ap, subst, ◌∙◌, append_assoc}
+use Rattle.std.proofs.Common.{◌≡◌, ℕ, ◌+◌, Bool, true, false, ◌&&◌, nat_lt, if◌then◌else◌, List, [], ◌∷◌, ◌++◌, sym, ap, subst, ◌∙◌, append_assoc}
 use Rattle.std.proofs.lemmas.List.{append-nil}
-use Rattle.domain_routes.specs.Edits.{linking}
 use Rattle.domain_routes.specs.PlanView.{PlanView, is_linked}
 use Rattle.domain_routes.specs.declared.best.Best.{Best}
 use Rattle.domain_cmds.specs.Failures.{AddsFailures, AreFailures, IsCutOff, IsFailure, failure_of, link_at, lists_below}
 use Rattle.domain_cmds.specs.Rests.{AreAllRoutes}
 use Rattle.domain_cmds.specs.declared.failure.Failing.{Failing}
-use Rattle.domain_cmds.specs.declared.failure.Failing.TheVariants.{Link, Node}
+use Rattle.domain_cmds.specs.declared.failure.Failing.TheVariants.{Link}
 use Rattle.domain_cmds.specs.declared.failure.Failure.{Failure}
 use Rattle.domain_cmds.proofs.Counting.{lists_more}
 

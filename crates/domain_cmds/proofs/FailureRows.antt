@@ -1,5 +1,5 @@
 -- Worked rows: three nodes in a row, of which the second link fails, and then the node in the middle.
-use Rattle.std.proofs.Common.{◌≡◌, ℕ, true, false, Bool, None, List, [], ◌∷◌, refl}
+use Rattle.std.proofs.Common.{◌≡◌, ℕ, true, None, List, [], ◌∷◌, refl}
 use Rattle.netchange_core.specs.declared.reply.Via.TheVariants.{Local, Node as Through, Nowhere}
 use Rattle.domain_routes.specs.PlanView.{PeerView, PlanView, stranger}
 use Rattle.domain_routes.specs.declared.best.Best.{Best}

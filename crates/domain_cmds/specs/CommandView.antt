@@ -22,6 +22,7 @@ pub data CommandView : Type 0 where
   -- a node that begins anew
   Anew : ℕ → CommandView
   Mark : CommandView
+  Json : CommandView
   Ask : Question → CommandView
 
 abbrev pub view_of : Command → CommandView
@@ -33,4 +34,5 @@ view_of (command.Link linked u w) = Link linked u w
 view_of (command.Use direction u w name) = Use direction u w name.now
 view_of (command.Anew u) = Anew u
 view_of command.Mark = Mark
+view_of command.Json = Json
 view_of (command.Ask question) = Ask question

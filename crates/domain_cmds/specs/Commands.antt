@@ -11,7 +11,7 @@ use Rattle.operator_cmds.specs.WordLists.{one_of, two_of, three_of}
 use Rattle.operator_cmds.specs.declared.event.Direction.TheVariants as direction
 use Rattle.operator_cmds.specs.declared.fault.CommandFault.{CommandFault}
 use Rattle.operator_cmds.specs.declared.fault.CommandFault.TheVariants as fault
-use Rattle.domain_cmds.specs.CommandView.{CommandView, Domain, Prefix, Load, Code, Link, Use, Anew, Mark, Ask}
+use Rattle.domain_cmds.specs.CommandView.{CommandView, Domain, Prefix, Load, Code, Link, Use, Anew, Mark, Json, Ask}
 use Rattle.domain_cmds.specs.Sizes.{is_size}
 use Rattle.domain_cmds.specs.Verbs.{verb_in}
 use Rattle.domain_cmds.specs.declared.command.Question.TheVariants as question
@@ -88,6 +88,7 @@ command_of (Some verb.Mark) args text = alone Mark args
 command_of (Some verb.Changes) args text = alone (Ask question.Changes) args
 command_of (Some verb.Failures) args text = failures_in args (one_of args)
 command_of (Some verb.Settle) args text = alone (Ask question.Settle) args
+command_of (Some verb.Json) args text = alone Json args
 
 abbrev pub command_of_words : List (List ℕ) → List ℕ → Read
 command_of_words [] text = Err fault.Words

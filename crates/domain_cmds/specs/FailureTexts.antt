@@ -1,5 +1,5 @@
 -- The lines that tell what single failures change. (This project's own choice.)
-use Rattle.std.specs.Prelude.{ℕ, List, [], ◌∷◌, ◌++◌, length, flat_map, codes, decimal}
+use Rattle.std.specs.Prelude.{ℕ, List, ◌∷◌, ◌++◌, length, flat_map, codes, decimal}
 use Rattle.domain_cmds.specs.Texts.{step_text}
 use Rattle.domain_cmds.specs.declared.failure.Failing.{Failing}
 use Rattle.domain_cmds.specs.declared.failure.Failing.TheVariants.{Link, Node}

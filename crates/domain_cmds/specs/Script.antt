@@ -6,24 +6,29 @@ use Rattle.filter_source.specs.Sources.{IsRefusedText}
 use Rattle.filter_source.specs.declared.refusal.Refusal.{Refusal}
 use Rattle.filter_verifier.specs.VerifiedView.{VerifiedView}
 use Rattle.line_protocol.specs.Answers.{Answer}
+use Rattle.line_protocol.specs.declared.answers.LineReply.TheVariants.{Answered}
 use Rattle.operator_cmds.specs.Domain.{default_prefixes}
 use Rattle.operator_cmds.specs.Faults.{fault_code}
 use Rattle.operator_cmds.specs.Replies.{answered, refused}
 use Rattle.operator_cmds.specs.Script.{AnswersSource, GivesFile, GivesText, IsRefusedFile}
 use Rattle.operator_cmds.specs.declared.event.Direction.{Direction}
 use Rattle.operator_cmds.specs.declared.event.Direction.TheVariants as direction
+use Rattle.domain_reports.specs.Reports.{domain_line}
+use Rattle.domain_reports.specs.Views.{DomainView}
 use Rattle.domain_routes.specs.Edits.{exporting, importing, linking, unlinked, with_prefix}
 use Rattle.domain_routes.specs.PlanView.{PlanView, is_linked}
 use Rattle.domain_routes.specs.Routes.{AreRoutes}
 use Rattle.domain_routes.specs.Still.{BetweenView, after_anew, after_filter, after_link, unchanged}
 use Rattle.domain_routes.specs.Topology.{topology}
 use Rattle.domain_routes.specs.declared.best.Best.{Best}
-use Rattle.domain_cmds.specs.CommandView.{CommandView, Domain, Prefix, Load, Code, Link, Use, Anew, Mark, Ask}
+use Rattle.domain_cmds.specs.CommandView.{CommandView, Domain, Prefix, Load, Code, Link, Use, Anew, Mark, Json, Ask}
 use Rattle.domain_cmds.specs.Commands.{Read, command_in}
 use Rattle.domain_cmds.specs.Failures.{AreFailures, all_links, all_nodes}
 use Rattle.domain_cmds.specs.FailureTexts.{failures_text}
 use Rattle.domain_cmds.specs.Faults.{state_code}
+use Rattle.domain_cmds.specs.Origins.{AreOriginsOf, OriginsView}
 use Rattle.domain_cmds.specs.Rests.{AreAllRoutes, AreRestsBetween, RestsView}
+use Rattle.domain_cmds.specs.Said.{IsSaid}
 use Rattle.domain_cmds.specs.State.{PlanningView, filter_named}
 use Rattle.domain_cmds.specs.Texts.{IsPathText, changes_text, draw_text, felt_text, reach_text, route_in, route_text, settled_text, table_text}
 use Rattle.domain_cmds.specs.declared.command.Question.{Question}
@@ -219,6 +224,14 @@ AnswersQuestion question.Failures plan marked since number answer = IsToldFailur
 AnswersQuestion question.NodeFailures plan marked since number answer = IsToldFailures plan (all_nodes plan) answer
 AnswersQuestion question.Settle plan marked since number answer = IsToldSettled number answer
 
+-- ---- `json`
+
+-- The whole domain is told on a line, with filters whose texts give the code that the plan has where they are said to be used. Which names and
+-- lines they had is only tested.
+abbrev pub IsToldDomain : PlanView → Answer → Type 0
+IsToldDomain plan answer = (origins : OriginsView) × AreOriginsOf plan origins × (domain : DomainView) × IsSaid plan origins domain
+    × (answer ≡ record { text = domain_line domain; reply = Answered })
+
 -- ---- a line
 
 abbrev pub AnswersPlanned : PlanningView → ℕ → CommandView → Answer → PlanningView → Type 0
@@ -231,6 +244,7 @@ AnswersPlanned p number (Use way u w name) answer after =
     AnswersUse (filter_named p.filters name) way p number u w answer after
 AnswersPlanned p number (Anew u) answer after = AnswersAnew p number u answer after
 AnswersPlanned p number Mark answer after = AnswersMark p answer after
+AnswersPlanned p number Json answer after = Asks (IsToldDomain p.plan) p answer after
 AnswersPlanned p number (Ask asked) answer after = Asks (AnswersQuestion asked p.plan p.marked p.since number) p answer after
 
 -- before there is a domain, only `domain` is carried out

@@ -3,7 +3,7 @@ use Rattle.std.specs.Prelude.{ℕ, Bool, List, [], ◌∷◌, Option, find, code
 use Rattle.std.specs.Str.{bytes_eq}
 use Rattle.domain_cmds.specs.declared.verb.Verb.{Verb}
 use Rattle.domain_cmds.specs.declared.verb.Verb.TheVariants.{Domain, Prefix, Load, Code, Link, Cut, Import, Export}
-use Rattle.domain_cmds.specs.declared.verb.Verb.TheVariants.{Anew, Route, Path, Table, Draw, Reach, Mark, Changes, Failures, Settle}
+use Rattle.domain_cmds.specs.declared.verb.Verb.TheVariants.{Anew, Route, Path, Table, Draw, Reach, Mark, Changes, Failures, Settle, Json}
 
 -- how each is written
 abbrev pub verb_text : Verb → List ℕ
@@ -25,11 +25,13 @@ verb_text Mark = codes "mark"
 verb_text Changes = codes "changes"
 verb_text Failures = codes "failures"
 verb_text Settle = codes "settle"
+verb_text Json = codes "json"
 
 -- all of them
 abbrev pub verbs : List Verb
 verbs =
-    Domain ∷ Prefix ∷ Load ∷ Code ∷ Link ∷ Cut ∷ Import ∷ Export ∷ Anew ∷ Route ∷ Path ∷ Table ∷ Draw ∷ Reach ∷ Mark ∷ Changes ∷ Failures ∷ Settle ∷ []
+    Domain ∷ Prefix ∷ Load ∷ Code ∷ Link ∷ Cut ∷ Import ∷ Export ∷ Anew ∷ Route ∷ Path ∷ Table ∷ Draw ∷ Reach ∷ Mark ∷ Changes ∷ Failures ∷ Settle
+    ∷ Json ∷ []
 
 -- whether a verb is written so
 abbrev pub is_spelled : List ℕ → Verb → Bool

@@ -63,6 +63,8 @@ pub enum Command<'a> {
     Anew(u16),
     /// `mark`: remembers all routes.
     Mark,
+    /// `json`: the whole domain, for programs.
+    Json,
     /// A question.
     Ask(Question),
 }

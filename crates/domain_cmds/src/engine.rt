@@ -6,6 +6,7 @@ use crate::command::Command;
 use crate::fault::StateFault;
 use crate::planning::Planning;
 use crate::read::read_command;
+use crate::resting::RestingPlan;
 use line_protocol::{LineReply, Service, StreamFault, answer_lines};
 use operator_cmds::{CommandFault, Nobody, RefusedLine, Watch, confirm, refuse};
 use std::alloc::{AllocError, Global};
@@ -15,7 +16,7 @@ use std::io::{Read, Write};
 #[derive(Drop)]
 pub(crate) struct Engine {
     /// The domain, once it is set up.
-    planning: Option<Planning>,
+    pub(crate) planning: Option<Planning>,
 }
 
 impl Service for Engine {
@@ -44,15 +45,27 @@ impl Service for Engine {
 impl Engine {
     ghost use Rattle.std.specs.Prelude.{None, OnErr};
     ghost use Rattle.std.specs.Io.{StartsWith};
+    ghost use Rattle.std.specs.Option.{option_map};
     ghost use Rattle.operator_cmds.specs.Replies.{Answers};
     ghost use Rattle.domain_cmds.specs.CommandView.{view_of};
     ghost use Rattle.domain_cmds.specs.Script.{AnswersCommand};
+    ghost use Rattle.domain_cmds.specs.Short.{IsShort};
 
     /// A script at its first line.
     pub(crate) fn new() -> Engine
         ensures { result.planning ≡ None }
     {
         Engine { planning: None }
+    }
+
+    /// The plan of the domain, once it is set up.
+    pub(crate) fn into_domain(self) -> Option<RestingPlan>
+        ensures { result ≡ option_map (λ planning. planning.plan) self.planning }
+    {
+        match self.planning {
+            Some(planning) => Some(planning.into_domain()),
+            None => None,
+        }
     }
 
     /// A line that this script refused, and what the script knows.
@@ -80,6 +93,7 @@ impl Engine {
         command: Command<'_>,
         out: &mut Vec<u8>,
     ) -> Result<LineReply, AllocError>
+        requires { IsShort (view_of command) }
         ensures ok { IfOk result (Answers (λ answer. AnswersCommand self.old.planning number (view_of command.entry) answer
             self.new.planning) out.old.items out.new.items) }
         ensures err { OnErr result (StartsWith out.new.items out.old.items) }
@@ -99,11 +113,11 @@ impl Engine {
 
 /// A domain's script and who watches it.
 #[derive(Drop)]
-struct Watched<S: Watch + Drop> {
+pub(crate) struct Watched<S: Watch + Drop> {
     /// The script.
-    engine: Engine,
+    pub(crate) engine: Engine,
     /// Who watches it.
-    watcher: S,
+    pub(crate) watcher: S,
 }
 
 impl<S: Watch + Drop> Service for Watched<S> {

@@ -12,7 +12,7 @@ use line_protocol::push_decimal;
 use std::alloc::AllocError;
 
 /// Begins a line, and adds what fails.
-fn push_what(out: &mut Vec<u8>, what: Failing) -> Result<(), AllocError>
+pub(crate) fn push_what(out: &mut Vec<u8>, what: Failing) -> Result<(), AllocError>
     ensures ok { OnOk result (out.new.items ≡ out.old.items ++ spec.what_text what) }
     ensures err { OnErr result (StartsWith out.new.items out.old.items) }
 {
@@ -30,7 +30,7 @@ fn push_what(out: &mut Vec<u8>, what: Failing) -> Result<(), AllocError>
 }
 
 /// Adds a word and a number.
-fn push_number(out: &mut Vec<u8>, word: &[u8], n: u32) -> Result<(), AllocError>
+pub(crate) fn push_number(out: &mut Vec<u8>, word: &[u8], n: u32) -> Result<(), AllocError>
     ensures ok { OnOk result (out.new.items ≡ out.old.items ++ spec.number_text word.now n) }
     ensures err { OnErr result (StartsWith out.new.items out.old.items) }
 {

@@ -46,7 +46,7 @@ fn link_failure(
 }
 
 /// Whether there is a link between two nodes, of which the first is the lesser.
-fn is_link(plan: &Plan, u: u16, w: u16) -> bool
+pub(crate) fn is_link(plan: &Plan, u: u16, w: u16) -> bool
     requires u { u < plan.now.size }
     requires w { w < plan.now.size }
     ensures value { result ≡ (nat_lt u w && is_linked plan.now u w) }

@@ -159,6 +159,7 @@ fn read_rest(alloc: Global, verb: Verb, rest: &[u8]) -> Result<Command<'_>, Comm
         Verb::Changes => read_alone(Command::Ask(Question::Changes), rest),
         Verb::Failures => read_failures(rest),
         Verb::Settle => read_alone(Command::Ask(Question::Settle), rest),
+        Verb::Json => read_alone(Command::Json, rest),
     }
 }
 

@@ -41,10 +41,12 @@ pub enum Verb {
     Failures,
     /// `settle`
     Settle,
+    /// `json`
+    Json,
 }
 
 /// All of them.
-pub static VERBS: [Verb; 18] = [
+pub static VERBS: [Verb; 19] = [
     Verb::Domain,
     Verb::Prefix,
     Verb::Load,
@@ -63,6 +65,7 @@ pub static VERBS: [Verb; 18] = [
     Verb::Changes,
     Verb::Failures,
     Verb::Settle,
+    Verb::Json,
 ];
 
 impl Verb {
@@ -91,6 +94,7 @@ impl Verb {
             Verb::Changes => "changes",
             Verb::Failures => "failures",
             Verb::Settle => "settle",
+            Verb::Json => "json",
         }
     }
 }

@@ -3,6 +3,7 @@ pub mod Tested
 pub mod Untold
 mod Beside
 mod Chained
+mod ComparedOff
 mod FileNames
 mod FilePlaces
 mod FiltersRead

@@ -16,11 +16,13 @@ use Rattle.command_line.specs.declared.requests.Request.TheVariants as request
 use Rattle.command_line.specs.declared.requests.Source.{Source}
 use Rattle.ncroute.specs.Checking.{ChecksAll, ChecksSome}
 use Rattle.ncroute.specs.Comparing.{ComparesSources, StopsComparing}
+use Rattle.ncroute.specs.Domains.{ComparesDomains, StopsDomains}
 use Rattle.ncroute.specs.Ending.{fault_line, status_of, status_of_found}
 use Rattle.ncroute.specs.Guiding.{RunsGuided, StopsRun}
 use Rattle.ncroute.specs.Importing.{ImportsSource}
 use Rattle.ncroute.specs.Joining.{RunsJoined, StopsJoined}
 use Rattle.ncroute.specs.Linting.{LintsAll, StopsLinting}
+use Rattle.ncroute.specs.Paging.{PagesSource}
 use Rattle.ncroute.specs.Reading.{Reads, SkipsUnread, StopsReading, name_of}
 use Rattle.ncroute.specs.Segments.{ReplaysSources, StopsReplay}
 use Rattle.ncroute.specs.Scripts.{RunsSource, StopsSource, script_fault}
@@ -69,6 +71,7 @@ pub record StopsList (fault : StreamFault) (size : Option ℕ) (is_code : Bool) 
 -- that it differs from a refusal.
 abbrev pub fault_status : Request → ℕ
 fault_status (request.Check how sources) = 1
+fault_status (request.Compare format old new is_explained) = 3
 fault_status (request.Diff how old new) = 3
 fault_status (request.Eval is_told) = 1
 fault_status (request.Explain page) = 1
@@ -76,6 +79,7 @@ fault_status (request.Import how source) = 1
 fault_status (request.List size is_code source is_explained) = 3
 fault_status (request.Filter how source) = 3
 fault_status (request.Lint how sources) = 3
+fault_status (request.Page source is_explained page) = 3
 fault_status (request.Replay sources) = 3
 fault_status (request.Rewrite is_old) = 1
 fault_status (request.Run how source) = 1
@@ -104,6 +108,8 @@ module _ (opens : List ℕ → Result (Option (List ℕ)) Error → Type 0) wher
     -- What was asked for was done to its end, with this exit status.
     abbrev pub Answers : Request → Streams → Streams → ℕ → Type 0
     Answers (request.Check how sources) before after status = ChecksAll opens how sources.items before after status
+    Answers (request.Compare format old new is_explained) before after status =
+        ComparesDomains opens format old new is_explained before after status
     Answers (request.Diff how old new) before after status = ComparesSources opens how old new before after status
     Answers (request.Eval is_told) before after status = EvaluatesTold is_told before after status
     Answers (request.Explain page) before after status = Writes (string_bytes page) before after × (status ≡ 0)
@@ -112,6 +118,8 @@ module _ (opens : List ℕ → Result (Option (List ℕ)) Error → Type 0) wher
         ListsSource size is_code is_explained source before after status
     Answers (request.Filter how source) before after status = TriesFilter opens how source before after status
     Answers (request.Lint how sources) before after status = LintsAll opens how sources.items before after status
+    Answers (request.Page source is_explained page) before after status =
+        PagesSource opens creates leaves source is_explained (string_bytes page) before after status
     Answers (request.Replay sources) before after status = ReplaysSources opens sources.items before after status
     Answers (request.Rewrite is_old) before after status = RewritesInput is_old before after status
     Answers (request.Run how source) before after status = RunsGuided creates leaves opens how source before after status
@@ -119,9 +127,10 @@ module _ (opens : List ℕ → Result (Option (List ℕ)) Error → Type 0) wher
     Answers (request.Script engine source is_explained) before after status = RunsSource opens engine source is_explained before after status
     Answers (request.Test how sources) before after status = TestsSources opens how sources.items before after status
 
-    -- A fault ended it. Of an import nothing more is said.
+    -- A fault ended it. Of an import nothing more is said, nor of a page.
     abbrev pub StopsAnswer : StreamFault → Request → Streams → Streams → Type 0
     StopsAnswer fault (request.Check how sources) before after = ChecksSome opens fault how sources.items before after
+    StopsAnswer fault (request.Compare format old new is_explained) before after = StopsDomains format before.holds after.holds
     StopsAnswer fault (request.Diff how old new) before after = StopsComparing opens fault how old new before after
     StopsAnswer fault (request.Eval is_told) before after = StopsEvaluating fault is_told before after
     StopsAnswer fault (request.Explain page) before after = CutsWriting fault (string_bytes page) before after
@@ -129,6 +138,7 @@ module _ (opens : List ℕ → Result (Option (List ℕ)) Error → Type 0) wher
     StopsAnswer fault (request.List size is_code source is_explained) before after = StopsListing fault size is_code source before after
     StopsAnswer fault (request.Filter how source) before after = StopsFilter opens fault how source before after
     StopsAnswer fault (request.Lint how sources) before after = StopsLinting opens fault how sources.items before after
+    StopsAnswer fault (request.Page source is_explained page) before after = ⊤
     StopsAnswer fault (request.Replay sources) before after = StopsReplay opens fault sources.items before after
     StopsAnswer fault (request.Rewrite is_old) before after = StopsRewriting fault is_old before after
     StopsAnswer fault (request.Run how source) before after = StopsRun creates leaves opens fault how source before after

@@ -12,11 +12,13 @@ ghost use Rattle.ncroute.specs.Streaming.{CutsWriting, Writes};
 use crate::checking::check_sources;
 use crate::comparing::compare_sources;
 use crate::console::{Console, Loaded};
+use crate::domains::compare_scripts;
 use crate::ending::{FAILED, FAULT, status_of, status_of_found};
 use crate::guided::guide_source;
 use crate::importing::import_source;
 use crate::joined::guide_sources;
 use crate::linting::lint_sources;
+use crate::paging::page_source;
 use crate::script::{run_source, script_fault};
 use crate::segments::replay_sources;
 use crate::testing::test_sources;
@@ -151,6 +153,12 @@ fn answer<F: Folder, R: Read, W: Write, E: Write>(
         Request::Check { how, sources } => {
             check_sources(files, alloc, *how, sources.as_slice(), console)
         }
+        Request::Compare {
+            format,
+            old,
+            new,
+            is_explained,
+        } => compare_scripts(files, alloc, *format, old, new, *is_explained, console),
         Request::Diff { how, old, new } => compare_sources(files, alloc, *how, old, new, console),
         Request::Eval { is_told } => evaluate(alloc, *is_told, console),
         Request::Explain { page } => show(page.as_str(), console),
@@ -173,6 +181,11 @@ fn answer<F: Folder, R: Read, W: Write, E: Write>(
             source,
             console,
         ),
+        Request::Page {
+            source,
+            is_explained,
+            page,
+        } => page_source(files, alloc, source, *is_explained, page.as_str(), console),
         Request::Replay { sources } => replay_sources(files, alloc, sources.as_slice(), console),
         Request::Rewrite { is_old } => rewrite(alloc, *is_old, console),
         Request::Run { how, source } => guide_source(files, alloc, how, source, console),
@@ -202,10 +215,12 @@ pub fn fault_status(request: &Request) -> u8
         | Request::Rewrite { .. }
         | Request::Run { .. }
         | Request::RunJoined { .. } => FAILED,
-        Request::Diff { .. }
+        Request::Compare { .. }
+        | Request::Diff { .. }
         | Request::Filter { .. }
         | Request::Lint { .. }
         | Request::List { .. }
+        | Request::Page { .. }
         | Request::Replay { .. }
         | Request::Test { .. } => FAULT,
         Request::Script { engine, .. } => script_fault(*engine),

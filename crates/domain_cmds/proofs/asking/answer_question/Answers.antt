@@ -1,5 +1,5 @@
 -- The answer to a kind of question is the answer to the question.
-use Rattle.std.proofs.Common.{◌≡◌, List, Option, Vec, Global, IfOk, subst, sym}
+use Rattle.std.proofs.Common.{List, Option, Vec, Global, IfOk, subst, sym}
 use Rattle.std.specs.Option.{option_map}
 use Rattle.std.specs.declared.sync.Arc.{Arc}
 use Rattle.operator_cmds.specs.Replies.{Answers}
