@@ -75,7 +75,7 @@ fn measure(verified: &Verified, routes: &[Route], is_verified: bool, rounds: u32
 }
 
 /// Takes the routes of an input through its code so many times.
-pub fn measure_machine(
+pub(crate) fn measure_machine(
     alloc: Global,
     input: Input,
     is_verified: bool,

@@ -36,7 +36,7 @@ fn call_word<'a>(words: &[Word<'a>], at: usize) -> Option<Word<'a>>
 }
 
 /// The index and the word of the first call. The header of a function looks like one.
-pub fn first_call<'a>(words: &[Word<'a>]) -> Option<(usize, Word<'a>)>
+pub(crate) fn first_call<'a>(words: &[Word<'a>]) -> Option<(usize, Word<'a>)>
     ensures { IfSome result (λ call. IsCallBy words.now call.0 call.1) }
 {
     let from = if is_foreign_at(words, 0, b"function") {
@@ -95,7 +95,7 @@ fn second_function<'a>(config: &Config<'a>, name: &[u8], first: usize) -> Option
 }
 
 /// The function of this name, if there is just one, and it ends before a place.
-pub fn item_of<'a>(config: &Config<'a>, word: Word<'a>) -> Result<&'a Item, Reason<'a>>
+pub(crate) fn item_of<'a>(config: &Config<'a>, word: Word<'a>) -> Result<&'a Item, Reason<'a>>
     ensures ok { IfOk result (λ one. IsCalled config.now word.entry.bytes.now one.now) }
     ensures err { IfErr result (λ reason. (words : List TheWord) → IsUsed word.entry.bytes.now word.entry words → Hinders config.now words reason.why) }
 {
@@ -239,7 +239,7 @@ fn decide<'a>(
 }
 
 /// Writes the first two commands of a function as one that return one value or another by a condition.
-pub fn plan_return<'a>(alloc: Global, words: &[Word<'a>]) -> Result<Plan<'a>, AllocError>
+pub(crate) fn plan_return<'a>(alloc: Global, words: &[Word<'a>]) -> Result<Plan<'a>, AllocError>
     ensures { IfOk result (λ plan. IfSome (why_of_plan plan) (Hinder words.now)) }
 {
     if !is_foreign_at(words, 0, b"function") {
@@ -316,7 +316,7 @@ fn stuck_at<'a>(words: &[Word<'a>], at: usize, call: Word<'a>) -> Reason<'a>
 }
 
 /// What stands for the call at an index of a function whose words have become others, or why there is nothing.
-pub fn call_at<'a>(
+pub(crate) fn call_at<'a>(
     alloc: Global,
     words: &[Word<'a>],
     at: usize,

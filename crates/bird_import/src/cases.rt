@@ -212,7 +212,7 @@ fn wrong_labels<'a>(head: Word<'a>) -> Reason<'a>
 }
 
 /// Writes the first `case` of addresses by its first label.
-pub fn plan_case<'a>(alloc: Global, words: &[Word<'a>]) -> Result<Plan<'a>, AllocError>
+pub(crate) fn plan_case<'a>(alloc: Global, words: &[Word<'a>]) -> Result<Plan<'a>, AllocError>
     ensures { IfOk result (λ plan. IfSome (why_of_plan plan) (Hinder words.now)) }
 {
     for at in 0..words.len() {

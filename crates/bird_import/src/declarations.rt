@@ -33,7 +33,7 @@ fn name_behind(words: &[Word<'_>], at: usize) -> usize
 
 /// The first variable that a body declares without a value: BIRD 2.0.12 ends each run there.
 #[tactic(auto, using(crate::proofs::Judged::values_given))]
-pub fn first_without_value<'a>(words: &[Word<'a>]) -> Option<Reason<'a>>
+pub(crate) fn first_without_value<'a>(words: &[Word<'a>]) -> Option<Reason<'a>>
     ensures some { IfSome result (λ reason. HaveNoValue words.now reason.why) }
     ensures none { result ≡ None → HaveValues words.now }
 {
@@ -97,7 +97,10 @@ fn hoist<'a>(
 }
 
 /// Moves the first declaration that has a value.
-pub fn plan_declaration<'a>(alloc: Global, words: &[Word<'a>]) -> Result<Plan<'a>, AllocError>
+pub(crate) fn plan_declaration<'a>(
+    alloc: Global,
+    words: &[Word<'a>],
+) -> Result<Plan<'a>, AllocError>
     ensures { IfOk result (λ plan. IfSome (why_of_plan plan) (Hinder words.now)) }
 {
     let Some(open) = first_block(words, 0) else {

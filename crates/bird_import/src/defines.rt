@@ -35,14 +35,14 @@ pub const WORD_LIMIT: usize = 65_536;
 const WORK_LIMIT: u64 = 33_554_432;
 
 /// Whether so many steps that go through so many words are too much.
-pub fn is_much(made: usize, words: usize) -> bool
+pub(crate) fn is_much(made: usize, words: usize) -> bool
     ensures { IsTrue result → 33554432 < made * words }
 {
     (made as u64).saturating_mul(words as u64) > WORK_LIMIT
 }
 
 /// Whether a name is declared at an index.
-pub fn declares(words: &[Word<'_>], at: usize, name: &[u8]) -> bool
+pub(crate) fn declares(words: &[Word<'_>], at: usize, name: &[u8]) -> bool
     ensures { IsTrue result ↔ IsVariableAt name.now words.now at }
 {
     at > 0
@@ -51,7 +51,7 @@ pub fn declares(words: &[Word<'_>], at: usize, name: &[u8]) -> bool
 }
 
 /// Whether a name is declared among some words.
-pub fn is_declared(words: &[Word<'_>], name: &[u8]) -> bool
+pub(crate) fn is_declared(words: &[Word<'_>], name: &[u8]) -> bool
     ensures { IsTrue result ↔ IsVariable name.now words.now }
 {
     for at in 0..words.len() {
@@ -95,7 +95,7 @@ fn two_meanings_at<'a>(
 }
 
 /// The first variable among some words that has the name of a definition: what the name means depends on where it stands.
-pub fn first_of_two_meanings<'a>(
+pub(crate) fn first_of_two_meanings<'a>(
     config: &Config<'a>,
     names: &Names,
     words: &[Word<'a>],
@@ -138,7 +138,7 @@ pub enum Found {
 }
 
 /// What is found of a name with a further definition of it.
-pub fn found_again(found: Found, definition: Definition) -> Found
+pub(crate) fn found_again(found: Found, definition: Definition) -> Found
     ensures first { found ≡ Found.Never → result ≡ Found.Once definition }
     ensures second { found ≢ Found.Never → result ≡ Found.Twice }
 {
@@ -283,7 +283,7 @@ fn place<'a>(
 }
 
 /// Puts the definition of the first defined name in its place.
-pub fn plan_definition<'a>(
+pub(crate) fn plan_definition<'a>(
     alloc: Global,
     config: &Config<'a>,
     names: &Names,
@@ -400,7 +400,7 @@ fn define_each<'a>(
 
 /// The words with all definitions in place that can be, until there are too many of them, or too many were gone through. A definition speaks of
 /// those before it alone, so there are no more rounds than definitions.
-pub fn define_all<'a>(
+pub(crate) fn define_all<'a>(
     alloc: Global,
     config: &Config<'a>,
     names: &Names,

@@ -56,7 +56,7 @@ fn note_definition(
 }
 
 /// What is found of each name among the definitions of a configuration.
-pub fn names_of(alloc: Global, config: &Config<'_>) -> Result<Names, AllocError>
+pub(crate) fn names_of(alloc: Global, config: &Config<'_>) -> Result<Names, AllocError>
     ensures { IfOk result (KnowsAll config.now) }
 {
     let mut names = BTreeMap::new(alloc);
@@ -67,7 +67,7 @@ pub fn names_of(alloc: Global, config: &Config<'_>) -> Result<Names, AllocError>
 }
 
 /// The definition of a name.
-pub fn look_up(config: &Config<'_>, names: &Names, name: &[u8]) -> Found
+pub(crate) fn look_up(config: &Config<'_>, names: &Names, name: &[u8]) -> Found
     requires { KnowsAll config.now names.now }
     ensures { IsFound config.now name.now (length config.now.definitions.now) result }
 {

@@ -99,7 +99,7 @@ fn first_mixed(alloc: Global, words: &[Word<'_>]) -> Result<Option<(usize, usize
 
 /// Puts parentheses round the operands before the first operator of another kind: BIRD's operators of these two kinds have one
 /// level, and group to the left.
-pub fn plan_grouping<'a>(alloc: Global, words: &[Word<'a>]) -> Result<Plan<'a>, AllocError>
+pub(crate) fn plan_grouping<'a>(alloc: Global, words: &[Word<'a>]) -> Result<Plan<'a>, AllocError>
     ensures { IfOk result (λ plan. IfSome (why_of_plan plan) (Hinder words.now)) }
 {
     let Some((start, at)) = first_mixed(alloc, words)? else {
@@ -133,7 +133,7 @@ fn wants_semicolon(words: &[Word<'_>], at: usize) -> bool
 }
 
 /// Puts the first `;` that is missing before `else` or a closing brace.
-pub fn plan_semicolon<'a>(alloc: Global, words: &[Word<'a>]) -> Result<Plan<'a>, AllocError>
+pub(crate) fn plan_semicolon<'a>(alloc: Global, words: &[Word<'a>]) -> Result<Plan<'a>, AllocError>
     ensures { IfOk result (λ plan. IfSome (why_of_plan plan) (Hinder words.now)) }
 {
     for at in 0..words.len() {
@@ -166,7 +166,7 @@ fn is_member(words: &[Word<'_>], at: usize) -> bool {
 }
 
 /// Takes the first constant of a label or of a set out of its parentheses: BIRD takes a defined name as a label in these alone.
-pub fn plan_unwrapping<'a>(alloc: Global, words: &[Word<'a>]) -> Result<Plan<'a>, AllocError>
+pub(crate) fn plan_unwrapping<'a>(alloc: Global, words: &[Word<'a>]) -> Result<Plan<'a>, AllocError>
     ensures { IfOk result (λ plan. IfSome (why_of_plan plan) (Hinder words.now)) }
 {
     for at in 0..words.len() {
@@ -208,7 +208,7 @@ fn type_test(words: &[Word<'_>], at: usize) -> Option<Symbol>
 }
 
 /// Puts what the first test of the kind of a prefix comes to in its place.
-pub fn plan_type_test<'a>(alloc: Global, words: &[Word<'a>]) -> Result<Plan<'a>, AllocError>
+pub(crate) fn plan_type_test<'a>(alloc: Global, words: &[Word<'a>]) -> Result<Plan<'a>, AllocError>
     ensures { IfOk result (λ plan. IfSome (why_of_plan plan) (Hinder words.now)) }
 {
     for at in 0..words.len() {

@@ -113,7 +113,7 @@ fn does_more<'a>(word: Word<'a>) -> Reason<'a>
 }
 
 /// Leaves out what the first command that prints prints.
-pub fn plan_printing<'a>(alloc: Global, words: &[Word<'a>]) -> Result<Plan<'a>, AllocError>
+pub(crate) fn plan_printing<'a>(alloc: Global, words: &[Word<'a>]) -> Result<Plan<'a>, AllocError>
     ensures { IfOk result (λ plan. IfSome (why_of_plan plan) (Hinder words.now)) }
 {
     for at in 0..words.len() {

@@ -76,7 +76,7 @@ fn not_once<'a>(name: &Word<'a>) -> Reason<'a>
 }
 
 /// Puts the first variable that is a set in its places.
-pub fn plan_sets<'a>(alloc: Global, words: &[Word<'a>]) -> Result<Plan<'a>, AllocError>
+pub(crate) fn plan_sets<'a>(alloc: Global, words: &[Word<'a>]) -> Result<Plan<'a>, AllocError>
     ensures { IfOk result (λ plan. IfSome (why_of_plan plan) (Hinder words.now)) }
 {
     for at in 0..words.len() {

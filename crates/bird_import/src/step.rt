@@ -71,7 +71,7 @@ pub enum Plan<'a> {
 }
 
 /// The plan of a step that places no definition.
-pub fn planned<'a>(
+pub(crate) fn planned<'a>(
     rule: Rule,
     from: usize,
     to: usize,
@@ -112,7 +112,7 @@ fn parts_at<'w, 'a>(words: &'w [Word<'a>], from: usize, to: usize) -> Option<Par
 
 /// The words after a step, if it is one of its rule.
 #[tactic(auto, using(crate::proofs::Reached::replaced))]
-pub fn apply<'a>(
+pub(crate) fn apply<'a>(
     alloc: Global,
     config: &[Word<'a>],
     words: &[Word<'a>],
@@ -145,7 +145,7 @@ pub struct Call<'a> {
 
 /// The words after a call, if what is written for it means what the function does, whose words were `source` and have become others.
 #[tactic(auto, using(crate::proofs::Reached::replaced))]
-pub fn apply_call<'a>(
+pub(crate) fn apply_call<'a>(
     alloc: Global,
     words: &[Word<'a>],
     source: &[Word<'a>],
@@ -166,7 +166,7 @@ pub fn apply_call<'a>(
 }
 
 /// The words of three parts, side by side.
-pub fn joined<'a>(
+pub(crate) fn joined<'a>(
     alloc: Global,
     front: &[Word<'a>],
     new: &[Word<'a>],
@@ -181,7 +181,7 @@ pub fn joined<'a>(
 }
 
 /// Words between two symbols, in the place of a word.
-pub fn enclosed<'a>(
+pub(crate) fn enclosed<'a>(
     alloc: Global,
     left: Symbol,
     inner: &[Word<'a>],
@@ -195,7 +195,10 @@ pub fn enclosed<'a>(
 }
 
 /// Puts words behind others, part by part.
-pub fn push_parts<'a>(words: &mut Vec<Word<'a>>, parts: &[&[Word<'a>]]) -> Result<(), AllocError> {
+pub(crate) fn push_parts<'a>(
+    words: &mut Vec<Word<'a>>,
+    parts: &[&[Word<'a>]],
+) -> Result<(), AllocError> {
     for part in parts {
         words.extend_from_slice(part)?;
     }

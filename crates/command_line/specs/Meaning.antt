@@ -30,7 +30,6 @@ use Rattle.command_line.specs.declared.filter_words.WrongFilter.{WrongFilter}
 use Rattle.command_line.specs.declared.lint_words.Linting.{Linting}
 use Rattle.command_line.specs.declared.options.Choices.{Choices}
 use Rattle.command_line.specs.declared.requests.Checking.{Checking}
-use Rattle.command_line.specs.declared.requests.Engine.TheVariants as engine
 use Rattle.command_line.specs.declared.requests.Importing.{Importing}
 use Rattle.command_line.specs.declared.requests.Request.{Request}
 use Rattle.command_line.specs.declared.requests.Request.TheVariants as request
@@ -151,15 +150,6 @@ AreFilters given filters =
 abbrev pub HasWrongFilter : List Row → Type 0
 HasWrongFilter given = (wrong : WrongFilter) × HasWrong (words_of (codes "filter") given) wrong
 
--- `run` is asked for more than the answers to its script
-abbrev pub asks_for_more : List Row → Bool
-asks_for_more given = is_some (word_of (codes "save") given)
-    || (is_set (codes "stop") given || nat_lt 0 (length (words_of (codes "filter") given)))
-
--- the script of `run` is several files
-abbrev pub names_several : List Row → Bool
-names_several given = nat_lt 1 (length (words_of file given))
-
 -- how `run` carries a script out, of which some is in files or none is
 pub record IsRunning (given : List Row) (terminals : Terminals) (has_files : Bool) (how : Running) : Type 0 where
   pub is_explained : how.is_explained ≡ tells given terminals has_files
@@ -201,7 +191,7 @@ abbrev pub Sets : CommandName → List Row → Terminals → Request → Type 0
 Sets command.Check given terminals (request.Check how sources) =
     SaysSize given how.size × IsChecking given terminals (list_any is_file sources.items) how
 Sets command.Diff given terminals (request.Diff how old new) = SaysSize given how.size × (how ≡ comparing_of given terminals how.size)
-Sets command.Domain given terminals (request.Script engine.Domain source is_told) =
+Sets command.Domain given terminals (request.Domain source is_told) =
     (is_told ≡ tells given terminals (is_file source)) × (word_of (codes "page") given ≡ None) × (word_of (codes "compare") given ≡ None)
     × (word_of (codes "format") given ≡ None)
 Sets command.Domain given terminals (request.Page source is_told page) =
@@ -220,12 +210,7 @@ Sets command.List given terminals (request.List size is_code source is_told) = (
     × (is_code ≡ is_set (codes "code") given) × (is_told ≡ tells given terminals (is_file source))
 Sets command.Replay given terminals (request.Replay sources) = ⊤
 Sets command.Rewrite given terminals (request.Rewrite is_old) = is_old ≡ is_set (codes "old") given
-Sets command.Run given terminals (request.Run how source) =
-    IsRunning given terminals (is_file source) how × (asks_for_more given ≡ true) × (names_several given ≡ false)
-Sets command.Run given terminals (request.RunJoined how sources) =
-    IsRunning given terminals (list_any is_file sources.items) how × (names_several given ≡ true)
-Sets command.Run given terminals (request.Script engine.Router source is_told) =
-    (is_told ≡ tells given terminals (is_file source)) × (asks_for_more given ≡ false) × (names_several given ≡ false)
+Sets command.Run given terminals (request.Run how sources) = IsRunning given terminals (list_any is_file sources.items) how
 Sets command.Test given terminals (request.Test how sources) = how ≡ testing_of given terminals sources.items
 Sets _ given terminals _ = ⊥
 

@@ -68,6 +68,7 @@ abbrev pub sources_of : Request → List Source
 sources_of (request.Check how sources) = sources.items
 sources_of (request.Compare format old new is_explained) = old ∷ new ∷ []
 sources_of (request.Diff how old new) = old ∷ new ∷ []
+sources_of (request.Domain source is_explained) = source ∷ []
 sources_of (request.Eval is_told) = Input ∷ []
 sources_of (request.Explain page) = []
 sources_of (request.List size is_code source is_explained) = source ∷ []
@@ -77,7 +78,5 @@ sources_of (request.Lint how sources) = sources.items
 sources_of (request.Page source is_explained page) = source ∷ []
 sources_of (request.Replay sources) = sources.items
 sources_of (request.Rewrite is_old) = Input ∷ []
-sources_of (request.Run how source) = filter_sources how.filters.items ++ source ∷ []
-sources_of (request.RunJoined how sources) = filter_sources how.filters.items ++ sources.items
-sources_of (request.Script engine source is_explained) = source ∷ []
+sources_of (request.Run how sources) = filter_sources how.filters.items ++ sources.items
 sources_of (request.Test how sources) = sources.items

@@ -90,7 +90,7 @@ fn class_table() -> &'static [Class]
 const MOST_CODES: u32 = 20;
 
 /// What `explain` shows of a code, of a letter, or of no word. Small letters do for large ones. None if there is no such code.
-pub fn page_of(alloc: Global, word: &str) -> Result<Option<String>, AllocError>
+pub(crate) fn page_of(alloc: Global, word: &str) -> Result<Option<String>, AllocError>
     ensures { IfOk result (λ page. MatchOption page (page_head word.now ≡ None) (λ page. IsPage word.now (string_bytes page))) }
 {
     if word.is_empty() {

@@ -13,7 +13,7 @@ use std::alloc::{AllocError, Global};
 const VERSION: &str = "0.1.0 (Rattle logic dac8208d650f15bf)";
 
 /// The program, with all commands. Options that are one of some words take these.
-pub fn program<'a>(alloc: Global, choices: Choices<'a>) -> Result<Command<'a>, AllocError>
+pub(crate) fn program<'a>(alloc: Global, choices: Choices<'a>) -> Result<Command<'a>, AllocError>
     ensures { IfOk result (λ program. app_of program ≡ spec.program choices.entry) }
 {
     bare_program(alloc).subcommands(commands_of(alloc, choices)?)
@@ -75,7 +75,7 @@ fn all_commands() -> &'static [(&'static str, &'static str)]
 }
 
 /// The table of options and arguments, likewise.
-pub fn all_parameters() -> &'static [(&'static str, Parameter)]
+pub(crate) fn all_parameters() -> &'static [(&'static str, Parameter)]
     ensures { map spec.taken_by result.now ≡ spec.all_taken }
 {
     &PARAMETERS

@@ -6,20 +6,20 @@ ghost use Rattle.command_line.specs.declared.command_names.CommandName.TheVarian
 
 use crate::format_words::format_in;
 use crate::given::word_given;
-use crate::requests::{Engine, Request, one_source, source_of, tells_in, text_in, told_source};
+use crate::requests::{Request, one_source, source_of, tells_in, text_in, told_source};
 use crate::terminals::Terminals;
 use clap::ArgMatches;
 use std::alloc::{AllocError, Global};
 
 /// Whether the words of `domain` ask for a page and for a comparison, of which there is none on a page.
-pub fn pages_a_comparison(matches: &ArgMatches<'_>) -> bool
+pub(crate) fn pages_a_comparison(matches: &ArgMatches<'_>) -> bool
     ensures { result ≡ spec.pages_a_comparison (given_in matches.now) }
 {
     word_given(matches, "page").is_some() && word_given(matches, "compare").is_some()
 }
 
 /// Whether the words of `domain` say how a comparison is written, and ask for none.
-pub fn formats_no_comparison(matches: &ArgMatches<'_>) -> bool
+pub(crate) fn formats_no_comparison(matches: &ArgMatches<'_>) -> bool
     ensures { result ≡ spec.formats_no_comparison (given_in matches.now) }
 {
     word_given(matches, "format").is_some() && word_given(matches, "compare").is_none()
@@ -42,8 +42,7 @@ fn script_in(
             is_explained,
             page,
         }),
-        None => Ok(Request::Script {
-            engine: Engine::Domain,
+        None => Ok(Request::Domain {
             source,
             is_explained,
         }),
@@ -51,7 +50,7 @@ fn script_in(
 }
 
 /// What the words of `domain` ask for.
-pub fn domain_in(
+pub(crate) fn domain_in(
     alloc: Global,
     matches: &ArgMatches<'_>,
     terminals: Terminals,

@@ -5,7 +5,7 @@ ghost use Rattle.command_line.specs.CommandNames.{command_of};
 
 /// What the help of this command says, if it says more than the options do.
 #[tactic(auto, unfolding(crate::specs::CommandNames::command_of))]
-pub fn help_of(command: &str) -> Option<&'static str>
+pub(crate) fn help_of(command: &str) -> Option<&'static str>
     ensures { is_some result ≡ (is_some (command_of command.now) && not (bytes_eq command.now (codes "explain"))) }
 {
     match command {

@@ -27,7 +27,7 @@ mod words;
 pub use diff_words::Comparing;
 pub use filter_words::{NamedFile, WrongFilter, filters_in};
 pub use lint_words::Linting;
-pub use requests::{Checking, Engine, Importing, Request, RouteReport, Running, Source, Trying};
+pub use requests::{Checking, Importing, Request, RouteReport, Running, Source, Trying};
 pub use router_words::RouterWords;
 pub use telling::{Telling, is_explained};
 pub use terminals::{Terminals, tell_that_input_is_read, waits_for_people};

@@ -38,15 +38,6 @@ impl Source {
     }
 }
 
-/// Who carries out a script.
-#[derive(Clone, Copy)]
-pub enum Engine {
-    /// A router.
-    Router,
-    /// A whole domain.
-    Domain,
-}
-
 /// How sources are checked.
 #[derive(Clone, Copy)]
 pub struct Checking {
@@ -92,7 +83,7 @@ pub struct Trying {
     pub tells_routes: bool,
 }
 
-/// How a router's script is carried out, where more is asked for than its answers.
+/// How a router's script is carried out.
 #[derive(Drop)]
 pub struct Running {
     /// A refusal is told in words too.
@@ -143,6 +134,13 @@ pub enum Request {
         old: Source,
         /// Where the text of the filter as it will be is.
         new: Source,
+    },
+    /// Carry out the script of a domain.
+    Domain {
+        /// Where its commands are.
+        source: Source,
+        /// Why a line is refused is told in words too.
+        is_explained: bool,
     },
     /// Take the routes of standard input through the code in its first line.
     Eval {
@@ -205,28 +203,12 @@ pub enum Request {
         /// It is written in the older form.
         is_old: bool,
     },
-    /// Carry out the script of a router, and keep its history or end at its first refused line.
+    /// Carry out the script of a router that sources are, one after another.
     Run {
-        /// How it is carried out.
-        how: Running,
-        /// Where its commands are.
-        source: Source,
-    },
-    /// Carry out the script of a router that several sources are, one after another.
-    RunJoined {
         /// How it is carried out.
         how: Running,
         /// Where its commands are, in order.
         sources: Vec<Source>,
-    },
-    /// Carry out a script.
-    Script {
-        /// Who carries it out.
-        engine: Engine,
-        /// Where its commands are.
-        source: Source,
-        /// Why a filter is refused is told in words too.
-        is_explained: bool,
     },
     /// Run test files.
     Test {
@@ -238,7 +220,7 @@ pub enum Request {
 }
 
 /// The source of a name: standard input for `-`.
-pub fn source_of(alloc: Global, name: &str) -> Result<Source, AllocError>
+pub(crate) fn source_of(alloc: Global, name: &str) -> Result<Source, AllocError>
     ensures { IfOk result (IsNamed name.now) }
 {
     if name == "-" {
@@ -269,7 +251,7 @@ fn input_alone(alloc: Global) -> Result<Vec<Source>, AllocError>
 }
 
 /// The sources of these names: standard input where there are none, and for `-`.
-pub fn sources_in(alloc: Global, names: &[&str]) -> Result<Vec<Source>, AllocError>
+fn sources_in(alloc: Global, names: &[&str]) -> Result<Vec<Source>, AllocError>
     ensures { IfOk result (λ sources. AreSources (map (λ name. name.now) names.now) sources.items) }
 {
     if names.is_empty() {
@@ -280,21 +262,21 @@ pub fn sources_in(alloc: Global, names: &[&str]) -> Result<Vec<Source>, AllocErr
 }
 
 /// Whether one of these sources is a file.
-pub fn has_files(sources: &[Source]) -> bool
+pub(crate) fn has_files(sources: &[Source]) -> bool
     ensures { result ≡ list_any spec.is_file sources.now }
 {
     sources.iter().any(|source| !source.is_input())
 }
 
 /// The sources that the words of a command name, which takes any number of them.
-pub fn files_in(alloc: Global, matches: &ArgMatches<'_>) -> Result<Vec<Source>, AllocError>
+pub(crate) fn files_in(alloc: Global, matches: &ArgMatches<'_>) -> Result<Vec<Source>, AllocError>
     ensures { IfOk result (λ sources. AreNamed (or_input (words_of file (given_in matches.now))) sources.items) }
 {
     sources_in(alloc, words_given(matches, "file"))
 }
 
 /// The source that an argument names, which takes one: standard input where it is not given.
-pub fn one_source(
+pub(crate) fn one_source(
     alloc: Global,
     matches: &ArgMatches<'_>,
     argument: &str,
@@ -305,14 +287,14 @@ pub fn one_source(
 }
 
 /// Whether a refusal is told in words, where sources are files that were named or not.
-pub fn tells_in(matches: &ArgMatches<'_>, terminals: Terminals, has_files: bool) -> bool
+pub(crate) fn tells_in(matches: &ArgMatches<'_>, terminals: Terminals, has_files: bool) -> bool
     ensures { result ≡ tells (given_in matches.now) terminals has_files }
 {
     is_explained(Telling::read(matches), terminals.errors, has_files)
 }
 
 /// The source that the words of a command name, which takes one, and whether its refusal is told in words.
-pub fn told_source(
+pub(crate) fn told_source(
     alloc: Global,
     matches: &ArgMatches<'_>,
     terminals: Terminals,
@@ -375,7 +357,7 @@ fn telling_if_asked(how: Checking) -> Checking
 }
 
 /// What the words of `check` ask for, with the size that they say.
-pub fn check_in(
+pub(crate) fn check_in(
     alloc: Global,
     matches: &ArgMatches<'_>,
     size: u32,
@@ -390,7 +372,7 @@ pub fn check_in(
 }
 
 /// What the words of `eval` ask for.
-pub fn eval_in(matches: &ArgMatches<'_>, terminals: Terminals) -> Request
+pub(crate) fn eval_in(matches: &ArgMatches<'_>, terminals: Terminals) -> Request
     ensures { AskFor command.Eval (given_in matches.now) terminals result }
 {
     Request::Eval {
@@ -399,7 +381,7 @@ pub fn eval_in(matches: &ArgMatches<'_>, terminals: Terminals) -> Request
 }
 
 /// What the words of `rewrite` ask for.
-pub fn rewrite_in(matches: &ArgMatches<'_>, terminals: Terminals) -> Request
+pub(crate) fn rewrite_in(matches: &ArgMatches<'_>, terminals: Terminals) -> Request
     ensures { AskFor command.Rewrite (given_in matches.now) terminals result }
 {
     Request::Rewrite {
@@ -408,7 +390,7 @@ pub fn rewrite_in(matches: &ArgMatches<'_>, terminals: Terminals) -> Request
 }
 
 /// The text of an option, if it is given.
-pub fn text_in(
+pub(crate) fn text_in(
     alloc: Global,
     matches: &ArgMatches<'_>,
     name: &str,
@@ -433,7 +415,7 @@ fn copies_of(alloc: Global, texts: &[&str]) -> Result<Vec<String>, AllocError>
 }
 
 /// The values of an option, in order.
-pub fn values_of(
+pub(crate) fn values_of(
     alloc: Global,
     matches: &ArgMatches<'_>,
     name: &str,
@@ -444,7 +426,7 @@ pub fn values_of(
 }
 
 /// What the words of `list` ask for.
-pub fn list_in(
+pub(crate) fn list_in(
     alloc: Global,
     matches: &ArgMatches<'_>,
     terminals: Terminals,
@@ -461,7 +443,7 @@ pub fn list_in(
 }
 
 /// What the words of `import` ask for, with the size that they say.
-pub fn import_in(
+pub(crate) fn import_in(
     alloc: Global,
     matches: &ArgMatches<'_>,
     size: u32,
@@ -481,7 +463,7 @@ pub fn import_in(
 }
 
 /// What the words of `replay` ask for.
-pub fn replay_in(
+pub(crate) fn replay_in(
     alloc: Global,
     matches: &ArgMatches<'_>,
     terminals: Terminals,

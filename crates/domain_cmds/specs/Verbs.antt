@@ -1,6 +1,6 @@
 -- The first words of commands. (This project's own choice.)
-use Rattle.std.specs.Prelude.{ℕ, Bool, List, [], ◌∷◌, Option, find, codes}
-use Rattle.std.specs.Str.{bytes_eq}
+use Rattle.std.specs.Prelude.{ℕ, List, [], ◌∷◌, Option, find, codes}
+use Rattle.line_protocol.specs.Words.{is_spelled}
 use Rattle.domain_cmds.specs.declared.verb.Verb.{Verb}
 use Rattle.domain_cmds.specs.declared.verb.Verb.TheVariants.{Domain, Prefix, Load, Code, Link, Cut, Import, Export}
 use Rattle.domain_cmds.specs.declared.verb.Verb.TheVariants.{Anew, Route, Path, Table, Draw, Reach, Mark, Changes, Failures, Settle, Json}
@@ -33,10 +33,6 @@ verbs =
     Domain ∷ Prefix ∷ Load ∷ Code ∷ Link ∷ Cut ∷ Import ∷ Export ∷ Anew ∷ Route ∷ Path ∷ Table ∷ Draw ∷ Reach ∷ Mark ∷ Changes ∷ Failures ∷ Settle
     ∷ Json ∷ []
 
--- whether a verb is written so
-abbrev pub is_spelled : List ℕ → Verb → Bool
-is_spelled word verb = bytes_eq (verb_text verb) word
-
 -- the verb that is written so
 unfoldable pub verb_in : List ℕ → Option Verb
-verb_in word = find (is_spelled word) verbs
+verb_in word = find (is_spelled verb_text word) verbs

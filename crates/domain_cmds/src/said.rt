@@ -18,11 +18,11 @@ use domain_reports::{
     DomainReport, Effect, Fails, FailureReport, FilterReport, LinkReport, RouteReport,
 };
 use domain_routes::Plan;
-use filter_reports::push_prefix;
 use filter_verifier::Verified;
 use netchange_core::{Opening, Via, filtered_distance};
 use operator_cmds::Direction;
 use prefix_patterns::Prefix;
+use refusal_words::push_prefix;
 use std::alloc::{AllocError, Global};
 use std::marker::Model;
 use std::sync::Arc;

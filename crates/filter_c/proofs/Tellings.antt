@@ -10,7 +10,7 @@ use Rattle.filter_source.specs.declared.failure.Failure.{Failure}
 use Rattle.filter_source.specs.declared.failure.Failure.TheVariants as failure
 use Rattle.filter_verifier.specs.Safe.{IsSafe}
 use Rattle.filter_verifier.specs.VerifiedView.{VerifiedView}
-use Rattle.filter_reports.specs.Explanations.{AreRefusalWords}
+use Rattle.refusal_words.specs.Explanations.{AreRefusalWords}
 use Rattle.filter_reports.specs.VerifiedFilters.{IsVerifiedOf}
 use Rattle.filter_c.specs.Openings.{IsDiagnosisOfFile, IsTold, IsVerifiedFile, Shows, Tells, put, refused_told}
 use Rattle.filter_c.specs.declared.refused.Refused.{Refused}

@@ -1,8 +1,8 @@
 -- What C reads of a source that is opened, or refused. (This project's own choice.)
 use Rattle.std.specs.Prelude.{◌≡◌, ◌⊎◌, ℕ, ◌+◌, ◌-◌, List, [], ◌∷◌, ◌++◌, Option, Some, None, Ok, Err, drop, if◌then◌else◌, length, min, nat_lt, take}
 use Rattle.filter_code.specs.CodeView.{CodeView}
-use Rattle.filter_reports.specs.Explanations.{AreRefusalWords}
-use Rattle.filter_reports.specs.Places.{column_at, line_at}
+use Rattle.refusal_words.specs.Explanations.{AreRefusalWords}
+use Rattle.refusal_words.specs.Places.{column_at, line_at}
 use Rattle.filter_source.specs.Diagnoses.{TellsOfCode, TellsOfFile}
 use Rattle.filter_source.specs.Refusals.{refusal_code, refusal_place}
 use Rattle.filter_source.specs.Sources.{IsUnsafe, code_in_file}

@@ -2,8 +2,8 @@
 ghost use Rattle.std.specs.Prelude.{◌≡◌, ◌≢◌, OnErr, OnOk};
 ghost use Rattle.filter_c.specs.Openings.{IsTold, Shows, code_bytes, column_of, line_of, put};
 
-use filter_reports::{place_in, refusal_words};
 use filter_source::{Diagnosis, Failure};
+use refusal_words::{place_in, refusal_words};
 use std::alloc::{AllocError, Global};
 
 /// The source is refused.
@@ -92,7 +92,7 @@ fn show(
 }
 
 /// What C is told of a failure.
-pub fn tell(
+pub(crate) fn tell(
     alloc: Global,
     text: &[u8],
     failure: Failure,

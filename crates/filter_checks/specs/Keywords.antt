@@ -1,6 +1,6 @@
 -- The fixed words of a test file. (This project's own choice.)
-use Rattle.std.specs.Prelude.{ℕ, Bool, List, [], ◌∷◌, Option, find, codes}
-use Rattle.std.specs.Str.{bytes_eq}
+use Rattle.std.specs.Prelude.{ℕ, List, [], ◌∷◌, Option, find, codes}
+use Rattle.line_protocol.specs.Words.{is_spelled}
 use Rattle.filter_checks.specs.declared.keyword.Keyword.{Keyword}
 use Rattle.filter_checks.specs.declared.keyword.Keyword.TheVariants as word
 
@@ -18,10 +18,6 @@ keyword_text word.Reject = codes "reject"
 abbrev pub keywords : List Keyword
 keywords = word.Filter ∷ word.Size ∷ word.Every ∷ word.Metric ∷ word.Arrow ∷ word.Accept ∷ word.Reject ∷ []
 
--- whether a keyword is written so
-abbrev pub is_spelled : List ℕ → Keyword → Bool
-is_spelled text keyword = bytes_eq (keyword_text keyword) text
-
 -- the keyword that is written so
 unfoldable pub keyword_in : List ℕ → Option Keyword
-keyword_in text = find (is_spelled text) keywords
+keyword_in text = find (is_spelled keyword_text text) keywords

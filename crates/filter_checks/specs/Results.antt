@@ -4,7 +4,7 @@ use Rattle.std.specs.Prelude.{ℕ, List, [], ◌∷◌, ◌++◌, None, Some, co
 use Rattle.filter_diff.specs.declared.checking.Checked.{Checked}
 use Rattle.filter_diff.specs.declared.checking.Checked.TheVariants as checked
 use Rattle.filter_diff.specs.declared.checking.Counterexample.{Counterexample}
-use Rattle.filter_reports.specs.Places.{before_first_feed}
+use Rattle.refusal_words.specs.Places.{before_first_feed}
 use Rattle.report_formats.specs.Cases.{broken_case, document_end, document_head, failed_case, passed_case}
 use Rattle.report_formats.specs.Reports.{ReportView, report_line}
 use Rattle.report_formats.specs.declared.format.TestFormat.{TestFormat}

@@ -3,7 +3,7 @@ use Rattle.std.specs.Prelude.{ℕ, ◌+◌, ◌==◌, ◌||◌, Bool, true, fals
 use Rattle.filter_diff.specs.declared.checking.Checked.{Checked}
 use Rattle.filter_diff.specs.declared.checking.Checked.TheVariants as checked
 use Rattle.filter_diff.specs.declared.checking.Counterexample.{Counterexample}
-use Rattle.filter_reports.specs.Shown.{shown}
+use Rattle.refusal_words.specs.Shown.{shown}
 use Rattle.filter_checks.specs.PartLines.{outcome_text}
 use Rattle.prefix_patterns.specs.Spelling.{prefix_text}
 use Rattle.filter_checks.specs.declared.testing.Ran.{Ran}

@@ -3,7 +3,7 @@ use Rattle.std.specs.Prelude.{◌≡◌, ◌≢◌, ◌⊎◌, ℕ, Bool, false,
 use Rattle.std.specs.Io.KnownBytes.{Appends, Keeps}
 use Rattle.filter_code.specs.CodeView.{CodeView}
 use Rattle.filter_reports.specs.Checking.{IsDiagnosis}
-use Rattle.filter_reports.specs.Explanations.{IsExplanation}
+use Rattle.refusal_words.specs.Explanations.{IsExplanation}
 use Rattle.filter_diff.specs.Expectations.{IsFoundOf}
 use Rattle.filter_diff.specs.Parts.{IsEnough}
 use Rattle.filter_diff.specs.declared.checking.Checked.TheVariants as checked

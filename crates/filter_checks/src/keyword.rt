@@ -1,7 +1,9 @@
 //! The fixed words of a test file.
-ghost use Rattle.std.specs.Prelude.{◌≡◌, find};
+ghost use Rattle.std.specs.Prelude.{◌≡◌};
 ghost use Rattle.std.specs.Str.{bytes_eq};
 ghost use Rattle.filter_checks.specs.Keywords as spec;
+
+use line_protocol::{Spelled, first_spelled};
 
 /// A word that says what follows it.
 #[derive(Clone, Copy)]
@@ -33,13 +35,12 @@ static KEYWORDS: [Keyword; 7] = [
     Keyword::Reject,
 ];
 
-impl Keyword {
+impl Spelled for Keyword {
     ghost use Rattle.filter_checks.specs.Keywords.{keyword_text};
 
-    /// How it is written.
-    fn text(&self) -> &'static str
-        ensures { result.now ≡ keyword_text self.now }
-    {
+    ghost spelling = { keyword_text };
+
+    fn text(&self) -> &'static str {
         match self {
             Keyword::Filter => "filter",
             Keyword::Size => "size",
@@ -58,18 +59,6 @@ pub(crate) fn find_keyword(word: &[u8]) -> Option<Keyword>
     ensures { spec.keyword_in word.now ≡ result }
 {
     first_spelled(&KEYWORDS, word)
-}
-
-/// The first of the keywords that is written so.
-fn first_spelled(keywords: &[Keyword], word: &[u8]) -> Option<Keyword>
-    ensures { find (spec.is_spelled word.now) keywords.now ≡ result }
-{
-    for keyword in keywords {
-        if keyword.text().as_bytes() == word {
-            return Some(*keyword);
-        }
-    }
-    None
 }
 
 /// Whether a word is `every`.

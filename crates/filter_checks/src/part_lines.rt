@@ -4,8 +4,8 @@ ghost use Rattle.filter_checks.specs.PartLines as spec;
 
 use filter_code::Outcome;
 use filter_diff::{Ending, Finding, RoutePart, count_undecided};
-use filter_reports::push_prefix;
 use line_protocol::push_decimal;
+use refusal_words::push_prefix;
 use std::alloc::{AllocError, Global};
 
 /// So many parts have a line at most.

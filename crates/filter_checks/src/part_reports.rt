@@ -10,8 +10,8 @@ use crate::part_lines::{
     shown_parts,
 };
 use filter_diff::{Answer, Ending, Finding, RoutePart, answer_of, count_undecided};
-use filter_reports::push_prefix;
 use prefix_patterns::Prefix;
+use refusal_words::push_prefix;
 use report_formats::{Format, PartReport, Report, Severity, push_part, push_report};
 use std::alloc::{AllocError, Global};
 

@@ -9,7 +9,7 @@ ghost use Rattle.filter_checks.specs.Results as spec;
 use crate::tap::{all_lines, plan_line, push_found, skipped_line};
 use crate::testing::Ran;
 use filter_diff::{Checked, Counterexample};
-use filter_reports::place_in;
+use refusal_words::place_in;
 use report_formats::{
     Report, Severity, TestFormat, document_end, document_head, push_broken, push_failed,
     push_passed, push_report,

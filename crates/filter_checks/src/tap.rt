@@ -12,8 +12,8 @@ ghost use Rattle.filter_checks.specs.Tap as spec;
 use crate::part_lines::push_outcome;
 use crate::testing::Ran;
 use filter_diff::{Checked, Counterexample};
-use filter_reports::{push_prefix, push_shown};
 use line_protocol::push_decimal;
+use refusal_words::{push_prefix, push_shown};
 use std::alloc::{AllocError, Global};
 
 /// How the line of a test begins.

@@ -6,7 +6,7 @@ use Rattle.std.specs.Option.{option_map_or}
 use Rattle.std.specs.Str.{bytes_eq}
 use Rattle.std.specs.Str.Lines.{strip_carriage_return}
 use Rattle.std.specs.declared.alloc.Global.{Global}
-use Rattle.filter_reports.specs.Places.{before_first_feed}
+use Rattle.refusal_words.specs.Places.{before_first_feed}
 use Rattle.line_protocol.specs.Words.{words}
 use Rattle.prefix_patterns.specs.Reading.{◌>>=◌}
 use Rattle.filter_lint.specs.WarningLines.{code_of}

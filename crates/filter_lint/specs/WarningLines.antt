@@ -8,9 +8,9 @@ use Rattle.filter_tokens.specs.Lexemes.{covered}
 use Rattle.filter_code.specs.declared.outcome.Outcome.{Outcome}
 use Rattle.filter_code.specs.declared.outcome.Outcome.TheVariants as outcome
 use Rattle.filter_diff.specs.declared.ordering.Disorder.{Disorder}
-use Rattle.filter_reports.specs.Explanations.{message, position}
-use Rattle.filter_reports.specs.Places.{column_at, line_at}
-use Rattle.filter_reports.specs.Shown.{shown}
+use Rattle.refusal_words.specs.Explanations.{message, position}
+use Rattle.refusal_words.specs.Places.{column_at, line_at}
+use Rattle.refusal_words.specs.Shown.{shown}
 use Rattle.report_formats.specs.Reports.{ReportView, report_line}
 use Rattle.report_formats.specs.declared.format.Format.{Format}
 use Rattle.report_formats.specs.declared.format.Format.TheVariants as formats

@@ -15,8 +15,8 @@ ghost use Rattle.filter_lint.specs.Allowing as spec;
 
 use crate::host_bits::HostBits;
 use crate::warning::Warning;
-use filter_reports::place_in;
 use line_protocol::{next_word, strip_carriage_return};
+use refusal_words::place_in;
 use std::alloc::{AllocError, Global};
 
 /// Whether a word is this one.

@@ -1,6 +1,6 @@
 //! W4 by itself, for whoever tells it at places of another text than the filter's own.
 ghost use Rattle.std.specs.Prelude.{◌≡◌, ◌++◌, All, IfOk, OnOk};
-ghost use Rattle.filter_reports.specs.Explanations.{coded};
+ghost use Rattle.refusal_words.specs.Explanations.{coded};
 ghost use Rattle.filter_lint.specs.Sets.{overlapping_members as members};
 ghost use Rattle.filter_lint.specs.Truths.{IsTrueOf};
 ghost use Rattle.filter_lint.specs.WarningLines as lines;

@@ -1,7 +1,7 @@
 //! The lines of warnings.
 ghost use Rattle.std.specs.Prelude.{◌≡◌, ◌++◌, IfOk, OnOk, codes, flat_map};
-ghost use Rattle.filter_reports.specs.Explanations.{message};
-ghost use Rattle.filter_reports.specs.Shown.{shown};
+ghost use Rattle.refusal_words.specs.Explanations.{message};
+ghost use Rattle.refusal_words.specs.Shown.{shown};
 ghost use Rattle.filter_lint.specs.WarningLines as spec;
 
 use crate::host_bits::{HostBits, bytes_of};
@@ -12,9 +12,9 @@ use crate::warning_reports::{
 };
 use filter_code::Outcome;
 use filter_diff::Disorder;
-use filter_reports::{place_in, push_position, push_prefix, push_shown};
 use line_protocol::push_decimal;
 use prefix_patterns::{ADDRESS_LENGTH, Pattern, PatternSet};
+use refusal_words::{place_in, push_position, push_prefix, push_shown};
 use report_formats::Format;
 use std::alloc::{AllocError, Global};
 

@@ -8,8 +8,8 @@ use crate::warning::{Cause, Warning};
 use crate::warning_lines::{
     push_host_bits, push_host_bits_words, push_undecided, push_unordered, push_warning, push_words,
 };
-use filter_reports::place_in;
 use prefix_patterns::PatternSet;
+use refusal_words::place_in;
 use report_formats::{Format, Report, Severity, push_report};
 use std::alloc::{AllocError, Global};
 

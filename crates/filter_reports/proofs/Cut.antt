@@ -4,7 +4,7 @@ use Rattle.filter_source.specs.declared.diagnosis.Diagnosis.{Diagnosis}
 use Rattle.line_protocol.specs.Runs.{AppendsFront}
 use Rattle.line_protocol.specs.declared.faults.StreamFault.{StreamFault}
 use Rattle.line_protocol.specs.declared.faults.StreamFault.TheVariants.{Write}
-use Rattle.filter_reports.specs.Explanations.{IsExplanation}
+use Rattle.refusal_words.specs.Explanations.{IsExplanation}
 use Rattle.filter_reports.specs.Telling.{IsCutExplanation}
 
 -- an explanation that a writer cut

@@ -30,7 +30,7 @@ use Rattle.line_protocol.specs.declared.faults.StreamFault.TheVariants.{Read, Wr
 use Rattle.filter_reports.specs.Check.{GivesCode, IsRefused, verdict_on}
 use Rattle.filter_reports.specs.Checking.{ArePlaces}
 use Rattle.filter_reports.specs.VerifiedFilters.{refusal_line}
-use Rattle.filter_reports.specs.Places.{column_at, line_at}
+use Rattle.refusal_words.specs.Places.{column_at, line_at}
 
 -- the mark of an int that is at least the metric received
 abbrev pub mark : Bool → List ℕ

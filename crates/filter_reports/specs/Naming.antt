@@ -8,7 +8,7 @@ use Rattle.filter_reports.specs.Checking.{IsCutOff, Reports}
 use Rattle.filter_reports.specs.Cuts.{IsCut}
 use Rattle.filter_reports.specs.VerifiedFilters.{refusal_line}
 use Rattle.filter_reports.specs.Listing.{IsCutListing, WritesListing}
-use Rattle.filter_reports.specs.Shown.{shown}
+use Rattle.refusal_words.specs.Shown.{shown}
 use Rattle.filter_reports.specs.Telling.{Explains, IsCutExplanation}
 use Rattle.filter_reports.specs.declared.named_text.NamedText.{NamedText}
 

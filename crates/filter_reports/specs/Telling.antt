@@ -5,7 +5,7 @@ use Rattle.filter_source.specs.declared.diagnosis.Diagnosis.{Diagnosis}
 use Rattle.line_protocol.specs.Runs.{AppendsFront}
 use Rattle.line_protocol.specs.declared.faults.StreamFault.{StreamFault}
 use Rattle.line_protocol.specs.declared.faults.StreamFault.TheVariants.{Read, Write, Memory, TooLong}
-use Rattle.filter_reports.specs.Explanations.{IsExplanation}
+use Rattle.refusal_words.specs.Explanations.{IsExplanation}
 
 -- A refusal is explained, and nothing is said of a source that is not refused. `held` and `holds` are what standard error held
 -- before and holds now.

@@ -22,12 +22,12 @@ ghost use Rattle.filter_reports.specs.Listing.{nothing_known, origin_in, place_t
 
 use crate::check::code_of;
 use crate::fault::ProgramFault;
-use crate::position::Positions;
 use crate::refusal::refusal_line;
 use filter_code::{Code, Instr};
 use filter_source::{CompiledSource, Diagnosis, Failure, Refusal, place_at, push_bounds};
 use filter_verifier::{AbstractFrame, Fact, InState, Range, RunBounds, Unverified, survey_code};
 use line_protocol::{push_decimal, push_refusal, write_text};
+use refusal_words::Positions;
 use std::alloc::{AllocError, Global};
 use std::io::Write;
 

@@ -12,13 +12,12 @@ ghost use Rattle.filter_reports.specs.Naming.{ListsNamedOff, TellsInWords, Tells
 ghost use Rattle.filter_reports.specs.Telling.{Explains, IsCutExplanation};
 
 use crate::check::{Checked, write_report};
-use crate::explanation::explain;
 use crate::fault::ProgramFault;
 use crate::listing::write_told_listing;
 use crate::refusal::refusal_line;
-use crate::shown::push_shown;
 use filter_source::{Diagnosis, Refusal};
 use line_protocol::write_text;
+use refusal_words::{explain, push_shown};
 use std::alloc::{AllocError, Global};
 use std::io::Write;
 

@@ -44,7 +44,7 @@ fn refused(mut text: Vec<u8>, told: Diagnosis) -> Result<Report, AllocError>
 }
 
 /// The report on an input that is refused: one line.
-pub fn report_refusal(alloc: Global, told: Diagnosis) -> Result<Report, AllocError>
+pub(crate) fn report_refusal(alloc: Global, told: Diagnosis) -> Result<Report, AllocError>
     ensures text { IfOk result (λ report. report_of report ≡ refusal_report told.refusal) }
     ensures ends { IfOk result (λ report. EndsWith report.diagnosis report.text.items) }
     ensures diagnosis { IfOk result (λ report. report.diagnosis ≡ Some told) }
@@ -77,7 +77,7 @@ fn line_of_code(alloc: Global, code: &Code) -> Result<Vec<u8>, AllocError>
 
 /// The report on code whose instructions come from these places, for domains of a size: the code's line, and then its bounds or why it is
 /// refused.
-pub fn report_code(
+pub(crate) fn report_code(
     alloc: Global,
     code: Code,
     places: &[usize],

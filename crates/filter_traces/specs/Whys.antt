@@ -21,7 +21,7 @@ use Rattle.route_answers.specs.RouteLine.{line_code, route_in}
 use Rattle.route_answers.specs.declared.line_fault.LineFault.{LineFault}
 use Rattle.filter_reports.specs.VerifiedFilters.{refusal_line}
 use Rattle.route_answers.specs.Filtering.{AnswersEach, AnswersFirst, BreaksOff}
-use Rattle.filter_reports.specs.Places.{column_at, line_at}
+use Rattle.refusal_words.specs.Places.{column_at, line_at}
 use Rattle.route_answers.specs.declared.filter.Filtered.{Filtered}
 use Rattle.route_answers.specs.declared.filter.Filtered.TheVariants.{Refused, Answered}
 use Rattle.filter_traces.specs.Sites.{site_text}

@@ -8,8 +8,8 @@ ghost use Rattle.filter_traces.specs.Told.{sign, step_line, told, told_line, tru
 use crate::site::{Site, push_site, word_of};
 use crate::traced::Traced;
 use filter_code::{Instr, Value};
-use filter_reports::push_prefix;
 use line_protocol::push_decimal;
+use refusal_words::push_prefix;
 use std::alloc::{AllocError, Global};
 
 /// What is seen of a step.

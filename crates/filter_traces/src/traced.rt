@@ -8,9 +8,10 @@ ghost use Rattle.filter_traces.specs.Whys.{IsTraceOf, site_in};
 
 use crate::site::Site;
 use filter_code::{Code, Instr};
-use filter_reports::{PlacedCode, Positions, placed_code};
+use filter_reports::{PlacedCode, placed_code};
 use filter_source::Failure;
 use filter_verifier::Verified;
+use refusal_words::Positions;
 use std::alloc::{AllocError, Global};
 use std::marker::Model;
 

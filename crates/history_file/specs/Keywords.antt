@@ -1,6 +1,7 @@
 -- The fixed words of a history's text. (This project's own choice.)
 use Rattle.std.specs.Prelude.{ℕ, Bool, List, [], ◌∷◌, Option, find, codes}
 use Rattle.std.specs.Str.{bytes_eq}
+use Rattle.line_protocol.specs.Words.{is_spelled}
 use Rattle.netchange_core.specs.Codes.{refusal_code}
 use Rattle.netchange_core.specs.declared.reply.EventRefusal.{EventRefusal}
 use Rattle.netchange_core.specs.declared.reply.EventRefusal.TheVariants as refusal
@@ -30,13 +31,9 @@ abbrev pub keywords : List Keyword
 keywords = word.Up ∷ word.Down ∷ word.Receive ∷ word.Take ∷ word.Import ∷ word.Export ∷ word.Show ∷ word.Opened ∷ word.Done
     ∷ word.Messages ∷ word.Route ∷ word.Refused ∷ word.Local ∷ word.Via ∷ word.Nowhere ∷ []
 
--- whether a keyword is written so
-abbrev pub is_spelled : List ℕ → Keyword → Bool
-is_spelled text keyword = bytes_eq (keyword_text keyword) text
-
 -- the keyword that is written so
 unfoldable pub keyword_in : List ℕ → Option Keyword
-keyword_in text = find (is_spelled text) keywords
+keyword_in text = find (is_spelled keyword_text text) keywords
 
 -- all reasons of a refusal
 abbrev pub refusals : List EventRefusal

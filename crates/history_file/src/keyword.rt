@@ -2,6 +2,7 @@
 ghost use Rattle.std.specs.Prelude.{◌≡◌, find};
 ghost use Rattle.history_file.specs.Keywords as spec;
 
+use line_protocol::{Spelled, first_spelled};
 use netchange_core::EventRefusal;
 
 /// A word that says what follows it.
@@ -69,13 +70,12 @@ static REFUSALS: [EventRefusal; 7] = [
     EventRefusal::NoSession,
 ];
 
-impl Keyword {
+impl Spelled for Keyword {
     ghost use Rattle.history_file.specs.Keywords.{keyword_text};
 
-    /// How it is written.
-    pub(crate) fn text(&self) -> &'static str
-        ensures { result.now ≡ keyword_text self.now }
-    {
+    ghost spelling = { keyword_text };
+
+    fn text(&self) -> &'static str {
         match self {
             Keyword::Up => "up",
             Keyword::Down => "down",
@@ -102,18 +102,6 @@ pub(crate) fn find_keyword(word: &[u8]) -> Option<Keyword>
     ensures { spec.keyword_in word.now ≡ result }
 {
     first_spelled(&KEYWORDS, word)
-}
-
-/// The first of the keywords that is written so.
-fn first_spelled(keywords: &[Keyword], word: &[u8]) -> Option<Keyword>
-    ensures { find (spec.is_spelled word.now) keywords.now ≡ result }
-{
-    for keyword in keywords {
-        if keyword.text().as_bytes() == word {
-            return Some(*keyword);
-        }
-    }
-    None
 }
 
 /// The refusal that has this code.

@@ -16,7 +16,7 @@ ghost use Rattle.history_file.specs.Views.{entry_view, event_view};
 use crate::keyword::Keyword;
 use code_file::write_code;
 use filter_verifier::Verified;
-use line_protocol::push_decimal;
+use line_protocol::{Spelled, push_decimal};
 use netchange_core::{Event, Message, Opening, ReplyRef, Via};
 use prefix_patterns::Prefix;
 use route_history::EntryRef;

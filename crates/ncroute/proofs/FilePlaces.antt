@@ -4,9 +4,9 @@ use Rattle.std.proofs.lemmas.Option.{slice_get-map, slice_get_past, slice_get_re
 use Rattle.std.specs.Option.{option_map}
 use Rattle.std.specs.Prelude.{decimal, slice_get}
 use Rattle.std.specs.Slice.{IsItemAt}
-use Rattle.filter_reports.specs.Explanations.{position}
-use Rattle.filter_reports.specs.Places.{column_at, line_at}
-use Rattle.filter_reports.specs.Shown.{shown}
+use Rattle.refusal_words.specs.Explanations.{position}
+use Rattle.refusal_words.specs.Places.{column_at, line_at}
+use Rattle.refusal_words.specs.Shown.{shown}
 use Rattle.ncroute.specs.Places.{FileView, file_of, place_in, texts_of}
 use Rattle.ncroute.specs.declared.including.File.{File}
 

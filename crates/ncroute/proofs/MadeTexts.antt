@@ -14,7 +14,7 @@ use Rattle.filter_source.specs.Failures.{OnDiagnosis}
 use Rattle.filter_source.specs.declared.diagnosis.Diagnosis.{Diagnosis}
 use Rattle.filter_source.specs.declared.failure.Failure.{Failure}
 use Rattle.filter_source.specs.declared.failure.Failure.TheVariants as failure
-use Rattle.filter_reports.specs.Explanations.{AreRefusalWords}
+use Rattle.refusal_words.specs.Explanations.{AreRefusalWords}
 use Rattle.ncroute.specs.Importing.{IsLeftFor, IsMadeOfText, IsMadeOfWords, IsRefusedText, IsToldFor}
 use Rattle.ncroute.specs.Importing.{IsToldUnset, KeepsText, KeepsWords, text_in}
 use Rattle.ncroute.specs.Noting.{place_from}

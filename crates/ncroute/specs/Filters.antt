@@ -6,8 +6,8 @@ use Rattle.filter_source.specs.Limits.{source_limit}
 use Rattle.filter_source.specs.declared.diagnosis.Diagnosis.{Diagnosis}
 use Rattle.filter_reports.specs.Telling.{Explains, IsCutExplanation}
 use Rattle.line_protocol.specs.declared.faults.StreamFault.{StreamFault}
-use Rattle.script_runs.specs.declared.naming.NamedFilter.{NamedFilter}
-use Rattle.script_runs.specs.declared.naming.Unfit.{Unfit}
+use Rattle.router_script.specs.declared.naming.NamedFilter.{NamedFilter}
+use Rattle.router_script.specs.declared.naming.Unfit.{Unfit}
 use Rattle.command_line.specs.declared.requests.Source.{Source}
 use Rattle.command_line.specs.declared.filter_words.NamedFile.{NamedFile}
 use Rattle.ncroute.specs.Reading.{IsRead, IsUnread, StopsTelling, TellsUnread, name_of}

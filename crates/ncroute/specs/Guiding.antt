@@ -1,23 +1,21 @@
--- What the program does for a router's script whose history is kept, that is started with filters, or that ends at its first refused line. (This project's own choice.)
-use Rattle.std.specs.Prelude.{◌≡◌, ◌⊎◌, ◌||◌, ℕ, List, Option, Some, None, Result, Ok, Err, string_bytes, ⊤}
+-- What the program does for a router's script, which may be started with filters, whose history may be kept, and which may end at its first refused
+-- line. (This project's own choice.)
+use Rattle.std.specs.Prelude.{◌≡◌, ◌⊎◌, ◌||◌, ℕ, List, Option, Some, None, Result, Ok, Err, is_some, string_bytes, ⊤}
 use Rattle.std.specs.Io.KnownBytes.{Appends}
 use Rattle.std.specs.declared.io.Error.{Error}
 use Rattle.std.specs.declared.string.String.{String}
 use Rattle.std.specs.declared.alloc.Global.{Global}
 use Rattle.filter_reports.specs.Cuts.{IsCut}
-use Rattle.line_protocol.specs.Limits.{input_limit}
 use Rattle.line_protocol.specs.declared.faults.StreamFault.{StreamFault}
 use Rattle.line_protocol.specs.declared.faults.StreamFault.TheVariants.{Write}
-use Rattle.script_runs.specs.Faults.{stream_of}
-use Rattle.script_runs.specs.Running.{IsSaved, IsSavedInPart}
-use Rattle.script_runs.specs.declared.fault.SavingFault.TheVariants.{Saver}
-use Rattle.script_runs.specs.declared.naming.NamedFilter.{NamedFilter}
-use Rattle.script_runs.specs.declared.naming.Unfit.{Unfit}
+use Rattle.router_script.specs.Faults.{stream_of}
+use Rattle.router_script.specs.Running.{IsSaved, IsSavedInPart}
+use Rattle.router_script.specs.declared.fault.SavingFault.TheVariants.{Saver}
+use Rattle.router_script.specs.declared.naming.NamedFilter.{NamedFilter}
+use Rattle.router_script.specs.declared.naming.Unfit.{Unfit}
 use Rattle.command_line.specs.declared.requests.Running.{Running}
-use Rattle.command_line.specs.declared.requests.Source.{Source}
-use Rattle.command_line.specs.declared.requests.Source.TheVariants.{Input, File}
-use Rattle.ncroute.specs.Filters.{IsCutUnfit, ReadsThem, SkipsFilter, StopsAtFault, TellsUnfit}
-use Rattle.ncroute.specs.Reading.{Reads, SkipsUnread, StopsReading, unmade_line, unwritten_line}
+use Rattle.ncroute.specs.Filters.{IsCutUnfit, TellsUnfit}
+use Rattle.ncroute.specs.Reading.{unmade_line, unwritten_line}
 use Rattle.ncroute.specs.Scripts.{IsQuiet, TakesLines}
 use Rattle.ncroute.specs.Ending.{status_of}
 use Rattle.ncroute.specs.Streaming.{Streams}
@@ -31,7 +29,7 @@ pub record RunsSaved (how : Running) (filters : List NamedFilter) (text kept kee
   pub unfit : Option Unfit
   pub mid : Option (List ℕ)
   pub carried_out : TakesLines text (λ input left.
-      IsSaved how.stops filters input left before.holds after.holds refused kept keeps unfit) before.reads after.reads
+      IsSaved (is_some how.save) how.stops filters input left before.holds after.holds refused kept keeps unfit) before.reads after.reads
   pub quiet : IsQuiet (how.is_explained || how.stops) before.tells mid
   pub told : TellsUnfit filters unfit mid after.tells
   pub ends : status ≡ status_of refused
@@ -52,7 +50,7 @@ pub record LosesHistory (how : Running) (filters : List NamedFilter) (text kept 
     : Type 0 where
   pub mid : Option (List ℕ)
   pub left_off : TakesLines text (λ input left.
-      IsSavedInPart (stream_of Saver) how.stops filters input left before.holds after.holds kept keeps) before.reads after.reads
+      IsSavedInPart (stream_of Saver) (is_some how.save) how.stops filters input left before.holds after.holds kept keeps) before.reads after.reads
   pub quiet : IsQuiet (how.is_explained || how.stops) before.tells mid
   pub told : TellsLoss how.save mid after.tells
   pub ends : status ≡ 1
@@ -66,7 +64,7 @@ EndsSaved how filters text kept keeps before after status =
 pub record BreaksSaved (fault : StreamFault) (how : Running) (filters : List NamedFilter) (text kept keeps : Option (List ℕ))
     (before after : Streams) : Type 0 where
   pub left_off : TakesLines text (λ input left.
-      IsSavedInPart fault how.stops filters input left before.holds after.holds kept keeps) before.reads after.reads
+      IsSavedInPart fault (is_some how.save) how.stops filters input left before.holds after.holds kept keeps) before.reads after.reads
   pub quiet : IsQuiet (how.is_explained || how.stops) before.tells after.tells
 
 -- A fault cut what was told of the filter that is refused.
@@ -76,7 +74,7 @@ pub record CutsSaved (fault : StreamFault) (how : Running) (filters : List Named
   pub unfit : Option Unfit
   pub mid : Option (List ℕ)
   pub carried_out : TakesLines text (λ input left.
-      IsSaved how.stops filters input left before.holds after.holds refused kept keeps unfit) before.reads after.reads
+      IsSaved (is_some how.save) how.stops filters input left before.holds after.holds refused kept keeps unfit) before.reads after.reads
   pub quiet : IsQuiet (how.is_explained || how.stops) before.tells mid
   pub cut : IsCutUnfit fault filters unfit mid after.tells
 
@@ -85,7 +83,7 @@ pub record CutsLoss (fault : StreamFault) (how : Running) (filters : List NamedF
     (before after : Streams) : Type 0 where
   pub mid : Option (List ℕ)
   pub left_off : TakesLines text (λ input left.
-      IsSavedInPart (stream_of Saver) how.stops filters input left before.holds after.holds kept keeps) before.reads after.reads
+      IsSavedInPart (stream_of Saver) (is_some how.save) how.stops filters input left before.holds after.holds kept keeps) before.reads after.reads
   pub quiet : IsQuiet (how.is_explained || how.stops) before.tells mid
   pub cut : IsCutLoss fault how.save mid after.tells
 
@@ -124,33 +122,3 @@ module _ (creates : List ℕ → Result (Option (List ℕ)) Error → Type 0) (l
       × StopsSaved fault how filters text kept keeps before after)
       ⊎ ((name : List ℕ) × (words : List ℕ) × IsUnmade creates how.save name words × IsCut fault before.tells after.tells (unmade_line name words)
       × (after.reads ≡ before.reads) × (after.holds ≡ before.holds))
-
-  -- `opens name` says what may come of opening a file of this name.
-  module _ (opens : List ℕ → Result (Option (List ℕ)) Error → Type 0) where
-    -- The script of standard input was carried out line by line, or that of a file, which was read first; or the file was not read.
-    abbrev pub RunsNamed : Running → List NamedFilter → Source → Streams → Streams → ℕ → Type 0
-    RunsNamed how filters Input before after status = GuidesScript how filters None before after status
-    RunsNamed how filters (File name) before after status =
-        ((script : List ℕ) × (mid : Streams) × Reads opens input_limit (File name) script before mid
-        × GuidesScript how filters (Some script) mid after status)
-        ⊎ (SkipsUnread opens input_limit (File name) before after × (status ≡ 1))
-
-    -- A fault ended it.
-    abbrev pub StopsNamed : StreamFault → Running → List NamedFilter → Source → Streams → Streams → Type 0
-    StopsNamed fault how filters Input before after = StopsGuided fault how filters None before after
-    StopsNamed fault how filters (File name) before after = StopsReading opens fault input_limit (File name) before after
-        ⊎ ((script : List ℕ) × (mid : Streams) × Reads opens input_limit (File name) script before mid
-        × StopsGuided fault how filters (Some script) mid after)
-
-    -- The filters were read, in order, and then the script was carried out; or one of them was not read, and no line was answered.
-    abbrev pub RunsGuided : Running → Source → Streams → Streams → ℕ → Type 0
-    RunsGuided how source before after status =
-        ((filters : List NamedFilter) × (mid : Streams) × ReadsThem opens how.filters.items filters before mid
-        × RunsNamed how filters source mid after status)
-        ⊎ (SkipsFilter opens how.filters.items before after × (status ≡ 1))
-
-    -- A fault ended it.
-    abbrev pub StopsRun : StreamFault → Running → Source → Streams → Streams → Type 0
-    StopsRun fault how source before after = StopsAtFault opens fault how.filters.items before after
-        ⊎ ((filters : List NamedFilter) × (mid : Streams) × ReadsThem opens how.filters.items filters before mid
-        × StopsNamed fault how filters source mid after)

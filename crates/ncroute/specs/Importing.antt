@@ -36,9 +36,9 @@ use Rattle.filter_source.specs.VerifiedLine.{verified_line}
 use Rattle.filter_source.specs.declared.diagnosis.Diagnosis.{Diagnosis}
 use Rattle.filter_tokens.specs.Codes.{fault_place}
 use Rattle.filter_tokens.specs.declared.fault.TokenFault.{TokenFault}
-use Rattle.filter_reports.specs.Explanations.{AreRefusalWords}
+use Rattle.refusal_words.specs.Explanations.{AreRefusalWords}
 use Rattle.filter_reports.specs.VerifiedFilters.{IsVerifiedOf}
-use Rattle.filter_reports.specs.Shown.{shown}
+use Rattle.refusal_words.specs.Shown.{shown}
 use Rattle.filter_verifier.specs.VerifiedView.{VerifiedView}
 use Rattle.line_protocol.specs.Runs.{AppendsFront}
 use Rattle.ncroute.specs.Ending.{status_of_found}

@@ -4,7 +4,7 @@ use Rattle.std.specs.Prelude.{◌≡◌, ◌⊎◌, ◌<◌, ◌≤◌, ◌-◌,
 use Rattle.std.specs.Prelude.{false, if◌then◌else◌, List, [], ◌∷◌, Option, Some, None, Result}
 use Rattle.std.specs.Prelude.{codes, drop, length, map, slice_get, take}
 use Rattle.std.specs.declared.io.Error.{Error}
-use Rattle.filter_reports.specs.Shown.{shown}
+use Rattle.refusal_words.specs.Shown.{shown}
 use Rattle.line_protocol.specs.Limits.{input_limit}
 use Rattle.line_protocol.specs.declared.faults.StreamFault.{StreamFault}
 use Rattle.bird_import.specs.Including.{Includes, view_of as view_of_include}

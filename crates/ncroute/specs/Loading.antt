@@ -6,9 +6,9 @@ use Rattle.line_protocol.specs.declared.faults.StreamFault.TheVariants.{Memory}
 use Rattle.operator_cmds.specs.Script.{ScriptView, fresh}
 use Rattle.operator_cmds.specs.Stages.{Empty}
 use Rattle.router_operator.specs.OperatorView.{Names, filter_of}
-use Rattle.script_runs.specs.Naming.{AreNamed}
-use Rattle.script_runs.specs.declared.naming.NamedFilter.{NamedFilter}
-use Rattle.script_runs.specs.declared.naming.Unfit.{Unfit}
+use Rattle.router_script.specs.Naming.{AreNamed}
+use Rattle.router_script.specs.declared.naming.NamedFilter.{NamedFilter}
+use Rattle.router_script.specs.declared.naming.Unfit.{Unfit}
 use Rattle.command_line.specs.declared.requests.Source.{Source}
 use Rattle.command_line.specs.declared.filter_words.NamedFile.{NamedFile}
 use Rattle.ncroute.specs.Filters.{IsCutUnfit, ReadsFilters, StopsAtFilter, TellsUnfit}

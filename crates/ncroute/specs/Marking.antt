@@ -6,7 +6,7 @@ use Rattle.filter_reports.specs.Cuts.{IsCut}
 use Rattle.filter_source.specs.declared.diagnosis.Diagnosis.{Diagnosis}
 use Rattle.filter_reports.specs.VerifiedFilters.{refusal_line}
 use Rattle.filter_reports.specs.Naming.{ChecksNamed, ChecksNamedOff}
-use Rattle.filter_reports.specs.Shown.{shown}
+use Rattle.refusal_words.specs.Shown.{shown}
 use Rattle.line_protocol.specs.declared.faults.StreamFault.{StreamFault}
 use Rattle.command_line.specs.declared.requests.Checking.{Checking}
 use Rattle.ncroute.specs.Streaming.{Streams}

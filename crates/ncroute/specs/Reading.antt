@@ -9,7 +9,7 @@ use Rattle.filter_reports.specs.Faults.{stream_fault}
 use Rattle.line_protocol.specs.Runs.{ConsumesAtMost}
 use Rattle.line_protocol.specs.declared.faults.StreamFault.{StreamFault}
 use Rattle.line_protocol.specs.declared.faults.StreamFault.TheVariants as fault
-use Rattle.filter_reports.specs.Shown.{shown}
+use Rattle.refusal_words.specs.Shown.{shown}
 use Rattle.command_line.specs.declared.requests.Source.{Source}
 use Rattle.command_line.specs.declared.requests.Source.TheVariants.{Input, File}
 use Rattle.ncroute.specs.Streaming.{Streams}

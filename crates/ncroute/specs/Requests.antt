@@ -18,14 +18,13 @@ use Rattle.ncroute.specs.Checking.{ChecksAll, ChecksSome}
 use Rattle.ncroute.specs.Comparing.{ComparesSources, StopsComparing}
 use Rattle.ncroute.specs.Domains.{ComparesDomains, StopsDomains}
 use Rattle.ncroute.specs.Ending.{fault_line, status_of, status_of_found}
-use Rattle.ncroute.specs.Guiding.{RunsGuided, StopsRun}
 use Rattle.ncroute.specs.Importing.{ImportsSource}
-use Rattle.ncroute.specs.Joining.{RunsJoined, StopsJoined}
+use Rattle.ncroute.specs.Joining.{RunsGuided, StopsRun}
 use Rattle.ncroute.specs.Linting.{LintsAll, StopsLinting}
 use Rattle.ncroute.specs.Paging.{PagesSource}
 use Rattle.ncroute.specs.Reading.{Reads, SkipsUnread, StopsReading, name_of}
 use Rattle.ncroute.specs.Segments.{ReplaysSources, StopsReplay}
-use Rattle.ncroute.specs.Scripts.{RunsSource, StopsSource, script_fault}
+use Rattle.ncroute.specs.Scripts.{RunsSource, StopsSource}
 use Rattle.ncroute.specs.Streaming.{CutsWriting, Streams, Tells, TellsFront, Writes}
 use Rattle.ncroute.specs.Testing.{StopsSources, TestsSources}
 use Rattle.ncroute.specs.Trying.{StopsFilter, TriesFilter}
@@ -73,6 +72,7 @@ abbrev pub fault_status : Request → ℕ
 fault_status (request.Check how sources) = 1
 fault_status (request.Compare format old new is_explained) = 3
 fault_status (request.Diff how old new) = 3
+fault_status (request.Domain source is_explained) = 3
 fault_status (request.Eval is_told) = 1
 fault_status (request.Explain page) = 1
 fault_status (request.Import how source) = 1
@@ -82,9 +82,7 @@ fault_status (request.Lint how sources) = 3
 fault_status (request.Page source is_explained page) = 3
 fault_status (request.Replay sources) = 3
 fault_status (request.Rewrite is_old) = 1
-fault_status (request.Run how source) = 1
-fault_status (request.RunJoined how sources) = 1
-fault_status (request.Script engine source is_explained) = script_fault engine
+fault_status (request.Run how sources) = 1
 fault_status (request.Test how sources) = 3
 
 -- `opens name` says what may come of opening a file of this name.
@@ -111,6 +109,7 @@ module _ (opens : List ℕ → Result (Option (List ℕ)) Error → Type 0) wher
     Answers (request.Compare format old new is_explained) before after status =
         ComparesDomains opens format old new is_explained before after status
     Answers (request.Diff how old new) before after status = ComparesSources opens how old new before after status
+    Answers (request.Domain source is_explained) before after status = RunsSource opens source is_explained before after status
     Answers (request.Eval is_told) before after status = EvaluatesTold is_told before after status
     Answers (request.Explain page) before after status = Writes (string_bytes page) before after × (status ≡ 0)
     Answers (request.Import how source) before after status = ImportsSource creates leaves opens how source before after status
@@ -122,9 +121,7 @@ module _ (opens : List ℕ → Result (Option (List ℕ)) Error → Type 0) wher
         PagesSource opens creates leaves source is_explained (string_bytes page) before after status
     Answers (request.Replay sources) before after status = ReplaysSources opens sources.items before after status
     Answers (request.Rewrite is_old) before after status = RewritesInput is_old before after status
-    Answers (request.Run how source) before after status = RunsGuided creates leaves opens how source before after status
-    Answers (request.RunJoined how sources) before after status = RunsJoined creates leaves opens how sources.items before after status
-    Answers (request.Script engine source is_explained) before after status = RunsSource opens engine source is_explained before after status
+    Answers (request.Run how sources) before after status = RunsGuided creates leaves opens how sources.items before after status
     Answers (request.Test how sources) before after status = TestsSources opens how sources.items before after status
 
     -- A fault ended it. Of an import nothing more is said, nor of a page.
@@ -132,6 +129,7 @@ module _ (opens : List ℕ → Result (Option (List ℕ)) Error → Type 0) wher
     StopsAnswer fault (request.Check how sources) before after = ChecksSome opens fault how sources.items before after
     StopsAnswer fault (request.Compare format old new is_explained) before after = StopsDomains format before.holds after.holds
     StopsAnswer fault (request.Diff how old new) before after = StopsComparing opens fault how old new before after
+    StopsAnswer fault (request.Domain source is_explained) before after = StopsSource opens fault source is_explained before after
     StopsAnswer fault (request.Eval is_told) before after = StopsEvaluating fault is_told before after
     StopsAnswer fault (request.Explain page) before after = CutsWriting fault (string_bytes page) before after
     StopsAnswer fault (request.Import how source) before after = ⊤
@@ -141,9 +139,7 @@ module _ (opens : List ℕ → Result (Option (List ℕ)) Error → Type 0) wher
     StopsAnswer fault (request.Page source is_explained page) before after = ⊤
     StopsAnswer fault (request.Replay sources) before after = StopsReplay opens fault sources.items before after
     StopsAnswer fault (request.Rewrite is_old) before after = StopsRewriting fault is_old before after
-    StopsAnswer fault (request.Run how source) before after = StopsRun creates leaves opens fault how source before after
-    StopsAnswer fault (request.RunJoined how sources) before after = StopsJoined creates leaves opens fault how sources.items before after
-    StopsAnswer fault (request.Script engine source is_explained) before after = StopsSource opens fault engine source is_explained before after
+    StopsAnswer fault (request.Run how sources) before after = StopsRun creates leaves opens fault how sources.items before after
     StopsAnswer fault (request.Test how sources) before after = StopsSources opens fault how sources.items before after
 
     -- A fault ended it, and `TellsLine line mid after` says what standard error was then told of the line of the fault.

@@ -236,7 +236,7 @@ where
 
 /// Does what the words of `router` ask for, with those of the file that they name, if they name one: the exit status. `voice` is where people are
 /// told of links.
-pub fn serve_router<
+pub(crate) fn serve_router<
     R: Threads
         + Wait
         + Clock

@@ -13,7 +13,7 @@ use crate::console::{Console, Loaded};
 use crate::ending::{FAULT, status_of_found};
 use crate::texts::{Folder, name_of, tell_of};
 use crate::watcher::Teller;
-use command_line::{Engine, Source};
+use command_line::Source;
 use domain_cmds::{Left, LeftDomain, compare_domains, leave_domain};
 use filter_reports::ProgramFault;
 use line_protocol::{INPUT_LIMIT, StreamFault};
@@ -34,11 +34,7 @@ fn leave<E: Write>(
     ensures quiet { IsQuiet is_explained (E.contents errors.old) (E.contents errors.new) }
 {
     if is_explained {
-        let teller = Teller {
-            engine: Engine::Domain,
-            name,
-            errors,
-        };
+        let teller = Teller { name, errors };
         leave_domain(alloc, script, teller)
     } else {
         leave_domain(alloc, script, Nobody)
@@ -203,7 +199,7 @@ fn compare_newer<F: Folder, R: Read, W: Write, E: Write>(
 
 /// Writes what the change of the domain of one script to that of another does, and returns the exit status.
 #[tactic(auto, unfolding(crate::specs::Domains::ComparesDomains), using(crate::proofs::ComparedOff::nothing_compared))]
-pub fn compare_scripts<F: Folder, R: Read, W: Write, E: Write>(
+pub(crate) fn compare_scripts<F: Folder, R: Read, W: Write, E: Write>(
     files: &F,
     alloc: Global,
     format: Format,

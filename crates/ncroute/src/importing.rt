@@ -17,7 +17,7 @@ ghost use Rattle.filter_parser.specs.Surroundings.{TellsRound};
 ghost use Rattle.filter_parser.specs.Unspelled.{IsUnspelled};
 ghost use Rattle.filter_source.specs.Diagnoses.{TellsOfText};
 ghost use Rattle.filter_source.specs.VerifiedLine.{verified_line};
-ghost use Rattle.filter_reports.specs.Explanations.{AreRefusalWords};
+ghost use Rattle.refusal_words.specs.Explanations.{AreRefusalWords};
 
 use crate::checking::is_any;
 use crate::console::Console;
@@ -31,11 +31,12 @@ use bird_import::{
 };
 use command_line::{Importing, Source};
 use filter_parser::{Around, Unparsed};
-use filter_reports::{ProgramFault, placed_code, push_shown, refusal_words};
+use filter_reports::{ProgramFault, placed_code};
 use filter_source::{Diagnosis, Failure, Refusal, SOURCE_LIMIT, push_verified};
 use filter_tokens::TokenFault;
 use filter_verifier::Verified;
 use line_protocol::write_text;
+use refusal_words::{push_shown, refusal_words};
 use std::alloc::{AllocError, Global};
 use std::io::{ErrorKind, Read, Write};
 
@@ -758,7 +759,7 @@ fn import_text<F: Folder, R: Read, W: Write, E: Write>(
 /// Imports the filters of the configuration that a source is, and returns the exit status: 0, or 1 where something was left out, or the folder
 /// for the filters is not there.
 #[tactic(auto, unfolding(crate::specs::Importing::ImportsSource))]
-pub fn import_source<F: Folder, R: Read, W: Write, E: Write>(
+pub(crate) fn import_source<F: Folder, R: Read, W: Write, E: Write>(
     files: &F,
     alloc: Global,
     how: &Importing,

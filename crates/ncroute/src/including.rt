@@ -16,8 +16,9 @@ use crate::console::{Console, Loaded};
 use crate::texts::{Folder, name_of, tell_of};
 use bird_import::{Include, cut_words, find_includes};
 use command_line::Source;
-use filter_reports::{ProgramFault, place_in, push_position, push_shown};
+use filter_reports::ProgramFault;
 use line_protocol::INPUT_LIMIT;
+use refusal_words::{place_in, push_position, push_shown};
 use std::alloc::{AllocError, Global};
 use std::io::{Read, Write};
 
@@ -60,7 +61,7 @@ pub struct Whole {
 }
 
 /// Puts texts at the end of `out`, one behind another.
-pub fn push_texts(out: &mut Vec<u8>, texts: &[&[u8]]) -> Result<(), AllocError>
+pub(crate) fn push_texts(out: &mut Vec<u8>, texts: &[&[u8]]) -> Result<(), AllocError>
     ensures { OnOk result (out.new.items ≡ out.old.items ++ flat_map (λ text. text.now) texts.now) }
 {
     for text in texts {
@@ -70,7 +71,7 @@ pub fn push_texts(out: &mut Vec<u8>, texts: &[&[u8]]) -> Result<(), AllocError>
 }
 
 /// The stretch that a byte of a configuration is in.
-pub fn stretch_of(whole: &Whole, byte: usize) -> Option<Stretch>
+pub(crate) fn stretch_of(whole: &Whole, byte: usize) -> Option<Stretch>
     ensures { result ≡ stretch_of whole.now.stretches.items byte }
 {
     let mut found = None;
@@ -156,7 +157,7 @@ fn is_absolute(name: &[u8]) -> bool
 }
 
 /// The path of a file of this name in the folder of another one.
-pub fn path_beside(alloc: Global, by: &str, name: &str) -> Result<String, AllocError>
+pub(crate) fn path_beside(alloc: Global, by: &str, name: &str) -> Result<String, AllocError>
     ensures { IfOk result (λ path. IsBeside by.now name.now (string_bytes path)) }
 {
     match by.rsplit_once('/') {
@@ -358,7 +359,7 @@ fn take_within<R: Read, W: Write, E: Write>(
 }
 
 /// Reads a file of a configuration. One that cannot be read is told of.
-pub fn read_config<F: Folder, R: Read, W: Write, E: Write>(
+pub(crate) fn read_config<F: Folder, R: Read, W: Write, E: Write>(
     files: &F,
     alloc: Global,
     source: &Source,
@@ -501,7 +502,7 @@ fn read_includes<F: Folder, R: Read, W: Write, E: Write>(
 
 /// Reads the configuration that a source is, with the files that it includes. What is not read is told of; None if the source itself is
 /// not.
-pub fn read_whole<F: Folder, R: Read, W: Write, E: Write>(
+pub(crate) fn read_whole<F: Folder, R: Read, W: Write, E: Write>(
     files: &F,
     alloc: Global,
     source: &Source,

@@ -241,7 +241,7 @@ fn say_host_bits<R: Read, W: Write, E: Write>(
 }
 
 /// Tells those warnings of a text that was checked that are wanted, or writes them in lines of JSON.
-pub fn warn<R: Read, W: Write, E: Write>(
+pub(crate) fn warn<R: Read, W: Write, E: Write>(
     alloc: Global,
     how: Checking,
     name: &[u8],
@@ -292,7 +292,7 @@ fn lint_one<F: Folder, R: Read, W: Write, E: Write>(
 
 /// Writes the warnings of each of some sources, in order, and returns the exit status: 1 where something is said of one of them, and
 /// otherwise 3 where not all was looked for in one.
-pub fn lint_sources<F: Folder, R: Read, W: Write, E: Write>(
+pub(crate) fn lint_sources<F: Folder, R: Read, W: Write, E: Write>(
     files: &F,
     alloc: Global,
     how: &Linting,

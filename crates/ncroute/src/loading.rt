@@ -13,8 +13,7 @@ use crate::texts::{Folder, tell_unread};
 use command_line::NamedFile;
 use filter_reports::ProgramFault;
 use router_daemon::Filters;
-use router_script::Script;
-use script_runs::{NamedFilter, Unfit, name_filters};
+use router_script::{NamedFilter, Script, Unfit, name_filters};
 use std::alloc::{AllocError, Global};
 use std::io::{Read, Write};
 
@@ -59,7 +58,7 @@ fn verify_given<E: Write>(
 
 /// Reads the filters of these files, and verifies them for domains of a size. There are none where one of them is not read or is
 /// refused, which people are told.
-pub fn load_filters<F: Folder, R: Read, E: Write>(
+pub(crate) fn load_filters<F: Folder, R: Read, E: Write>(
     files: &F,
     alloc: Global,
     named: &[NamedFile],

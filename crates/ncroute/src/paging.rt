@@ -11,7 +11,7 @@ use crate::ending::{FAILED, FAULT, status_of};
 use crate::script::Lines;
 use crate::texts::{Folder, name_of, tell_unmade, tell_unwritten};
 use crate::watcher::Teller;
-use command_line::{Engine, Source};
+use command_line::Source;
 use domain_cmds::{Paged, run_paged_domain};
 use filter_reports::ProgramFault;
 use line_protocol::{INPUT_LIMIT, StreamFault};
@@ -34,11 +34,7 @@ fn answer<R: Read, W: Write, E: Write, P: Write>(
     ensures quiet { IsQuiet is_explained (E.contents errors.old) (E.contents errors.new) }
 {
     if is_explained {
-        let teller = Teller {
-            engine: Engine::Domain,
-            name,
-            errors,
-        };
+        let teller = Teller { name, errors };
         run_paged_domain(alloc, reader, writer, teller, name, page)
     } else {
         run_paged_domain(alloc, reader, writer, Nobody, name, page)
@@ -176,7 +172,7 @@ fn page_lines<F: Folder, R: Read, W: Write, E: Write, P: Write>(
 
 /// Carries out the script of a domain, writes its page to a new file of this name, and returns the exit status.
 #[tactic(auto, unfolding(crate::specs::Paging::PagesSource))]
-pub fn page_source<F: Folder, R: Read, W: Write, E: Write>(
+pub(crate) fn page_source<F: Folder, R: Read, W: Write, E: Write>(
     files: &F,
     alloc: Global,
     source: &Source,

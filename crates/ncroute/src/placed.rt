@@ -11,7 +11,8 @@ use crate::including::{File, Whole, stretch_of};
 use crate::texts::name_of;
 use bird_import::{Draft, Origin, origin_of};
 use filter_lint::{Warning, overlap_warnings, push_warning_words};
-use filter_reports::{PlacedCode, Positions, push_position, push_shown};
+use filter_reports::PlacedCode;
+use refusal_words::{Positions, push_position, push_shown};
 use std::alloc::{AllocError, Global};
 use std::marker::Model;
 
@@ -97,7 +98,7 @@ impl<'a> PlacedConfig<'a> {
 }
 
 /// The place of a configuration from which a byte of a filter's text comes; that of the filter if there is none.
-pub fn place_from(origins: &[Origin], byte: Option<usize>, filter: usize) -> usize
+pub(crate) fn place_from(origins: &[Origin], byte: Option<usize>, filter: usize) -> usize
     ensures { result ≡ place_from origins.now filter byte }
 {
     match byte {
@@ -149,7 +150,7 @@ fn push_notes(
 }
 
 /// The lines of what is said of a filter whose text has this verified code.
-pub fn notes_of(
+pub(crate) fn notes_of(
     alloc: Global,
     placed: &PlacedConfig<'_>,
     draft: &Draft<'_>,

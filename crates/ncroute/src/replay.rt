@@ -34,7 +34,7 @@ fn write_verdict<W: Write>(
 
 /// Replays the text of a history, and writes the line of the verdict. Returns the exit status: 0 where the text is that of a right
 /// history, to its end.
-pub fn replay_text<R: Read, W: Write, E: Write>(
+pub(crate) fn replay_text<R: Read, W: Write, E: Write>(
     alloc: Global,
     text: &[u8],
     console: &mut Console<R, W, E>,

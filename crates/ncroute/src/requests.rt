@@ -14,12 +14,11 @@ use crate::comparing::compare_sources;
 use crate::console::{Console, Loaded};
 use crate::domains::compare_scripts;
 use crate::ending::{FAILED, FAULT, status_of, status_of_found};
-use crate::guided::guide_source;
 use crate::importing::import_source;
-use crate::joined::guide_sources;
 use crate::linting::lint_sources;
 use crate::paging::page_source;
-use crate::script::{run_source, script_fault};
+use crate::running::run_sources;
+use crate::script::run_source;
 use crate::segments::replay_sources;
 use crate::testing::test_sources;
 use crate::texts::{Folder, name_of};
@@ -160,6 +159,10 @@ fn answer<F: Folder, R: Read, W: Write, E: Write>(
             is_explained,
         } => compare_scripts(files, alloc, *format, old, new, *is_explained, console),
         Request::Diff { how, old, new } => compare_sources(files, alloc, *how, old, new, console),
+        Request::Domain {
+            source,
+            is_explained,
+        } => run_source(files, alloc, source, *is_explained, console),
         Request::Eval { is_told } => evaluate(alloc, *is_told, console),
         Request::Explain { page } => show(page.as_str(), console),
         Request::Filter { how, source } => try_filter(files, alloc, *how, source, console),
@@ -188,15 +191,9 @@ fn answer<F: Folder, R: Read, W: Write, E: Write>(
         } => page_source(files, alloc, source, *is_explained, page.as_str(), console),
         Request::Replay { sources } => replay_sources(files, alloc, sources.as_slice(), console),
         Request::Rewrite { is_old } => rewrite(alloc, *is_old, console),
-        Request::Run { how, source } => guide_source(files, alloc, how, source, console),
-        Request::RunJoined { how, sources } => {
-            guide_sources(files, alloc, how, sources.as_slice(), console)
+        Request::Run { how, sources } => {
+            run_sources(files, alloc, how, sources.as_slice(), console)
         }
-        Request::Script {
-            engine,
-            source,
-            is_explained,
-        } => run_source(files, alloc, *engine, source, *is_explained, console),
         Request::Test { how, sources } => {
             test_sources(files, alloc, *how, sources.as_slice(), console)
         }
@@ -204,7 +201,7 @@ fn answer<F: Folder, R: Read, W: Write, E: Write>(
 }
 
 /// The exit status where a fault of the machine ends what is asked for: 1 where a command has had it from the first.
-pub fn fault_status(request: &Request) -> u8
+pub(crate) fn fault_status(request: &Request) -> u8
     ensures { result ≡ fault_status request.now }
 {
     match request {
@@ -213,23 +210,22 @@ pub fn fault_status(request: &Request) -> u8
         | Request::Explain { .. }
         | Request::Import { .. }
         | Request::Rewrite { .. }
-        | Request::Run { .. }
-        | Request::RunJoined { .. } => FAILED,
+        | Request::Run { .. } => FAILED,
         Request::Compare { .. }
         | Request::Diff { .. }
+        | Request::Domain { .. }
         | Request::Filter { .. }
         | Request::Lint { .. }
         | Request::List { .. }
         | Request::Page { .. }
         | Request::Replay { .. }
         | Request::Test { .. } => FAULT,
-        Request::Script { engine, .. } => script_fault(*engine),
     }
 }
 
 /// Does what is asked for, and returns the exit status: 0, or 1 where something was refused, or that of a fault, which is told. The error is
 /// that of standard error, which did not take the whole line.
-pub fn serve<F: Folder, R: Read, W: Write, E: Write>(
+pub(crate) fn serve<F: Folder, R: Read, W: Write, E: Write>(
     files: &F,
     alloc: Global,
     request: &Request,

@@ -76,7 +76,7 @@ pub struct Untold {
 }
 
 /// Tells people the line with which a router ends: the exit status.
-pub fn end_by_line<E: Write>(errors: &mut E, status: u8, line: &[u8]) -> Result<u8, Untold>
+pub(crate) fn end_by_line<E: Write>(errors: &mut E, status: u8, line: &[u8]) -> Result<u8, Untold>
     ensures told { IfOk result (λ ended. (ended ≡ status) × Appends (E.contents errors.old) (E.contents errors.new) line.now) }
     ensures cut { IfErr result (λ untold. (untold.status ≡ status)
         × IsCut (stream_fault untold.why) (E.contents errors.old) (E.contents errors.new) line.now) }
@@ -476,7 +476,7 @@ where
 }
 
 /// Does what words ask for, of which `origin` says some: runs the router, or looks at what they say alone. Returns the exit status.
-pub fn serve_words<
+pub(crate) fn serve_words<
     R: Threads
         + Wait
         + Clock

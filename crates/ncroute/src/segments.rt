@@ -207,7 +207,7 @@ fn replay_segments<F: Folder, R: Read, W: Write, E: Write>(
 
 /// Replays the history that a source is the text of, or whose segments sources are the texts of, in order, and returns the exit status.
 #[tactic(auto, unfolding(crate::specs::Segments::ReplaysSources, crate::specs::Segments::StopsReplay))]
-pub fn replay_sources<F: Folder, R: Read, W: Write, E: Write>(
+pub(crate) fn replay_sources<F: Folder, R: Read, W: Write, E: Write>(
     files: &F,
     alloc: Global,
     sources: &[Source],

@@ -10,8 +10,9 @@ ghost use Rattle.ncroute.specs.Reading.{long_line, long_words, name_of, told_lin
 ghost use Rattle.ncroute.specs.Reading.{unmade_line, unread_line, unwritten_line, unwritten_words};
 
 use command_line::Source;
-use filter_reports::{ProgramFault, push_shown};
+use filter_reports::ProgramFault;
 use line_protocol::{StreamFault, read_input, write_text};
+use refusal_words::push_shown;
 use std::alloc::{AllocError, Global};
 use std::fs;
 use std::io::{self, Error, ErrorKind, Read, Write};
@@ -166,7 +167,7 @@ fn read_standard<R: Read>(alloc: Global, reader: &mut R, limit: usize) -> Result
 }
 
 /// Reads a source: all of it, or one byte more than the limit.
-pub fn read_source<F: Folder, R: Read>(
+pub(crate) fn read_source<F: Folder, R: Read>(
     files: &F,
     alloc: Global,
     source: &Source,
@@ -186,7 +187,7 @@ pub fn read_source<F: Folder, R: Read>(
 }
 
 /// The name by which people know a source.
-pub fn name_of(source: &Source) -> &[u8]
+pub(crate) fn name_of(source: &Source) -> &[u8]
     ensures { result.now ≡ name_of source.now }
 {
     match source {
@@ -216,7 +217,7 @@ fn told_line(alloc: Global, name: &[u8], words: &str, code: &[u8]) -> Result<Vec
 }
 
 /// Writes a line.
-pub fn write_line<W: Write>(writer: &mut W, line: &[u8]) -> Result<(), ProgramFault>
+pub(crate) fn write_line<W: Write>(writer: &mut W, line: &[u8]) -> Result<(), ProgramFault>
     ensures ok { OnOk result (Appends (W.contents writer.old) (W.contents writer.new) line.now) }
     ensures err { IfErr result (λ fault. IsCut (stream_fault fault) (W.contents writer.old) (W.contents writer.new) line.now) }
 {
@@ -225,7 +226,7 @@ pub fn write_line<W: Write>(writer: &mut W, line: &[u8]) -> Result<(), ProgramFa
 }
 
 /// Tells something of what has a name.
-pub fn tell_of<E: Write>(
+pub(crate) fn tell_of<E: Write>(
     alloc: Global,
     errors: &mut E,
     name: &[u8],
@@ -258,7 +259,7 @@ fn tell_reason<E: Write>(
 }
 
 /// Tells on `errors` that a file was not made, and the reason in the error.
-pub fn tell_unmade<E: Write>(
+pub(crate) fn tell_unmade<E: Write>(
     alloc: Global,
     errors: &mut E,
     name: &str,
@@ -281,7 +282,7 @@ fn unwritten_words() -> &'static str
 }
 
 /// Tells on `errors` that a new file did not get the whole text.
-pub fn tell_unwritten<E: Write>(
+pub(crate) fn tell_unwritten<E: Write>(
     alloc: Global,
     errors: &mut E,
     name: &str,
@@ -347,7 +348,7 @@ fn unread_line(alloc: Global, source: &Source, why: Unread) -> Result<Vec<u8>, P
 }
 
 /// Tells on `errors` that a source was not read, and returns the line that says so.
-pub fn tell_unread_line<E: Write>(
+pub(crate) fn tell_unread_line<E: Write>(
     alloc: Global,
     errors: &mut E,
     source: &Source,
@@ -367,7 +368,7 @@ pub fn tell_unread_line<E: Write>(
 }
 
 /// Tells on `errors` that a source was not read.
-pub fn tell_unread<E: Write>(
+pub(crate) fn tell_unread<E: Write>(
     alloc: Global,
     errors: &mut E,
     source: &Source,

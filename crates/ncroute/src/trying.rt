@@ -156,7 +156,7 @@ fn try_text<R: Read, W: Write, E: Write>(
 }
 
 /// Takes the routes of standard input through the filter of a source, and returns the exit status.
-pub fn try_filter<F: Folder, R: Read, W: Write, E: Write>(
+pub(crate) fn try_filter<F: Folder, R: Read, W: Write, E: Write>(
     files: &F,
     alloc: Global,
     how: Trying,

@@ -9,11 +9,11 @@ use Rattle.route_answers.specs.declared.watch.WhyRefused.TheVariants.{Route, Cod
 use Rattle.filter_parser.specs.SyntaxText.{FilterView}
 use Rattle.filter_source.specs.declared.diagnosis.Diagnosis.{Diagnosis}
 use Rattle.line_protocol.specs.declared.faults.StreamFault.{StreamFault}
-use Rattle.filter_reports.specs.Explanations.{IsLineExplanation, told_at}
+use Rattle.refusal_words.specs.Explanations.{IsLineExplanation, told_at}
 use Rattle.filter_reports.specs.VerifiedFilters.{IsFilterOf, refusal_line}
 use Rattle.route_answers.specs.Filtering.{AnswersFirst, Filters, FiltersOff, filter_answer}
 use Rattle.filter_reports.specs.Naming.{TellsInWords}
-use Rattle.filter_reports.specs.Shown.{shown}
+use Rattle.refusal_words.specs.Shown.{shown}
 use Rattle.filter_reports.specs.Telling.{IsCutExplanation}
 use Rattle.route_answers.specs.declared.filter.Filtered.{Filtered}
 use Rattle.route_answers.specs.declared.filter.Filtered.TheVariants.{Refused, Answered}

@@ -1,16 +1,16 @@
 //! What is wrong with a line that gives no route, in words.
 ghost use Rattle.std.specs.Prelude.{◌≡◌, [], None, IfOk, codes};
-ghost use Rattle.filter_reports.specs.Explanations.{told_at};
+ghost use Rattle.refusal_words.specs.Explanations.{told_at};
 ghost use Rattle.route_answers.specs.ToldRoutes.{TellsLine, TellsRoute, no_code_words};
 
 use crate::line_fault::LineFault;
 use crate::watch::{RefusedRoute, WhyRefused};
 use filter_code::{LARGEST_SIZE, SMALLEST_SIZE};
-use filter_reports::{
-    IPV6, byte_of_word, count_words, explain_line, push_shown, spelled, tell_at, word_at,
-};
 use line_protocol::{LINE_LIMIT, NUMBER_LIMIT};
 use prefix_patterns::read_number;
+use refusal_words::{
+    IPV6, byte_of_word, count_words, explain_line, push_shown, spelled, tell_at, word_at,
+};
 use std::alloc::{AllocError, Global};
 
 /// What is wrong with a line, and where.

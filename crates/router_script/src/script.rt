@@ -7,15 +7,14 @@ ghost use Rattle.std.specs.Prelude.{◌≡◌, IfErr, IfOk, IfSome};
 ghost use Rattle.operator_cmds.specs.Running.{IsBrokenOff, IsCarriedOut};
 
 use crate::stage::{Setup, Stage};
-use crate::watch::run_watched_script;
 use filter_source::Diagnosis;
 use filter_verifier::Verified;
-use line_protocol::{LineReply, Service, StreamFault};
+use line_protocol::{LineReply, Service, StreamFault, answer_lines};
 use netchange_core::{Event, Opening};
 use operator_cmds::{
-    Command, CommandFault, Direction, FilterSource, Look, NamedFilters, Network, Nobody,
-    PlainCommand, RefusedLine, StateFault, answer_history, answer_look, confirm, enter, give_name,
-    name_source, read_command, read_plain, refuse, session_number,
+    Command, CommandFault, Direction, FilterSource, Look, NamedFilters, Network, PlainCommand,
+    RefusedLine, StateFault, answer_history, answer_look, confirm, enter, give_name, name_source,
+    read_command, read_plain, refuse, session_number,
 };
 use prefix_patterns::Prefix;
 use route_history::Journal;
@@ -474,5 +473,6 @@ pub fn run_script<R: Read, W: Write>(
     ensures broken_off { IfErr result (λ fault. IfSome (R.remaining reader.old) (λ input.
         IsBrokenOff fault input (R.remaining reader.new) (W.contents writer.old) (W.contents writer.new))) }
 {
-    run_watched_script(alloc, reader, writer, Nobody)
+    let mut script = Script::new(alloc);
+    answer_lines(alloc, reader, writer, &mut script)
 }

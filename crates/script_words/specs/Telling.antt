@@ -2,9 +2,9 @@
 use Rattle.std.specs.Prelude.{◌≡◌, ℕ, List, Option, Some, None}
 use Rattle.std.specs.Option.{option_map}
 use Rattle.filter_source.specs.declared.diagnosis.Diagnosis.{Diagnosis}
-use Rattle.filter_reports.specs.Explanations.{IsLineExplanation, told_at}
-use Rattle.filter_reports.specs.Places.{before_first_feed}
-use Rattle.filter_reports.specs.Shown.{shown}
+use Rattle.refusal_words.specs.Explanations.{IsLineExplanation, told_at}
+use Rattle.refusal_words.specs.Places.{before_first_feed}
+use Rattle.refusal_words.specs.Shown.{shown}
 use Rattle.line_protocol.specs.Words.{words}
 use Rattle.operator_cmds.specs.Commands.{text_in}
 use Rattle.operator_cmds.specs.WordLists.{three_of}

@@ -3,7 +3,7 @@
 use crate::finding::{Finding, found_at};
 use crate::forms::{Form, ScriptKind};
 use crate::spelling::{byte_of_word, count_words, short_text, spelled, word_at};
-use filter_reports::nearest_word;
+use refusal_words::nearest_word;
 use std::alloc::{AllocError, Global};
 
 /// What is wrong with a line that is no command.

@@ -4,8 +4,8 @@ use crate::cause::Cause;
 use crate::finding::{Finding, found_at};
 use crate::forms::ScriptKind;
 use crate::spelling::{no_such_node, number_at, spelled, word_at};
-use filter_reports::nearest_word;
 use operator_cmds::{NamedFilters, RefusedLine};
+use refusal_words::nearest_word;
 use std::alloc::{AllocError, Global};
 use std::str;
 

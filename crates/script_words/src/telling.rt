@@ -8,8 +8,8 @@ use crate::cause::{Cause, read_cause};
 use crate::finding::Finding;
 use crate::forms::ScriptKind;
 use crate::line_words::line_words;
-use filter_reports::{explain_line, place_in, push_shown, tell_at};
 use operator_cmds::{RefusedLine, text_in, three_words};
+use refusal_words::{explain_line, place_in, push_shown, tell_at};
 use std::alloc::{AllocError, Global};
 
 /// The code and the place of an answer `refused CODE AT`.

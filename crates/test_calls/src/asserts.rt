@@ -18,14 +18,14 @@ pub trait RouterHost: Host + Clock + Threads + Wait + Sync {}
 impl<R: Host + Clock + Threads + Wait + Sync> RouterHost for R {}
 
 /// Ends the test with the name of a row, unless something holds of it.
-pub fn must<R: Abort>(rt: &R, holds: bool, row: &str) {
+pub(crate) fn must<R: Abort>(rt: &R, holds: bool, row: &str) {
     if !holds {
         rt.panic(row);
     }
 }
 
 /// Ends the test, unless bytes, most often of a text, are these.
-pub fn must_bytes<R: Abort>(rt: &R, found: &[u8], wanted: &[u8]) {
+pub(crate) fn must_bytes<R: Abort>(rt: &R, found: &[u8], wanted: &[u8]) {
     if found != wanted {
         let text = str::from_utf8(found).unwrap_or("bytes that are no text");
         rt.panic(format_args!("other bytes: {text}"));
@@ -33,13 +33,13 @@ pub fn must_bytes<R: Abort>(rt: &R, found: &[u8], wanted: &[u8]) {
 }
 
 /// Ends the test, unless people are shown this of something.
-pub fn must_read<R: Host, T: Display>(rt: &R, shown: &T, wanted: &str) {
+pub(crate) fn must_read<R: Host, T: Display>(rt: &R, shown: &T, wanted: &str) {
     let text = done(rt, format!(in rt.alloc(); "{shown}"));
     must(rt, text.as_str() == wanted, wanted);
 }
 
 /// What there is. Where there is nothing, for want of memory for one, the test ends with this error.
-pub fn some<R: Abort, T>(rt: &R, found: Option<T>, error: &str) -> T {
+pub(crate) fn some<R: Abort, T>(rt: &R, found: Option<T>, error: &str) -> T {
     match found {
         Some(it) => it,
         None => rt.panic(format_args!("error: {error}")),
@@ -47,7 +47,7 @@ pub fn some<R: Abort, T>(rt: &R, found: Option<T>, error: &str) -> T {
 }
 
 /// What was made. Where it was refused, for want of memory for one, the test ends with that error.
-pub fn done<R: Abort, T, E: Debug + Drop>(rt: &R, made: Result<T, E>) -> T {
+pub(crate) fn done<R: Abort, T, E: Debug + Drop>(rt: &R, made: Result<T, E>) -> T {
     match made {
         Ok(it) => it,
         Err(error) => rt.panic(format_args!("error: {error:?}")),

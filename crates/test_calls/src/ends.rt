@@ -67,7 +67,7 @@ const READERS: [Reader; 18] = [
 ];
 
 /// The end of a reader.
-pub fn end(cause: Cause, entered: u32, lost: Option<Message>) -> ReadEnd {
+pub(crate) fn end(cause: Cause, entered: u32, lost: Option<Message>) -> ReadEnd {
     ReadEnd {
         cause,
         entered,

@@ -15,7 +15,7 @@ use std::panic::Expect;
 use std::process::Abort;
 
 /// Opens a router for two nodes.
-pub fn started<R: RouterHost>(rt: &R) -> Answered {
+pub(crate) fn started<R: RouterHost>(rt: &R) -> Answered {
     let journal = Journal::open(rt.alloc(), opening(rt, 2), 3).expect(rt, "error");
     match Router::open(rt.alloc(), journal) {
         Ok((_, pass)) => Ok(pass.shares() == 65_536),
@@ -58,7 +58,7 @@ fn enter_all<R: RouterHost>(rt: &R, mut caller: Caller<'_>, way: Way) -> Answere
 }
 
 /// Enters three events at a router for two nodes, whose history replays at the end.
-pub fn called<R: RouterHost>(rt: &R, way: Way) -> Answered {
+pub(crate) fn called<R: RouterHost>(rt: &R, way: Way) -> Answered {
     let (router, mut pass) = open(rt, 2, 3);
     let answered = enter_all(rt, Caller::of(&router, &mut pass), way);
     must_replay(rt, &close(rt, router, pass));

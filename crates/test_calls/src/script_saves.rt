@@ -3,8 +3,7 @@
 use crate::asserts::{Host, must, must_bytes};
 use crate::streams::{Pieces, Sink};
 use operator_cmds::Nobody;
-use router_script::ScriptFault;
-use script_runs::{SavingFault, run_saved_script};
+use router_script::{SavingFault, ScriptFault, run_saved_script};
 use std::io::ErrorKind;
 
 /// A script with a look, a refused line, an event that the router refuses, and one that a full history does.
@@ -67,6 +66,7 @@ fn expect_saved<R: Host>(rt: &R, run: &Run) {
         rt.alloc(),
         &mut reader,
         &mut writer,
+        true,
         saver,
         Nobody,
         &[],

@@ -61,7 +61,7 @@ fn operate_all<'a, R: RouterHost>(
 
 /// Runs a shift: the first operator, who lasts over all shifts of a router, brings up the neighbours that are down, if the history has room, and has
 /// the others and the sessions called. What was done is added to the account and to the first operator.
-pub fn run_shift<R: RouterHost>(
+pub(crate) fn run_shift<R: RouterHost>(
     rt: &R,
     first: &mut Operator<'_>,
     account: &mut Account,

@@ -1,6 +1,6 @@
 -- A filter is refused, of those that were read.
 use Rattle.std.proofs.Common.{List, subst, inr}
-use Rattle.script_runs.specs.declared.naming.NamedFilter.{NamedFilter}
+use Rattle.router_script.specs.declared.naming.NamedFilter.{NamedFilter}
 use Rattle.ncroute.specs.Loading.{TellsOfUnfit}
 use Rattle.ncroute.proofs.loading.load_filters.Goals as goal
 

@@ -1,7 +1,7 @@
 use Rattle.std.proofs.Common.{◌≡◌, ◌∙◌, ◌++◌, List, ℕ, None, Option, Some, ap, subst, sym, append-nil}
 use Rattle.std.specs.Prelude.{slice_get}
 use Rattle.std.specs.Slice.{IsItemAt}
-use Rattle.filter_reports.specs.Shown.{shown}
+use Rattle.refusal_words.specs.Shown.{shown}
 use Rattle.ncroute.specs.Places.{ConfigView, FileView, file_of, place_in}
 use Rattle.ncroute.specs.declared.including.File.{File}
 use Rattle.ncroute.proofs.FilePlaces.{adds_place, file_missing, file_there, on_ok}
