@@ -120,6 +120,11 @@ if [ "$wanted" = domain ]; then
         "$bench/domain.py" "${nodes_links%=*}" "${nodes_links#*=}" >"$folder/domain_of_${nodes_links%=*}"
         inputs+=("$folder/domain_of_${nodes_links%=*}")
     done
+    for question in failures "failures nodes"; do
+        asked="$folder/${question/ /_of_}_of_250"
+        { grep -v '^table' "$folder/domain_of_250"; echo "$question"; } >"$asked"
+        inputs+=("$asked")
+    done
     compare domain "${inputs[@]}"
     exit
 fi

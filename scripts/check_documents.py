@@ -40,7 +40,7 @@ SHOWN = (
     ("docs/EMBEDDING.md", "    ", r"(?ms)^/// The metric that a filter gives a route .*?^}\n", "crates/test_calls/src/embedding_tests.rt"),
 )
 # What docs/PROMISES.md names beside what the sources define: commands and programs, a mark, a variable, a field, and a trait of Rust.
-OTHER_NAMES = set("changes diff eval failures history kill lint socat test NCF2 NCROUTE_SIZE unsent Send".split())
+OTHER_NAMES = set("changes diff eval failures history json kill lint socat test NCF2 NCROUTE_SIZE unsent Send".split())
 # A filter that is refused.
 MISTAKE = "filter mistake { acept; }"
 SIZE = 8

@@ -1,5 +1,6 @@
 //! `domain`: the routes of a whole domain at rest, as `ncroute domain` computes them, without proofs. Of its commands there are `domain`,
-//! `code`, `link`, `import`, `export` and `table`; another is unknown. There is no verifier: `code` takes any code file.
+//! `code`, `link`, `import`, `export`, `table`, `failures` and `failures nodes`; another is unknown. There is no verifier: `code` takes any code
+//! file.
 
 use std::collections::HashMap;
 use std::sync::Arc;
@@ -20,7 +21,7 @@ struct Link {
     exports: Option<Arc<Code>>,
 }
 
-#[derive(Clone, Copy)]
+#[derive(Clone, Copy, PartialEq)]
 struct Best {
     dist: u8,
     via: u8,
@@ -55,33 +56,135 @@ impl Plan {
     /// The routes to a node: in Dijkstra's order, as no filter makes a distance less. The lowest of several next hops is taken.
     fn routes_to(&self, memory: &mut Memory, dest: u8) -> Vec<Best> {
         let size = self.size();
-        let net = self.prefixes[usize::from(dest)];
         let mut best = vec![Best { dist: size, via: size }; usize::from(size)];
-        let mut done = vec![false; usize::from(size)];
         best[usize::from(dest)].dist = 0;
+        self.spread(memory, dest, &mut best, vec![false; usize::from(size)]);
+        best
+    }
+
+    /// Adds what a node is offered by a neighbour that has a distance.
+    fn offer(&self, memory: &mut Memory, dest: u8, dist: u8, from: usize, link: &Link, best: &mut [Best]) {
+        let (size, net, to) = (self.size(), self.prefixes[usize::from(dest)], usize::from(link.node));
+        let told = filtered_distance(memory, link.exports.as_deref(), size, net, dist);
+        let imports = self.links[to].iter().find(|back| usize::from(back.node) == from);
+        let filtered = filtered_distance(memory, imports.and_then(|back| back.imports.as_deref()), size, net, told);
+        let offered = Best { dist: filtered + 1, via: from as u8 };
+        let old = best[to];
+        if offered.dist < size && to != usize::from(dest) && (offered.dist, offered.via) < (old.dist, old.via) {
+            best[to] = offered;
+        }
+    }
+
+    /// Takes the nodes that are not done, the nearest first, and has each offer its distance to its neighbours that are not done.
+    fn spread(&self, memory: &mut Memory, dest: u8, best: &mut [Best], mut done: Vec<bool>) {
         while let Some(from) = (0..best.len()).filter(|&node| !done[node]).min_by_key(|&node| best[node].dist) {
             done[from] = true;
             let dist = best[from].dist;
-            for link in self.links[from].iter().filter(|link| link.linked) {
-                let to = usize::from(link.node);
-                let told = filtered_distance(memory, link.exports.as_deref(), size, net, dist);
-                let imports = self.links[to].iter().find(|back| usize::from(back.node) == from);
-                let filtered =
-                    filtered_distance(memory, imports.and_then(|back| back.imports.as_deref()), size, net, told);
-                let offered = Best { dist: filtered + 1, via: from as u8 };
-                let old = best[to];
-                if offered.dist < size && to != usize::from(dest) && (offered.dist, offered.via) < (old.dist, old.via) {
-                    best[to] = offered;
-                }
+            for link in self.links[from].iter().filter(|link| link.linked && !done[usize::from(link.node)]) {
+                self.offer(memory, dest, dist, from, link, best);
             }
         }
+    }
+
+    /// The routes to a node where links are cut: those that led over one are found again, and the others are what they were.
+    fn routes_again(&self, memory: &mut Memory, dest: u8, old: &[Best], cut: &[(u8, u8)]) -> Vec<Best> {
+        let size = self.size();
+        let mut nearest: Vec<usize> = (0..old.len()).collect();
+        nearest.sort_by_key(|&node| old[node].dist);
+        let mut best = old.to_vec();
+        let mut done = vec![true; old.len()];
+        for &u in nearest.iter().filter(|&&u| old[u].via < size) {
+            let via = old[u].via;
+            let over = |&(one, other): &(u8, u8)| (u, via) == (one.into(), other) || (u, via) == (other.into(), one);
+            if !done[usize::from(via)] || cut.iter().any(over) {
+                best[u] = Best { dist: size, via: size };
+                done[u] = false;
+            }
+        }
+        for from in (0..old.len()).filter(|&from| done[from] && old[from].dist < size) {
+            for link in self.links[from].iter().filter(|link| link.linked && !done[usize::from(link.node)]) {
+                self.offer(memory, dest, old[from].dist, from, link, &mut best);
+            }
+        }
+        self.spread(memory, dest, &mut best, done);
         best
+    }
+
+    /// Cuts the link between two nodes, or links them again.
+    fn set_linked(&mut self, u: u8, w: u8, linked: bool) {
+        self.link_mut(u.into(), w.into()).linked = linked;
+        self.link_mut(w.into(), u.into()).linked = linked;
+    }
+
+    /// The neighbours of a node.
+    fn neighbours(&self, u: u8) -> Vec<u8> {
+        self.links[usize::from(u)].iter().filter(|link| link.linked).map(|link| link.node).collect()
+    }
+
+    /// What a failure changes, of the routes to each node to which one led over a link that is cut.
+    fn failure(&mut self, memory: &mut Memory, before: &[Vec<Best>], cut: &[(u8, u8)], failed: Option<u8>) -> Failure {
+        for &(u, w) in cut {
+            self.set_linked(u, w, false);
+        }
+        let size = self.size();
+        let mut found = Failure { changed: 0, lost: 0, moved: 0, farthest: 0, still: size };
+        for (v, old) in before.iter().enumerate() {
+            let is_felt = cut.iter().any(|&(u, w)| old[usize::from(u)].via == w || old[usize::from(w)].via == u);
+            let again = if is_felt { Some(self.routes_again(memory, v as u8, old, cut)) } else { None };
+            let new = again.as_ref().unwrap_or(old);
+            found.farthest = new.iter().map(|best| best.dist).max().unwrap_or(0).max(found.farthest);
+            if !is_felt || failed == Some(v as u8) {
+                continue;
+            }
+            let mut still = size;
+            for (u, (old, new)) in old.iter().zip(new).enumerate() {
+                if failed == Some(u as u8) || old == new {
+                    continue;
+                }
+                found.changed += 1;
+                found.lost += u32::from(old.dist < size && new.dist == size);
+                if old.dist != new.dist {
+                    still = still.min(old.dist.min(new.dist));
+                }
+            }
+            found.moved += u32::from(still < size);
+            found.still = found.still.min(still);
+        }
+        for &(u, w) in cut {
+            self.set_linked(u, w, true);
+        }
+        found
+    }
+}
+
+/// What a failure changes of all routes, the greatest distance after it, and the bound below which no distance is another.
+struct Failure {
+    changed: u32,
+    lost: u32,
+    moved: u32,
+    farthest: u8,
+    still: u8,
+}
+
+impl Failure {
+    fn push(&self, size: u8, out: &mut Vec<u8>) {
+        let rounds = if self.farthest < size { self.farthest + 1 } else { size };
+        let numbers = [self.changed, self.lost, self.moved, rounds.into(), self.still.into()];
+        for (word, number) in [" changed ", " lost ", " moved ", " rounds ", " still "].iter().zip(numbers) {
+            out.extend_from_slice(word.as_bytes());
+            push_decimal(out, number.into());
+        }
     }
 }
 
 fn push_number(out: &mut Vec<u8>, before: u8, number: u16) {
     out.push(before);
     push_decimal(out, number.into());
+}
+
+/// All routes of a plan, by destination, which are computed where they are not there.
+fn routes_of<'a>(plan: &Plan, memory: &mut Memory, routes: &'a mut Option<Vec<Vec<Best>>>) -> &'a [Vec<Best>] {
+    routes.get_or_insert_with(|| (0..plan.size()).map(|v| plan.routes_to(memory, v)).collect())
 }
 
 /// The script of a domain between two lines.
@@ -131,8 +234,7 @@ impl Domain {
         if u >= plan.size().into() {
             return Err("D1");
         }
-        let memory = &mut self.memory;
-        let routes = self.routes.get_or_insert_with(|| (0..plan.size()).map(|v| plan.routes_to(memory, v)).collect());
+        let routes = routes_of(plan, &mut self.memory, &mut self.routes);
         out.extend_from_slice(b"table");
         for (v, to) in routes.iter().enumerate() {
             let Best { dist, via } = to[usize::from(u)];
@@ -141,6 +243,40 @@ impl Domain {
             if via != plan.size() {
                 push_number(out, b':', via.into());
             }
+        }
+        Ok(())
+    }
+
+    fn failures(&mut self, out: &mut Vec<u8>) -> Result<(), &'static str> {
+        let plan = self.plan.as_mut().ok_or("O4")?;
+        let before = routes_of(plan, &mut self.memory, &mut self.routes);
+        let size = plan.size();
+        let links: Vec<(u8, u8)> =
+            (0..size).flat_map(|u| (u + 1..size).map(move |w| (u, w))).filter(|&(u, w)| plan.neighbours(u).contains(&w)).collect();
+        out.extend_from_slice(b"failures ");
+        push_decimal(out, links.len() as u32);
+        for (u, w) in links {
+            let found = plan.failure(&mut self.memory, before, &[(u, w)], None);
+            out.extend_from_slice(b"\nlink");
+            push_number(out, b' ', u.into());
+            push_number(out, b' ', w.into());
+            found.push(size, out);
+        }
+        Ok(())
+    }
+
+    fn node_failures(&mut self, out: &mut Vec<u8>) -> Result<(), &'static str> {
+        let plan = self.plan.as_mut().ok_or("O4")?;
+        let before = routes_of(plan, &mut self.memory, &mut self.routes);
+        let size = plan.size();
+        out.extend_from_slice(b"failures ");
+        push_decimal(out, size.into());
+        for x in 0..size {
+            let cut: Vec<(u8, u8)> = plan.neighbours(x).into_iter().map(|w| (x, w)).collect();
+            let found = plan.failure(&mut self.memory, before, &cut, Some(x));
+            out.extend_from_slice(b"\nnode");
+            push_number(out, b' ', x.into());
+            found.push(size, out);
         }
         Ok(())
     }
@@ -191,6 +327,16 @@ impl Domain {
         };
         match verb {
             b"table" => return one().and_then(|u| self.table(u, out)).map_err(at_line),
+            b"failures" => {
+                return match words(line) {
+                    Some([_]) => self.failures(out),
+                    _ => match words(line) {
+                        Some([_, b"nodes"]) => self.node_failures(out),
+                        _ => Err("O1"),
+                    },
+                }
+                .map_err(at_line);
+            }
             b"code" => {
                 let [_, filter, file] = words(line).ok_or(("O1", line_number))?;
                 let filter = name(filter).map_err(at_line)?;

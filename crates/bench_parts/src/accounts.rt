@@ -1,6 +1,6 @@
 //! What a caller of a router came to.
 
-use crate::input::Step;
+use crate::input::BenchStep;
 use crate::waits::Waits;
 use filter_verifier::Verified;
 use netchange_core::{Event, Reply};
@@ -28,14 +28,14 @@ pub struct Account {
 }
 
 /// The neighbour whose session the event of a step names; any node where it names none.
-fn neighbour_of(step: Step) -> usize {
-    let (Step::Up(node)
-    | Step::Down(node)
-    | Step::Take(node)
-    | Step::Show(node)
-    | Step::Receive(node, _, _)
-    | Step::SetImport(node, _)
-    | Step::SetExport(node, _)) = step;
+fn neighbour_of(step: BenchStep) -> usize {
+    let (BenchStep::Up(node)
+    | BenchStep::Down(node)
+    | BenchStep::Take(node)
+    | BenchStep::Show(node)
+    | BenchStep::Receive(node, _, _)
+    | BenchStep::SetImport(node, _)
+    | BenchStep::SetExport(node, _)) = step;
     usize::from(node)
 }
 
@@ -62,27 +62,27 @@ impl Account {
     }
 
     /// The event of a step.
-    pub fn event(&self, step: Step, filters: &[Arc<Verified>]) -> Option<Event> {
+    pub fn event(&self, step: BenchStep, filters: &[Arc<Verified>]) -> Option<Event> {
         let session = *self.sessions.get(neighbour_of(step)).unwrap_or(&0);
         match step {
-            Step::Up(node) => Some(Event::Up(node)),
-            Step::Down(_) => Some(Event::Down(session)),
-            Step::Receive(_, dest, dist) => Some(Event::Receive(session, dest, dist)),
-            Step::Take(_) => Some(Event::Take(session, u16::MAX)),
-            Step::SetImport(node, filter) => Some(Event::SetImport(
+            BenchStep::Up(node) => Some(Event::Up(node)),
+            BenchStep::Down(_) => Some(Event::Down(session)),
+            BenchStep::Receive(_, dest, dist) => Some(Event::Receive(session, dest, dist)),
+            BenchStep::Take(_) => Some(Event::Take(session, u16::MAX)),
+            BenchStep::SetImport(node, filter) => Some(Event::SetImport(
                 node,
                 filters.get(filter)?.clone().ok()?,
             )),
-            Step::SetExport(node, filter) => Some(Event::SetExport(
+            BenchStep::SetExport(node, filter) => Some(Event::SetExport(
                 node,
                 filters.get(filter)?.clone().ok()?,
             )),
-            Step::Show(node) => Some(Event::Show(node)),
+            BenchStep::Show(node) => Some(Event::Show(node)),
         }
     }
 
     /// Adds the reply to a step.
-    pub fn add(&mut self, step: Step, reply: &Reply) {
+    pub fn add(&mut self, step: BenchStep, reply: &Reply) {
         self.events = self.events.wrapping_add(1);
         match reply {
             Reply::Opened(session) => {

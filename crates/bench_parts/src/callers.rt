@@ -162,7 +162,7 @@ fn open(alloc: Global, work: &Work) -> Option<(Router, Pass)>
 }
 
 /// Has a router answer the events of so many callers.
-pub fn measure_passes<R: Threads + Wait + Clock + Sync>(
+pub(crate) fn measure_passes<R: Threads + Wait + Clock + Sync>(
     rt: &R,
     alloc: Global,
     work: &Work,
@@ -182,7 +182,7 @@ pub fn measure_passes<R: Threads + Wait + Clock + Sync>(
 }
 
 /// Has a journal under a `Mutex` answer the events of so many callers.
-pub fn measure_mutex<R: Threads + Wait + Clock + Sync>(
+pub(crate) fn measure_mutex<R: Threads + Wait + Clock + Sync>(
     rt: &R,
     alloc: Global,
     work: &Work,

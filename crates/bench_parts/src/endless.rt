@@ -58,7 +58,11 @@ fn small_journal(alloc: Global, work: &Work) -> Option<Journal>
 }
 
 /// Has a router without end answer all events.
-pub fn measure_endless<R: Wait + Clock>(rt: &R, alloc: Global, work: &Work) -> Option<Account> {
+pub(crate) fn measure_endless<R: Wait + Clock>(
+    rt: &R,
+    alloc: Global,
+    work: &Work,
+) -> Option<Account> {
     let (router, pass, right) = Router::open_endless(alloc, small_journal(alloc, work)?).ok()?;
     let mut first = Forgetting {
         rt,

@@ -20,7 +20,7 @@ pub const SIZE: u32 = 64;
 
 /// An event as a line has it. It names a neighbour where an event names a session.
 #[derive(Clone, Copy)]
-pub enum Step {
+pub enum BenchStep {
     Up(u16),
     Down(u16),
     Receive(u16, u16, u16),
@@ -32,7 +32,7 @@ pub enum Step {
 
 /// What was read: for a machine a code and routes, for a router all else.
 #[derive(Drop)]
-pub struct Input {
+pub struct BenchInput {
     is_for_machine: bool,
     pub code: Option<Code>,
     pub routes: Vec<Route>,
@@ -40,7 +40,7 @@ pub struct Input {
     pub me: u16,
     pub filters: Vec<Arc<Verified>>,
     pub once: usize,
-    pub steps: Vec<Step>,
+    pub steps: Vec<BenchStep>,
 }
 
 /// The route that a line has, if it is one of that domain.
@@ -62,24 +62,24 @@ fn next_number(line: &[u8]) -> Option<(u16, &[u8])> {
 }
 
 /// The event of a word and the numbers after it.
-fn step_of(word: &[u8], rest: &[u8]) -> Option<Step> {
+fn step_of(word: &[u8], rest: &[u8]) -> Option<BenchStep> {
     let (first, rest) = next_number(rest)?;
     match word {
-        b"up" => Some(Step::Up(first)),
-        b"down" => Some(Step::Down(first)),
-        b"take" => Some(Step::Take(first)),
-        b"show" => Some(Step::Show(first)),
+        b"up" => Some(BenchStep::Up(first)),
+        b"down" => Some(BenchStep::Down(first)),
+        b"take" => Some(BenchStep::Take(first)),
+        b"show" => Some(BenchStep::Show(first)),
         _ => step_of_more(word, first, rest),
     }
 }
 
 /// The event of a word and more than one number.
-fn step_of_more(word: &[u8], first: u16, rest: &[u8]) -> Option<Step> {
+fn step_of_more(word: &[u8], first: u16, rest: &[u8]) -> Option<BenchStep> {
     let (second, rest) = next_number(rest)?;
     match word {
-        b"import" => Some(Step::SetImport(first, usize::from(second))),
-        b"export" => Some(Step::SetExport(first, usize::from(second))),
-        b"recv" => Some(Step::Receive(first, second, next_number(rest)?.0)),
+        b"import" => Some(BenchStep::SetImport(first, usize::from(second))),
+        b"export" => Some(BenchStep::SetExport(first, usize::from(second))),
+        b"recv" => Some(BenchStep::Receive(first, second, next_number(rest)?.0)),
         _ => None,
     }
 }
@@ -92,10 +92,10 @@ fn filter_of(alloc: Global, rest: &[u8], size: u16) -> Option<Arc<Verified>> {
     Arc::new(alloc, verified).ok()
 }
 
-impl Input {
+impl BenchInput {
     /// Nothing yet, for a machine or for a router.
-    pub fn new(alloc: Global, is_for_machine: bool) -> Input {
-        Input {
+    pub fn new(alloc: Global, is_for_machine: bool) -> BenchInput {
+        BenchInput {
             is_for_machine,
             code: None,
             routes: Vec::new(alloc),
@@ -108,7 +108,7 @@ impl Input {
     }
 
     /// The events that are answered once, and those of each round.
-    pub fn parts(&self) -> (&[Step], &[Step]) {
+    pub fn parts(&self) -> (&[BenchStep], &[BenchStep]) {
         self.steps.split_at(self.once.min(self.steps.len()))
     }
 
@@ -140,7 +140,7 @@ impl Input {
     }
 }
 
-impl Service for Input {
+impl Service for BenchInput {
     ghost answers = { λ _ _ _ _ _. Unit {0} };
 
     ghost refuses = { λ _ _. Unit {0} };

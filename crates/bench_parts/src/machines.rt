@@ -1,7 +1,7 @@
 //! Routes through the code of a filter.
 
 use crate::accounts::Counts;
-use crate::input::{Input, SIZE};
+use crate::input::{BenchInput, SIZE};
 use filter_code::{Outcome, Route, run_checked};
 use filter_machine::{Verdict, run};
 use filter_verifier::{Verified, verify};
@@ -75,13 +75,13 @@ fn measure(verified: &Verified, routes: &[Route], is_verified: bool, rounds: u32
 }
 
 /// Takes the routes of an input through its code so many times.
-pub fn measure_machine(
+pub(crate) fn measure_machine(
     alloc: Global,
-    input: Input,
+    input: BenchInput,
     is_verified: bool,
     rounds: u32,
 ) -> Option<Counts> {
-    let Input { code, routes, .. } = input;
+    let BenchInput { code, routes, .. } = input;
     match verify(alloc, code?, SIZE) {
         Ok(verified) => Some(measure(&verified, &routes, is_verified, rounds)),
         Err(_) => None,

@@ -10,6 +10,10 @@
 //! told that at most one call in a thousand is above.
 //!
 //! The input is as `input` says. Each number that is told has a line of its own, behind its name.
+//!
+//! **It is a program of its own and carries no promise.** It is proved like the others, and kept small, so that both machines and the router can be
+//! measured without the reading of lines. What answers events is a trait: tables, a journal, a router by a pass, a journal under a `Mutex`. The
+//! benchmarks take processor time, so other work on the machine matters little.
 #![tactic(auto)]
 
 mod accounts;
@@ -23,7 +27,7 @@ mod waits;
 use accounts::{Account, Counts};
 use callers::{measure_mutex, measure_passes};
 use endless::measure_endless;
-use input::Input;
+use input::BenchInput;
 use line_protocol::answer_lines;
 use machines::measure_machine;
 use prefix_patterns::read_number;
@@ -40,8 +44,8 @@ fn is_machine(part: &str) -> bool {
 }
 
 /// What is on standard input, for a machine or for a router.
-fn given(rt: &HostRuntime, is_for_machine: bool) -> Option<Input> {
-    let mut input = Input::new(rt.alloc(), is_for_machine);
+fn given(rt: &HostRuntime, is_for_machine: bool) -> Option<BenchInput> {
+    let mut input = BenchInput::new(rt.alloc(), is_for_machine);
     match answer_lines(rt.alloc(), &mut rt.stdin(), &mut io::writer(rt), &mut input) {
         Ok(0) => Some(input),
         _ => None,
@@ -49,7 +53,7 @@ fn given(rt: &HostRuntime, is_for_machine: bool) -> Option<Input> {
 }
 
 /// What the words of the command line ask for: a part, the rounds, and what is on standard input.
-fn asked(rt: &HostRuntime) -> Option<(String, u32, Input)> {
+fn asked(rt: &HostRuntime) -> Option<(String, u32, BenchInput)> {
     let mut words = env::args(rt).ok()?;
     let _program = words.next()?;
     let part = words.next()?;
@@ -96,7 +100,7 @@ fn measured<R: Threads + Wait + Clock + Sync>(
     alloc: Global,
     part: &str,
     rounds: u32,
-    input: Input,
+    input: BenchInput,
 ) -> Option<Counts> {
     if is_machine(part) {
         return measure_machine(alloc, input, part == "verified", rounds);

@@ -3,7 +3,7 @@
 ghost use Rattle.std.specs.Prelude.{◌≡◌, IfSome, []};
 
 use crate::accounts::Account;
-use crate::input::{Input, Step};
+use crate::input::{BenchInput, BenchStep};
 use crate::waits::now;
 use netchange_core::{Event, Opening, Reply, Tables};
 use prefix_patterns::{Ip, Prefix};
@@ -33,13 +33,13 @@ impl Answering for Journal {
 /// What is to be done: the events of an input, those of its round so many times. If asked to, the time of each call is taken.
 #[derive(Drop)]
 pub struct Work {
-    pub input: Input,
+    pub input: BenchInput,
     pub rounds: u32,
     pub is_timed: bool,
 }
 
 /// The opening that an input asks for. The prefix of each node is `10.V.0.0/16`.
-pub fn opening_of(alloc: Global, input: &Input) -> Option<Opening> {
+pub(crate) fn opening_of(alloc: Global, input: &BenchInput) -> Option<Opening> {
     let mut prefixes = Vec::new(alloc);
     for node in 0..input.size {
         let address = u32::from_be_bytes([10, node.to_be_bytes()[1], 0, 0]);
@@ -49,7 +49,7 @@ pub fn opening_of(alloc: Global, input: &Input) -> Option<Opening> {
 }
 
 /// An empty journal of the router that an input asks for.
-pub fn journal_of(alloc: Global, work: &Work) -> Option<Journal>
+pub(crate) fn journal_of(alloc: Global, work: &Work) -> Option<Journal>
     ensures { IfSome result (λ j. j.entries ≡ []) }
 {
     Journal::open(alloc, opening_of(alloc, &work.input)?, LARGEST_LIMIT).ok()
@@ -60,7 +60,7 @@ fn answer_all<R: Clock, A: Answering>(
     rt: &R,
     answering: &mut A,
     work: &Work,
-    steps: &[Step],
+    steps: &[BenchStep],
     account: &mut Account,
 ) -> Option<()> {
     for step in steps {
@@ -76,7 +76,7 @@ fn answer_all<R: Clock, A: Answering>(
 }
 
 /// Has the first events answered: what that came to.
-pub fn answer_first<R: Clock, A: Answering>(
+pub(crate) fn answer_first<R: Clock, A: Answering>(
     rt: &R,
     answering: &mut A,
     work: &Work,
@@ -87,7 +87,7 @@ pub fn answer_first<R: Clock, A: Answering>(
 }
 
 /// Has the events of a round answered so many times.
-pub fn answer_rounds<R: Clock, A: Answering>(
+pub(crate) fn answer_rounds<R: Clock, A: Answering>(
     rt: &R,
     answering: &mut A,
     work: &Work,
@@ -101,7 +101,7 @@ pub fn answer_rounds<R: Clock, A: Answering>(
 }
 
 /// Has the first events answered, and those of so many rounds: what that came to.
-pub fn measure<R: Clock, A: Answering>(
+pub(crate) fn measure<R: Clock, A: Answering>(
     rt: &R,
     answering: &mut A,
     work: &Work,
@@ -113,7 +113,7 @@ pub fn measure<R: Clock, A: Answering>(
 }
 
 /// Has tables answer all events.
-pub fn measure_tables<R: Clock>(rt: &R, alloc: Global, work: &Work) -> Option<Account> {
+pub(crate) fn measure_tables<R: Clock>(rt: &R, alloc: Global, work: &Work) -> Option<Account> {
     match Tables::open(alloc, opening_of(alloc, &work.input)?) {
         Ok(mut tables) => measure(rt, &mut tables, work, work.rounds),
         Err(_) => None,
@@ -121,7 +121,7 @@ pub fn measure_tables<R: Clock>(rt: &R, alloc: Global, work: &Work) -> Option<Ac
 }
 
 /// Has a journal, which keeps each event with its reply, answer all events.
-pub fn measure_journal<R: Clock>(rt: &R, alloc: Global, work: &Work) -> Option<Account> {
+pub(crate) fn measure_journal<R: Clock>(rt: &R, alloc: Global, work: &Work) -> Option<Account> {
     measure(rt, &mut journal_of(alloc, work)?, work, work.rounds)
 }
 
@@ -134,7 +134,7 @@ fn replay_all(alloc: Global, journal: &Journal, rounds: u32) -> Option<()> {
 }
 
 /// Replays the journal of one round so many times.
-pub fn measure_replay<R: Clock>(rt: &R, alloc: Global, work: &Work) -> Option<Account> {
+pub(crate) fn measure_replay<R: Clock>(rt: &R, alloc: Global, work: &Work) -> Option<Account> {
     let mut journal = journal_of(alloc, work)?;
     let account = measure(rt, &mut journal, work, 1);
     match replay_all(alloc, &journal, work.rounds) {

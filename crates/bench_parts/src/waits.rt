@@ -12,7 +12,7 @@ pub struct Waits {
 }
 
 /// What a clock shows, in nanoseconds.
-pub fn now<R: Clock>(rt: &R) -> u64 {
+pub(crate) fn now<R: Clock>(rt: &R) -> u64 {
     match rt.monotonic() {
         Ok(since) => u64::try_from(since.as_nanos()).unwrap_or(0),
         Err(_) => 0,

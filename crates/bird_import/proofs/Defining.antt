@@ -3,7 +3,7 @@ use Rattle.std.proofs.Common.{◌≡◌, ℕ, suc, ◌+◌, ◌≤◌, ◌++◌,
 use Rattle.std.proofs.lemmas.List.{drop_all, drop_more}
 use Rattle.std.proofs.lemmas.Option.{get_or_from_slice_get, slice_get_within}
 use Rattle.std.specs.Prelude.{Some, slice_get}
-use Rattle.bird_import.specs.Drafts.{IsDefinedHere}
+use Rattle.bird_import.specs.Conversions.{IsDefinedHere}
 use Rattle.bird_import.specs.Rules.{IsDefined}
 use Rattle.bird_import.specs.Steps.{Becomes, BecomesWithin, Reaches}
 use Rattle.bird_import.specs.declared.step.Rule.TheVariants as rule

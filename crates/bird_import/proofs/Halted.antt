@@ -2,7 +2,7 @@
 use Rattle.std.proofs.Common.{◌≡◌, ℕ, zero, suc, ◌+◌, ◌*◌, ◌<◌, ◌≤◌, ◌⊎◌, List, Option, Some, None, ◌∙◌, length, subst, inl, inr, add-one, refl, arith}
 use Rattle.std.proofs.Math.Nat.{mul-le-mul_right}
 use Rattle.std.specs.Prelude.{IfOk, IfSome, Result, Ok, Err, slice_get}
-use Rattle.bird_import.specs.Drafts.{words_of}
+use Rattle.bird_import.specs.Conversions.{words_of}
 use Rattle.bird_import.specs.Indices.{kind_of_word}
 use Rattle.bird_import.specs.Reasons.{why_of, why_of_next}
 use Rattle.bird_import.specs.Steps.{BecomesWithin, Reaches}
@@ -11,8 +11,8 @@ use Rattle.bird_import.specs.Stuck.{IsFunctionOf, IsOutside, IsStuck, IsTooDeep,
 use Rattle.bird_import.proofs.Below.{same_some}
 use Rattle.bird_import.proofs.Reached.{no_step}
 use Rattle.bird_import.specs.declared.config.Config.{Config}
-use Rattle.bird_import.specs.declared.drafts.Next.{Next}
-use Rattle.bird_import.specs.declared.drafts.Outcome.{Outcome}
+use Rattle.bird_import.specs.declared.conversions.Next.{Next}
+use Rattle.bird_import.specs.declared.conversions.ConversionOutcome.{ConversionOutcome}
 use Rattle.bird_import.specs.declared.items.Item.{Item}
 use Rattle.bird_import.specs.declared.reason.Why.{Why}
 use Rattle.bird_import.specs.declared.reason.Why.TheVariants as why
@@ -139,15 +139,15 @@ module _ (config : Config) (depth n : ℕ) (before words : List Word) (steps : R
   stuck_at slice why same halts = inr (words, (n, steps), subst (λ list. Halts config depth list why) same halts)
 
   -- there are too many words
-  pub by_words : (outcome : Outcome) → why_of outcome ≡ Some TooLong → 65536 < length words → IfSome (why_of outcome) (IsStuck config depth before)
+  pub by_words : (outcome : ConversionOutcome) → why_of outcome ≡ Some TooLong → 65536 < length words → IfSome (why_of outcome) (IsStuck config depth before)
   by_words outcome is long = rw is (inl (inl (words, (n, steps), long)))
 
   -- there are too many steps
-  pub by_steps : (outcome : Outcome) → why_of outcome ≡ Some TooLong → 65536 ≤ n → IfSome (why_of outcome) (IsStuck config depth before)
+  pub by_steps : (outcome : ConversionOutcome) → why_of outcome ≡ Some TooLong → 65536 ≤ n → IfSome (why_of outcome) (IsStuck config depth before)
   by_steps outcome is long = rw is (inl (inr (n, words, inl long, steps)))
 
   -- they go through too many words
-  pub by_work : (outcome : Outcome) (made : ℕ) (slice : List Word) → why_of outcome ≡ Some TooLong → slice ≡ words → made ≤ n
+  pub by_work : (outcome : ConversionOutcome) (made : ℕ) (slice : List Word) → why_of outcome ≡ Some TooLong → slice ≡ words → made ≤ n
       → 33554432 < made * length slice → IfSome (why_of outcome) (IsStuck config depth before)
   by_work outcome made slice is same few long =
       let many : made * length words ≤ n * length words = mul-le-mul_right (length words) few in

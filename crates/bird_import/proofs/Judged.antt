@@ -4,15 +4,15 @@ use Rattle.bird_import.specs.Judged.{AreJudged, Begins, IsFilter, IsJudged}
 use Rattle.bird_import.specs.Items.{opens_block}
 use Rattle.bird_import.specs.Reasons.{HaveValues, LacksValue}
 use Rattle.bird_import.specs.declared.config.Config.{Config}
-use Rattle.bird_import.specs.declared.drafts.Outcome.{Outcome}
-use Rattle.bird_import.specs.declared.drafts.Outcome.TheVariants.{Drafted, LeftOut}
+use Rattle.bird_import.specs.declared.conversions.ConversionOutcome.{ConversionOutcome}
+use Rattle.bird_import.specs.declared.conversions.ConversionOutcome.TheVariants.{Converted, LeftOut}
 use Rattle.bird_import.specs.declared.items.Item.{Item}
 use Rattle.bird_import.specs.declared.word.Word.{Word}
 
 -- what becomes of the words of a filter becomes of its item
-pub of_words : (config : Config) (one : Item) (first : List Word) (outcome : Outcome) → IsFilter config one → Begins config one first
+pub of_words : (config : Config) (one : Item) (first : List Word) (outcome : ConversionOutcome) → IsFilter config one → Begins config one first
     → AreJudged config first outcome → IsJudged config one outcome
-of_words config one first (Drafted words) is begins judged = record { is_filter = is; first = first; begins = begins; taken = judged }
+of_words config one first (Converted words) is begins judged = record { is_filter = is; first = first; begins = begins; taken = judged }
 of_words config one first (LeftOut reason) is begins judged = inr (first, begins, judged)
 
 before_or_not : (k n : ℕ) → (k < n) ⊎ (n ≤ k)

@@ -12,8 +12,8 @@ use Rattle.bird_import.specs.Indices.{IsNameAt, IsNamedAt}
 use Rattle.bird_import.specs.Names.{Knows, found_of}
 use Rattle.bird_import.specs.Stuck.{IsDefinedName, IsDefinition, IsFound}
 use Rattle.bird_import.specs.declared.config.Config.{Config}
-use Rattle.bird_import.specs.declared.defines.Found.{Found}
-use Rattle.bird_import.specs.declared.defines.Found.TheVariants as found
+use Rattle.bird_import.specs.declared.defines.NameDefinition.{NameDefinition}
+use Rattle.bird_import.specs.declared.defines.NameDefinition.TheVariants as found
 use Rattle.bird_import.specs.declared.items.Definition.{Definition}
 use Rattle.bird_import.proofs.Below.{one_more, same_some}
 
@@ -21,7 +21,7 @@ abbrev pub Key : Type 0
 Key = Vec ℕ Global
 
 abbrev pub Table : Type 0
-Table = BTreeMap Key Found
+Table = BTreeMap Key NameDefinition
 
 abbrev pub key_cmp : Key → Key → Ordering
 key_cmp x y = slice_cmp nat_cmp x.items y.items
@@ -50,15 +50,15 @@ apart name other n key h =
     ∙ sym (nat_list_eq_equiv.congr name key.items other y) ∙ n
 
 -- what is found of each name after one was noted
-at_one : (m n : Table) (key : Key) (one : Found) (other : List ℕ) (b : Bool) → bytes_eq key.items other ≡ b → Updates key_cmp m n key (Some one)
+at_one : (m n : Table) (key : Key) (one : NameDefinition) (other : List ℕ) (b : Bool) → bytes_eq key.items other ≡ b → Updates key_cmp m n key (Some one)
     → found_of n other ≡ (if b then one else found_of m other)
 at_one m n key one other true same h =
-    subst (λ (name : List ℕ). found_of n name ≡ one) ((bytes_decides key.items other).0 same) (ap (λ (o : Option Found). unwrap_or o found.Never) h.1)
+    subst (λ (name : List ℕ). found_of n name ≡ one) ((bytes_decides key.items other).0 same) (ap (λ (o : Option NameDefinition). unwrap_or o found.Never) h.1)
 at_one m n key one other false differ h =
-    ap (λ (o : Option Found). unwrap_or o found.Never)
+    ap (λ (o : Option NameDefinition). unwrap_or o found.Never)
     (other_entries (is_name key.items) m.entries n.entries h.3 (is_name other) (tests_keys other) (apart key.items other differ))
 
-pub noted : (m n : Table) (key : Key) (one : Found) (name : List ℕ) → key.items ≡ name → Updates key_cmp m n key (Some one) → (other : List ℕ)
+pub noted : (m n : Table) (key : Key) (one : NameDefinition) (name : List ℕ) → key.items ≡ name → Updates key_cmp m n key (Some one) → (other : List ℕ)
     → found_of n other ≡ (if bytes_eq name other then one else found_of m other)
 noted m n key one name same h other =
     subst (λ (text : List ℕ). found_of n other ≡ (if bytes_eq text other then one else found_of m other)) same
@@ -67,7 +67,7 @@ noted m n key one name same h other =
 -- nothing is found in an empty table, and nothing is defined by no definition
 pub knows_none : (config : Config) (m : Table) → m.entries ≡ [] → Knows config 0 m
 knows_none config m none name =
-    subst (λ (entries : List (Key × Found)). IsFound config name 0 (unwrap_or (lookup (is_name name) entries) found.Never)) (sym none)
+    subst (λ (entries : List (Key × NameDefinition)). IsFound config name 0 (unwrap_or (lookup (is_name name) entries) found.Never)) (sym none)
     (λ j other below of. absurd (omega (arith, below)))
 
 module _ (config : Config) (n : ℕ) (definition : Definition) (is : slice_get config.definitions.now n ≡ Some definition) where
@@ -77,7 +77,7 @@ module _ (config : Config) (n : ℕ) (definition : Definition) (is : slice_get c
       not (subst (λ (one : Definition). IsNamedAt name config.words.now one.name) (same_some (slice_get config.definitions.now n) other definition of.is is)
       of.names)
 
-  of_another : (name : List ℕ) (what : Found) → (IsNamedAt name config.words.now definition.name → ⊥) → IsFound config name n what
+  of_another : (name : List ℕ) (what : NameDefinition) → (IsNamedAt name config.words.now definition.name → ⊥) → IsFound config name n what
       → IsFound config name (n + 1) what
   of_another name (found.Once one) not so_far = (
     so_far.0,
@@ -93,7 +93,7 @@ module _ (config : Config) (n : ℕ) (definition : Definition) (is : slice_get c
       (λ d there. not_here name not d there) j below other of
 
   -- it is of this name
-  of_the_name : (name : List ℕ) (before again : Found) → IsNamedAt name config.words.now definition.name → (before ≡ found.Never → again ≡ found.Once definition)
+  of_the_name : (name : List ℕ) (before again : NameDefinition) → IsNamedAt name config.words.now definition.name → (before ≡ found.Never → again ≡ found.Once definition)
       → (before ≢ found.Never → again ≡ found.Twice) → IsFound config name n before → IsFound config name (n + 1) again
   of_the_name name found.Never again named first second so_far =
       rw (first refl) (
@@ -109,7 +109,7 @@ module _ (config : Config) (n : ℕ) (definition : Definition) (is : slice_get c
   of_the_name name found.Twice again named first second so_far = rw (second (λ e. let no : ⊥ = cc in no)) so_far
 
   -- what is known with a definition more
-  pub knows_more : (m m' : Table) (name : List ℕ) (again : Found) → IsNamedAt name config.words.now definition.name
+  pub knows_more : (m m' : Table) (name : List ℕ) (again : NameDefinition) → IsNamedAt name config.words.now definition.name
       → (found_of m name ≡ found.Never → again ≡ found.Once definition) → (found_of m name ≢ found.Never → again ≡ found.Twice)
       → ((other : List ℕ) → found_of m' other ≡ (if bytes_eq name other then again else found_of m other)) → Knows config n m → Knows config (n + 1) m'
   knows_more m m' name again named first second now so_far other = rw (now other) (split (bytes_eq name other) refl)

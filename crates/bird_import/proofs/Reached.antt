@@ -1,14 +1,14 @@
--- How steps follow one another, and drafts.
+-- How steps follow one another, and conversions.
 use Rattle.std.proofs.Common.{Option, subst, sym, ◌≡◌, ℕ, suc, ◌+◌, ◌-◌, ◌++◌, List, [], Some, refl, add-one}
 use Rattle.std.specs.Prelude.{IfOk, IfSome, Result, Ok, Err, slice_get}
-use Rattle.bird_import.specs.Drafts.{IsCallee, IsNext, words_of}
+use Rattle.bird_import.specs.Conversions.{IsCallee, IsNext, words_of}
 use Rattle.bird_import.specs.Functions.{IsCallOf}
-use Rattle.bird_import.specs.Judged.{HasDraft, HaveDrafts}
+use Rattle.bird_import.specs.Judged.{HasConversion, HaveConversions}
 use Rattle.bird_import.specs.Steps.{Becomes, BecomesWithin, IsCallWritten, IsPart, Reaches, Replaces, Writes}
 use Rattle.bird_import.specs.declared.config.Config.{Config}
-use Rattle.bird_import.specs.declared.drafts.Draft.{Draft}
-use Rattle.bird_import.specs.declared.drafts.Next.{Next}
-use Rattle.bird_import.specs.declared.drafts.Next.TheVariants.{Done, Stuck, Words}
+use Rattle.bird_import.specs.declared.conversions.Conversion.{Conversion}
+use Rattle.bird_import.specs.declared.conversions.Next.{Next}
+use Rattle.bird_import.specs.declared.conversions.Next.TheVariants.{Done, Stuck, Words}
 use Rattle.bird_import.specs.declared.items.Item.{Item}
 use Rattle.bird_import.specs.declared.word.Word.{Word}
 
@@ -24,15 +24,15 @@ unfolding BecomesWithin
 less_deep config depth less before after is becomes = rw (is, add-one) becomes
 
 -- no item
-pub no_draft : (config : Config) (items : List Item) (drafts : List Draft) → drafts ≡ [] → HaveDrafts config items 0 drafts
-unfolding HaveDrafts
-no_draft config items drafts none = none
+pub no_conversion : (config : Config) (items : List Item) (conversions : List Conversion) → conversions ≡ [] → HaveConversions config items 0 conversions
+unfolding HaveConversions
+no_conversion config items conversions none = none
 
 -- one more
-pub one_draft : (config : Config) (items : List Item) (n : ℕ) (one : Item) (before after : List Draft) → slice_get items n ≡ Some one
-    → HaveDrafts config items n before → HasDraft config one.kind one before after → HaveDrafts config items (n + 1) after
-unfolding HaveDrafts
-one_draft config items n one before after is drafts more = rw add-one (one, before, is, drafts, more)
+pub one_conversion : (config : Config) (items : List Item) (n : ℕ) (one : Item) (before after : List Conversion) → slice_get items n ≡ Some one
+    → HaveConversions config items n before → HasConversion config one.kind one before after → HaveConversions config items (n + 1) after
+unfolding HaveConversions
+one_conversion config items n one before after is conversions more = rw add-one (one, before, is, conversions, more)
 
 -- a part of some words is written as another
 pub replaced : (Way : List Word → List Word → List Word → List Word → Type 0) (words front old new back after : List Word)

@@ -8,10 +8,10 @@ use Rattle.filter_tokens.specs.Tokenization.{AreInOrder}
 use Rattle.filter_tokens.specs.declared.token.Token.{Token}
 use Rattle.bird_import.specs.Alike.{AreAlike}
 use Rattle.bird_import.specs.Spelling.{IsSpelled, IsWritten, LiesIn}
-use Rattle.bird_import.specs.Texts.{Fated, IsTaken}
+use Rattle.bird_import.specs.Texts.{HasOutcome, IsTaken}
 use Rattle.bird_import.specs.Unassigned.{AreAssigned}
-use Rattle.bird_import.specs.declared.text.Fate.{Fate}
-use Rattle.bird_import.specs.declared.text.Fate.TheVariants as fates
+use Rattle.bird_import.specs.declared.text.TextOutcome.{TextOutcome}
+use Rattle.bird_import.specs.declared.text.TextOutcome.TheVariants as fates
 use Rattle.bird_import.specs.declared.word.Word.{Word}
 use Rattle.filter_parser.specs.Surroundings.{TellsRound}
 use Rattle.filter_parser.specs.declared.unparsed.Unparsed.{Unparsed}
@@ -103,9 +103,9 @@ not_written text words filter tokens only same other is =
     other (subst (λ list. AreAlike (IsSpelled text) list words) (ap (λ (f : FilterView). f.tokens) (only is.filter is.spells) ∙ sym same) is.same)
 
 -- and a text that the parser refuses, if not for want of memory, spells none, for this fault
-pub of_fault : {E : Type 0} (words : List Word) (text : List ℕ) (why : Unparsed) (r : Result Fate E)
-    → IfOk r (λ fate. (fate ≡ fates.Refused why) × (why.fault ≢ faults.Memory)) → (why.fault ≢ faults.Memory → IsUnspelled text why.fault)
-    → TellsRound text why.fault why.around → IfOk r (Fated words text)
-of_fault words text why (Ok fate) (same, other) unspelled round =
-    subst (λ (f : Fate). Fated words text f) (sym same) (unspelled other, round)
+pub of_fault : {E : Type 0} (words : List Word) (text : List ℕ) (why : Unparsed) (r : Result TextOutcome E)
+    → IfOk r (λ text_outcome. (text_outcome ≡ fates.Refused why) × (why.fault ≢ faults.Memory)) → (why.fault ≢ faults.Memory → IsUnspelled text why.fault)
+    → TellsRound text why.fault why.around → IfOk r (HasOutcome words text)
+of_fault words text why (Ok text_outcome) (same, other) unspelled round =
+    subst (λ (f : TextOutcome). HasOutcome words text f) (sym same) (unspelled other, round)
 of_fault words text why (Err e) is unspelled round = tt

@@ -1,15 +1,15 @@
 -- Which filters are left out, and what the others become.
 use Rattle.std.specs.Prelude.{◌≡◌, ◌⊎◌, ℕ, zero, suc, ◌-◌, true, false, List, [], ◌∷◌, ◌++◌, Some, slice_get}
-use Rattle.bird_import.specs.Drafts.{BeginsAs, words_of}
+use Rattle.bird_import.specs.Conversions.{BeginsAs, words_of}
 use Rattle.bird_import.specs.Indices.{place_at}
 use Rattle.bird_import.specs.Reasons.{AreKnown, HasLeftOpen, HaveNoValue, HaveUnknown, HaveValues, IsNamedBefore, is_nameable}
 use Rattle.bird_import.specs.Scopes.{AreInScope}
 use Rattle.bird_import.specs.Steps.{Becomes}
 use Rattle.bird_import.specs.Stuck.{AreApart, IsOutside, IsStuck}
 use Rattle.bird_import.specs.declared.config.Config.{Config}
-use Rattle.bird_import.specs.declared.drafts.Draft.{Draft}
-use Rattle.bird_import.specs.declared.drafts.Outcome.{Outcome}
-use Rattle.bird_import.specs.declared.drafts.Outcome.TheVariants as outcome
+use Rattle.bird_import.specs.declared.conversions.Conversion.{Conversion}
+use Rattle.bird_import.specs.declared.conversions.ConversionOutcome.{ConversionOutcome}
+use Rattle.bird_import.specs.declared.conversions.ConversionOutcome.TheVariants as outcome
 use Rattle.bird_import.specs.declared.items.Item.{Item}
 use Rattle.bird_import.specs.declared.items.ItemKind.{ItemKind}
 use Rattle.bird_import.specs.declared.items.ItemKind.TheVariants as item
@@ -33,8 +33,8 @@ AreRefused config first why = HaveNoValue first why
     ⊎ (IsStuck config 16 first why ⊎ ((after : List Word) × Becomes config.words.now 16 first after × HaveUnknown after why))
 
 -- so it is with these words
-abbrev pub AreJudged : Config → List Word → Outcome → Type 0
-AreJudged config first (outcome.Drafted words) = AreTaken config first words.items
+abbrev pub AreJudged : Config → List Word → ConversionOutcome → Type 0
+AreJudged config first (outcome.Converted words) = AreTaken config first words.items
 AreJudged config first (outcome.LeftOut reason) = AreRefused config first reason.why
 
 -- an item is that of a filter: its braces are closed, its routes are those of IPv4, no filter before it has its name, and that is one
@@ -69,24 +69,24 @@ pub record ComesOf (config : Config) (one : Item) (after : List Word) : Type 0 w
   pub taken : AreTaken config first after
 
 -- what becomes of an item: its words become others, or it is left out for a reason
-abbrev pub IsJudged : Config → Item → Outcome → Type 0
-IsJudged config one (outcome.Drafted words) = ComesOf config one words.items
+abbrev pub IsJudged : Config → Item → ConversionOutcome → Type 0
+IsJudged config one (outcome.Converted words) = ComesOf config one words.items
 IsJudged config one (outcome.LeftOut reason) = HasReason config one reason.why
 
--- a draft is that of an item: it has its name and the places of its first and its last word, and says what becomes of it
-pub record IsDraft (config : Config) (one : Item) (draft : Draft) : Type 0 where
-  pub named : draft.name.now ≡ one.name.items
-  pub begins : draft.at ≡ place_at config.words.now one.from
-  pub ends : draft.end ≡ place_at config.words.now (one.to - 1)
-  pub judged : IsJudged config one draft.outcome
+-- a conversion is that of an item: it has its name and the places of its first and its last word, and says what becomes of it
+pub record IsConversion (config : Config) (one : Item) (conversion : Conversion) : Type 0 where
+  pub named : conversion.name.now ≡ one.name.items
+  pub begins : conversion.at ≡ place_at config.words.now one.from
+  pub ends : conversion.end ≡ place_at config.words.now (one.to - 1)
+  pub judged : IsJudged config one conversion.outcome
 
--- an item has no draft where it is a function, and otherwise one
-abbrev pub HasDraft : Config → ItemKind → Item → List Draft → List Draft → Type 0
-HasDraft config item.Function one before after = after ≡ before
-HasDraft config other one before after = (draft : Draft) × IsDraft config one draft × (after ≡ before ++ draft ∷ [])
+-- an item has no conversion where it is a function, and otherwise one
+abbrev pub HasConversion : Config → ItemKind → Item → List Conversion → List Conversion → Type 0
+HasConversion config item.Function one before after = after ≡ before
+HasConversion config other one before after = (conversion : Conversion) × IsConversion config one conversion × (after ≡ before ++ conversion ∷ [])
 
--- so many of the items have these drafts, in order
-unfoldable pub HaveDrafts : Config → List Item → ℕ → List Draft → Type 0
-HaveDrafts config items zero drafts = drafts ≡ []
-HaveDrafts config items (suc n) drafts = (one : Item) × (before : List Draft) × (slice_get items n ≡ Some one)
-    × HaveDrafts config items n before × HasDraft config one.kind one before drafts
+-- so many of the items have these conversions, in order
+unfoldable pub HaveConversions : Config → List Item → ℕ → List Conversion → Type 0
+HaveConversions config items zero conversions = conversions ≡ []
+HaveConversions config items (suc n) conversions = (one : Item) × (before : List Conversion) × (slice_get items n ≡ Some one)
+    × HaveConversions config items n before × HasConversion config one.kind one before conversions

@@ -19,5 +19,5 @@ pub mod Stuck
 pub mod Texts
 pub mod Unassigned
 -- What only the bodies of this crate are proved against.
-pub mod Drafts
+pub mod Conversions
 pub mod Names

@@ -8,10 +8,10 @@ use Rattle.filter_tokens.specs.declared.symbol.Symbol.TheVariants as symbol
 use Rattle.bird_import.specs.Indices.{IsAt, IsBehind, IsForeignAt, IsNameAt, IsNamedAt, kind_at, bytes_at}
 use Rattle.bird_import.specs.Items.{is_symbol, opens_block, outside_from}
 use Rattle.bird_import.specs.Rules.{is_kind}
-use Rattle.bird_import.specs.declared.drafts.Next.{Next}
-use Rattle.bird_import.specs.declared.drafts.Next.TheVariants as next
-use Rattle.bird_import.specs.declared.drafts.Outcome.{Outcome}
-use Rattle.bird_import.specs.declared.drafts.Outcome.TheVariants as outcome
+use Rattle.bird_import.specs.declared.conversions.Next.{Next}
+use Rattle.bird_import.specs.declared.conversions.Next.TheVariants as next
+use Rattle.bird_import.specs.declared.conversions.ConversionOutcome.{ConversionOutcome}
+use Rattle.bird_import.specs.declared.conversions.ConversionOutcome.TheVariants as outcome
 use Rattle.bird_import.specs.declared.items.Item.{Item}
 use Rattle.bird_import.specs.declared.items.ItemKind.{ItemKind}
 use Rattle.bird_import.specs.declared.items.ItemKind.TheVariants as item
@@ -19,8 +19,8 @@ use Rattle.bird_import.specs.declared.reason.Reason.{Reason}
 use Rattle.bird_import.specs.declared.reason.Why.{Why}
 use Rattle.bird_import.specs.declared.reason.Why.TheVariants as why
 use Rattle.bird_import.specs.declared.step.Call.{Call}
-use Rattle.bird_import.specs.declared.step.Plan.{Plan}
-use Rattle.bird_import.specs.declared.step.Plan.TheVariants as plan
+use Rattle.bird_import.specs.declared.step.NextStep.{NextStep}
+use Rattle.bird_import.specs.declared.step.NextStep.TheVariants as plan
 use Rattle.bird_import.specs.declared.word.Word.{Word}
 use Rattle.bird_import.specs.declared.word.WordKind.{WordKind}
 use Rattle.bird_import.specs.declared.word.WordKind.TheVariants as kind
@@ -54,7 +54,7 @@ abbrev pub AreReasonWords : Why → List ℕ → Type 0
 AreReasonWords why words = AreWordsOn (name_in why) words
 
 -- why a filter is left out, if what is planned does not fit, or by what is planned itself
-abbrev pub why_of_plan : Plan → Option Why
+abbrev pub why_of_plan : NextStep → Option Why
 why_of_plan (plan.Step step) = Some step.stuck.why
 why_of_plan (plan.Stuck reason) = Some reason.why
 why_of_plan plan.Done = None
@@ -71,8 +71,8 @@ why_of_next (next.Stuck reason) = Some reason.why
 why_of_next next.Done = None
 
 -- why it is left out in the end
-abbrev pub why_of : Outcome → Option Why
-why_of (outcome.Drafted words) = None
+abbrev pub why_of : ConversionOutcome → Option Why
+why_of (outcome.Converted words) = None
 why_of (outcome.LeftOut reason) = Some reason.why
 
 -- an item is a filter before another one, and has its name

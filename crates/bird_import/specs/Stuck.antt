@@ -1,7 +1,7 @@
 -- Where the steps from the words of a filter go no further, so that it is left out.
 use Rattle.std.specs.Prelude.{◌≡◌, ◌⊎◌, ℕ, zero, suc, ◌+◌, ◌-◌, ◌*◌, ◌<◌, ◌≤◌, List, ◌++◌, Some, true, codes, length, max, slice_get}
 use Rattle.filter_tokens.specs.declared.symbol.Symbol.TheVariants as symbol
-use Rattle.bird_import.specs.Drafts.{words_of}
+use Rattle.bird_import.specs.Conversions.{words_of}
 use Rattle.bird_import.specs.Indices.{IsAt, IsBehind, IsForeignAt, IsNamedAt, kind_at}
 use Rattle.bird_import.specs.Reasons.{IsVariable}
 use Rattle.bird_import.specs.Rules.{IsNamed, ends_command, is_constant, is_kind}
@@ -9,8 +9,8 @@ use Rattle.bird_import.specs.Scopes.{IsStray}
 use Rattle.bird_import.specs.Sets.{IsDeclared}
 use Rattle.bird_import.specs.Steps.{Becomes, BecomesWithin, Reaches}
 use Rattle.bird_import.specs.declared.config.Config.{Config}
-use Rattle.bird_import.specs.declared.defines.Found.{Found}
-use Rattle.bird_import.specs.declared.defines.Found.TheVariants as found
+use Rattle.bird_import.specs.declared.defines.NameDefinition.{NameDefinition}
+use Rattle.bird_import.specs.declared.defines.NameDefinition.TheVariants as found
 use Rattle.bird_import.specs.declared.items.Definition.{Definition}
 use Rattle.bird_import.specs.declared.items.Item.{Item}
 use Rattle.bird_import.specs.declared.items.ItemKind.TheVariants as item
@@ -137,7 +137,7 @@ module _ (config : Config) where
   AreApart words = (name : List ℕ) → IsVariable name words → IsDefinedName name → ⊥
 
   -- what is found of a name among so many definitions: its only one, two of them, or that there is none
-  abbrev pub IsFound : List ℕ → ℕ → Found → Type 0
+  abbrev pub IsFound : List ℕ → ℕ → NameDefinition → Type 0
   IsFound name n (found.Once definition) = (i : ℕ) × (i < n) × IsDefinition name i definition
       × ((j : ℕ) (other : Definition) → j < n → IsDefinition name j other → j ≡ i)
   IsFound name n found.Twice = (i : ℕ) × (j : ℕ) × (one : Definition) × (other : Definition) × (i < j) × IsDefinition name i one × IsDefinition name j other

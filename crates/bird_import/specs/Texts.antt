@@ -6,8 +6,8 @@ use Rattle.filter_parser.specs.Unspelled.{IsUnspelled}
 use Rattle.bird_import.specs.Indices.{IsNamedAt}
 use Rattle.bird_import.specs.Spelling.{IsWritten}
 use Rattle.bird_import.specs.Unassigned.{AreAssigned, MayReadUnset}
-use Rattle.bird_import.specs.declared.text.Fate.{Fate}
-use Rattle.bird_import.specs.declared.text.Fate.TheVariants as fate
+use Rattle.bird_import.specs.declared.text.TextOutcome.{TextOutcome}
+use Rattle.bird_import.specs.declared.text.TextOutcome.TheVariants as text_outcome
 use Rattle.bird_import.specs.declared.word.Word.{Word}
 
 -- a text is written for some words, and the filter assigns each variable before it reads it
@@ -25,8 +25,8 @@ pub record HasUnsetAt (words : List Word) (text : List ℕ) (k : ℕ) : Type 0 w
 -- A text that is taken spells a filter, its tokens are the words, and it reads no variable before it is assigned. One that is refused spells no
 -- filter, for a fault that it has, and what stands round the place is told. One that is garbled is not written for the words. One that is
 -- unset is, and has a variable that may be read before it is assigned.
-abbrev pub Fated : List Word → List ℕ → Fate → Type 0
-Fated words text fate.Taken = IsTaken words text
-Fated words text (fate.Refused why) = IsUnspelled text why.fault × TellsRound text why.fault why.around
-Fated words text fate.Garbled = IsWritten words text → ⊥
-Fated words text (fate.Unset k) = HasUnsetAt words text k
+abbrev pub HasOutcome : List Word → List ℕ → TextOutcome → Type 0
+HasOutcome words text text_outcome.Taken = IsTaken words text
+HasOutcome words text (text_outcome.Refused why) = IsUnspelled text why.fault × TellsRound text why.fault why.around
+HasOutcome words text text_outcome.Garbled = IsWritten words text → ⊥
+HasOutcome words text (text_outcome.Unset k) = HasUnsetAt words text k

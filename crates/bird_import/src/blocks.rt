@@ -9,7 +9,7 @@ use crate::word::{Word, WordKind};
 use filter_tokens::Symbol;
 
 /// How many parentheses, brackets and braces are open behind a word, where so many are before it.
-pub fn depth_behind(depth: usize, kind: WordKind) -> Option<usize>
+pub(crate) fn depth_behind(depth: usize, kind: WordKind) -> Option<usize>
     ensures { IfSome result (λ after. after ≡ spec.depth_behind depth kind) }
 {
     if opens(kind) {
@@ -57,7 +57,7 @@ fn ends_commands(words: &[Word<'_>]) -> bool
 }
 
 /// Whether words are commands, each of them whole.
-pub fn are_commands(words: &[Word<'_>]) -> bool
+pub(crate) fn are_commands(words: &[Word<'_>]) -> bool
     ensures { IsTrue result → spec.AreCommands words.now }
 {
     are_balanced(words) && has_no_label(words) && ends_commands(words)

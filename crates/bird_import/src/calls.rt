@@ -12,7 +12,7 @@ use crate::functions::{Decision, decision_of, function_of, is_between, value_of}
 use crate::items::{Item, ItemKind};
 use crate::reason::{Reason, Why, unwritten};
 use crate::rules::split;
-use crate::step::{Call, Plan, Rule, enclosed, planned, push_parts};
+use crate::step::{Call, NextStep, Rule, enclosed, planned, push_parts};
 use crate::word::{
     Word, begins_command, closing, find_outside, is_at, is_before, is_foreign_at, is_name_at,
     word_at,
@@ -36,7 +36,7 @@ fn call_word<'a>(words: &[Word<'a>], at: usize) -> Option<Word<'a>>
 }
 
 /// The index and the word of the first call. The header of a function looks like one.
-pub fn first_call<'a>(words: &[Word<'a>]) -> Option<(usize, Word<'a>)>
+pub(crate) fn first_call<'a>(words: &[Word<'a>]) -> Option<(usize, Word<'a>)>
     ensures { IfSome result (λ call. IsCallBy words.now call.0 call.1) }
 {
     let from = if is_foreign_at(words, 0, b"function") {
@@ -95,7 +95,7 @@ fn second_function<'a>(config: &Config<'a>, name: &[u8], first: usize) -> Option
 }
 
 /// The function of this name, if there is just one, and it ends before a place.
-pub fn item_of<'a>(config: &Config<'a>, word: Word<'a>) -> Result<&'a Item, Reason<'a>>
+pub(crate) fn item_of<'a>(config: &Config<'a>, word: Word<'a>) -> Result<&'a Item, Reason<'a>>
     ensures ok { IfOk result (λ one. IsCalled config.now word.entry.bytes.now one.now) }
     ensures err { IfErr result (λ reason. (words : List TheWord) → IsUsed word.entry.bytes.now word.entry words → Hinders config.now words reason.why) }
 {
@@ -139,16 +139,16 @@ fn decided<'a>(
     at: usize,
 ) -> Result<Vec<Word<'a>>, AllocError> {
     let (open, close) = (
-        Word::made(Symbol::LeftParen, at),
-        Word::made(Symbol::RightParen, at),
+        Word::of_symbol(Symbol::LeftParen, at),
+        Word::of_symbol(Symbol::RightParen, at),
     );
-    let stop = Word::made(Symbol::Semicolon, at).after(b"");
+    let stop = Word::of_symbol(Symbol::Semicolon, at).after(b"");
     let (negation, operator) = if made.answer.is(Symbol::True) {
         (None, Symbol::Or)
     } else {
-        (Some(Word::made(Symbol::Not, at)), Symbol::And)
+        (Some(Word::of_symbol(Symbol::Not, at)), Symbol::And)
     };
-    let middle = [close, Word::made(operator, at), open];
+    let middle = [close, Word::of_symbol(operator, at), open];
     let mut words = Vec::from_slice(alloc, &[command])?;
     words.extend_from_slice(negation.as_slice())?;
     push_parts(
@@ -225,25 +225,25 @@ fn decide<'a>(
     made: Decision<'_, 'a>,
     at: usize,
     to: usize,
-) -> Result<Plan<'a>, AllocError>
+) -> Result<NextStep<'a>, AllocError>
     ensures { IfOk result (λ plan. IfSome (why_of_plan plan) (Hinder words.now)) }
 {
     let Some(index) = first_return(words, at) else {
-        return Ok(Plan::Done);
+        return Ok(NextStep::Done);
     };
     let (Some(head), Some(command)) = (word_at(words, at), word_at(words, index)) else {
-        return Ok(Plan::Done);
+        return Ok(NextStep::Done);
     };
     let written = decided(alloc, made, command, head.at);
     planned(Rule::Returned, at, to, written, unwritten(command.at))
 }
 
 /// Writes the first two commands of a function as one that return one value or another by a condition.
-pub fn plan_return<'a>(alloc: Global, words: &[Word<'a>]) -> Result<Plan<'a>, AllocError>
+pub(crate) fn plan_return<'a>(alloc: Global, words: &[Word<'a>]) -> Result<NextStep<'a>, AllocError>
     ensures { IfOk result (λ plan. IfSome (why_of_plan plan) (Hinder words.now)) }
 {
     if !is_foreign_at(words, 0, b"function") {
-        return Ok(Plan::Done);
+        return Ok(NextStep::Done);
     }
     for at in 0..words.len() {
         if is_at(words, at, Symbol::If) {
@@ -253,8 +253,8 @@ pub fn plan_return<'a>(alloc: Global, words: &[Word<'a>]) -> Result<Plan<'a>, Al
         }
     }
     match early_return(words) {
-        Some(reason) => Ok(Plan::Stuck(reason)),
-        None => Ok(Plan::Done),
+        Some(reason) => Ok(NextStep::Stuck(reason)),
+        None => Ok(NextStep::Done),
     }
 }
 
@@ -316,7 +316,7 @@ fn stuck_at<'a>(words: &[Word<'a>], at: usize, call: Word<'a>) -> Reason<'a>
 }
 
 /// What stands for the call at an index of a function whose words have become others, or why there is nothing.
-pub fn call_at<'a>(
+pub(crate) fn call_at<'a>(
     alloc: Global,
     words: &[Word<'a>],
     at: usize,

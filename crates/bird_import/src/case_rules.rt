@@ -267,7 +267,7 @@ fn are_tests<'w, 'a>(subject: &[Word<'_>], label: &'w [Word<'a>], test: &'w [Wor
 }
 
 /// The commands of the part of a `case` for all other values.
-pub fn commands_of_else<'w, 'a>(words: &'w [Word<'a>]) -> Option<&'w [Word<'a>]>
+fn commands_of_else<'w, 'a>(words: &'w [Word<'a>]) -> Option<&'w [Word<'a>]>
     ensures { IfSome result (λ commands. spec.IsElsePart words.now commands.now) }
 {
     match words {
@@ -297,7 +297,7 @@ fn are_of_label(words: &[Word<'_>]) -> bool
 }
 
 /// The expression and the parts of a `case`.
-pub fn parts_of<'w, 'a>(words: &'w [Word<'a>]) -> Option<(&'w [Word<'a>], &'w [Word<'a>])>
+pub(crate) fn parts_of<'w, 'a>(words: &'w [Word<'a>]) -> Option<(&'w [Word<'a>], &'w [Word<'a>])>
     ensures { IfSome result (λ found. spec.IsCase words.now found.0.now found.1.now) }
 {
     let (begin, rest) = words.split_first()?;
@@ -379,7 +379,7 @@ fn first_part<'w, 'a>(
 }
 
 /// Takes the parts of a `case` apart.
-pub fn take_apart<'w, 'a>(parts: &'w [Word<'a>]) -> Option<Parted<'w, 'a>>
+pub(crate) fn take_apart<'w, 'a>(parts: &'w [Word<'a>]) -> Option<Parted<'w, 'a>>
     ensures { IfSome result (λ made. spec.IsParted parts.now made.before.now made.label.now made.commands.now made.after.now) }
 {
     let (before, rest) = split(parts, else_len(parts))?;
@@ -407,7 +407,10 @@ fn has_no_else(back: &[Word<'_>]) -> bool
 }
 
 /// The commands for all other values, if no other part is left.
-pub fn only_else<'w, 'a>(before: &'w [Word<'a>], after: &'w [Word<'a>]) -> Option<&'w [Word<'a>]>
+pub(crate) fn only_else<'w, 'a>(
+    before: &'w [Word<'a>],
+    after: &'w [Word<'a>],
+) -> Option<&'w [Word<'a>]>
     ensures { IfSome result (λ commands. spec.IsOnlyElse before.now after.now commands.now) }
 {
     if after.is_empty() {
@@ -509,7 +512,11 @@ fn tested<'w, 'a>(
 }
 
 /// Whether a `case` is written by its first label.
-pub fn is_case_taken<'w, 'a>(old: &'w [Word<'a>], new: &'w [Word<'a>], back: &[Word<'_>]) -> bool
+pub(crate) fn is_case_taken<'w, 'a>(
+    old: &'w [Word<'a>],
+    new: &'w [Word<'a>],
+    back: &[Word<'_>],
+) -> bool
     ensures { IsTrue result → spec.IsCaseTaken old.now new.now back.now }
 {
     let Some((subject, parts)) = parts_of(old) else {
@@ -528,7 +535,7 @@ pub fn is_case_taken<'w, 'a>(old: &'w [Word<'a>], new: &'w [Word<'a>], back: &[W
 }
 
 /// Whether a `case` is put in braces.
-pub fn is_case_braced(old: &[Word<'_>], new: &[Word<'_>]) -> bool
+pub(crate) fn is_case_braced(old: &[Word<'_>], new: &[Word<'_>]) -> bool
     ensures { IsTrue result → spec.IsCaseBraced old.now new.now }
 {
     match parts_of(old) {

@@ -7,7 +7,7 @@ ghost use Rattle.bird_import.specs.declared.reason.Why.TheVariants as why;
 
 use crate::case_rules::{Parted, only_else, parts_of, take_apart};
 use crate::reason::{Reason, Why};
-use crate::step::{Plan, Rule, enclosed, planned, push_parts};
+use crate::step::{NextStep, Rule, enclosed, planned, push_parts};
 use crate::word::{Word, WordKind, closing, is_at, is_before, kind_at};
 use filter_tokens::Symbol;
 use std::alloc::{AllocError, Global};
@@ -75,7 +75,7 @@ fn push_compared<'a>(
     address: Word<'a>,
 ) -> Result<(), AllocError> {
     words.extend_from_slice(subject)?;
-    words.extend_from_slice(&[Word::made(operator, address.at), address.after(b" ")])
+    words.extend_from_slice(&[Word::of_symbol(operator, address.at), address.after(b" ")])
 }
 
 /// Puts the test whether an expression is an address, or between two, behind others.
@@ -88,11 +88,11 @@ fn push_test<'a>(
     let Some(high) = high else {
         return push_compared(words, Symbol::Equal, subject, low);
     };
-    words.extend_from_slice(&[Word::made(Symbol::LeftParen, low.at)])?;
+    words.extend_from_slice(&[Word::of_symbol(Symbol::LeftParen, low.at)])?;
     push_compared(words, Symbol::GreaterEqual, subject, low)?;
-    words.extend_from_slice(&[Word::made(Symbol::And, low.at)])?;
+    words.extend_from_slice(&[Word::of_symbol(Symbol::And, low.at)])?;
     push_compared(words, Symbol::LessEqual, subject, high)?;
-    words.extend_from_slice(&[Word::made(Symbol::RightParen, low.at)])
+    words.extend_from_slice(&[Word::of_symbol(Symbol::RightParen, low.at)])
 }
 
 /// The address or the range at the front of a label, and the words behind it.
@@ -122,7 +122,7 @@ fn push_tests<'a>(
         push_test(words, subject, low, high)?;
         match behind {
             [comma, others @ ..] if comma.is(Symbol::Comma) => {
-                words.extend_from_slice(&[Word::made(Symbol::Or, low.at)])?;
+                words.extend_from_slice(&[Word::of_symbol(Symbol::Or, low.at)])?;
                 rest = others;
             }
             _ => break,
@@ -141,9 +141,9 @@ fn push_otherwise<'a>(
     if before.is_empty() && after.is_empty() {
         return Ok(());
     }
-    let begin = Word::made(Symbol::Else, head.at);
-    let open = Word::made(Symbol::LeftBrace, head.at);
-    let close = Word::made(Symbol::RightBrace, head.at);
+    let begin = Word::of_symbol(Symbol::Else, head.at);
+    let open = Word::of_symbol(Symbol::LeftBrace, head.at);
+    let close = Word::of_symbol(Symbol::RightBrace, head.at);
     match only_else(before, after) {
         Some(commands) => push_parts(words, &[&[begin, open], commands, &[close]]),
         None => push_parts(
@@ -166,10 +166,10 @@ fn taken<'a>(
     case: Case<'_, 'a>,
     head: Word<'a>,
 ) -> Result<Vec<Word<'a>>, AllocError> {
-    let begin = Word::made(Symbol::If, head.at).after(head.gap);
-    let then = Word::made(Symbol::Then, head.at);
-    let open = Word::made(Symbol::LeftBrace, head.at);
-    let close = Word::made(Symbol::RightBrace, head.at);
+    let begin = Word::of_symbol(Symbol::If, head.at).after(head.gap);
+    let then = Word::of_symbol(Symbol::Then, head.at);
+    let open = Word::of_symbol(Symbol::LeftBrace, head.at);
+    let close = Word::of_symbol(Symbol::RightBrace, head.at);
     let mut words = Vec::from_slice(alloc, &[begin])?;
     push_tests(&mut words, case.subject, case.parts.label)?;
     push_parts(&mut words, &[&[then, open], case.parts.commands, &[close]])?;
@@ -185,7 +185,7 @@ fn take<'a>(
     at: usize,
     case: Case<'_, 'a>,
     head: Word<'a>,
-) -> Result<Plan<'a>, AllocError>
+) -> Result<NextStep<'a>, AllocError>
     ensures { IfOk result (λ plan. IfSome (why_of_plan plan) (λ reason. reason ≡ why.CaseLabels)) }
 {
     let is_braced = is_before(words, at, Symbol::Then) || is_at(words, case.to, Symbol::Else);
@@ -212,7 +212,7 @@ fn wrong_labels<'a>(head: Word<'a>) -> Reason<'a>
 }
 
 /// Writes the first `case` of addresses by its first label.
-pub fn plan_case<'a>(alloc: Global, words: &[Word<'a>]) -> Result<Plan<'a>, AllocError>
+pub(crate) fn plan_case<'a>(alloc: Global, words: &[Word<'a>]) -> Result<NextStep<'a>, AllocError>
     ensures { IfOk result (λ plan. IfSome (why_of_plan plan) (Hinder words.now)) }
 {
     for at in 0..words.len() {
@@ -224,8 +224,8 @@ pub fn plan_case<'a>(alloc: Global, words: &[Word<'a>]) -> Result<Plan<'a>, Allo
             return take(alloc, words, at, case, head);
         }
         if is_of_addresses(words, at) {
-            return Ok(Plan::Stuck(wrong_labels(head)));
+            return Ok(NextStep::Stuck(wrong_labels(head)));
         }
     }
-    Ok(Plan::Done)
+    Ok(NextStep::Done)
 }

@@ -10,7 +10,7 @@ ghost use Rattle.bird_import.specs.declared.reason.Why.TheVariants as why;
 use crate::items::first_block;
 use crate::reason::{Reason, Why, unwritten};
 use crate::rules::is_kind;
-use crate::step::{Plan, Rule, joined, planned};
+use crate::step::{NextStep, Rule, joined, planned};
 use crate::word::{Word, is_at, is_foreign_at, is_name_at, kind_at, word_at};
 use filter_tokens::Symbol;
 use std::alloc::{AllocError, Global};
@@ -33,7 +33,7 @@ fn name_behind(words: &[Word<'_>], at: usize) -> usize
 
 /// The first variable that a body declares without a value: BIRD 2.0.12 ends each run there.
 #[tactic(auto, using(crate::proofs::Judged::values_given))]
-pub fn first_without_value<'a>(words: &[Word<'a>]) -> Option<Reason<'a>>
+pub(crate) fn first_without_value<'a>(words: &[Word<'a>]) -> Option<Reason<'a>>
     ensures some { IfSome result (λ reason. HaveNoValue words.now reason.why) }
     ensures none { result ≡ None → HaveValues words.now }
 {
@@ -83,28 +83,31 @@ fn hoist<'a>(
     words: &[Word<'a>],
     open: usize,
     at: usize,
-) -> Result<Plan<'a>, AllocError>
+) -> Result<NextStep<'a>, AllocError>
     ensures { IfOk result (λ plan. IfSome (why_of_plan plan) (λ reason. reason ≡ why.Unwritten)) }
 {
     let to = at.saturating_add(3);
     let (Some([kind, name, equal]), Some(before)) = (words.get(at..to), words.get(open..at)) else {
-        return Ok(Plan::Done);
+        return Ok(NextStep::Done);
     };
-    let stop = Word::made(Symbol::Semicolon, name.at).after(b"");
+    let stop = Word::of_symbol(Symbol::Semicolon, name.at).after(b"");
     let declared = [kind.after(b" "), *name, stop];
     let written = joined(alloc, &declared, before, &[name.after(kind.gap), *equal]);
     planned(Rule::Declared, open, to, written, unwritten(kind.at))
 }
 
 /// Moves the first declaration that has a value.
-pub fn plan_declaration<'a>(alloc: Global, words: &[Word<'a>]) -> Result<Plan<'a>, AllocError>
+pub(crate) fn plan_declaration<'a>(
+    alloc: Global,
+    words: &[Word<'a>],
+) -> Result<NextStep<'a>, AllocError>
     ensures { IfOk result (λ plan. IfSome (why_of_plan plan) (Hinder words.now)) }
 {
     let Some(open) = first_block(words, 0) else {
-        return Ok(Plan::Done);
+        return Ok(NextStep::Done);
     };
     match first_valued(words, open) {
         Some(at) => hoist(alloc, words, open, at),
-        None => Ok(Plan::Done),
+        None => Ok(NextStep::Done),
     }
 }

@@ -13,7 +13,7 @@ ghost use Rattle.bird_import.specs.Names.{KnowsAll};
 ghost use Rattle.bird_import.specs.Reasons.{IsVariable, IsVariableAt, why_of_plan};
 ghost use Rattle.bird_import.specs.Rules.{IsDefined, IsPlaced};
 ghost use Rattle.bird_import.specs.Steps.{Becomes};
-ghost use Rattle.bird_import.specs.Drafts.{IsDefinedHere};
+ghost use Rattle.bird_import.specs.Conversions.{IsDefinedHere};
 ghost use Rattle.bird_import.specs.Stuck.{AreApart, Hinders, IsDefinedName, IsDefinition, IsUsed, StandsBefore};
 
 use crate::config::Config;
@@ -21,7 +21,7 @@ use crate::items::Definition;
 use crate::names::{Names, look_up};
 use crate::reason::{Reason, Why};
 use crate::rules::{is_defined, is_kind, is_one_operand};
-use crate::step::{Plan, Rule, Step, enclosed, joined};
+use crate::step::{NextStep, RewriteStep, Rule, enclosed, joined};
 use crate::word::{
     Word, WordKind, is_at, is_before, is_foreign_at, is_name_at, is_named_at, kind_at, word_at,
 };
@@ -35,14 +35,14 @@ pub const WORD_LIMIT: usize = 65_536;
 const WORK_LIMIT: u64 = 33_554_432;
 
 /// Whether so many steps that go through so many words are too much.
-pub fn is_much(made: usize, words: usize) -> bool
+pub(crate) fn is_much(made: usize, words: usize) -> bool
     ensures { IsTrue result → 33554432 < made * words }
 {
     (made as u64).saturating_mul(words as u64) > WORK_LIMIT
 }
 
 /// Whether a name is declared at an index.
-pub fn declares(words: &[Word<'_>], at: usize, name: &[u8]) -> bool
+pub(crate) fn declares(words: &[Word<'_>], at: usize, name: &[u8]) -> bool
     ensures { IsTrue result ↔ IsVariableAt name.now words.now at }
 {
     at > 0
@@ -51,7 +51,7 @@ pub fn declares(words: &[Word<'_>], at: usize, name: &[u8]) -> bool
 }
 
 /// Whether a name is declared among some words.
-pub fn is_declared(words: &[Word<'_>], name: &[u8]) -> bool
+pub(crate) fn is_declared(words: &[Word<'_>], name: &[u8]) -> bool
     ensures { IsTrue result ↔ IsVariable name.now words.now }
 {
     for at in 0..words.len() {
@@ -69,9 +69,9 @@ fn is_defined_name(config: &Config<'_>, names: &Names, name: &[u8]) -> bool
     ensures { IsTrue result ↔ IsDefinedName config.now name.now }
 {
     match look_up(config, names, name) {
-        Found::Never => false,
-        Found::Once(_) => true,
-        Found::Twice => true,
+        NameDefinition::Never => false,
+        NameDefinition::Once(_) => true,
+        NameDefinition::Twice => true,
     }
 }
 
@@ -95,7 +95,7 @@ fn two_meanings_at<'a>(
 }
 
 /// The first variable among some words that has the name of a definition: what the name means depends on where it stands.
-pub fn first_of_two_meanings<'a>(
+pub(crate) fn first_of_two_meanings<'a>(
     config: &Config<'a>,
     names: &Names,
     words: &[Word<'a>],
@@ -128,7 +128,7 @@ fn may_be_defined(words: &[Word<'_>], at: usize) -> bool
 
 /// What a name is defined as.
 #[derive(Clone, Copy)]
-pub enum Found {
+pub enum NameDefinition {
     /// By this definition.
     Once(Definition),
     /// By two of them.
@@ -138,13 +138,13 @@ pub enum Found {
 }
 
 /// What is found of a name with a further definition of it.
-pub fn found_again(found: Found, definition: Definition) -> Found
-    ensures first { found ≡ Found.Never → result ≡ Found.Once definition }
-    ensures second { found ≢ Found.Never → result ≡ Found.Twice }
+pub(crate) fn found_again(found: NameDefinition, definition: Definition) -> NameDefinition
+    ensures first { found ≡ NameDefinition.Never → result ≡ NameDefinition.Once definition }
+    ensures second { found ≢ NameDefinition.Never → result ≡ NameDefinition.Twice }
 {
     match found {
-        Found::Never => Found::Once(definition),
-        Found::Once(_) | Found::Twice => Found::Twice,
+        NameDefinition::Never => NameDefinition::Once(definition),
+        NameDefinition::Once(_) | NameDefinition::Twice => NameDefinition::Twice,
     }
 }
 
@@ -260,14 +260,14 @@ fn place<'a>(
     definition: Definition,
     word: Word<'a>,
     at: usize,
-) -> Result<Plan<'a>, AllocError>
+) -> Result<NextStep<'a>, AllocError>
     requires used { IsUsed word.bytes.now word words.now }
     requires defined { (i : ℕ) × (i < length config.now.definitions.now) × IsDefinition config.now word.bytes.now i definition }
     ensures { IfOk result (λ plan. IfSome (why_of_plan plan) (Hinders config.now words.now)) }
 {
     let is_in_brackets = open_brackets(words, at) > 0;
     match value_for(config, words, definition, word, at, is_in_brackets) {
-        Ok(value) => Ok(Plan::Step(Step {
+        Ok(value) => Ok(NextStep::Step(RewriteStep {
             rule: Rule::Defined,
             origin: definition.name.saturating_sub(1),
             from: at,
@@ -278,17 +278,17 @@ fn place<'a>(
                 why: Why::Unknown(word.bytes),
             },
         })),
-        Err(why) => Ok(Plan::Stuck(Reason { at: word.at, why })),
+        Err(why) => Ok(NextStep::Stuck(Reason { at: word.at, why })),
     }
 }
 
 /// Puts the definition of the first defined name in its place.
-pub fn plan_definition<'a>(
+pub(crate) fn plan_definition<'a>(
     alloc: Global,
     config: &Config<'a>,
     names: &Names,
     words: &[Word<'a>],
-) -> Result<Plan<'a>, AllocError>
+) -> Result<NextStep<'a>, AllocError>
     requires names { KnowsAll config.now names.now }
     ensures { IfOk result (λ plan. IfSome (why_of_plan plan) (Hinders config.now words.now)) }
 {
@@ -300,15 +300,17 @@ pub fn plan_definition<'a>(
             continue;
         };
         match look_up(config, names, word.bytes) {
-            Found::Never => {}
-            Found::Once(definition) => return place(alloc, config, words, definition, word, at),
-            Found::Twice => return Ok(Plan::Stuck(Reason {
+            NameDefinition::Never => {}
+            NameDefinition::Once(definition) => return place(
+                alloc, config, words, definition, word, at,
+            ),
+            NameDefinition::Twice => return Ok(NextStep::Stuck(Reason {
                 at: word.at,
                 why: Why::DefinedTwice(word.bytes),
             })),
         }
     }
-    Ok(Plan::Done)
+    Ok(NextStep::Done)
 }
 
 /// What a name at an index is defined as, as it stands in its place, if it is defined and that can stand there.
@@ -328,7 +330,7 @@ fn value_at<'a>(
     if !may_be_defined(words, at) {
         return Ok(None);
     }
-    let Found::Once(definition) = look_up(config, names, word.bytes) else {
+    let NameDefinition::Once(definition) = look_up(config, names, word.bytes) else {
         return Ok(None);
     };
     let Ok(value) = value_for(config, words, definition, word, at, is_in_brackets) else {
@@ -400,7 +402,7 @@ fn define_each<'a>(
 
 /// The words with all definitions in place that can be, until there are too many of them, or too many were gone through. A definition speaks of
 /// those before it alone, so there are no more rounds than definitions.
-pub fn define_all<'a>(
+pub(crate) fn define_all<'a>(
     alloc: Global,
     config: &Config<'a>,
     names: &Names,

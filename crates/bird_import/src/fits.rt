@@ -17,7 +17,7 @@ use crate::step::Rule;
 use crate::word::Word;
 
 /// Whether a step is one of its rule. `at` is the index of the definition that it places.
-pub fn fits<'w, 'a>(
+pub(crate) fn fits<'w, 'a>(
     config: &[Word<'_>],
     rule: Rule,
     at: usize,

@@ -42,7 +42,7 @@ fn inside_braces<'w, 'a>(words: &'w [Word<'a>]) -> Option<&'w [Word<'a>]>
 }
 
 /// The value that words return, in braces or not.
-pub fn returned<'w, 'a>(words: &'w [Word<'a>]) -> Option<&'w [Word<'a>]>
+pub(crate) fn returned<'w, 'a>(words: &'w [Word<'a>]) -> Option<&'w [Word<'a>]>
     ensures { IfSome result (λ value. spec.Returns words.now value.now) }
 {
     match inside_braces(words) {
@@ -62,7 +62,7 @@ fn ends_alone(kind: WordKind) -> bool
 }
 
 /// Whether a command behind some words is on no condition.
-pub fn stands_alone(front: &[Word<'_>]) -> bool
+pub(crate) fn stands_alone(front: &[Word<'_>]) -> bool
     ensures { IsTrue result → spec.StandsAlone front.now }
 {
     match front.split_last() {
@@ -89,7 +89,7 @@ fn is_else(words: &[Word<'_>]) -> bool
 }
 
 /// Whether what is returned on a condition and what is returned otherwise follow one another.
-pub fn is_between(front: &[Word<'_>], middle: &[Word<'_>]) -> bool
+pub(crate) fn is_between(front: &[Word<'_>], middle: &[Word<'_>]) -> bool
     ensures { IsTrue result → spec.IsBetween front.now middle.now }
 {
     is_else(middle) || (stands_alone(front) && are_empty(middle))
@@ -188,7 +188,7 @@ fn front_len(words: &[Word<'_>], one: Symbol, other: Symbol) -> usize {
 }
 
 /// The parts of words that decide what is returned.
-pub fn decision_of<'w, 'a>(words: &'w [Word<'a>]) -> Option<Decision<'w, 'a>>
+pub(crate) fn decision_of<'w, 'a>(words: &'w [Word<'a>]) -> Option<Decision<'w, 'a>>
     ensures { IfSome result (λ made. spec.Decides words.now made.condition.now made.answer.now made.middle.now made.other.now) }
 {
     let (condition, rest) = condition_of(words)?;
@@ -203,7 +203,7 @@ pub fn decision_of<'w, 'a>(words: &'w [Word<'a>]) -> Option<Decision<'w, 'a>>
 }
 
 /// Whether two commands that return are written as one.
-pub fn is_decided(front: &[Word<'_>], old: &[Word<'_>], new: &[Word<'_>]) -> bool
+pub(crate) fn is_decided(front: &[Word<'_>], old: &[Word<'_>], new: &[Word<'_>]) -> bool
     ensures { IsTrue result → spec.IsDecided front.now old.now new.now }
 {
     let (Some(made), Some(value)) = (decision_of(old), value_of_return(new)) else {
@@ -237,7 +237,7 @@ fn body_of<'w, 'a>(words: &'w [Word<'a>]) -> Option<(&'w [Word<'a>], &'w [Word<'
 }
 
 /// The parts of the function of a name, if it has no parameters.
-pub fn function_of<'w, 'a>(name: &[u8], words: &'w [Word<'a>]) -> Option<Function<'w, 'a>>
+pub(crate) fn function_of<'w, 'a>(name: &[u8], words: &'w [Word<'a>]) -> Option<Function<'w, 'a>>
     ensures { IfSome result (λ made. spec.IsFunction name.now words.now made.between.now made.body.now made.end.now) }
 {
     let (head, rest) = words.split_first()?;
@@ -294,7 +294,7 @@ fn is_plain(between: &[Word<'_>]) -> bool
 }
 
 /// Whether a command begins behind some words.
-pub fn begins_command(front: &[Word<'_>]) -> bool
+pub(crate) fn begins_command(front: &[Word<'_>]) -> bool
     ensures { IsTrue result → spec.BeginsCommand front.now }
 {
     match front.split_last() {
@@ -321,7 +321,7 @@ fn return_nothing(words: &[Word<'_>]) -> bool
 }
 
 /// Whether words are others in braces.
-pub fn is_block(commands: &[Word<'_>], words: &[Word<'_>]) -> bool
+pub(crate) fn is_block(commands: &[Word<'_>], words: &[Word<'_>]) -> bool
     ensures { IsTrue result → spec.IsBlock commands.now words.now }
 {
     match inside_braces(words) {
@@ -344,7 +344,7 @@ fn is_run(body: &[Word<'_>], front: &[Word<'_>], rest: &[Word<'_>], new: &[Word<
 }
 
 /// What the commands of a function return, if they do nothing else.
-pub fn value_of<'w, 'a>(body: &'w [Word<'a>]) -> Option<&'w [Word<'a>]>
+pub(crate) fn value_of<'w, 'a>(body: &'w [Word<'a>]) -> Option<&'w [Word<'a>]>
     ensures { IfSome result (λ value. spec.OnlyReturns body.now value.now) }
 {
     let len = front_len(body, Symbol::Semicolon, Symbol::Semicolon);
@@ -422,7 +422,7 @@ fn stands_for_call(
 
 /// Whether words stand for a call of a function of the configuration, whose words were `source` and have become others.
 #[tactic(auto, using(crate::proofs::Placed::call_of))]
-pub fn is_call_of(
+pub(crate) fn is_call_of(
     source: &[Word<'_>],
     function: &[Word<'_>],
     front: &[Word<'_>],

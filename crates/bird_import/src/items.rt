@@ -82,7 +82,7 @@ fn opens_block(words: &[Word<'_>], at: usize) -> bool
 }
 
 /// The index of the first block from an index on.
-pub fn first_block(words: &[Word<'_>], from: usize) -> Option<usize>
+pub(crate) fn first_block(words: &[Word<'_>], from: usize) -> Option<usize>
     ensures some { IfSome result (λ at. (spec.opens_block words.now at ≡ true) × ((k : ℕ) → from ≤ k → k < at → spec.opens_block words.now k ≡ true → ⊥)) }
     ensures none { result ≡ None → (k : ℕ) → from ≤ k → k < length words.now → spec.opens_block words.now k ≡ true → ⊥ }
     ensures within { IfSome result (λ at. (from ≤ at) × (at < length words.now)) }

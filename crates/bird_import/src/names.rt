@@ -8,27 +8,32 @@ ghost use Rattle.bird_import.specs.Names.{Knows, KnowsAll, found_of};
 ghost use Rattle.bird_import.specs.Stuck.{IsFound};
 
 use crate::config::Config;
-use crate::defines::{Found, found_again};
+use crate::defines::{NameDefinition, found_again};
 use crate::items::Definition;
 use crate::word::{bytes_at, is_name_at};
 use std::alloc::{AllocError, Global};
 use std::collections::BTreeMap;
 
 /// What is found of each name that has a definition.
-pub type Names = BTreeMap<Vec<u8>, Found>;
+pub type Names = BTreeMap<Vec<u8>, NameDefinition>;
 
 /// What is found of a name so far.
-fn found_in(names: &Names, name: &[u8]) -> Found
+fn found_in(names: &Names, name: &[u8]) -> NameDefinition
     ensures { result ≡ found_of names.now name.now }
 {
     match names.get(name) {
         Some(found) => *found,
-        None => Found::Never,
+        None => NameDefinition::Never,
     }
 }
 
 /// Notes what is found of a name.
-fn note(alloc: Global, names: &mut Names, name: &[u8], found: Found) -> Result<(), AllocError>
+fn note(
+    alloc: Global,
+    names: &mut Names,
+    name: &[u8],
+    found: NameDefinition,
+) -> Result<(), AllocError>
     ensures { OnOk result ((other : List ℕ) → found_of names.new other ≡ (if bytes_eq name.now other then found else found_of names.old other)) }
 {
     names.insert(Vec::from_slice(alloc, name)?, found)?;
@@ -56,7 +61,7 @@ fn note_definition(
 }
 
 /// What is found of each name among the definitions of a configuration.
-pub fn names_of(alloc: Global, config: &Config<'_>) -> Result<Names, AllocError>
+pub(crate) fn names_of(alloc: Global, config: &Config<'_>) -> Result<Names, AllocError>
     ensures { IfOk result (KnowsAll config.now) }
 {
     let mut names = BTreeMap::new(alloc);
@@ -67,12 +72,12 @@ pub fn names_of(alloc: Global, config: &Config<'_>) -> Result<Names, AllocError>
 }
 
 /// The definition of a name.
-pub fn look_up(config: &Config<'_>, names: &Names, name: &[u8]) -> Found
+pub(crate) fn look_up(config: &Config<'_>, names: &Names, name: &[u8]) -> NameDefinition
     requires { KnowsAll config.now names.now }
     ensures { IsFound config.now name.now (length config.now.definitions.now) result }
 {
     if config.definitions.is_empty() {
-        return Found::Never;
+        return NameDefinition::Never;
     }
     found_in(names, name)
 }

@@ -8,7 +8,7 @@ ghost use Rattle.bird_import.specs.Stuck.{Hinder, IsWrapped, WantsSemicolon};
 
 use crate::reason::unwritten;
 use crate::rules::{begins_constant, ends_command, ends_constant, is_constant};
-use crate::step::{Plan, Rule, joined, planned};
+use crate::step::{NextStep, Rule, joined, planned};
 use crate::word::{
     Word, WordKind, begins_command, is_at, is_before, is_named_at, kind_at, word_at,
 };
@@ -17,7 +17,7 @@ use std::alloc::{AllocError, Global};
 
 /// A chain of operands of `&&` and `||` that is being read.
 #[derive(Clone, Copy)]
-struct Chain {
+struct OperandChain {
     /// The index of its first word.
     start: usize,
     /// The first of its operators.
@@ -26,10 +26,10 @@ struct Chain {
     is_condition: bool,
 }
 
-impl Chain {
+impl OperandChain {
     /// A chain that begins at an index.
-    fn at(start: usize, is_condition: bool) -> Chain {
-        Chain {
+    fn at(start: usize, is_condition: bool) -> OperandChain {
+        OperandChain {
             start,
             operator: None,
             is_condition,
@@ -51,16 +51,21 @@ fn operator_at(words: &[Word<'_>], at: usize) -> Option<Symbol>
 }
 
 /// The chain that is being read behind the word at an index, which opens or closes neither parentheses nor brackets.
-fn chain_behind(chain: Chain, word: Word<'_>, operator: Option<Symbol>, at: usize) -> Chain {
+fn chain_behind(
+    chain: OperandChain,
+    word: Word<'_>,
+    operator: Option<Symbol>,
+    at: usize,
+) -> OperandChain {
     let next = at.saturating_add(1);
     if word.is(Symbol::If) || word.is(Symbol::Case) || word.is_foreign(b"return") {
-        Chain::at(next, true)
+        OperandChain::at(next, true)
     } else if ends_command(word.kind) {
-        Chain::at(next, false)
+        OperandChain::at(next, false)
     } else if word.is(Symbol::Equal) && !chain.is_condition && at == chain.start.saturating_add(1) {
-        Chain::at(next, true)
+        OperandChain::at(next, true)
     } else if chain.operator.is_none() {
-        Chain {
+        OperandChain {
             start: chain.start,
             operator,
             is_condition: chain.is_condition,
@@ -74,18 +79,18 @@ fn chain_behind(chain: Chain, word: Word<'_>, operator: Option<Symbol>, at: usiz
 fn first_mixed(alloc: Global, words: &[Word<'_>]) -> Result<Option<(usize, usize)>, AllocError>
     ensures { IfOk result (λ found. IfSome found (λ mixed. IsAt symbol.And words.now mixed.1 ⊎ IsAt symbol.Or words.now mixed.1)) }
 {
-    let mut outer: Vec<Chain> = Vec::new(alloc);
-    let mut chain = Chain::at(0, false);
+    let mut outer: Vec<OperandChain> = Vec::new(alloc);
+    let mut chain = OperandChain::at(0, false);
     for at in 0..words.len() {
         let word = words[at];
         if word.is(Symbol::LeftParen) || word.is(Symbol::LeftBracket) {
             // The braces of a pattern in brackets are none of a block.
             outer.push(chain)?;
-            chain = Chain::at(at.saturating_add(1), true);
+            chain = OperandChain::at(at.saturating_add(1), true);
         } else if word.is(Symbol::RightParen) || word.is(Symbol::RightBracket) {
             chain = outer
                 .pop()
-                .unwrap_or(Chain::at(at.saturating_add(1), false));
+                .unwrap_or(OperandChain::at(at.saturating_add(1), false));
         } else {
             let found = operator_at(words, at);
             if found.is_some() && chain.operator.is_some() && found != chain.operator {
@@ -99,17 +104,20 @@ fn first_mixed(alloc: Global, words: &[Word<'_>]) -> Result<Option<(usize, usize
 
 /// Puts parentheses round the operands before the first operator of another kind: BIRD's operators of these two kinds have one
 /// level, and group to the left.
-pub fn plan_grouping<'a>(alloc: Global, words: &[Word<'a>]) -> Result<Plan<'a>, AllocError>
+pub(crate) fn plan_grouping<'a>(
+    alloc: Global,
+    words: &[Word<'a>],
+) -> Result<NextStep<'a>, AllocError>
     ensures { IfOk result (λ plan. IfSome (why_of_plan plan) (Hinder words.now)) }
 {
     let Some((start, at)) = first_mixed(alloc, words)? else {
-        return Ok(Plan::Done);
+        return Ok(NextStep::Done);
     };
     let (Some(first), Some(operands)) = (word_at(words, start), words.get(start..at)) else {
-        return Ok(Plan::Done);
+        return Ok(NextStep::Done);
     };
-    let open = Word::made(Symbol::LeftParen, first.at);
-    let close = Word::made(Symbol::RightParen, first.at).after(b"");
+    let open = Word::of_symbol(Symbol::LeftParen, first.at);
+    let close = Word::of_symbol(Symbol::RightParen, first.at).after(b"");
     let written = joined(alloc, &[open], operands, &[close]);
     planned(Rule::Grouped, start, at, written, unwritten(first.at))
 }
@@ -133,17 +141,20 @@ fn wants_semicolon(words: &[Word<'_>], at: usize) -> bool
 }
 
 /// Puts the first `;` that is missing before `else` or a closing brace.
-pub fn plan_semicolon<'a>(alloc: Global, words: &[Word<'a>]) -> Result<Plan<'a>, AllocError>
+pub(crate) fn plan_semicolon<'a>(
+    alloc: Global,
+    words: &[Word<'a>],
+) -> Result<NextStep<'a>, AllocError>
     ensures { IfOk result (λ plan. IfSome (why_of_plan plan) (Hinder words.now)) }
 {
     for at in 0..words.len() {
         if wants_semicolon(words, at) {
-            let stop = Word::made(Symbol::Semicolon, words[at].at).after(b"");
+            let stop = Word::of_symbol(Symbol::Semicolon, words[at].at).after(b"");
             let written = Vec::from_slice(alloc, &[stop]);
             return planned(Rule::Separated, at, at, written, unwritten(stop.at));
         }
     }
-    Ok(Plan::Done)
+    Ok(NextStep::Done)
 }
 
 /// Whether a number or an address stands in parentheses at an index.
@@ -166,7 +177,10 @@ fn is_member(words: &[Word<'_>], at: usize) -> bool {
 }
 
 /// Takes the first constant of a label or of a set out of its parentheses: BIRD takes a defined name as a label in these alone.
-pub fn plan_unwrapping<'a>(alloc: Global, words: &[Word<'a>]) -> Result<Plan<'a>, AllocError>
+pub(crate) fn plan_unwrapping<'a>(
+    alloc: Global,
+    words: &[Word<'a>],
+) -> Result<NextStep<'a>, AllocError>
     ensures { IfOk result (λ plan. IfSome (why_of_plan plan) (Hinder words.now)) }
 {
     for at in 0..words.len() {
@@ -178,7 +192,7 @@ pub fn plan_unwrapping<'a>(alloc: Global, words: &[Word<'a>]) -> Result<Plan<'a>
             return planned(Rule::Unwrapped, at, to, written, unwritten(opening.at));
         }
     }
-    Ok(Plan::Done)
+    Ok(NextStep::Done)
 }
 
 /// What a test of the kind of a prefix at an index comes to: `net.type = NET_IP4` is true, and the same with NET_IP6 false.
@@ -208,12 +222,15 @@ fn type_test(words: &[Word<'_>], at: usize) -> Option<Symbol>
 }
 
 /// Puts what the first test of the kind of a prefix comes to in its place.
-pub fn plan_type_test<'a>(alloc: Global, words: &[Word<'a>]) -> Result<Plan<'a>, AllocError>
+pub(crate) fn plan_type_test<'a>(
+    alloc: Global,
+    words: &[Word<'a>],
+) -> Result<NextStep<'a>, AllocError>
     ensures { IfOk result (λ plan. IfSome (why_of_plan plan) (Hinder words.now)) }
 {
     for at in 0..words.len() {
         if let Some(symbol) = type_test(words, at) {
-            let answer = Word::made(symbol, words[at].at).after(words[at].gap);
+            let answer = Word::of_symbol(symbol, words[at].at).after(words[at].gap);
             let written = Vec::from_slice(alloc, &[answer]);
             return planned(
                 Rule::Ipv4Only,
@@ -224,5 +241,5 @@ pub fn plan_type_test<'a>(alloc: Global, words: &[Word<'a>]) -> Result<Plan<'a>,
             );
         }
     }
-    Ok(Plan::Done)
+    Ok(NextStep::Done)
 }

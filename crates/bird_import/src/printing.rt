@@ -12,7 +12,7 @@ ghost use Rattle.bird_import.specs.declared.reason.Why.TheVariants as why;
 ghost use Rattle.bird_import.specs.declared.word.WordKind.TheVariants as kind;
 
 use crate::reason::{Reason, Why};
-use crate::step::{Plan, Rule, planned};
+use crate::step::{NextStep, Rule, planned};
 use crate::word::{Word, WordKind, begins_command, find_outside, is_at, is_foreign_at, kind_at};
 use filter_tokens::Symbol;
 use std::alloc::{AllocError, Global};
@@ -66,10 +66,10 @@ fn leave_out<'a>(
     word: Word<'a>,
     at: usize,
     end: usize,
-) -> Result<Plan<'a>, AllocError>
+) -> Result<NextStep<'a>, AllocError>
     ensures { IfOk result (λ plan. IfSome (why_of_plan plan) (λ reason. reason ≡ why.PrintDoesMore)) }
 {
-    let stop = Word::made(Symbol::Semicolon, word.at).after(word.gap);
+    let stop = Word::of_symbol(Symbol::Semicolon, word.at).after(word.gap);
     let written = Vec::from_slice(alloc, &[stop]);
     planned(
         Rule::Unprinted,
@@ -87,7 +87,7 @@ fn shorten<'a>(
     word: Word<'a>,
     from: usize,
     end: usize,
-) -> Result<Plan<'a>, AllocError>
+) -> Result<NextStep<'a>, AllocError>
     ensures { IfOk result (λ plan. IfSome (why_of_plan plan) (λ reason. reason ≡ why.PrintDoesMore)) }
 {
     match words.get(from..kept_end(words, from)) {
@@ -98,7 +98,7 @@ fn shorten<'a>(
             Vec::from_slice(alloc, kept),
             does_more(word),
         ),
-        None => Ok(Plan::Done),
+        None => Ok(NextStep::Done),
     }
 }
 
@@ -113,7 +113,10 @@ fn does_more<'a>(word: Word<'a>) -> Reason<'a>
 }
 
 /// Leaves out what the first command that prints prints.
-pub fn plan_printing<'a>(alloc: Global, words: &[Word<'a>]) -> Result<Plan<'a>, AllocError>
+pub(crate) fn plan_printing<'a>(
+    alloc: Global,
+    words: &[Word<'a>],
+) -> Result<NextStep<'a>, AllocError>
     ensures { IfOk result (λ plan. IfSome (why_of_plan plan) (Hinder words.now)) }
 {
     for at in 0..words.len() {
@@ -129,5 +132,5 @@ pub fn plan_printing<'a>(alloc: Global, words: &[Word<'a>]) -> Result<Plan<'a>, 
         }
         return shorten(alloc, words, words[at], at.saturating_add(1), end);
     }
-    Ok(Plan::Done)
+    Ok(NextStep::Done)
 }

@@ -75,7 +75,7 @@ pub enum Why<'a> {
 const NAME_LIMIT: usize = 64;
 
 /// What is said where nothing else can be.
-pub fn unwritten<'a>(at: usize) -> Reason<'a>
+pub(crate) fn unwritten<'a>(at: usize) -> Reason<'a>
     ensures { result.why ≡ why.Unwritten }
 {
     Reason {

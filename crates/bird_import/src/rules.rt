@@ -12,14 +12,14 @@ use crate::word::{Word, WordKind, bytes_at, is_at, is_name_at};
 use filter_tokens::Symbol;
 
 /// Whether two words are the same, wherever they stand.
-pub fn is_same(one: &Word<'_>, other: &Word<'_>) -> bool
+pub(crate) fn is_same(one: &Word<'_>, other: &Word<'_>) -> bool
     ensures { IsTrue result → spec.IsSame one.now other.now }
 {
     one.kind == other.kind && one.bytes == other.bytes
 }
 
 /// Whether words are the same, one by one.
-pub fn are_same(words: &[Word<'_>], others: &[Word<'_>]) -> bool
+pub(crate) fn are_same(words: &[Word<'_>], others: &[Word<'_>]) -> bool
     ensures { IsTrue result → AreAlike spec.IsSame words.now others.now }
 {
     if words.len() != others.len() {
@@ -34,7 +34,7 @@ pub fn are_same(words: &[Word<'_>], others: &[Word<'_>]) -> bool
 }
 
 /// Whether words are others in parentheses.
-pub fn is_grouped(inner: &[Word<'_>], new: &[Word<'_>]) -> bool
+pub(crate) fn is_grouped(inner: &[Word<'_>], new: &[Word<'_>]) -> bool
     ensures { IsTrue result → spec.IsGrouped inner.now new.now }
 {
     let [open, kept @ .., close] = new else {
@@ -44,7 +44,7 @@ pub fn is_grouped(inner: &[Word<'_>], new: &[Word<'_>]) -> bool
 }
 
 /// Whether a word opens parentheses, brackets or braces.
-pub fn opens(kind: WordKind) -> bool
+pub(crate) fn opens(kind: WordKind) -> bool
     ensures { result ≡ spec.opens kind }
 {
     matches!(
@@ -54,7 +54,7 @@ pub fn opens(kind: WordKind) -> bool
 }
 
 /// Whether a word closes them.
-pub fn closes(kind: WordKind) -> bool
+pub(crate) fn closes(kind: WordKind) -> bool
     ensures { result ≡ spec.closes kind }
 {
     matches!(
@@ -65,7 +65,7 @@ pub fn closes(kind: WordKind) -> bool
 
 /// Whether all that is opened among some words is closed among them, and nothing else.
 #[tactic(auto, unfolding(crate::specs::Rules::open_behind))]
-pub fn are_balanced(words: &[Word<'_>]) -> bool
+pub(crate) fn are_balanced(words: &[Word<'_>]) -> bool
     ensures { IsTrue result ↔ (spec.open_behind 0 words.now ≡ Some 0) }
 {
     let mut depth = 0usize;
@@ -87,7 +87,7 @@ pub fn are_balanced(words: &[Word<'_>]) -> bool
 
 /// Whether words are a set.
 #[tactic(auto, using(crate::proofs::Bracketed::set_is, crate::proofs::Bracketed::set_is_long))]
-pub fn is_set(words: &[Word<'_>]) -> bool
+pub(crate) fn is_set(words: &[Word<'_>]) -> bool
     ensures { IsTrue result ↔ spec.IsSet words.now }
 {
     let [opening, inner @ .., closing] = words else {
@@ -97,7 +97,7 @@ pub fn is_set(words: &[Word<'_>]) -> bool
 }
 
 /// Whether a value is the same beside any operator: it is one word or a set.
-pub fn is_one_operand(value: &[Word<'_>]) -> bool
+pub(crate) fn is_one_operand(value: &[Word<'_>]) -> bool
     ensures { IsTrue result ↔ spec.IsOneOperand value.now }
 {
     value.len() == 1 || is_set(value)
@@ -123,14 +123,17 @@ fn have_none(symbol: Symbol, words: &[Word<'_>]) -> bool
 
 /// Words in two parts, the first of them so long.
 #[tactic(auto, using(crate::proofs::Splits::side_by_side))]
-pub fn split<'w, 'a>(words: &'w [Word<'a>], len: usize) -> Option<(&'w [Word<'a>], &'w [Word<'a>])>
+pub(crate) fn split<'w, 'a>(
+    words: &'w [Word<'a>],
+    len: usize,
+) -> Option<(&'w [Word<'a>], &'w [Word<'a>])>
     ensures { IfSome result (λ parts. words.now ≡ parts.0.now ++ parts.1.now) }
 {
     words.split_at_checked(len)
 }
 
 /// The words before the first of a keyword or punctuator, that word, and the words behind it.
-pub fn until<'w, 'a>(
+pub(crate) fn until<'w, 'a>(
     symbol: Symbol,
     words: &'w [Word<'a>],
 ) -> Option<(&'w [Word<'a>], &'w Word<'a>, &'w [Word<'a>])>
@@ -165,7 +168,7 @@ fn is_defined_by(words: &[Word<'_>], name: &Word<'_>, new: &[Word<'_>]) -> bool
 }
 
 /// Whether a name is written as the value of the definition that begins at an index of the configuration.
-pub fn is_defined(config: &[Word<'_>], at: usize, old: &[Word<'_>], new: &[Word<'_>]) -> bool
+pub(crate) fn is_defined(config: &[Word<'_>], at: usize, old: &[Word<'_>], new: &[Word<'_>]) -> bool
     ensures { IsTrue result → spec.IsDefined config.now old.now new.now }
 {
     let (Some((name, none)), Some((_, words))) = (old.split_first(), config.split_at_checked(at))
@@ -234,7 +237,7 @@ fn calls_none(words: &[Word<'_>]) -> bool
 }
 
 /// Whether words may be printed.
-pub fn are_harmless(words: &[Word<'_>]) -> bool
+fn are_harmless(words: &[Word<'_>]) -> bool
     ensures each { IsTrue result → All spec.IsHarmless words.now }
     ensures free { IsTrue result → spec.CallsNone words.now }
 {
@@ -242,7 +245,7 @@ pub fn are_harmless(words: &[Word<'_>]) -> bool
 }
 
 /// Whether a command that prints is left out.
-pub fn is_unprinted(old: &[Word<'_>], new: &[Word<'_>]) -> bool
+pub(crate) fn is_unprinted(old: &[Word<'_>], new: &[Word<'_>]) -> bool
     ensures { IsTrue result → spec.IsUnprinted old.now new.now }
 {
     let (Some((print, rest)), [stop]) = (old.split_first(), new) else {
@@ -269,7 +272,7 @@ fn is_first_text(old: &[Word<'_>], new: &[Word<'_>]) -> bool
 }
 
 /// Whether what is printed behind `accept` or `reject` is cut to its first text.
-pub fn is_shortened(front: &[Word<'_>], old: &[Word<'_>], new: &[Word<'_>]) -> bool
+pub(crate) fn is_shortened(front: &[Word<'_>], old: &[Word<'_>], new: &[Word<'_>]) -> bool
     ensures { IsTrue result → spec.IsShortened front.now old.now new.now }
 {
     let Some((command, _)) = front.split_last() else {
@@ -281,7 +284,7 @@ pub fn is_shortened(front: &[Word<'_>], old: &[Word<'_>], new: &[Word<'_>]) -> b
 }
 
 /// Whether a `;` is put in before `else` or a closing brace.
-pub fn is_separated(old: &[Word<'_>], new: &[Word<'_>], back: &[Word<'_>]) -> bool
+pub(crate) fn is_separated(old: &[Word<'_>], new: &[Word<'_>], back: &[Word<'_>]) -> bool
     ensures { IsTrue result → spec.IsSeparated old.now new.now back.now }
 {
     let ([stop], Some((next, _))) = (new, back.split_first()) else {
@@ -293,7 +296,7 @@ pub fn is_separated(old: &[Word<'_>], new: &[Word<'_>], back: &[Word<'_>]) -> bo
 }
 
 /// Whether a word is a number or an address.
-pub fn is_constant(kind: WordKind) -> bool
+pub(crate) fn is_constant(kind: WordKind) -> bool
     ensures { result ≡ spec.is_constant kind }
 {
     matches!(kind, WordKind::Number | WordKind::Address(_))
@@ -310,14 +313,14 @@ fn begins_member(kind: WordKind) -> bool
 }
 
 /// Whether a label or a member of a set may begin behind a word, and no command with a parenthesis.
-pub fn begins_constant(kind: WordKind) -> bool
+pub(crate) fn begins_constant(kind: WordKind) -> bool
     ensures { result ≡ spec.begins_constant kind }
 {
     ends_command(kind) || begins_member(kind)
 }
 
 /// Whether a label or a set goes on, or ends, with a word.
-pub fn ends_constant(kind: WordKind) -> bool
+pub(crate) fn ends_constant(kind: WordKind) -> bool
     ensures { result ≡ spec.ends_constant kind }
 {
     matches!(
@@ -342,7 +345,7 @@ fn is_bare(old: &[Word<'_>], new: &[Word<'_>]) -> bool
 }
 
 /// Whether a constant of a label or a set is taken out of its parentheses.
-pub fn is_unwrapped(
+pub(crate) fn is_unwrapped(
     front: &[Word<'_>],
     old: &[Word<'_>],
     new: &[Word<'_>],
@@ -369,7 +372,7 @@ fn is_test(compare: &Word<'_>, family: &Word<'_>, answer: &Word<'_>) -> bool
 }
 
 /// Whether a test of the kind of a prefix is written as its answer.
-pub fn is_type_test(old: &[Word<'_>], new: &[Word<'_>]) -> bool
+pub(crate) fn is_type_test(old: &[Word<'_>], new: &[Word<'_>]) -> bool
     ensures { IsTrue result → spec.IsTypeTest old.now new.now }
 {
     match (old, new) {
@@ -401,14 +404,14 @@ fn is_separator(kind: WordKind) -> bool
 }
 
 /// Whether none of some words ends an expression.
-pub fn are_of_one(words: &[Word<'_>]) -> bool
+pub(crate) fn are_of_one(words: &[Word<'_>]) -> bool
     ensures { IsTrue result → All (λ word. spec.is_separator word.kind ≡ false) words.now }
 {
     words.iter().all(|word| !is_separator(word.kind))
 }
 
 /// Whether a command begins behind a word.
-pub fn ends_command(kind: WordKind) -> bool
+pub(crate) fn ends_command(kind: WordKind) -> bool
     ensures { result ≡ spec.ends_command kind }
 {
     matches!(
@@ -463,7 +466,7 @@ fn begins_expression(front: &[Word<'_>]) -> bool
 }
 
 /// Whether operands of a chain are put into parentheses.
-pub fn is_chain_grouped(
+pub(crate) fn is_chain_grouped(
     front: &[Word<'_>],
     old: &[Word<'_>],
     new: &[Word<'_>],
@@ -482,7 +485,7 @@ pub fn is_chain_grouped(
 }
 
 /// Whether a word is the name of a kind.
-pub fn is_kind(kind: WordKind) -> bool
+pub(crate) fn is_kind(kind: WordKind) -> bool
     ensures { result ≡ spec.is_kind kind }
 {
     matches!(
@@ -539,7 +542,7 @@ fn is_moved(front: &[Word<'_>], declaration: &[Word<'_>], new: &[Word<'_>]) -> b
 }
 
 /// Whether a declaration is moved before the brace of its body.
-pub fn is_hoisted(old: &[Word<'_>], new: &[Word<'_>]) -> bool
+pub(crate) fn is_hoisted(old: &[Word<'_>], new: &[Word<'_>]) -> bool
     ensures { IsTrue result → spec.IsHoisted old.now new.now }
 {
     let Some((front, declaration)) = split(old, old.len().saturating_sub(3)) else {

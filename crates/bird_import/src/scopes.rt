@@ -126,7 +126,7 @@ fn stray_of<'a>(words: &[Word<'a>], declared: usize) -> Option<Reason<'a>>
 }
 
 /// Why the first variable that is used where it is not known is, if there is one.
-pub fn first_stray<'a>(words: &[Word<'a>]) -> Option<Reason<'a>>
+pub(crate) fn first_stray<'a>(words: &[Word<'a>]) -> Option<Reason<'a>>
     ensures some { IfSome result (λ reason. Hinder words.now reason.why) }
     ensures none { result ≡ None → AreInScope words.now }
 {

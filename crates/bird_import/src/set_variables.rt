@@ -11,7 +11,7 @@ ghost use Rattle.bird_import.specs.declared.reason.Why.TheVariants as why;
 use crate::reason::{Reason, Why};
 use crate::rules::split;
 use crate::sets::{SetVariable, assigned, declared};
-use crate::step::{Plan, Rule, planned, push_parts};
+use crate::step::{NextStep, Rule, planned, push_parts};
 use crate::word::{Word, closing};
 use std::alloc::{AllocError, Global};
 
@@ -52,13 +52,13 @@ fn place<'a>(
     at: usize,
     made: SetVariable<'_, 'a>,
     name: &Word<'a>,
-) -> Result<Plan<'a>, AllocError>
+) -> Result<NextStep<'a>, AllocError>
     requires { HasSetVariable name.now.bytes.now words.now }
     ensures { IfOk result (λ plan. IfSome (why_of_plan plan) (Hinder words.now)) }
 {
     let len = closing(made.later, 0).unwrap_or(made.later.len());
     let Some((later, left)) = split(made.later, len) else {
-        return Ok(Plan::Done);
+        return Ok(NextStep::Done);
     };
     let to = words.len().saturating_sub(left.len());
     let written = without(alloc, made, name.bytes, later);
@@ -76,7 +76,7 @@ fn not_once<'a>(name: &Word<'a>) -> Reason<'a>
 }
 
 /// Puts the first variable that is a set in its places.
-pub fn plan_sets<'a>(alloc: Global, words: &[Word<'a>]) -> Result<Plan<'a>, AllocError>
+pub(crate) fn plan_sets<'a>(alloc: Global, words: &[Word<'a>]) -> Result<NextStep<'a>, AllocError>
     ensures { IfOk result (λ plan. IfSome (why_of_plan plan) (Hinder words.now)) }
 {
     for at in 0..words.len() {
@@ -86,9 +86,9 @@ pub fn plan_sets<'a>(alloc: Global, words: &[Word<'a>]) -> Result<Plan<'a>, Allo
         if let Some((name, rest)) = declared(all) {
             return match assigned(name.bytes, front, rest) {
                 Some(made) => place(alloc, words, at, made, name),
-                None => Ok(Plan::Stuck(not_once(name))),
+                None => Ok(NextStep::Stuck(not_once(name))),
             };
         }
     }
-    Ok(Plan::Done)
+    Ok(NextStep::Done)
 }

@@ -144,7 +144,7 @@ fn given_later<'w, 'a>(name: &[u8], words: &'w [Word<'a>]) -> Option<SetVariable
 }
 
 /// How the variable of a name gets its set, by the words before its declaration and those behind its name there.
-pub fn assigned<'w, 'a>(
+pub(crate) fn assigned<'w, 'a>(
     name: &[u8],
     front: &[Word<'_>],
     words: &'w [Word<'a>],
@@ -187,7 +187,7 @@ fn is_written<'w, 'a>(name: &[u8], made: &SetVariable<'w, 'a>, new: &'w [Word<'a
 }
 
 /// The name of a variable that is a set, and the words behind it.
-pub fn declared<'w, 'a>(words: &'w [Word<'a>]) -> Option<(&'w Word<'a>, &'w [Word<'a>])>
+pub(crate) fn declared<'w, 'a>(words: &'w [Word<'a>]) -> Option<(&'w Word<'a>, &'w [Word<'a>])>
     ensures { IfSome result (λ found. spec.IsDeclared words.now found.0.now found.1.now) }
 {
     match words {
@@ -208,7 +208,7 @@ fn is_used_inside(name: &[u8], later: &[Word<'_>], back: &[Word<'_>]) -> bool
 
 /// Whether a set stands where its variable was used.
 #[tactic(auto, using(crate::proofs::Placed::set_placed))]
-pub fn is_set_placed<'w, 'a>(
+pub(crate) fn is_set_placed<'w, 'a>(
     front: &'w [Word<'a>],
     old: &'w [Word<'a>],
     new: &'w [Word<'a>],

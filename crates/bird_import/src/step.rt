@@ -44,7 +44,7 @@ pub enum Rule {
 
 /// A step: the words `from..to` of a filter are written as others.
 #[derive(Drop)]
-pub struct Step<'a> {
+pub struct RewriteStep<'a> {
     /// Why.
     pub rule: Rule,
     /// The index of the definition in the configuration, where one is placed.
@@ -61,9 +61,9 @@ pub struct Step<'a> {
 
 /// What is to be done next.
 #[derive(Drop)]
-pub enum Plan<'a> {
+pub enum NextStep<'a> {
     /// A step.
-    Step(Step<'a>),
+    Step(RewriteStep<'a>),
     /// The filter has to be left out.
     Stuck(Reason<'a>),
     /// Nothing.
@@ -71,16 +71,16 @@ pub enum Plan<'a> {
 }
 
 /// The plan of a step that places no definition.
-pub fn planned<'a>(
+pub(crate) fn planned<'a>(
     rule: Rule,
     from: usize,
     to: usize,
     words: Result<Vec<Word<'a>>, AllocError>,
     stuck: Reason<'a>,
-) -> Result<Plan<'a>, AllocError>
+) -> Result<NextStep<'a>, AllocError>
     ensures { IfOk result (λ plan. why_of_plan plan ≡ Some stuck.entry.why) }
 {
-    Ok(Plan::Step(Step {
+    Ok(NextStep::Step(RewriteStep {
         rule,
         origin: 0,
         from,
@@ -92,7 +92,7 @@ pub fn planned<'a>(
 
 /// The parts of some words: those before a step, those that it writes as others, and those behind it.
 #[derive(Clone, Copy)]
-struct Parts<'w, 'a> {
+struct StepParts<'w, 'a> {
     /// The words before it.
     front: &'w [Word<'a>],
     /// The words that are written as others.
@@ -102,25 +102,25 @@ struct Parts<'w, 'a> {
 }
 
 /// The words `from..to`, with those before and behind them.
-fn parts_at<'w, 'a>(words: &'w [Word<'a>], from: usize, to: usize) -> Option<Parts<'w, 'a>>
+fn parts_at<'w, 'a>(words: &'w [Word<'a>], from: usize, to: usize) -> Option<StepParts<'w, 'a>>
     ensures { IfSome result (λ parts. words.now ≡ parts.front.now ++ (parts.old.now ++ parts.back.now)) }
 {
     let (front, rest) = split(words, from)?;
     let (old, back) = split(rest, to.saturating_sub(from))?;
-    Some(Parts { front, old, back })
+    Some(StepParts { front, old, back })
 }
 
 /// The words after a step, if it is one of its rule.
 #[tactic(auto, using(crate::proofs::Reached::replaced))]
-pub fn apply<'a>(
+pub(crate) fn apply<'a>(
     alloc: Global,
     config: &[Word<'a>],
     words: &[Word<'a>],
-    step: &Step<'a>,
+    step: &RewriteStep<'a>,
 ) -> Result<Option<Vec<Word<'a>>>, AllocError>
     ensures { IfOk result (λ made. IfSome made (λ after. Replaces (Fits config.now step.now.rule) words.now after.items)) }
 {
-    let Some(Parts { front, old, back }) = parts_at(words, step.from, step.to) else {
+    let Some(StepParts { front, old, back }) = parts_at(words, step.from, step.to) else {
         return Ok(None);
     };
     let new = step.words.as_slice();
@@ -145,7 +145,7 @@ pub struct Call<'a> {
 
 /// The words after a call, if what is written for it means what the function does, whose words were `source` and have become others.
 #[tactic(auto, using(crate::proofs::Reached::replaced))]
-pub fn apply_call<'a>(
+pub(crate) fn apply_call<'a>(
     alloc: Global,
     words: &[Word<'a>],
     source: &[Word<'a>],
@@ -155,7 +155,7 @@ pub fn apply_call<'a>(
     ensures { IfOk result (λ made. IfSome made (λ after.
         Replaces (λ front old new back. IsCallOf source.now function.now front old new) words.now after.items)) }
 {
-    let Some(Parts { front, old, back }) = parts_at(words, call.from, call.to) else {
+    let Some(StepParts { front, old, back }) = parts_at(words, call.from, call.to) else {
         return Ok(None);
     };
     let placed = call.words.as_slice();
@@ -166,7 +166,7 @@ pub fn apply_call<'a>(
 }
 
 /// The words of three parts, side by side.
-pub fn joined<'a>(
+pub(crate) fn joined<'a>(
     alloc: Global,
     front: &[Word<'a>],
     new: &[Word<'a>],
@@ -181,7 +181,7 @@ pub fn joined<'a>(
 }
 
 /// Words between two symbols, in the place of a word.
-pub fn enclosed<'a>(
+pub(crate) fn enclosed<'a>(
     alloc: Global,
     left: Symbol,
     inner: &[Word<'a>],
@@ -190,12 +190,15 @@ pub fn enclosed<'a>(
 ) -> Result<Vec<Word<'a>>, AllocError>
     ensures { IfOk result (λ words. IsEnclosed left right inner.now words.items) }
 {
-    let front = Word::made(left, word.at).after(word.gap);
-    joined(alloc, &[front], inner, &[Word::made(right, word.at)])
+    let front = Word::of_symbol(left, word.at).after(word.gap);
+    joined(alloc, &[front], inner, &[Word::of_symbol(right, word.at)])
 }
 
 /// Puts words behind others, part by part.
-pub fn push_parts<'a>(words: &mut Vec<Word<'a>>, parts: &[&[Word<'a>]]) -> Result<(), AllocError> {
+pub(crate) fn push_parts<'a>(
+    words: &mut Vec<Word<'a>>,
+    parts: &[&[Word<'a>]],
+) -> Result<(), AllocError> {
     for part in parts {
         words.extend_from_slice(part)?;
     }

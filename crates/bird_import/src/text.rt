@@ -6,11 +6,11 @@ ghost use Rattle.bird_import.specs.Alike.{AreAlike};
 ghost use Rattle.bird_import.specs.Indices.{IsNamedAt};
 ghost use Rattle.bird_import.specs.Laying as spec;
 ghost use Rattle.bird_import.specs.Spelling.{IsSpelled, LiesIn};
-ghost use Rattle.bird_import.specs.Texts.{Fated};
+ghost use Rattle.bird_import.specs.Texts.{HasOutcome};
 
 use crate::unset::first_unset;
 use crate::word::{Word, WordKind, is_named_at};
-use filter_parser::{ParseFault, Unparsed, parse_told};
+use filter_parser::{ParseFault, Unparsed, parse_explained};
 use filter_tokens::Token;
 use std::alloc::{AllocError, Global};
 
@@ -25,7 +25,7 @@ pub struct Origin {
 
 /// What becomes of a text that was written for some words.
 #[derive(Clone, Copy)]
-pub enum Fate {
+pub enum TextOutcome {
     /// It is a filter, and its tokens are the words that it was written for.
     Taken,
     /// It is no filter.
@@ -44,7 +44,7 @@ pub struct FilterText {
     /// Where its words come from, in order.
     pub origins: Vec<Origin>,
     /// What becomes of it.
-    pub fate: Fate,
+    pub text_outcome: TextOutcome,
 }
 
 /// The space and comments before the first word of a filter, without the space in front.
@@ -127,12 +127,12 @@ fn are_words(text: &[u8], tokens: &[Token], words: &[Word<'_>]) -> bool
 }
 
 /// What becomes of a text that the parser refuses.
-fn fate_of(why: Unparsed) -> Result<Fate, AllocError>
-    ensures { IfOk result (λ fate. (fate ≡ Fate.Refused why) × (why.fault ≢ ParseFault.Memory)) }
+fn refused_outcome(why: Unparsed) -> Result<TextOutcome, AllocError>
+    ensures { IfOk result (λ text_outcome. (text_outcome ≡ TextOutcome.Refused why) × (why.fault ≢ ParseFault.Memory)) }
 {
     match why.fault {
         ParseFault::Memory => Err(AllocError),
-        _ => Ok(Fate::Refused(why)),
+        _ => Ok(TextOutcome::Refused(why)),
     }
 }
 
@@ -160,23 +160,23 @@ fn index_of_name(tokens: &[Token], words: &[Word<'_>], name: &[u8], byte: usize)
 }
 
 /// What becomes of a text that was written for some words.
-fn judge(alloc: Global, text: &[u8], words: &[Word<'_>]) -> Result<Fate, AllocError>
-    ensures { IfOk result (Fated words.now text.now) }
+fn judge(alloc: Global, text: &[u8], words: &[Word<'_>]) -> Result<TextOutcome, AllocError>
+    ensures { IfOk result (HasOutcome words.now text.now) }
 {
-    let filter = match parse_told(alloc, text) {
+    let filter = match parse_explained(alloc, text) {
         Ok(filter) => filter,
-        Err(why) => return fate_of(why),
+        Err(why) => return refused_outcome(why),
     };
     if !are_words(text, filter.tokens(), words) {
-        return Ok(Fate::Garbled);
+        return Ok(TextOutcome::Garbled);
     }
     match first_unset(&filter) {
         Some(unset) => {
             let name = filter.decls()[unset.variable].name.as_slice();
             let tokens = filter.tokens();
-            Ok(Fate::Unset(index_of_name(tokens, words, name, unset.at)))
+            Ok(TextOutcome::Unset(index_of_name(tokens, words, name, unset.at)))
         }
-        None => Ok(Fate::Taken),
+        None => Ok(TextOutcome::Taken),
     }
 }
 
@@ -188,15 +188,15 @@ pub fn write_filter(
 ) -> Result<FilterText, AllocError>
     ensures text { IfOk result (λ written. written.text.items ≡ spec.text_of head.now words.now) }
     ensures origins { IfOk result (λ written. written.origins.items ≡ spec.origins_of head.now words.now) }
-    ensures fate { IfOk result (λ written. Fated words.now written.text.items written.fate) }
+    ensures text_outcome { IfOk result (λ written. HasOutcome words.now written.text.items written.text_outcome) }
 {
     let mut text = Vec::from_slice(alloc, head)?;
     let origins = push_text(alloc, &mut text, words)?;
-    let fate = judge(alloc, text.as_slice(), words)?;
+    let text_outcome = judge(alloc, text.as_slice(), words)?;
     Ok(FilterText {
         text,
         origins,
-        fate,
+        text_outcome,
     })
 }
 

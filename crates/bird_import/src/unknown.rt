@@ -40,7 +40,7 @@ fn why_at<'a>(words: &[Word<'a>], at: usize) -> Option<Why<'a>>
 }
 
 /// Why some words are no filter of this language, if one of them cannot be kept.
-pub fn first_unknown<'a>(words: &[Word<'a>]) -> Option<Reason<'a>>
+pub(crate) fn first_unknown<'a>(words: &[Word<'a>]) -> Option<Reason<'a>>
     ensures some { IfSome result (λ reason. HaveUnknown words.now reason.why) }
     ensures none { result ≡ None → AreKnown words.now }
 {

@@ -234,7 +234,7 @@ fn earlier(found: Option<Unset>, variable: usize, at: Option<usize>) -> Option<U
 }
 
 /// A variable that a filter may read before it assigns it, if there is one: the one that is read so at the first place.
-pub fn first_unset(filter: &Filter) -> Option<Unset>
+pub(crate) fn first_unset(filter: &Filter) -> Option<Unset>
     ensures within { IfSome result (λ unset. unset.variable < length (decls_of filter.now)) }
     ensures some { IfSome result (λ unset. (decl : DeclView) × spec.MayReadUnset (view_filter filter.now) unset.variable decl) }
     ensures none { result ≡ None → spec.AreAssigned (view_filter filter.now) }

@@ -66,7 +66,7 @@ impl<'a> Word<'a> {
     ghost use Rattle.bird_import.specs.Rules.{IsForeign, IsNamed, IsSame};
 
     /// A keyword or punctuator that is put in beside a place.
-    pub fn made(symbol: Symbol, at: usize) -> Word<'a>
+    pub fn of_symbol(symbol: Symbol, at: usize) -> Word<'a>
         ensures { result.kind ≡ kind.Symbol symbol }
     {
         Word {
@@ -138,14 +138,14 @@ impl<'a> Word<'a> {
 }
 
 /// The word at an index, if there is one.
-pub fn word_at<'a>(words: &[Word<'a>], at: usize) -> Option<Word<'a>>
+pub(crate) fn word_at<'a>(words: &[Word<'a>], at: usize) -> Option<Word<'a>>
     ensures { result ≡ slice_get words.now at }
 {
     words.get(at).copied()
 }
 
 /// What the word at an index is, and a byte that begins no word where there is none.
-pub fn kind_at(words: &[Word<'_>], at: usize) -> WordKind
+pub(crate) fn kind_at(words: &[Word<'_>], at: usize) -> WordKind
     ensures { result ≡ spec.kind_at words.now at }
 {
     match words.get(at) {
@@ -155,7 +155,7 @@ pub fn kind_at(words: &[Word<'_>], at: usize) -> WordKind
 }
 
 /// The bytes of the word at an index, if there is one.
-pub fn bytes_at<'a>(words: &[Word<'a>], at: usize) -> &'a [u8]
+pub(crate) fn bytes_at<'a>(words: &[Word<'a>], at: usize) -> &'a [u8]
     ensures { result.now ≡ spec.bytes_at words.now at }
 {
     match words.get(at) {
@@ -165,21 +165,21 @@ pub fn bytes_at<'a>(words: &[Word<'a>], at: usize) -> &'a [u8]
 }
 
 /// Whether the word at an index is this keyword or punctuator.
-pub fn is_at(words: &[Word<'_>], at: usize, symbol: Symbol) -> bool
+pub(crate) fn is_at(words: &[Word<'_>], at: usize, symbol: Symbol) -> bool
     ensures { IsTrue result ↔ spec.IsAt symbol words.now at }
 {
     kind_at(words, at) == WordKind::Symbol(symbol)
 }
 
 /// Whether the word at an index is a name.
-pub fn is_name_at(words: &[Word<'_>], at: usize) -> bool
+pub(crate) fn is_name_at(words: &[Word<'_>], at: usize) -> bool
     ensures { IsTrue result ↔ spec.IsNameAt words.now at }
 {
     kind_at(words, at) == WordKind::Name
 }
 
 /// Whether the word at an index is this name.
-pub fn is_named_at(words: &[Word<'_>], at: usize, name: &[u8]) -> bool
+pub(crate) fn is_named_at(words: &[Word<'_>], at: usize, name: &[u8]) -> bool
     ensures { IsTrue result ↔ spec.IsNamedAt name.now words.now at }
 {
     is_name_at(words, at) && bytes_at(words, at) == name
@@ -187,7 +187,7 @@ pub fn is_named_at(words: &[Word<'_>], at: usize, name: &[u8]) -> bool
 
 /// Whether the word at an index is this word of BIRD's.
 #[tactic(auto, unfolding(crate::specs::Items::is_foreign_at))]
-pub fn is_foreign_at(words: &[Word<'_>], at: usize, name: &[u8]) -> bool
+pub(crate) fn is_foreign_at(words: &[Word<'_>], at: usize, name: &[u8]) -> bool
     ensures is { result ≡ items.is_foreign_at words.now at name.now }
     ensures means { IsTrue result ↔ spec.IsForeignAt name.now words.now at }
 {
@@ -195,14 +195,14 @@ pub fn is_foreign_at(words: &[Word<'_>], at: usize, name: &[u8]) -> bool
 }
 
 /// Whether the word before an index is this keyword or punctuator.
-pub fn is_before(words: &[Word<'_>], at: usize, symbol: Symbol) -> bool
+pub(crate) fn is_before(words: &[Word<'_>], at: usize, symbol: Symbol) -> bool
     ensures { IsTrue result ↔ spec.IsBehind symbol words.now at }
 {
     at > 0 && is_at(words, at - 1, symbol)
 }
 
 /// Whether a command may begin at an index: behind a brace, a `;`, a label, `then` or `else`.
-pub fn begins_command(words: &[Word<'_>], at: usize) -> bool
+pub(crate) fn begins_command(words: &[Word<'_>], at: usize) -> bool
     ensures { IsTrue result ↔ BeginsCommandAt words.now at }
 {
     at > 0 && ends_command(kind_at(words, at - 1))
@@ -210,7 +210,7 @@ pub fn begins_command(words: &[Word<'_>], at: usize) -> bool
 
 /// Whether a word is this keyword or punctuator.
 #[tactic(auto, unfolding(crate::specs::Items::is_symbol))]
-pub fn is_symbol(kind: WordKind, symbol: Symbol) -> bool
+pub(crate) fn is_symbol(kind: WordKind, symbol: Symbol) -> bool
     ensures { result ≡ items.is_symbol symbol kind }
 {
     match kind {
@@ -221,7 +221,7 @@ pub fn is_symbol(kind: WordKind, symbol: Symbol) -> bool
 
 /// How many parentheses, brackets and braces are open behind a word, where so many are before it, unless it closes one that is not open.
 #[tactic(auto, unfolding(crate::specs::Items::depth_past))]
-pub fn depth_past(depth: usize, kind: WordKind) -> Option<usize>
+pub(crate) fn depth_past(depth: usize, kind: WordKind) -> Option<usize>
     requires { depth < 2 ^ 64 - 1 }
     ensures is { result ≡ items.depth_past depth kind }
     ensures bound { IfSome result (λ after. after ≤ depth + 1) }
@@ -239,7 +239,7 @@ pub fn depth_past(depth: usize, kind: WordKind) -> Option<usize>
 
 /// The index of the first of these symbols from an index on, outside parentheses, brackets and braces that are opened there.
 #[tactic(auto, using(crate::proofs::Outside::none_outside, crate::proofs::Outside::one_outside), unfolding(crate::specs::Items::outside_from))]
-pub fn find_outside(words: &[Word<'_>], from: usize, symbol: Symbol) -> Option<usize>
+pub(crate) fn find_outside(words: &[Word<'_>], from: usize, symbol: Symbol) -> Option<usize>
     ensures is { result ≡ items.outside_from words.now (items.is_symbol symbol) from }
     ensures within { IfSome result (λ at. at < length words.now) }
 {
@@ -256,7 +256,7 @@ pub fn find_outside(words: &[Word<'_>], from: usize, symbol: Symbol) -> Option<u
 
 /// The index of what closes the parentheses, brackets or braces that are open before an index.
 #[tactic(auto, using(crate::proofs::Outside::none_outside, crate::proofs::Outside::one_outside), unfolding(crate::specs::Items::outside_from))]
-pub fn closing(words: &[Word<'_>], from: usize) -> Option<usize>
+pub(crate) fn closing(words: &[Word<'_>], from: usize) -> Option<usize>
     ensures is { result ≡ items.outside_from words.now spec_closes from }
     ensures within { IfSome result (λ at. at < length words.now) }
 {

@@ -1,17 +1,14 @@
 -- How the sources of names follow one another.
-use Rattle.std.proofs.Common.{◌≡◌, ◌∙◌, ◌<◌, ◌≤◌, ◌+◌, ℕ, zero, suc, false, refl, ap, subst, arith, length}
-use Rattle.std.proofs.Common.{List, [], ◌∷◌, ◌++◌, map, take, get_or, nat_lt, add-one, lt-ltb}
-use Rattle.std.specs.Prelude.{not, slice_get, unwrap_or}
+use Rattle.std.proofs.Common.{◌≡◌, ◌∙◌, ◌<◌, ◌≤◌, ◌+◌, ℕ, zero, suc, ap, subst, arith, length}
+use Rattle.std.proofs.Common.{List, [], ◌∷◌, ◌++◌, map, take, get_or, add-one}
 use Rattle.std.proofs.Math.Seq.{take-length}
 use Rattle.std.proofs.lemmas.List.{map-append, map_more}
 use Rattle.std.proofs.lemmas.Option.{slice_get-get_or}
 use Rattle.command_line.specs.Filters.{NameFirst, file_in}
-use Rattle.command_line.specs.Readings.{is_file, is_input}
-use Rattle.command_line.specs.Reads.{dash, filter_sources, or_input}
+use Rattle.command_line.specs.Reads.{filter_sources}
 use Rattle.command_line.specs.Sources.{AreNamed, IsNamed}
 use Rattle.command_line.specs.declared.filter_words.NamedFile.{NamedFile}
 use Rattle.command_line.specs.declared.requests.Source.{Source}
-use Rattle.command_line.specs.declared.requests.Source.TheVariants.{Input, File}
 
 -- one more name, with its source
 pub one_more : (names : List (List ℕ)) (sources : List Source) (name : List ℕ) (source : Source)
@@ -55,14 +52,3 @@ pub filters_named : (words : List (List ℕ)) (filters : List NamedFile) → Nam
     → AreNamed (map file_in words) (filter_sources filters)
 filters_named words filters are = subst (λ (l : List (List ℕ)). AreNamed (map file_in l) (filter_sources filters)) (take-length words)
     (filters_first words (length words) filters (omega arith) are)
-
--- one name at most
-pub few_named : (names : List (List ℕ)) → nat_lt 1 (length names) ≡ false → or_input names ≡ unwrap_or (slice_get names 0) dash ∷ []
-few_named [] few = refl
-few_named (n ∷ []) few = refl
-few_named (n ∷ m ∷ ms) few = let many = lt-ltb 1 (length (n ∷ m ∷ ms)) (omega arith) in absurd (cc)
-
--- a source is standard input or a file
-pub not_input : (source : Source) → not (is_input source) ≡ is_file source
-not_input Input = refl
-not_input (File name) = refl

@@ -30,13 +30,12 @@ use Rattle.command_line.specs.declared.filter_words.WrongFilter.{WrongFilter}
 use Rattle.command_line.specs.declared.lint_words.Linting.{Linting}
 use Rattle.command_line.specs.declared.options.Choices.{Choices}
 use Rattle.command_line.specs.declared.requests.Checking.{Checking}
-use Rattle.command_line.specs.declared.requests.Engine.TheVariants as engine
 use Rattle.command_line.specs.declared.requests.Importing.{Importing}
 use Rattle.command_line.specs.declared.requests.Request.{Request}
 use Rattle.command_line.specs.declared.requests.Request.TheVariants as request
 use Rattle.command_line.specs.declared.requests.RouteReport.{RouteReport}
 use Rattle.command_line.specs.declared.requests.RouteReport.TheVariants.{Verdicts, Reasons, Coverage}
-use Rattle.command_line.specs.declared.requests.Running.{Running}
+use Rattle.command_line.specs.declared.requests.RunOptions.{RunOptions}
 use Rattle.command_line.specs.declared.requests.Source.{Source}
 use Rattle.command_line.specs.declared.requests.Trying.{Trying}
 use Rattle.command_line.specs.declared.router_words.RouterWords.{RouterWords}
@@ -85,7 +84,7 @@ pub record IsChecking (given : List Row) (terminals : Terminals) (has_files : Bo
   pub warning_limit : how.warning_limit ≡ (if is_set (codes "warn") given then Some usual_limit else None)
   pub format : how.format ≡ format_of given
   pub is_explained : how.is_explained ≡ tells given terminals has_files
-  pub is_told : how.is_told ≡ (has_files
+  pub tells_people : how.tells_people ≡ (has_files
       || (how.is_explained || (how.has_names || (how.is_quiet || is_some how.warning_limit))))
 
 -- the words say this size: none is meant where none is said
@@ -151,17 +150,8 @@ AreFilters given filters =
 abbrev pub HasWrongFilter : List Row → Type 0
 HasWrongFilter given = (wrong : WrongFilter) × HasWrong (words_of (codes "filter") given) wrong
 
--- `run` is asked for more than the answers to its script
-abbrev pub asks_for_more : List Row → Bool
-asks_for_more given = is_some (word_of (codes "save") given)
-    || (is_set (codes "stop") given || nat_lt 0 (length (words_of (codes "filter") given)))
-
--- the script of `run` is several files
-abbrev pub names_several : List Row → Bool
-names_several given = nat_lt 1 (length (words_of file given))
-
 -- how `run` carries a script out, of which some is in files or none is
-pub record IsRunning (given : List Row) (terminals : Terminals) (has_files : Bool) (how : Running) : Type 0 where
+pub record IsRunning (given : List Row) (terminals : Terminals) (has_files : Bool) (how : RunOptions) : Type 0 where
   pub is_explained : how.is_explained ≡ tells given terminals has_files
   pub stops : how.stops ≡ is_set (codes "stop") given
   pub save : option_map (λ copy. string_bytes copy) how.save ≡ word_of (codes "save") given
@@ -188,28 +178,39 @@ pub record IsRouting (given : List Row) (words : RouterWords) : Type 0 where
   pub exports : map (λ copy. string_bytes copy) words.exports.items ≡ words_of (codes "export") given
   pub links : map (λ copy. string_bytes copy) words.links.items ≡ words_of (codes "link") given
 
+-- `domain` is asked for a page and for a comparison, of which there is none on a page
+abbrev pub pages_a_comparison : List Row → Bool
+pages_a_comparison given = is_some (word_of (codes "page") given) && is_some (word_of (codes "compare") given)
+
+-- it is said how a comparison is written, and none is asked for
+abbrev pub formats_no_comparison : List Row → Bool
+formats_no_comparison given = is_some (word_of (codes "format") given) && not (is_some (word_of (codes "compare") given))
+
 -- what the words behind a command set in a request
 abbrev pub Sets : CommandName → List Row → Terminals → Request → Type 0
 Sets command.Check given terminals (request.Check how sources) =
     SaysSize given how.size × IsChecking given terminals (list_any is_file sources.items) how
 Sets command.Diff given terminals (request.Diff how old new) = SaysSize given how.size × (how ≡ comparing_of given terminals how.size)
-Sets command.Domain given terminals (request.Script engine.Domain source is_told) = is_told ≡ tells given terminals (is_file source)
-Sets command.Eval given terminals (request.Eval is_told) = is_told ≡ tells given terminals false
+Sets command.Domain given terminals (request.Domain source tells_people) =
+    (tells_people ≡ tells given terminals (is_file source)) × (word_of (codes "page") given ≡ None) × (word_of (codes "compare") given ≡ None)
+    × (word_of (codes "format") given ≡ None)
+Sets command.Domain given terminals (request.Page source tells_people page) =
+    (tells_people ≡ tells given terminals (is_file source)) × (word_of (codes "page") given ≡ Some (string_bytes page))
+    × (word_of (codes "compare") given ≡ None) × (word_of (codes "format") given ≡ None)
+Sets command.Domain given terminals (request.Compare format old new tells_people) =
+    (tells_people ≡ tells given terminals true) × (format ≡ format_of given) × (is_some (word_of (codes "compare") given) ≡ true)
+    × (word_of (codes "page") given ≡ None)
+Sets command.Eval given terminals (request.Eval tells_people) = tells_people ≡ tells given terminals false
 Sets command.Explain given terminals (request.Explain page) = IsPage (explained given) (string_bytes page)
 Sets command.Filter given terminals (request.Filter how source) =
     IsTrying given terminals how × (names_file given ≡ true) × (asks_twice given ≡ false)
 Sets command.Import given terminals (request.Import how source) = IsImporting given how
 Sets command.Lint given terminals (request.Lint how sources) = IsLinting given terminals sources.items how
-Sets command.List given terminals (request.List size is_code source is_told) = (size ≡ number_of 32 (codes "size") given)
-    × (is_code ≡ is_set (codes "code") given) × (is_told ≡ tells given terminals (is_file source))
+Sets command.List given terminals (request.List size is_code source tells_people) = (size ≡ number_of 32 (codes "size") given)
+    × (is_code ≡ is_set (codes "code") given) × (tells_people ≡ tells given terminals (is_file source))
 Sets command.Replay given terminals (request.Replay sources) = ⊤
 Sets command.Rewrite given terminals (request.Rewrite is_old) = is_old ≡ is_set (codes "old") given
-Sets command.Run given terminals (request.Run how source) =
-    IsRunning given terminals (is_file source) how × (asks_for_more given ≡ true) × (names_several given ≡ false)
-Sets command.Run given terminals (request.RunJoined how sources) =
-    IsRunning given terminals (list_any is_file sources.items) how × (names_several given ≡ true)
-Sets command.Run given terminals (request.Script engine.Router source is_told) =
-    (is_told ≡ tells given terminals (is_file source)) × (asks_for_more given ≡ false) × (names_several given ≡ false)
+Sets command.Run given terminals (request.Run how sources) = IsRunning given terminals (list_any is_file sources.items) how
 Sets command.Test given terminals (request.Test how sources) = how ≡ testing_of given terminals sources.items
 Sets _ given terminals _ = ⊥
 
@@ -227,6 +228,7 @@ pub record AskForRouter (given : List Row) (words : RouterWords) : Type 0 where
 abbrev pub AreRefused : CommandName → List Row → Type 0
 AreRefused command.Check given = number_of 32 (codes "size") given ≡ None
 AreRefused command.Diff given = number_of 32 (codes "size") given ≡ None
+AreRefused command.Domain given = (pages_a_comparison given ≡ true) ⊎ (formats_no_comparison given ≡ true)
 AreRefused command.Explain given = page_head (explained given) ≡ None
 AreRefused command.Filter given =
     (asks_twice given ≡ true) ⊎ ((number_of 32 (codes "size") given ≡ None) ⊎ (names_file given ≡ false))

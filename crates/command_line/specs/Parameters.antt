@@ -87,6 +87,7 @@ all_taken =
     ∷ takes command.Test (codes "limit") Count ∷ takes command.Test (codes "format") TestFormat ∷ takes command.Test (codes "explain") When ∷ takes command.Test (codes "file") Arguments
     ∷ takes command.Eval (codes "explain") When
     ∷ takes command.Rewrite (codes "old") Flag
+    ∷ takes command.Domain (codes "compare") Text ∷ takes command.Domain (codes "format") Format ∷ takes command.Domain (codes "page") Text
     ∷ takes command.Domain (codes "explain") When ∷ takes command.Domain (codes "file") Argument
     ∷ takes command.Replay (codes "file") Arguments
     ∷ takes command.Router (codes "config") Text ∷ takes command.Router (codes "check") Flag

@@ -8,7 +8,7 @@ use std::alloc::{AllocError, Global};
 
 /// The codes that begin with one letter.
 #[derive(Clone, Copy)]
-struct Class {
+struct CodeClass {
     /// The letter.
     letter: &'static str,
     /// What they say.
@@ -16,71 +16,71 @@ struct Class {
 }
 
 /// All classes, in the order in which a filter, a script and a run meet them.
-static CLASSES: [Class; 15] = [
-    Class {
+static CLASSES: [CodeClass; 15] = [
+    CodeClass {
         letter: "P",
         meaning: "the text is not a filter",
     },
-    Class {
+    CodeClass {
         letter: "Y",
         meaning: "a name or a kind in a filter is wrong",
     },
-    Class {
+    CodeClass {
         letter: "G",
         meaning: "the code of a filter would be too long",
     },
-    Class {
+    CodeClass {
         letter: "V",
         meaning: "the code might go wrong on some route",
     },
-    Class {
+    CodeClass {
         letter: "W",
         meaning: "a filter is verified, and yet plainly wrong",
     },
-    Class {
+    CodeClass {
         letter: "C",
         meaning: "the bytes are not a code file",
     },
-    Class {
+    CodeClass {
         letter: "K",
         meaning: "code went wrong on a route that it was not verified for",
     },
-    Class {
+    CodeClass {
         letter: "O",
         meaning: "a line or a word of a script or of routes is wrong",
     },
-    Class {
+    CodeClass {
         letter: "N",
         meaning: "the router refused an event",
     },
-    Class {
+    CodeClass {
         letter: "D",
         meaning: "a domain refused a command of its script",
     },
-    Class {
+    CodeClass {
         letter: "J",
         meaning: "the history took no entry",
     },
-    Class {
+    CodeClass {
         letter: "H",
         meaning: "a line is not as the text of a history has it",
     },
-    Class {
+    CodeClass {
         letter: "E",
         meaning: "input, output or memory failed",
     },
-    Class {
+    CodeClass {
         letter: "L",
         meaning: "a router's lock",
     },
-    Class {
+    CodeClass {
         letter: "X",
         meaning: "sessions or threads were not run",
     },
 ];
 
 /// The table of classes. What handles it is not to know its texts: the checker would carry them along with each step.
-fn class_table() -> &'static [Class]
+fn class_table() -> &'static [CodeClass]
     ensures { map (λ class. class.letter.now) result.now ≡ letters }
 {
     &CLASSES
@@ -90,7 +90,7 @@ fn class_table() -> &'static [Class]
 const MOST_CODES: u32 = 20;
 
 /// What `explain` shows of a code, of a letter, or of no word. Small letters do for large ones. None if there is no such code.
-pub fn page_of(alloc: Global, word: &str) -> Result<Option<String>, AllocError>
+pub(crate) fn page_of(alloc: Global, word: &str) -> Result<Option<String>, AllocError>
     ensures { IfOk result (λ page. MatchOption page (page_head word.now ≡ None) (λ page. IsPage word.now (string_bytes page))) }
 {
     if word.is_empty() {
@@ -115,7 +115,7 @@ fn letter_page(alloc: Global, word: &str) -> Result<Option<String>, AllocError>
 }
 
 /// The class of a letter.
-fn class_of(letter: &str) -> Option<Class>
+fn class_of(letter: &str) -> Option<CodeClass>
     ensures { MatchOption result (is_among letters letter.now ≡ false) (λ class.
         (is_among letters letter.now ≡ true) × (class.letter.now ≡ letter.now)) }
 {
@@ -140,7 +140,7 @@ fn all_classes(alloc: Global) -> Result<String, AllocError> {
 }
 
 /// Adds the line of a class.
-fn push_class(page: &mut String, class: Class) -> Result<(), AllocError>
+fn push_class(page: &mut String, class: CodeClass) -> Result<(), AllocError>
     ensures { OnOk result (string_bytes page.new ≡ string_bytes page.old ++ letter_line class.letter.now class.meaning.now) }
 {
     page.push_str("  ")?;
@@ -151,7 +151,7 @@ fn push_class(page: &mut String, class: Class) -> Result<(), AllocError>
 }
 
 /// The codes of a class, each by the first line of its page.
-fn codes_of(alloc: Global, class: Class) -> Result<String, AllocError>
+fn codes_of(alloc: Global, class: CodeClass) -> Result<String, AllocError>
     ensures { IfOk result (λ page. begins_with (letter_head class.letter.now) (string_bytes page) ≡ true) }
 {
     let mut page = String::new(alloc);

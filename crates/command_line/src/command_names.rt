@@ -39,7 +39,7 @@ pub enum CommandName {
 
 /// The command that a word names, if it names one.
 #[tactic(auto, unfolding(crate::specs::CommandNames::command_of))]
-pub fn command_named(word: &str) -> Option<CommandName>
+pub(crate) fn command_named(word: &str) -> Option<CommandName>
     ensures { result ≡ command_of word.now }
 {
     match word {

@@ -13,7 +13,7 @@ use std::alloc::{AllocError, Global};
 const VERSION: &str = "0.1.0 (Rattle logic dac8208d650f15bf)";
 
 /// The program, with all commands. Options that are one of some words take these.
-pub fn program<'a>(alloc: Global, choices: Choices<'a>) -> Result<Command<'a>, AllocError>
+pub(crate) fn program<'a>(alloc: Global, choices: Choices<'a>) -> Result<Command<'a>, AllocError>
     ensures { IfOk result (λ program. app_of program ≡ spec.program choices.entry) }
 {
     bare_program(alloc).subcommands(commands_of(alloc, choices)?)
@@ -75,7 +75,7 @@ fn all_commands() -> &'static [(&'static str, &'static str)]
 }
 
 /// The table of options and arguments, likewise.
-pub fn all_parameters() -> &'static [(&'static str, Parameter)]
+pub(crate) fn all_parameters() -> &'static [(&'static str, Parameter)]
     ensures { map spec.taken_by result.now ≡ spec.all_taken }
 {
     &PARAMETERS
@@ -158,7 +158,7 @@ static COMMANDS: [(&str, &str); 15] = [
 ];
 
 /// The options and arguments of each command, in the order in which its help shows them.
-static PARAMETERS: [(&str, Parameter); 66] = [
+static PARAMETERS: [(&str, Parameter); 69] = [
     ("check", SIZE),
     ("check", CODE),
     ("check", NAMES),
@@ -199,6 +199,9 @@ static PARAMETERS: [(&str, Parameter); 66] = [
     ("test", TEST_FILES),
     ("eval", EXPLAIN),
     ("rewrite", OLD),
+    ("domain", COMPARE),
+    ("domain", FORMAT),
+    ("domain", PAGE),
     ("domain", EXPLAIN),
     ("domain", SCRIPT),
     ("replay", REPLAYED),
@@ -467,6 +470,24 @@ const REPLAYED: Parameter = Parameter {
     value: "FILE",
     help: "The text of a history, or its segments in order, in place of standard input; - is standard input",
     kind: ParameterKind::Arguments,
+    is_required: false,
+};
+
+/// The domain before a change.
+const COMPARE: Parameter = Parameter {
+    name: "compare",
+    value: "BEFORE",
+    help: "Say what a change does: from the domain of the script BEFORE to that of the script FILE",
+    kind: ParameterKind::Text,
+    is_required: false,
+};
+
+/// The file of the page of a domain.
+const PAGE: Parameter = Parameter {
+    name: "page",
+    value: "OUT",
+    help: "Write a page for a browser to OUT, which must not be there yet: the domain as it is behind the last command",
+    kind: ParameterKind::Text,
     is_required: false,
 };
 

@@ -41,7 +41,7 @@ fn comparing_in(matches: &ArgMatches<'_>, size: u32, terminals: Terminals) -> Co
 }
 
 /// What the words of `diff` ask for, with the size that they say.
-pub fn diff_in(
+pub(crate) fn diff_in(
     alloc: Global,
     matches: &ArgMatches<'_>,
     size: u32,

@@ -41,7 +41,7 @@ fn says_size(words: &[String]) -> bool {
 
 /// The words that a program was started with, of which its name is the first. Where those behind a command say no size, and the environment
 /// has one, `--size` stands behind the command.
-pub fn with_size<R: Env>(
+pub(crate) fn with_size<R: Env>(
     env: &R,
     alloc: Global,
     words: Vec<String>,

@@ -78,7 +78,7 @@ pub fn filters_in<'a>(
 }
 
 /// The filters that the words of a command name, in order, or the first word of `--filter` that is wrong.
-pub fn filters_given<'a>(
+pub(crate) fn filters_given<'a>(
     alloc: Global,
     matches: &ArgMatches<'a>,
 ) -> Result<Result<Vec<NamedFile>, WrongFilter<'a>>, AllocError>

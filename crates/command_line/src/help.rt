@@ -5,7 +5,7 @@ ghost use Rattle.command_line.specs.CommandNames.{command_of};
 
 /// What the help of this command says, if it says more than the options do.
 #[tactic(auto, unfolding(crate::specs::CommandNames::command_of))]
-pub fn help_of(command: &str) -> Option<&'static str>
+pub(crate) fn help_of(command: &str) -> Option<&'static str>
     ensures { is_some result ≡ (is_some (command_of command.now) && not (bytes_eq command.now (codes "explain"))) }
 {
     match command {
@@ -264,6 +264,7 @@ The input is commands, one a line. Empty lines and lines that begin with # are s
                          which distances stand still while the changes happen
   failures [nodes]       what the failure of each link, or node, changes by itself
   settle                 have the routers exchange messages until none is left
+  json                   the whole domain and all failures on a line, for programs
 
 Each command is answered on standard output before more input is read:
   ok                     domain, prefix, link, cut, import, export, anew, mark
@@ -283,10 +284,20 @@ Each command is answered on standard output before more input is read:
     D1 to D4     the domain refuses it (AT is the number of its line)
     P, Y, G, V   the filter is refused, as `ncroute check` refuses it; C: its code file
 
+With --compare both scripts are carried out, and none of their answers is printed. Both
+domains have as many nodes. What is printed is what the change from one to the other does:
+  lost U:V ..            U reaches V no longer
+  gained U:V ..          U reaches V from now on
+  changed U:V ..         U reaches V at another distance, or through another neighbour
+  failures COUNT         and as many lines: link U W, or node U, and what its failure does
+  .. loses L keeps K     it takes L routes that it did not take before, and K no longer
+
 Example:
   printf 'domain 3\\nlink 0 1\\nlink 1 2\\nroute 0 2\\n' | ncroute domain
 prints `ok` three times and `route 2 via 1`. The exit status is 0; 1 if a command
-was refused; 2 if the command line is wrong; 3 if a fault ended the run.
+was refused, or a page could not be written; 2 if the command line is wrong; 3 if a fault
+ended the run. With --compare it is 1 if something is lost, by the change or by a failure
+behind it; 3 if a command was refused, or the domains cannot be compared.
 ";
 
 /// Of `net`.

@@ -31,7 +31,7 @@ pub struct Linting {
 }
 
 /// What the words of `lint` ask for, with the size that they say.
-pub fn lint_in(
+pub(crate) fn lint_in(
     alloc: Global,
     matches: &ArgMatches<'_>,
     size: u32,

@@ -9,7 +9,7 @@ use crate::options::ParameterKind;
 use std::convert::AsStr;
 
 /// The first option with a negative number behind it, and that number.
-pub fn negative_number<S: AsStr>(words: &[S]) -> Option<(&str, &str)> {
+pub(crate) fn negative_number<S: AsStr>(words: &[S]) -> Option<(&str, &str)> {
     for n in 1..words.len() {
         let (option, number) = (words[n - 1].as_str(), words[n].as_str());
         if takes_number(option) && is_negative(number) {

@@ -68,7 +68,7 @@ pub struct Choices<'a> {
 }
 
 /// A parameter as the parser of words knows it, where options that are one of some words take these.
-pub fn arg_of<'a>(alloc: Global, parameter: &Parameter, choices: Choices<'a>) -> Arg<'a>
+pub(crate) fn arg_of<'a>(alloc: Global, parameter: &Parameter, choices: Choices<'a>) -> Arg<'a>
     ensures rule { rule_of result ≡ record (written choices.entry parameter.now.name.now parameter.now.kind) { required = parameter.now.is_required } }
     ensures local { result.global ≡ false }
 {

@@ -38,15 +38,6 @@ impl Source {
     }
 }
 
-/// Who carries out a script.
-#[derive(Clone, Copy)]
-pub enum Engine {
-    /// A router.
-    Router,
-    /// A whole domain.
-    Domain,
-}
-
 /// How sources are checked.
 #[derive(Clone, Copy)]
 pub struct Checking {
@@ -55,7 +46,7 @@ pub struct Checking {
     /// A source is a code file in hexadecimal, and not a filter's text.
     pub is_code: bool,
     /// A refusal is told on standard error, by the name of its source or in words.
-    pub is_told: bool,
+    pub tells_people: bool,
     /// It is told in words.
     pub is_explained: bool,
     /// The name of its source stands before each line of a report.
@@ -92,9 +83,9 @@ pub struct Trying {
     pub tells_routes: bool,
 }
 
-/// How a router's script is carried out, where more is asked for than its answers.
+/// How a router's script is carried out.
 #[derive(Drop)]
-pub struct Running {
+pub struct RunOptions {
     /// A refusal is told in words too.
     pub is_explained: bool,
     /// The script ends at its first refused line.
@@ -124,6 +115,17 @@ pub enum Request {
         /// The sources, in order.
         sources: Vec<Source>,
     },
+    /// Say what the change of one domain to another does.
+    Compare {
+        /// How it is written.
+        format: Format,
+        /// Where the script of the domain before the change is.
+        old: Source,
+        /// Where that of the domain after it is.
+        new: Source,
+        /// Why a line is refused is told in words too.
+        is_explained: bool,
+    },
     /// Compare two filters on all routes.
     Diff {
         /// How they are compared.
@@ -133,10 +135,17 @@ pub enum Request {
         /// Where the text of the filter as it will be is.
         new: Source,
     },
+    /// Carry out the script of a domain.
+    Domain {
+        /// Where its commands are.
+        source: Source,
+        /// Why a line is refused is told in words too.
+        is_explained: bool,
+    },
     /// Take the routes of standard input through the code in its first line.
     Eval {
         /// Why a line is refused is told in words too.
-        is_told: bool,
+        tells_people: bool,
     },
     /// Say what a code means.
     Explain {
@@ -175,6 +184,15 @@ pub enum Request {
         /// The filters, in order.
         sources: Vec<Source>,
     },
+    /// Carry out the script of a domain, and write its page behind the last line.
+    Page {
+        /// Where its commands are.
+        source: Source,
+        /// Why a line is refused is told in words too.
+        is_explained: bool,
+        /// The name of the new file of the page.
+        page: String,
+    },
     /// Replay the history that sources are the text of.
     Replay {
         /// The history, or its segments in order.
@@ -185,28 +203,12 @@ pub enum Request {
         /// It is written in the older form.
         is_old: bool,
     },
-    /// Carry out the script of a router, and keep its history or end at its first refused line.
+    /// Carry out the script of a router that sources are, one after another.
     Run {
         /// How it is carried out.
-        how: Running,
-        /// Where its commands are.
-        source: Source,
-    },
-    /// Carry out the script of a router that several sources are, one after another.
-    RunJoined {
-        /// How it is carried out.
-        how: Running,
+        how: RunOptions,
         /// Where its commands are, in order.
         sources: Vec<Source>,
-    },
-    /// Carry out a script.
-    Script {
-        /// Who carries it out.
-        engine: Engine,
-        /// Where its commands are.
-        source: Source,
-        /// Why a filter is refused is told in words too.
-        is_explained: bool,
     },
     /// Run test files.
     Test {
@@ -218,7 +220,7 @@ pub enum Request {
 }
 
 /// The source of a name: standard input for `-`.
-pub fn source_of(alloc: Global, name: &str) -> Result<Source, AllocError>
+pub(crate) fn source_of(alloc: Global, name: &str) -> Result<Source, AllocError>
     ensures { IfOk result (IsNamed name.now) }
 {
     if name == "-" {
@@ -249,7 +251,7 @@ fn input_alone(alloc: Global) -> Result<Vec<Source>, AllocError>
 }
 
 /// The sources of these names: standard input where there are none, and for `-`.
-pub fn sources_in(alloc: Global, names: &[&str]) -> Result<Vec<Source>, AllocError>
+fn sources_in(alloc: Global, names: &[&str]) -> Result<Vec<Source>, AllocError>
     ensures { IfOk result (λ sources. AreSources (map (λ name. name.now) names.now) sources.items) }
 {
     if names.is_empty() {
@@ -260,21 +262,21 @@ pub fn sources_in(alloc: Global, names: &[&str]) -> Result<Vec<Source>, AllocErr
 }
 
 /// Whether one of these sources is a file.
-pub fn has_files(sources: &[Source]) -> bool
+pub(crate) fn has_files(sources: &[Source]) -> bool
     ensures { result ≡ list_any spec.is_file sources.now }
 {
     sources.iter().any(|source| !source.is_input())
 }
 
 /// The sources that the words of a command name, which takes any number of them.
-pub fn files_in(alloc: Global, matches: &ArgMatches<'_>) -> Result<Vec<Source>, AllocError>
+pub(crate) fn files_in(alloc: Global, matches: &ArgMatches<'_>) -> Result<Vec<Source>, AllocError>
     ensures { IfOk result (λ sources. AreNamed (or_input (words_of file (given_in matches.now))) sources.items) }
 {
     sources_in(alloc, words_given(matches, "file"))
 }
 
 /// The source that an argument names, which takes one: standard input where it is not given.
-pub fn one_source(
+pub(crate) fn one_source(
     alloc: Global,
     matches: &ArgMatches<'_>,
     argument: &str,
@@ -285,14 +287,14 @@ pub fn one_source(
 }
 
 /// Whether a refusal is told in words, where sources are files that were named or not.
-pub fn tells_in(matches: &ArgMatches<'_>, terminals: Terminals, has_files: bool) -> bool
+pub(crate) fn tells_in(matches: &ArgMatches<'_>, terminals: Terminals, has_files: bool) -> bool
     ensures { result ≡ tells (given_in matches.now) terminals has_files }
 {
     is_explained(Telling::read(matches), terminals.errors, has_files)
 }
 
 /// The source that the words of a command name, which takes one, and whether its refusal is told in words.
-pub fn told_source(
+pub(crate) fn explained_source(
     alloc: Global,
     matches: &ArgMatches<'_>,
     terminals: Terminals,
@@ -329,7 +331,7 @@ fn checking_in(
     telling_if_asked(Checking {
         size,
         is_code: is_given(matches, "code"),
-        is_told: has_files,
+        tells_people: has_files,
         is_explained: tells_in(matches, terminals, has_files),
         has_names: is_given(matches, "names"),
         is_quiet: is_given(matches, "quiet"),
@@ -341,7 +343,7 @@ fn checking_in(
 /// Where only the report on standard input is asked for, as by a program, its refusal is not told on standard error as well.
 fn telling_if_asked(how: Checking) -> Checking
     ensures { result ≡ record how {
-      is_told = how.is_told || (how.is_explained || (how.has_names || (how.is_quiet || is_some how.warning_limit)));
+      tells_people = how.tells_people || (how.is_explained || (how.has_names || (how.is_quiet || is_some how.warning_limit)));
     } }
 {
     let asks_for_more = how.is_explained
@@ -349,13 +351,13 @@ fn telling_if_asked(how: Checking) -> Checking
         || how.is_quiet
         || how.warning_limit.is_some();
     Checking {
-        is_told: how.is_told || asks_for_more,
+        tells_people: how.tells_people || asks_for_more,
         ..how
     }
 }
 
 /// What the words of `check` ask for, with the size that they say.
-pub fn check_in(
+pub(crate) fn check_in(
     alloc: Global,
     matches: &ArgMatches<'_>,
     size: u32,
@@ -370,16 +372,16 @@ pub fn check_in(
 }
 
 /// What the words of `eval` ask for.
-pub fn eval_in(matches: &ArgMatches<'_>, terminals: Terminals) -> Request
+pub(crate) fn eval_in(matches: &ArgMatches<'_>, terminals: Terminals) -> Request
     ensures { AskFor command.Eval (given_in matches.now) terminals result }
 {
     Request::Eval {
-        is_told: tells_in(matches, terminals, false),
+        tells_people: tells_in(matches, terminals, false),
     }
 }
 
 /// What the words of `rewrite` ask for.
-pub fn rewrite_in(matches: &ArgMatches<'_>, terminals: Terminals) -> Request
+pub(crate) fn rewrite_in(matches: &ArgMatches<'_>, terminals: Terminals) -> Request
     ensures { AskFor command.Rewrite (given_in matches.now) terminals result }
 {
     Request::Rewrite {
@@ -388,7 +390,7 @@ pub fn rewrite_in(matches: &ArgMatches<'_>, terminals: Terminals) -> Request
 }
 
 /// The text of an option, if it is given.
-pub fn text_in(
+pub(crate) fn text_in(
     alloc: Global,
     matches: &ArgMatches<'_>,
     name: &str,
@@ -413,7 +415,7 @@ fn copies_of(alloc: Global, texts: &[&str]) -> Result<Vec<String>, AllocError>
 }
 
 /// The values of an option, in order.
-pub fn values_of(
+pub(crate) fn values_of(
     alloc: Global,
     matches: &ArgMatches<'_>,
     name: &str,
@@ -424,14 +426,14 @@ pub fn values_of(
 }
 
 /// What the words of `list` ask for.
-pub fn list_in(
+pub(crate) fn list_in(
     alloc: Global,
     matches: &ArgMatches<'_>,
     terminals: Terminals,
 ) -> Result<Request, AllocError>
     ensures { IfOk result (AskFor command.List (given_in matches.now) terminals) }
 {
-    let (source, is_explained) = told_source(alloc, matches, terminals)?;
+    let (source, is_explained) = explained_source(alloc, matches, terminals)?;
     Ok(Request::List {
         size: number_given(matches, "size"),
         is_code: is_given(matches, "code"),
@@ -441,7 +443,7 @@ pub fn list_in(
 }
 
 /// What the words of `import` ask for, with the size that they say.
-pub fn import_in(
+pub(crate) fn import_in(
     alloc: Global,
     matches: &ArgMatches<'_>,
     size: u32,
@@ -461,7 +463,7 @@ pub fn import_in(
 }
 
 /// What the words of `replay` ask for.
-pub fn replay_in(
+pub(crate) fn replay_in(
     alloc: Global,
     matches: &ArgMatches<'_>,
     terminals: Terminals,
@@ -470,21 +472,5 @@ pub fn replay_in(
 {
     Ok(Request::Replay {
         sources: files_in(alloc, matches)?,
-    })
-}
-
-/// What the words of `domain` ask for.
-pub fn domain_in(
-    alloc: Global,
-    matches: &ArgMatches<'_>,
-    terminals: Terminals,
-) -> Result<Request, AllocError>
-    ensures { IfOk result (AskFor command.Domain (given_in matches.now) terminals) }
-{
-    let (source, is_explained) = told_source(alloc, matches, terminals)?;
-    Ok(Request::Script {
-        engine: Engine::Domain,
-        source,
-        is_explained,
     })
 }

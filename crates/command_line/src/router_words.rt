@@ -83,7 +83,7 @@ fn routing_in(
 }
 
 /// What the words of `router` say; or what is wrong with the filters that they name.
-pub fn router_in<'a>(
+pub(crate) fn router_in<'a>(
     alloc: Global,
     matches: &ArgMatches<'a>,
 ) -> Result<Result<RouterWords, WrongFilter<'a>>, AllocError>

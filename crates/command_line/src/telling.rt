@@ -46,7 +46,7 @@ static FORMATS: [&str; 2] = ["text", "json"];
 static TEST_FORMATS: [&str; 3] = ["text", "json", "junit"];
 
 /// The words of these options, of which a caller is not to know more than what they are.
-pub fn choices() -> Choices<'static>
+pub(crate) fn choices() -> Choices<'static>
     ensures { AreChoices result }
 {
     Choices {

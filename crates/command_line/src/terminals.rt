@@ -69,16 +69,16 @@ fn count_of(request: &Request) -> usize
         | Request::Lint { sources, .. }
         | Request::Replay { sources }
         | Request::Test { sources, .. } => inputs_among(sources.as_slice()),
-        Request::Diff { old, new, .. } => input_in(old).saturating_add(input_in(new)),
-        Request::Run { how, source } => {
-            filters_among(how.filters.as_slice()).saturating_add(input_in(source))
+        Request::Compare { old, new, .. } | Request::Diff { old, new, .. } => {
+            input_in(old).saturating_add(input_in(new))
         }
-        Request::RunJoined { how, sources } => {
+        Request::Run { how, sources } => {
             filters_among(how.filters.as_slice()).saturating_add(inputs_among(sources.as_slice()))
         }
-        Request::Import { source, .. }
+        Request::Domain { source, .. }
+        | Request::Import { source, .. }
         | Request::List { source, .. }
-        | Request::Script { source, .. } => input_in(source),
+        | Request::Page { source, .. } => input_in(source),
         Request::Filter { source, .. } => input_in(source).saturating_add(1),
         Request::Eval { .. } | Request::Rewrite { .. } => 1,
         Request::Explain { .. } => 0,
@@ -93,7 +93,7 @@ fn input_in(source: &Source) -> usize
 }
 
 /// Whether what is asked for reads standard input more than once, and would find nothing there the second time.
-pub fn reads_input_again(words: &Invocation) -> bool
+pub(crate) fn reads_input_again(words: &Invocation) -> bool
     ensures { result ≡ nat_lt 1 (spec.readings words.now) }
 {
     count_readings(words) > 1

@@ -25,7 +25,7 @@ pub struct Testing {
 }
 
 /// What the words of `test` ask for.
-pub fn test_in(
+pub(crate) fn test_in(
     alloc: Global,
     matches: &ArgMatches<'_>,
     terminals: Terminals,

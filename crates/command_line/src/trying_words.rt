@@ -11,7 +11,7 @@ use clap::ArgMatches;
 use std::alloc::{AllocError, Global};
 
 /// Whether the words of `filter` ask for two things that do not go together.
-pub fn asks_twice(matches: &ArgMatches<'_>) -> bool
+pub(crate) fn asks_twice(matches: &ArgMatches<'_>) -> bool
     ensures { result ≡ spec.asks_twice (given_in matches.now) }
 {
     is_given(matches, "why") && is_given(matches, "coverage")
@@ -31,7 +31,7 @@ fn report_in(matches: &ArgMatches<'_>) -> RouteReport
 }
 
 /// What the words of `filter` ask for. None where they name no file.
-pub fn filter_in(
+pub(crate) fn filter_in(
     alloc: Global,
     matches: &ArgMatches<'_>,
     terminals: Terminals,

@@ -11,14 +11,13 @@ use crate::classes::page_of;
 use crate::command_names::{CommandName, command_named};
 use crate::commands::program;
 use crate::diff_words::diff_in;
+use crate::domain_words::{domain_in, formats_no_comparison, pages_a_comparison};
 use crate::environment::with_size;
 use crate::filter_words::WrongFilter;
 use crate::given::{number_given, word_given};
 use crate::lint_words::lint_in;
 use crate::numbers::negative_number;
-use crate::requests::{
-    Request, check_in, domain_in, eval_in, import_in, list_in, replay_in, rewrite_in,
-};
+use crate::requests::{Request, check_in, eval_in, import_in, list_in, replay_in, rewrite_in};
 use crate::router_words::{RouterWords, router_in};
 use crate::run_words::run_in;
 use crate::telling::choices;
@@ -141,7 +140,7 @@ fn command_words<R: Eprint>(
     match command {
         CommandName::Check => check_words(alloc, words, terminals),
         CommandName::Diff => diff_words(alloc, words, terminals),
-        CommandName::Domain => asked(domain_in(alloc, words, terminals)),
+        CommandName::Domain => domain_words(rt, alloc, words, terminals),
         CommandName::Eval => Ok(Invocation::Asked(eval_in(words, terminals))),
         CommandName::Explain => explained_in(rt, alloc, words, terminals),
         CommandName::Filter => filter_words(rt, alloc, words, terminals),
@@ -165,6 +164,28 @@ fn asked(request: Result<Request, AllocError>) -> Result<Invocation, AllocError>
         Ok(request) => Ok(Invocation::Asked(request)),
         Err(error) => Err(error),
     }
+}
+
+/// What the words of `domain` come to.
+fn domain_words<R: Eprint>(
+    rt: &R,
+    alloc: Global,
+    domain: &ArgMatches<'_>,
+    terminals: Terminals,
+) -> Result<Invocation, AllocError>
+    ensures { IfOk result (ComesTo command.Domain (given_in domain.now) terminals) }
+{
+    if pages_a_comparison(domain) {
+        let _ = eprintln!(rt; "error: --page and --compare cannot be given together");
+        return Ok(Invocation::Shown(WRONG_WORDS));
+    }
+    if formats_no_comparison(domain) {
+        let _ = eprintln!(rt;
+            "error: --format says how a comparison is written: it goes with --compare"
+        );
+        return Ok(Invocation::Shown(WRONG_WORDS));
+    }
+    asked(domain_in(alloc, domain, terminals))
 }
 
 /// What the words of `filter` come to. Standard input has the routes, so the filter is in a file.

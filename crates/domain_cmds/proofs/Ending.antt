@@ -10,14 +10,14 @@ use Rattle.domain_routes.specs.Edits.{linking}
 use Rattle.domain_routes.specs.PlanView.{PlanView, is_linked}
 use Rattle.domain_routes.specs.Still.{BetweenView, after_link}
 use Rattle.domain_routes.specs.declared.best.Best.{Best}
-use Rattle.domain_cmds.specs.CommandView.{CommandView, Domain, Prefix, Load, Code, Link, Use, Anew, Mark, Ask}
+use Rattle.domain_cmds.specs.CommandView.{CommandView, Domain, Prefix, Load, Code, Link, Use, Anew, Mark, Json, Ask}
 use Rattle.domain_cmds.specs.Commands.{Read, command_in}
 use Rattle.domain_cmds.specs.Script
 use Rattle.domain_cmds.specs.Script.{AnswersLine}
 use Rattle.domain_cmds.specs.State.{PlanningView, filter_named}
 use Rattle.domain_cmds.specs.declared.command.Question.{Question}
 use Rattle.domain_cmds.specs.declared.command.Question.TheVariants as question
-use Rattle.domain_cmds.specs.declared.fault.StateFault.{StateFault}
+use Rattle.domain_cmds.specs.declared.fault.DomainStateFault.{DomainStateFault}
 use Rattle.operator_cmds.proofs.Unended.{GoesOn, either, like, source}
 
 module _ (answer : Answer) where
@@ -27,7 +27,7 @@ module _ (answer : Answer) where
   by_name (Some f) way p number u w after h =
       either (Script.are_a_pair p.plan.size u w) _ _ (λ q. like answer _ q.0 refl) (λ q. like answer _ q.0 refl) h
 
-  unless : (why : Option StateFault) (since : Option BetweenView) (plan : PlanView) (p : PlanningView) (number : ℕ) (after : PlanningView)
+  unless : (why : Option DomainStateFault) (since : Option BetweenView) (plan : PlanView) (p : PlanningView) (number : ℕ) (after : PlanningView)
       → Script.PlansUnless why since plan p number answer after → GoesOn answer
   unless None since plan p number after h = like answer _ h.0 refl
   unless (Some why) since plan p number after h = like answer _ h.0 refl
@@ -43,12 +43,12 @@ module _ (answer : Answer) where
   prefixed p number node bits after h = either p.begun _ _ (λ q. like answer _ q.0 refl)
       (λ q. either (nat_lt node p.plan.size) _ _ (λ r. like answer _ r.0 refl) (λ r. like answer _ r.0 refl) q) h
 
-  told_of : (plan : PlanView) (number u v : ℕ) (IsTold : List Best → Answer → Type 0)
-      → ((routes : List Best) → IsTold routes answer → GoesOn answer) → Script.IsToldOfRoutes plan number u v IsTold answer → GoesOn answer
-  told_of plan number u v IsTold f h =
+  told_of : (plan : PlanView) (number u v : ℕ) (IsAnswer : List Best → Answer → Type 0)
+      → ((routes : List Best) → IsAnswer routes answer → GoesOn answer) → Script.IsAnswerOfRoutes plan number u v IsAnswer answer → GoesOn answer
+  told_of plan number u v IsAnswer f h =
       either (nat_lt u plan.size && nat_lt v plan.size) _ _ (λ q. f q.0 q.2) (λ q. like answer _ q refl) h
 
-  settled : (number : ℕ) → Script.IsToldSettled number answer → GoesOn answer
+  settled : (number : ℕ) → Script.IsSettledAnswer number answer → GoesOn answer
   settled number (inl (rounds, messages, few, h)) = like answer _ h refl
   settled number (inr h) = like answer _ h refl
 
@@ -83,6 +83,7 @@ module _ (answer : Answer) where
       by_name (filter_named p.filters name) way p number u w after h
   planned p number (Anew u) after h = either (nat_lt u p.plan.size) _ _ (λ q. like answer _ q.0 refl) (λ q. like answer _ q.0 refl) h
   planned p number Mark after h = like answer _ h.2.0 refl
+  planned p number Json after h = like answer _ h.0.4 refl
   planned p number (Ask q) after h = told q p.plan p.marked p.since number h.0
 
   first : (number : ℕ) (c : CommandView) (after : Option PlanningView) → Script.AnswersFirst number c answer after → GoesOn answer
@@ -94,6 +95,7 @@ module _ (answer : Answer) where
   first number (Use way u w name) after h = like answer _ h.0 refl
   first number (Anew u) after h = like answer _ h.0 refl
   first number Mark after h = like answer _ h.0 refl
+  first number Json after h = like answer _ h.0 refl
   first number (Ask q) after h = like answer _ h.0 refl
 
   command : (before : Option PlanningView) (number : ℕ) (c : CommandView) (after : Option PlanningView)

@@ -10,4 +10,17 @@ pub mod Counting
 pub mod Alone
 pub mod Reusing
 pub mod Failing
+pub mod Harming
+pub mod Unlinking
+pub mod Shortness
+pub mod Unrefused
+pub mod Naming
+pub mod Noting
+pub mod Placing
+pub mod Grouping
+pub mod Joining
+pub mod Forgetting
+pub mod Leaving
+pub mod Listed
+pub mod Zipping
 mod FailureRows

@@ -1,8 +1,8 @@
 -- The routes at the last `mark` are those of the plan as it was, whatever lines a script has.
-use Rattle.std.proofs.Common.{◌≡◌, ◌≢◌, ℕ, ◌<◌, ◌==◌, ◌&&◌, nat_lt, Bool, true, false, List, Option, Some, None, Ok, Err, IfSome, length}
+use Rattle.std.proofs.Common.{◌≡◌, ◌≢◌, ℕ, ◌<◌, nat_lt, Bool, true, false, List, Option, Some, None, Ok, Err, IfSome}
 use Rattle.std.proofs.Common.{length-set, refl, subst, sym, ◌∙◌, arith}
 use Rattle.std.specs.Option.{option_map}
-use Rattle.std.specs.Prelude.{MatchBool, not, slice_set}
+use Rattle.std.specs.Prelude.{MatchBool}
 use Rattle.std.proofs.lemmas.Bool.Decides.{nat_tests}
 use Rattle.filter_code.specs.CodeView.{CodeView}
 use Rattle.filter_source.specs.Sources.{IsRefusedText}
@@ -21,7 +21,7 @@ use Rattle.domain_routes.proofs.Filtering.{exporting_plan, importing_plan}
 use Rattle.domain_routes.proofs.Linking.{IsLink, linking_plan}
 use Rattle.domain_routes.proofs.Still.{anew_stays, begins_between, export_stays, import_stays, link_stays}
 use Rattle.domain_routes.proofs.Unlinked.{unlinked_plan}
-use Rattle.domain_cmds.specs.CommandView.{CommandView, Domain, Prefix, Load, Code, Link, Use, Anew, Mark, Ask}
+use Rattle.domain_cmds.specs.CommandView.{CommandView, Domain, Prefix, Load, Code, Link, Use, Anew, Mark, Json, Ask}
 use Rattle.domain_cmds.specs.Commands.{Read, command_in}
 use Rattle.domain_cmds.specs.Marks.{AreNoted, IsMarked}
 use Rattle.domain_cmds.specs.Rests.{AreAllRoutes}
@@ -29,7 +29,7 @@ use Rattle.domain_cmds.specs.Script
 use Rattle.domain_cmds.specs.Script.{AnswersLine, new_planning}
 use Rattle.domain_cmds.specs.Sizes.{is_size}
 use Rattle.domain_cmds.specs.State.{PlanningView, filter_named}
-use Rattle.domain_cmds.specs.declared.fault.StateFault.{StateFault}
+use Rattle.domain_cmds.specs.declared.fault.DomainStateFault.{DomainStateFault}
 use Rattle.domain_cmds.proofs.Filling.{answered_fit}
 use Rattle.domain_cmds.proofs.Setting.{fits_size}
 
@@ -150,7 +150,7 @@ module _ (p : PlanningView) (m : IsMarked p) where
       (fitting way f u w (from_is p.plan.size u w pair) (to_is p.plan.size u w pair) (apart_is p.plan.size u w pair) fits))
       (λ _ q. subst IsMarked (sym q.1) begun) h
 
-  unless : (why : Option StateFault) (wanted : Bool) (number u w : ℕ) (answer : Answer) (after : PlanningView) → IsLink p.plan u w
+  unless : (why : Option DomainStateFault) (wanted : Bool) (number u w : ℕ) (answer : Answer) (after : PlanningView) → IsLink p.plan u w
       → Script.PlansUnless why (option_map (after_link u w) p.since) (linking wanted u w p.plan) p number answer after → IsMarked after
   unless None wanted number u w answer after l h = subst IsMarked (sym h.1) (linked wanted u w l)
   unless (Some why) wanted number u w answer after l h = subst IsMarked (sym h.1) begun
@@ -172,6 +172,7 @@ module _ (p : PlanningView) (m : IsMarked p) where
       (λ short q. subst IsMarked (sym q.1) (anew u (is_short u p.plan.size short)))
       (λ _ q. subst IsMarked (sym q.1) begun) h
   planned number Mark answer after h = subst IsMarked (sym h.2.1) (marked h.0 h.1)
+  planned number Json answer after h = subst IsMarked (sym h.1) begun
   planned number (Ask asked) answer after h = subst IsMarked (sym h.1) begun
 
 same_planning : (a b : PlanningView) → Some a ≡ Some b → a ≡ b

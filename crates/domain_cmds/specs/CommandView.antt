@@ -1,8 +1,8 @@
 -- What a contract sees of a command. (The commands are this project's own choice.)
 use Rattle.std.specs.Prelude.{ℕ, Bool, List}
 use Rattle.operator_cmds.specs.declared.event.Direction.{Direction}
-use Rattle.domain_cmds.specs.declared.command.Command.{Command}
-use Rattle.domain_cmds.specs.declared.command.Command.TheVariants as command
+use Rattle.domain_cmds.specs.declared.command.DomainCommand.{DomainCommand}
+use Rattle.domain_cmds.specs.declared.command.DomainCommand.TheVariants as command
 use Rattle.domain_cmds.specs.declared.command.Question.{Question}
 
 -- names, texts and files are lists of bytes, and a prefix is its bits
@@ -22,9 +22,10 @@ pub data CommandView : Type 0 where
   -- a node that begins anew
   Anew : ℕ → CommandView
   Mark : CommandView
+  Json : CommandView
   Ask : Question → CommandView
 
-abbrev pub view_of : Command → CommandView
+abbrev pub view_of : DomainCommand → CommandView
 view_of (command.Domain size) = Domain size.nodes
 view_of (command.Prefix node prefix) = Prefix node prefix
 view_of (command.Load name text) = Load name.now text.now
@@ -33,4 +34,5 @@ view_of (command.Link linked u w) = Link linked u w
 view_of (command.Use direction u w name) = Use direction u w name.now
 view_of (command.Anew u) = Anew u
 view_of command.Mark = Mark
+view_of command.Json = Json
 view_of (command.Ask question) = Ask question

@@ -11,12 +11,12 @@ use Rattle.operator_cmds.specs.WordLists.{one_of, two_of, three_of}
 use Rattle.operator_cmds.specs.declared.event.Direction.TheVariants as direction
 use Rattle.operator_cmds.specs.declared.fault.CommandFault.{CommandFault}
 use Rattle.operator_cmds.specs.declared.fault.CommandFault.TheVariants as fault
-use Rattle.domain_cmds.specs.CommandView.{CommandView, Domain, Prefix, Load, Code, Link, Use, Anew, Mark, Ask}
+use Rattle.domain_cmds.specs.CommandView.{CommandView, Domain, Prefix, Load, Code, Link, Use, Anew, Mark, Json, Ask}
 use Rattle.domain_cmds.specs.Sizes.{is_size}
 use Rattle.domain_cmds.specs.Verbs.{verb_in}
 use Rattle.domain_cmds.specs.declared.command.Question.TheVariants as question
-use Rattle.domain_cmds.specs.declared.verb.Verb.{Verb}
-use Rattle.domain_cmds.specs.declared.verb.Verb.TheVariants as verb
+use Rattle.domain_cmds.specs.declared.verb.DomainVerb.{DomainVerb}
+use Rattle.domain_cmds.specs.declared.verb.DomainVerb.TheVariants as verb
 
 -- a command, or what is wrong with its line
 abbrev pub Read : Type 0
@@ -68,7 +68,7 @@ failures_in args None = alone (Ask question.Failures) args
 failures_in args (Some what) = if bytes_eq what (codes "nodes") then Ok (Ask question.NodeFailures) else Err fault.Words
 
 -- a command by its verb and the words after it; `text` is what follows the second word of the line, without blanks at its front
-abbrev pub command_of : Option Verb → List (List ℕ) → List ℕ → Read
+abbrev pub command_of : Option DomainVerb → List (List ℕ) → List ℕ → Read
 command_of None args text = Err fault.Words
 command_of (Some verb.Domain) args text = domain_of (one_of args)
 command_of (Some verb.Prefix) args text = made (λ p. Prefix p.0 p.1) (node_prefix_in (two_of args))
@@ -88,6 +88,7 @@ command_of (Some verb.Mark) args text = alone Mark args
 command_of (Some verb.Changes) args text = alone (Ask question.Changes) args
 command_of (Some verb.Failures) args text = failures_in args (one_of args)
 command_of (Some verb.Settle) args text = alone (Ask question.Settle) args
+command_of (Some verb.Json) args text = alone Json args
 
 abbrev pub command_of_words : List (List ℕ) → List ℕ → Read
 command_of_words [] text = Err fault.Words

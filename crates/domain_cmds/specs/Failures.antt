@@ -9,7 +9,7 @@ use Rattle.domain_cmds.specs.Rests.{AreAllRoutes}
 use Rattle.domain_cmds.specs.Texts.{distances, is_same, route_of}
 use Rattle.domain_cmds.specs.declared.failure.Failing.{Failing}
 use Rattle.domain_cmds.specs.declared.failure.Failing.TheVariants.{Link, Node}
-use Rattle.domain_cmds.specs.declared.failure.Failure.{Failure}
+use Rattle.domain_cmds.specs.declared.failure.FailureEffect.{FailureEffect}
 
 -- ---- what may fail
 
@@ -113,7 +113,7 @@ still_to size what before after v = if is_told what v then still_told size what 
 abbrev pub still_near : ℕ → Failing → List (List Best) → List (List Best) → ℕ
 still_near size what before after = least_below size size (still_to size what before after)
 
-abbrev pub failure_of : ℕ → Failing → List (List Best) → List (List Best) → Failure
+abbrev pub failure_of : ℕ → Failing → List (List Best) → List (List Best) → FailureEffect
 failure_of size what before after = record {
   what = what;
   changed = changed_routes size what before after;
@@ -124,18 +124,18 @@ failure_of size what before after = record {
 }
 
 -- what one failure changes: what the plan where it has failed says, asked by itself
-abbrev pub IsFailure : PlanView → List (List Best) → Failing → Failure → Type 0
+abbrev pub IsFailure : PlanView → List (List Best) → Failing → FailureEffect → Type 0
 IsFailure plan before what failure =
     (later : PlanView) × IsCutOff what plan later × (after : List (List Best)) × AreAllRoutes later after
     × (failure ≡ failure_of plan.size what before after)
 
 -- what each of them changes by itself, in the same order
-abbrev pub AreFailures : PlanView → List (List Best) → List Failing → List Failure → Type 0
+abbrev pub AreFailures : PlanView → List (List Best) → List Failing → List FailureEffect → Type 0
 AreFailures plan before [] [] = Unit {0}
 AreFailures plan before [] (failure ∷ more) = ⊥
 AreFailures plan before (what ∷ others) [] = ⊥
 AreFailures plan before (what ∷ others) (failure ∷ more) = IsFailure plan before what failure × AreFailures plan before others more
 
 -- the failures of these were added to a list
-abbrev pub AddsFailures : PlanView → List (List Best) → List Failing → List Failure → List Failure → Type 0
-AddsFailures plan before whats old new = (added : List Failure) × AreFailures plan before whats added × (new ≡ old ++ added)
+abbrev pub AddsFailures : PlanView → List (List Best) → List Failing → List FailureEffect → List FailureEffect → Type 0
+AddsFailures plan before whats old new = (added : List FailureEffect) × AreFailures plan before whats added × (new ≡ old ++ added)

@@ -9,7 +9,14 @@ pub mod Rests
 pub mod Texts
 pub mod Failures
 pub mod FailureTexts
+pub mod Comparing
+pub mod ComparisonTexts
 pub mod State
+pub mod Short
+pub mod Origins
+pub mod Said
 pub mod Script
+pub mod Left
+pub mod Paging
 pub mod Marks
 pub mod Running

@@ -6,32 +6,37 @@ use Rattle.filter_source.specs.Sources.{IsRefusedText}
 use Rattle.filter_source.specs.declared.refusal.Refusal.{Refusal}
 use Rattle.filter_verifier.specs.VerifiedView.{VerifiedView}
 use Rattle.line_protocol.specs.Answers.{Answer}
+use Rattle.line_protocol.specs.declared.answers.LineReply.TheVariants.{Answered}
 use Rattle.operator_cmds.specs.Domain.{default_prefixes}
 use Rattle.operator_cmds.specs.Faults.{fault_code}
 use Rattle.operator_cmds.specs.Replies.{answered, refused}
 use Rattle.operator_cmds.specs.Script.{AnswersSource, GivesFile, GivesText, IsRefusedFile}
 use Rattle.operator_cmds.specs.declared.event.Direction.{Direction}
 use Rattle.operator_cmds.specs.declared.event.Direction.TheVariants as direction
+use Rattle.domain_reports.specs.Reports.{domain_line}
+use Rattle.domain_reports.specs.Views.{DomainView}
 use Rattle.domain_routes.specs.Edits.{exporting, importing, linking, unlinked, with_prefix}
 use Rattle.domain_routes.specs.PlanView.{PlanView, is_linked}
 use Rattle.domain_routes.specs.Routes.{AreRoutes}
 use Rattle.domain_routes.specs.Still.{BetweenView, after_anew, after_filter, after_link, unchanged}
 use Rattle.domain_routes.specs.Topology.{topology}
 use Rattle.domain_routes.specs.declared.best.Best.{Best}
-use Rattle.domain_cmds.specs.CommandView.{CommandView, Domain, Prefix, Load, Code, Link, Use, Anew, Mark, Ask}
+use Rattle.domain_cmds.specs.CommandView.{CommandView, Domain, Prefix, Load, Code, Link, Use, Anew, Mark, Json, Ask}
 use Rattle.domain_cmds.specs.Commands.{Read, command_in}
 use Rattle.domain_cmds.specs.Failures.{AreFailures, all_links, all_nodes}
 use Rattle.domain_cmds.specs.FailureTexts.{failures_text}
 use Rattle.domain_cmds.specs.Faults.{state_code}
+use Rattle.domain_cmds.specs.Origins.{AreOriginsOf, OriginsView}
 use Rattle.domain_cmds.specs.Rests.{AreAllRoutes, AreRestsBetween, RestsView}
+use Rattle.domain_cmds.specs.Said.{IsSaid}
 use Rattle.domain_cmds.specs.State.{PlanningView, filter_named}
 use Rattle.domain_cmds.specs.Texts.{IsPathText, changes_text, draw_text, felt_text, reach_text, route_in, route_text, settled_text, table_text}
 use Rattle.domain_cmds.specs.declared.command.Question.{Question}
 use Rattle.domain_cmds.specs.declared.command.Question.TheVariants as question
 use Rattle.domain_cmds.specs.declared.failure.Failing.{Failing}
-use Rattle.domain_cmds.specs.declared.failure.Failure.{Failure}
-use Rattle.domain_cmds.specs.declared.fault.StateFault.{StateFault}
-use Rattle.domain_cmds.specs.declared.fault.StateFault.TheVariants as fault
+use Rattle.domain_cmds.specs.declared.failure.FailureEffect.{FailureEffect}
+use Rattle.domain_cmds.specs.declared.fault.DomainStateFault.{DomainStateFault}
+use Rattle.domain_cmds.specs.declared.fault.DomainStateFault.TheVariants as fault
 
 -- a domain that was just set up
 abbrev pub new_planning : ℕ → PlanningView
@@ -86,14 +91,14 @@ abbrev pub are_a_pair : ℕ → ℕ → ℕ → Bool
 are_a_pair size u w = nat_lt u size && nat_lt w size && not (u == w)
 
 -- why two nodes that have a link, or none, are not to have one, or none: so it is already
-abbrev pub link_fault : Bool → Bool → Option StateFault
+abbrev pub link_fault : Bool → Bool → Option DomainStateFault
 link_fault true true = Some fault.Linked
 link_fault false false = Some fault.Apart
 link_fault true false = None
 link_fault false true = None
 
 -- another plan, unless a fault refuses it
-abbrev pub PlansUnless : Option StateFault → Option BetweenView → PlanView → PlanningView → ℕ → Answer → PlanningView → Type 0
+abbrev pub PlansUnless : Option DomainStateFault → Option BetweenView → PlanView → PlanningView → ℕ → Answer → PlanningView → Type 0
 PlansUnless None since plan p number answer after = Confirms (planned since plan p) answer after
 PlansUnless (Some why) since plan p number answer after = Refuses (state_code why) number (begin p) answer after
 
@@ -130,12 +135,12 @@ AnswersAnew p number u answer after = MatchBool (nat_lt u p.plan.size)
 
 -- a question changes nothing but that prefixes stay
 abbrev pub Asks : (Answer → Type 0) → PlanningView → Answer → PlanningView → Type 0
-Asks IsTold p answer after = IsTold answer × (after ≡ begin p)
+Asks IsAnswer p answer after = IsAnswer answer × (after ≡ begin p)
 
 -- a question about two nodes, of which the second is the destination: what is told of the routes to it at rest
-abbrev pub IsToldOfRoutes : PlanView → ℕ → ℕ → ℕ → (List Best → Answer → Type 0) → Answer → Type 0
-IsToldOfRoutes plan number u v IsTold answer = MatchBool (nat_lt u plan.size && nat_lt v plan.size)
-    ((routes : List Best) × AreRoutes (topology plan v) v routes × IsTold routes answer)
+abbrev pub IsAnswerOfRoutes : PlanView → ℕ → ℕ → ℕ → (List Best → Answer → Type 0) → Answer → Type 0
+IsAnswerOfRoutes plan number u v IsAnswer answer = MatchBool (nat_lt u plan.size && nat_lt v plan.size)
+    ((routes : List Best) × AreRoutes (topology plan v) v routes × IsAnswer routes answer)
     (answer ≡ refused (codes "D1") number)
 
 abbrev pub TellsRoute : ℕ → ℕ → List Best → Answer → Type 0
@@ -144,24 +149,24 @@ TellsRoute size u routes answer = answer ≡ answered (route_text (route_in size
 abbrev pub TellsPath : ℕ → ℕ → List Best → Answer → Type 0
 TellsPath size u routes answer = (words : List ℕ) × IsPathText size routes u words × (answer ≡ answered words)
 
-abbrev pub IsToldRoute : PlanView → ℕ → ℕ → ℕ → Answer → Type 0
-IsToldRoute plan number u v answer = IsToldOfRoutes plan number u v (TellsRoute plan.size u) answer
+abbrev pub IsRouteAnswer : PlanView → ℕ → ℕ → ℕ → Answer → Type 0
+IsRouteAnswer plan number u v answer = IsAnswerOfRoutes plan number u v (TellsRoute plan.size u) answer
 
-abbrev pub IsToldPath : PlanView → ℕ → ℕ → ℕ → Answer → Type 0
-IsToldPath plan number u v answer = IsToldOfRoutes plan number u v (TellsPath plan.size u) answer
+abbrev pub IsPathAnswer : PlanView → ℕ → ℕ → ℕ → Answer → Type 0
+IsPathAnswer plan number u v answer = IsAnswerOfRoutes plan number u v (TellsPath plan.size u) answer
 
-abbrev pub IsToldTable : PlanView → ℕ → ℕ → Answer → Type 0
-IsToldTable plan number u answer = MatchBool (nat_lt u plan.size)
+abbrev pub IsTableAnswer : PlanView → ℕ → ℕ → Answer → Type 0
+IsTableAnswer plan number u answer = MatchBool (nat_lt u plan.size)
     ((all : List (List Best)) × AreAllRoutes plan all × (answer ≡ answered (table_text plan.size all u)))
     (answer ≡ refused (codes "D1") number)
 
-abbrev pub IsToldDrawing : PlanView → ℕ → ℕ → Answer → Type 0
-IsToldDrawing plan number v answer = MatchBool (nat_lt v plan.size)
+abbrev pub IsDrawingAnswer : PlanView → ℕ → ℕ → Answer → Type 0
+IsDrawingAnswer plan number v answer = MatchBool (nat_lt v plan.size)
     ((routes : List Best) × AreRoutes (topology plan v) v routes × (answer ≡ answered (draw_text plan routes)))
     (answer ≡ refused (codes "D1") number)
 
-abbrev pub IsToldReach : PlanView → Answer → Type 0
-IsToldReach plan answer = (all : List (List Best)) × AreAllRoutes plan all × (answer ≡ answered (reach_text plan.size all))
+abbrev pub IsReachAnswer : PlanView → Answer → Type 0
+IsReachAnswer plan answer = (all : List (List Best)) × AreAllRoutes plan all × (answer ≡ answered (reach_text plan.size all))
 
 -- ---- `mark` and `changes`
 
@@ -178,14 +183,14 @@ abbrev pub AreMarks : PlanView → Option (List (List Best)) → List (List Best
 AreMarks plan (Some marked) marks = marks ≡ marked
 AreMarks plan None marks = AreAllRoutes (unlinked plan.prefixes) marks
 
-abbrev pub IsToldChanges : PlanView → Option (List (List Best)) → Option BetweenView → Answer → Type 0
-IsToldChanges plan marked since answer =
+abbrev pub IsChangesAnswer : PlanView → Option (List (List Best)) → Option BetweenView → Answer → Type 0
+IsChangesAnswer plan marked since answer =
     (marks : List (List Best)) × AreMarks plan marked marks × (all : List (List Best)) × AreAllRoutes plan all
     × (rests : Option RestsView) × AreRestsBetween since rests × (answer ≡ answered (changes_text plan.size rests marks all))
 
 -- a picture of the routes to a node, and of which nodes may feel what was done since the last `mark`
-abbrev pub IsToldFelt : PlanView → Option BetweenView → ℕ → ℕ → Answer → Type 0
-IsToldFelt plan since number v answer = MatchBool (nat_lt v plan.size)
+abbrev pub IsFeltAnswer : PlanView → Option BetweenView → ℕ → ℕ → Answer → Type 0
+IsFeltAnswer plan since number v answer = MatchBool (nat_lt v plan.size)
     ((all : List (List Best)) × AreAllRoutes plan all × (rests : Option RestsView) × AreRestsBetween since rests
     × (routes : List Best) × AreRoutes (topology plan v) v routes × (answer ≡ answered (felt_text plan rests all v routes)))
     (answer ≡ refused (codes "D1") number)
@@ -193,31 +198,39 @@ IsToldFelt plan since number v answer = MatchBool (nat_lt v plan.size)
 -- ---- `failures`
 
 -- what the failure of each of these changes by itself, where all others stay as they are
-abbrev pub IsToldFailures : PlanView → List Failing → Answer → Type 0
-IsToldFailures plan whats answer =
-    (before : List (List Best)) × AreAllRoutes plan before × (all : List Failure) × AreFailures plan before whats all
+abbrev pub IsFailuresAnswer : PlanView → List Failing → Answer → Type 0
+IsFailuresAnswer plan whats answer =
+    (before : List (List Best)) × AreAllRoutes plan before × (all : List FailureEffect) × AreFailures plan before whats all
     × (answer ≡ answered (failures_text all))
 
 -- ---- `settle`
 
 -- Each round has a message; how many of both it takes is the routers' affair: only tested. They may have no session left.
-abbrev pub IsToldSettled : ℕ → Answer → Type 0
-IsToldSettled number answer =
+abbrev pub IsSettledAnswer : ℕ → Answer → Type 0
+IsSettledAnswer number answer =
     ((rounds : ℕ) × (messages : ℕ) × (rounds ≤ messages) × (answer ≡ answered (settled_text rounds messages)))
     ⊎ (answer ≡ refused (codes "D4") number)
 
 -- what is told of a plan, of all routes at the last `mark`, and of the plans between which it stayed since
 abbrev pub AnswersQuestion : Question → PlanView → Option (List (List Best)) → Option BetweenView → ℕ → Answer → Type 0
-AnswersQuestion (question.Route u v) plan marked since number answer = IsToldRoute plan number u v answer
-AnswersQuestion (question.Path u v) plan marked since number answer = IsToldPath plan number u v answer
-AnswersQuestion (question.Table u) plan marked since number answer = IsToldTable plan number u answer
-AnswersQuestion (question.Draw v) plan marked since number answer = IsToldDrawing plan number v answer
-AnswersQuestion (question.DrawChanges v) plan marked since number answer = IsToldFelt plan since number v answer
-AnswersQuestion question.Reach plan marked since number answer = IsToldReach plan answer
-AnswersQuestion question.Changes plan marked since number answer = IsToldChanges plan marked since answer
-AnswersQuestion question.Failures plan marked since number answer = IsToldFailures plan (all_links plan) answer
-AnswersQuestion question.NodeFailures plan marked since number answer = IsToldFailures plan (all_nodes plan) answer
-AnswersQuestion question.Settle plan marked since number answer = IsToldSettled number answer
+AnswersQuestion (question.Route u v) plan marked since number answer = IsRouteAnswer plan number u v answer
+AnswersQuestion (question.Path u v) plan marked since number answer = IsPathAnswer plan number u v answer
+AnswersQuestion (question.Table u) plan marked since number answer = IsTableAnswer plan number u answer
+AnswersQuestion (question.Draw v) plan marked since number answer = IsDrawingAnswer plan number v answer
+AnswersQuestion (question.DrawChanges v) plan marked since number answer = IsFeltAnswer plan since number v answer
+AnswersQuestion question.Reach plan marked since number answer = IsReachAnswer plan answer
+AnswersQuestion question.Changes plan marked since number answer = IsChangesAnswer plan marked since answer
+AnswersQuestion question.Failures plan marked since number answer = IsFailuresAnswer plan (all_links plan) answer
+AnswersQuestion question.NodeFailures plan marked since number answer = IsFailuresAnswer plan (all_nodes plan) answer
+AnswersQuestion question.Settle plan marked since number answer = IsSettledAnswer number answer
+
+-- ---- `json`
+
+-- The whole domain is told on a line, with filters whose texts give the code that the plan has where they are said to be used. Which names and
+-- lines they had is only tested.
+abbrev pub IsToldDomain : PlanView → Answer → Type 0
+IsToldDomain plan answer = (origins : OriginsView) × AreOriginsOf plan origins × (domain : DomainView) × IsSaid plan origins domain
+    × (answer ≡ record { text = domain_line domain; reply = Answered })
 
 -- ---- a line
 
@@ -231,6 +244,7 @@ AnswersPlanned p number (Use way u w name) answer after =
     AnswersUse (filter_named p.filters name) way p number u w answer after
 AnswersPlanned p number (Anew u) answer after = AnswersAnew p number u answer after
 AnswersPlanned p number Mark answer after = AnswersMark p answer after
+AnswersPlanned p number Json answer after = Asks (IsToldDomain p.plan) p answer after
 AnswersPlanned p number (Ask asked) answer after = Asks (AnswersQuestion asked p.plan p.marked p.since number) p answer after
 
 -- before there is a domain, only `domain` is carried out

@@ -1,12 +1,12 @@
 -- The first words of commands. (This project's own choice.)
-use Rattle.std.specs.Prelude.{ℕ, Bool, List, [], ◌∷◌, Option, find, codes}
-use Rattle.std.specs.Str.{bytes_eq}
-use Rattle.domain_cmds.specs.declared.verb.Verb.{Verb}
-use Rattle.domain_cmds.specs.declared.verb.Verb.TheVariants.{Domain, Prefix, Load, Code, Link, Cut, Import, Export}
-use Rattle.domain_cmds.specs.declared.verb.Verb.TheVariants.{Anew, Route, Path, Table, Draw, Reach, Mark, Changes, Failures, Settle}
+use Rattle.std.specs.Prelude.{ℕ, List, [], ◌∷◌, Option, find, codes}
+use Rattle.line_protocol.specs.Words.{is_spelled}
+use Rattle.domain_cmds.specs.declared.verb.DomainVerb.{DomainVerb}
+use Rattle.domain_cmds.specs.declared.verb.DomainVerb.TheVariants.{Domain, Prefix, Load, Code, Link, Cut, Import, Export}
+use Rattle.domain_cmds.specs.declared.verb.DomainVerb.TheVariants.{Anew, Route, Path, Table, Draw, Reach, Mark, Changes, Failures, Settle, Json}
 
 -- how each is written
-abbrev pub verb_text : Verb → List ℕ
+abbrev pub verb_text : DomainVerb → List ℕ
 verb_text Domain = codes "domain"
 verb_text Prefix = codes "prefix"
 verb_text Load = codes "load"
@@ -25,16 +25,14 @@ verb_text Mark = codes "mark"
 verb_text Changes = codes "changes"
 verb_text Failures = codes "failures"
 verb_text Settle = codes "settle"
+verb_text Json = codes "json"
 
 -- all of them
-abbrev pub verbs : List Verb
+abbrev pub verbs : List DomainVerb
 verbs =
-    Domain ∷ Prefix ∷ Load ∷ Code ∷ Link ∷ Cut ∷ Import ∷ Export ∷ Anew ∷ Route ∷ Path ∷ Table ∷ Draw ∷ Reach ∷ Mark ∷ Changes ∷ Failures ∷ Settle ∷ []
-
--- whether a verb is written so
-abbrev pub is_spelled : List ℕ → Verb → Bool
-is_spelled word verb = bytes_eq (verb_text verb) word
+    Domain ∷ Prefix ∷ Load ∷ Code ∷ Link ∷ Cut ∷ Import ∷ Export ∷ Anew ∷ Route ∷ Path ∷ Table ∷ Draw ∷ Reach ∷ Mark ∷ Changes ∷ Failures ∷ Settle
+    ∷ Json ∷ []
 
 -- the verb that is written so
-unfoldable pub verb_in : List ℕ → Option Verb
-verb_in word = find (is_spelled word) verbs
+unfoldable pub verb_in : List ℕ → Option DomainVerb
+verb_in word = find (is_spelled verb_text word) verbs

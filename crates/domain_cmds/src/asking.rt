@@ -13,7 +13,7 @@ ghost use Rattle.domain_cmds.specs.Script as spec;
 use crate::command::Question;
 use crate::failure_text::push_failures;
 use crate::failures::{link_failures, node_failures};
-use crate::fault::StateFault;
+use crate::fault::DomainStateFault;
 use crate::felt::push_felt;
 use crate::playing::Playing;
 use crate::resting::RestingPlan;
@@ -54,11 +54,11 @@ fn answer_route(
     v: u16,
     out: &mut Vec<u8>,
 ) -> Result<LineReply, AllocError>
-    ensures ok { IfOk result (Answers (spec.IsToldRoute plan.now number u v) out.old.items out.new.items) }
+    ensures ok { IfOk result (Answers (spec.IsRouteAnswer plan.now number u v) out.old.items out.new.items) }
     ensures err { OnErr result (StartsWith out.new.items out.old.items) }
 {
     if !are_nodes(plan, u, v) {
-        return refuse(out, StateFault::BadNode.code(), u64::from(number));
+        return refuse(out, DomainStateFault::BadNode.code(), u64::from(number));
     }
     let routes = make_column(alloc, plan, v)?;
     push_route(out, routes.at(plan.size(), u))?;
@@ -74,11 +74,11 @@ fn answer_path(
     v: u16,
     out: &mut Vec<u8>,
 ) -> Result<LineReply, AllocError>
-    ensures ok { IfOk result (Answers (spec.IsToldPath plan.now number u v) out.old.items out.new.items) }
+    ensures ok { IfOk result (Answers (spec.IsPathAnswer plan.now number u v) out.old.items out.new.items) }
     ensures err { OnErr result (StartsWith out.new.items out.old.items) }
 {
     if !are_nodes(plan, u, v) {
-        return refuse(out, StateFault::BadNode.code(), u64::from(number));
+        return refuse(out, DomainStateFault::BadNode.code(), u64::from(number));
     }
     let routes = make_column(alloc, plan, v)?;
     push_path(out, plan, &routes, u, v)?;
@@ -93,13 +93,13 @@ fn answer_table(
     u: u16,
     out: &mut Vec<u8>,
 ) -> Result<LineReply, AllocError>
-    ensures ok { IfOk result (Answers (spec.IsToldTable domain.old number u) out.old.items out.new.items) }
+    ensures ok { IfOk result (Answers (spec.IsTableAnswer domain.old number u) out.old.items out.new.items) }
     ensures err { OnErr result (StartsWith out.new.items out.old.items) }
     ensures same { domain.new ≡ domain.old }
 {
     let size = domain.size();
     if u >= size {
-        return refuse(out, StateFault::BadNode.code(), u64::from(number));
+        return refuse(out, DomainStateFault::BadNode.code(), u64::from(number));
     }
     let all = domain.all_routes(alloc)?;
     push_table(out, size, all.as_slice(), u)?;
@@ -114,11 +114,11 @@ fn answer_draw(
     v: u16,
     out: &mut Vec<u8>,
 ) -> Result<LineReply, AllocError>
-    ensures ok { IfOk result (Answers (spec.IsToldDrawing plan.now number v) out.old.items out.new.items) }
+    ensures ok { IfOk result (Answers (spec.IsDrawingAnswer plan.now number v) out.old.items out.new.items) }
     ensures err { OnErr result (StartsWith out.new.items out.old.items) }
 {
     if v >= plan.size() {
-        return refuse(out, StateFault::BadNode.code(), u64::from(number));
+        return refuse(out, DomainStateFault::BadNode.code(), u64::from(number));
     }
     let routes = make_column(alloc, plan, v)?;
     push_drawing(out, plan, &routes)?;
@@ -131,7 +131,7 @@ fn answer_reach(
     domain: &mut RestingPlan,
     out: &mut Vec<u8>,
 ) -> Result<LineReply, AllocError>
-    ensures ok { IfOk result (Answers (spec.IsToldReach domain.old) out.old.items out.new.items) }
+    ensures ok { IfOk result (Answers (spec.IsReachAnswer domain.old) out.old.items out.new.items) }
     ensures err { OnErr result (StartsWith out.new.items out.old.items) }
     ensures same { domain.new ≡ domain.old }
 {
@@ -169,7 +169,7 @@ fn answer_changes(
     since: &Option<Between>,
     out: &mut Vec<u8>,
 ) -> Result<LineReply, AllocError>
-    ensures ok { IfOk result (Answers (spec.IsToldChanges domain.old (option_map (λ m. m.value.items) marked.now) since.now) out.old.items out.new.items) }
+    ensures ok { IfOk result (Answers (spec.IsChangesAnswer domain.old (option_map (λ m. m.value.items) marked.now) since.now) out.old.items out.new.items) }
     ensures err { OnErr result (StartsWith out.new.items out.old.items) }
     ensures same { domain.new ≡ domain.old }
 {
@@ -195,12 +195,12 @@ fn answer_felt(
     v: u16,
     out: &mut Vec<u8>,
 ) -> Result<LineReply, AllocError>
-    ensures ok { IfOk result (Answers (spec.IsToldFelt domain.old since.now number v) out.old.items out.new.items) }
+    ensures ok { IfOk result (Answers (spec.IsFeltAnswer domain.old since.now number v) out.old.items out.new.items) }
     ensures err { OnErr result (StartsWith out.new.items out.old.items) }
     ensures same { domain.new ≡ domain.old }
 {
     if v >= domain.size() {
-        return refuse(out, StateFault::BadNode.code(), u64::from(number));
+        return refuse(out, DomainStateFault::BadNode.code(), u64::from(number));
     }
     let now = domain.all_routes(alloc)?;
     let rests = rests_between(alloc, since)?;
@@ -215,7 +215,7 @@ fn answer_failures(
     domain: &mut RestingPlan,
     out: &mut Vec<u8>,
 ) -> Result<LineReply, AllocError>
-    ensures ok { IfOk result (Answers (spec.IsToldFailures domain.old (all_links domain.old)) out.old.items out.new.items) }
+    ensures ok { IfOk result (Answers (spec.IsFailuresAnswer domain.old (all_links domain.old)) out.old.items out.new.items) }
     ensures err { OnErr result (StartsWith out.new.items out.old.items) }
     ensures same { domain.new ≡ domain.old }
 {
@@ -231,7 +231,7 @@ fn answer_node_failures(
     domain: &mut RestingPlan,
     out: &mut Vec<u8>,
 ) -> Result<LineReply, AllocError>
-    ensures ok { IfOk result (Answers (spec.IsToldFailures domain.old (all_nodes domain.old)) out.old.items out.new.items) }
+    ensures ok { IfOk result (Answers (spec.IsFailuresAnswer domain.old (all_nodes domain.old)) out.old.items out.new.items) }
     ensures err { OnErr result (StartsWith out.new.items out.old.items) }
     ensures same { domain.new ≡ domain.old }
 {
@@ -249,7 +249,7 @@ fn answer_settle(
     number: u32,
     out: &mut Vec<u8>,
 ) -> Result<LineReply, AllocError>
-    ensures ok { IfOk result (Answers (spec.IsToldSettled number) out.old.items out.new.items) }
+    ensures ok { IfOk result (Answers (spec.IsSettledAnswer number) out.old.items out.new.items) }
     ensures err { OnErr result (StartsWith out.new.items out.old.items) }
 {
     match playing.settle(alloc, plan)? {
@@ -257,7 +257,7 @@ fn answer_settle(
             push_settled(out, settled.rounds, settled.messages)?;
             end_line(out)
         }
-        None => refuse(out, StateFault::Unplayable.code(), u64::from(number)),
+        None => refuse(out, DomainStateFault::Unplayable.code(), u64::from(number)),
     }
 }
 

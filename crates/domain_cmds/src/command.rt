@@ -15,7 +15,7 @@ pub struct DomainSize {
 
 /// One command with the words after it. Contracts see it as a `CommandView`. Whether there are such nodes is judged by the script.
 #[derive(Drop)]
-pub enum Command<'a> {
+pub enum DomainCommand<'a> {
     /// `domain N`: a domain of N nodes.
     Domain(DomainSize),
     /// `prefix V P`: the prefix of a node.
@@ -63,6 +63,8 @@ pub enum Command<'a> {
     Anew(u16),
     /// `mark`: remembers all routes.
     Mark,
+    /// `json`: the whole domain, for programs.
+    Json,
     /// A question.
     Ask(Question),
 }

@@ -18,7 +18,7 @@ fn is_told(what: Failing, v: u16) -> bool
 }
 
 /// 1 where a test holds.
-fn one_if(holds: bool) -> u32
+pub(crate) fn one_if(holds: bool) -> u32
     ensures value { result ≡ spec.one_if holds }
     ensures small { result ≤ 1 }
 {
@@ -58,7 +58,14 @@ pub(crate) fn changed_routes(size: u16, what: Failing, before: &[Column], after:
 }
 
 /// Whether one node reached another, and does no longer.
-fn is_lost(size: u16, what: Failing, before: &[Column], after: &[Column], u: u16, v: u16) -> bool
+pub(crate) fn is_lost(
+    size: u16,
+    what: Failing,
+    before: &[Column],
+    after: &[Column],
+    u: u16,
+    v: u16,
+) -> bool
     ensures { result ≡ spec.is_lost size what before.now after.now u v }
 {
     is_told(what, u)

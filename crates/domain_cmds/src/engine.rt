@@ -2,23 +2,24 @@
 ghost use Rattle.std.specs.Prelude.{◌≡◌, IfErr, IfOk, IfSome};
 ghost use Rattle.domain_cmds.specs.Running.{IsBrokenOff, IsCarriedOut};
 
-use crate::command::Command;
-use crate::fault::StateFault;
+use crate::command::DomainCommand;
+use crate::fault::DomainStateFault;
 use crate::planning::Planning;
 use crate::read::read_command;
+use crate::resting::RestingPlan;
 use line_protocol::{LineReply, Service, StreamFault, answer_lines};
-use operator_cmds::{CommandFault, Nobody, RefusedLine, Watch, confirm, refuse};
+use operator_cmds::{CommandFault, NoWatcher, RefusedLine, Watch, confirm, refuse};
 use std::alloc::{AllocError, Global};
 use std::io::{Read, Write};
 
 /// A domain's script between two lines.
 #[derive(Drop)]
-pub(crate) struct Engine {
+pub(crate) struct DomainScript {
     /// The domain, once it is set up.
-    planning: Option<Planning>,
+    pub(crate) planning: Option<Planning>,
 }
 
-impl Service for Engine {
+impl Service for DomainScript {
     ghost use Rattle.std.specs.Prelude.{⊤};
     ghost use Rattle.domain_cmds.specs.Script.{AnswersLine};
 
@@ -41,18 +42,30 @@ impl Service for Engine {
     }
 }
 
-impl Engine {
+impl DomainScript {
     ghost use Rattle.std.specs.Prelude.{None, OnErr};
     ghost use Rattle.std.specs.Io.{StartsWith};
+    ghost use Rattle.std.specs.Option.{option_map};
     ghost use Rattle.operator_cmds.specs.Replies.{Answers};
     ghost use Rattle.domain_cmds.specs.CommandView.{view_of};
     ghost use Rattle.domain_cmds.specs.Script.{AnswersCommand};
+    ghost use Rattle.domain_cmds.specs.Short.{IsShort};
 
     /// A script at its first line.
-    pub(crate) fn new() -> Engine
+    pub(crate) fn new() -> DomainScript
         ensures { result.planning ≡ None }
     {
-        Engine { planning: None }
+        DomainScript { planning: None }
+    }
+
+    /// The plan of the domain, once it is set up.
+    pub(crate) fn into_domain(self) -> Option<RestingPlan>
+        ensures { result ≡ option_map (λ planning. planning.plan) self.planning }
+    {
+        match self.planning {
+            Some(planning) => Some(planning.into_domain()),
+            None => None,
+        }
     }
 
     /// A line that this script refused, and what the script knows.
@@ -68,7 +81,10 @@ impl Engine {
             answer,
             size: self.planning.as_ref().map(|planning| planning.size()),
             filters: self.planning.as_ref().map(|planning| planning.filters()),
-            told: self.planning.as_ref().and_then(|planning| planning.told()),
+            diagnosis: self
+                .planning
+                .as_ref()
+                .and_then(|planning| planning.diagnosis()),
         }
     }
 
@@ -77,9 +93,10 @@ impl Engine {
         &mut self,
         alloc: Global,
         number: u32,
-        command: Command<'_>,
+        command: DomainCommand<'_>,
         out: &mut Vec<u8>,
     ) -> Result<LineReply, AllocError>
+        requires { IsShort (view_of command) }
         ensures ok { IfOk result (Answers (λ answer. AnswersCommand self.old.planning number (view_of command.entry) answer
             self.new.planning) out.old.items out.new.items) }
         ensures err { OnErr result (StartsWith out.new.items out.old.items) }
@@ -87,11 +104,11 @@ impl Engine {
         match &mut self.planning {
             Some(planning) => planning.carry_out(alloc, number, command, out),
             None => match command {
-                Command::Domain(size) => {
+                DomainCommand::Domain(size) => {
                     self.planning = Some(Planning::new(alloc, size)?);
                     confirm(out)
                 }
-                _ => refuse(out, StateFault::NoDomain.code(), u64::from(number)),
+                _ => refuse(out, DomainStateFault::NoDomain.code(), u64::from(number)),
             },
         }
     }
@@ -99,14 +116,14 @@ impl Engine {
 
 /// A domain's script and who watches it.
 #[derive(Drop)]
-struct Watched<S: Watch + Drop> {
+pub(crate) struct WatchedDomain<S: Watch + Drop> {
     /// The script.
-    engine: Engine,
+    pub(crate) engine: DomainScript,
     /// Who watches it.
-    watcher: S,
+    pub(crate) watcher: S,
 }
 
-impl<S: Watch + Drop> Service for Watched<S> {
+impl<S: Watch + Drop> Service for WatchedDomain<S> {
     ghost use Rattle.std.specs.Prelude.{⊤};
     ghost use Rattle.domain_cmds.specs.Script.{AnswersLine};
 
@@ -145,8 +162,8 @@ pub fn run_watched_domain<R: Read, W: Write, S: Watch + Drop>(
     ensures broken_off { IfErr result (λ fault. IfSome (R.remaining reader.old) (λ input.
         IsBrokenOff fault input (R.remaining reader.new) (W.contents writer.old) (W.contents writer.new))) }
 {
-    let mut service = Watched {
-        engine: Engine::new(),
+    let mut service = WatchedDomain {
+        engine: DomainScript::new(),
         watcher,
     };
     answer_lines(alloc, reader, writer, &mut service)
@@ -164,5 +181,5 @@ pub fn run_domain<R: Read, W: Write>(
     ensures broken_off { IfErr result (λ fault. IfSome (R.remaining reader.old) (λ input.
         IsBrokenOff fault input (R.remaining reader.new) (W.contents writer.old) (W.contents writer.new))) }
 {
-    run_watched_domain(alloc, reader, writer, Nobody)
+    run_watched_domain(alloc, reader, writer, NoWatcher)
 }

@@ -11,7 +11,7 @@ pub(crate) enum Failing {
 
 /// What a failure changes.
 #[derive(Clone, Copy)]
-pub(crate) struct Failure {
+pub(crate) struct FailureEffect {
     /// What fails.
     pub(crate) what: Failing,
     /// How many routes have another distance or next hop.

@@ -6,13 +6,13 @@ ghost use Rattle.std.specs.Prelude.{◌≡◌, ◌++◌, OnOk, OnErr, flat_map};
 ghost use Rattle.std.specs.Io.{StartsWith};
 ghost use Rattle.domain_cmds.specs.FailureTexts as spec;
 
-use crate::failure::{Failing, Failure};
+use crate::failure::{Failing, FailureEffect};
 use crate::text::push_step;
 use line_protocol::push_decimal;
 use std::alloc::AllocError;
 
 /// Begins a line, and adds what fails.
-fn push_what(out: &mut Vec<u8>, what: Failing) -> Result<(), AllocError>
+pub(crate) fn push_what(out: &mut Vec<u8>, what: Failing) -> Result<(), AllocError>
     ensures ok { OnOk result (out.new.items ≡ out.old.items ++ spec.what_text what) }
     ensures err { OnErr result (StartsWith out.new.items out.old.items) }
 {
@@ -30,7 +30,7 @@ fn push_what(out: &mut Vec<u8>, what: Failing) -> Result<(), AllocError>
 }
 
 /// Adds a word and a number.
-fn push_number(out: &mut Vec<u8>, word: &[u8], n: u32) -> Result<(), AllocError>
+pub(crate) fn push_number(out: &mut Vec<u8>, word: &[u8], n: u32) -> Result<(), AllocError>
     ensures ok { OnOk result (out.new.items ≡ out.old.items ++ spec.number_text word.now n) }
     ensures err { OnErr result (StartsWith out.new.items out.old.items) }
 {
@@ -39,7 +39,7 @@ fn push_number(out: &mut Vec<u8>, word: &[u8], n: u32) -> Result<(), AllocError>
 }
 
 /// Adds how many routes a failure changes, and how many of them are no more.
-fn push_routes(out: &mut Vec<u8>, failure: Failure) -> Result<(), AllocError>
+fn push_routes(out: &mut Vec<u8>, failure: FailureEffect) -> Result<(), AllocError>
     ensures ok { OnOk result (out.new.items ≡ out.old.items ++ spec.routes_text failure) }
     ensures err { OnErr result (StartsWith out.new.items out.old.items) }
 {
@@ -48,7 +48,7 @@ fn push_routes(out: &mut Vec<u8>, failure: Failure) -> Result<(), AllocError>
 }
 
 /// Adds where a failure is felt, and how long.
-fn push_felt(out: &mut Vec<u8>, failure: Failure) -> Result<(), AllocError>
+fn push_felt(out: &mut Vec<u8>, failure: FailureEffect) -> Result<(), AllocError>
     ensures ok { OnOk result (out.new.items ≡ out.old.items ++ spec.felt_text failure) }
     ensures err { OnErr result (StartsWith out.new.items out.old.items) }
 {
@@ -58,7 +58,7 @@ fn push_felt(out: &mut Vec<u8>, failure: Failure) -> Result<(), AllocError>
 }
 
 /// Adds the line of a failure.
-fn push_failure(out: &mut Vec<u8>, failure: Failure) -> Result<(), AllocError>
+fn push_failure(out: &mut Vec<u8>, failure: FailureEffect) -> Result<(), AllocError>
     ensures ok { OnOk result (out.new.items ≡ out.old.items ++ spec.failure_text failure) }
     ensures err { OnErr result (StartsWith out.new.items out.old.items) }
 {
@@ -68,7 +68,7 @@ fn push_failure(out: &mut Vec<u8>, failure: Failure) -> Result<(), AllocError>
 }
 
 /// Adds the lines of failures.
-fn push_each(out: &mut Vec<u8>, failures: &[Failure]) -> Result<(), AllocError>
+fn push_each(out: &mut Vec<u8>, failures: &[FailureEffect]) -> Result<(), AllocError>
     ensures ok { OnOk result (out.new.items ≡ out.old.items ++ flat_map spec.failure_text failures.now) }
     ensures err { OnErr result (StartsWith out.new.items out.old.items) }
 {
@@ -79,7 +79,7 @@ fn push_each(out: &mut Vec<u8>, failures: &[Failure]) -> Result<(), AllocError>
 }
 
 /// Adds the answer to `failures`, but for the end of its last line.
-pub(crate) fn push_failures(out: &mut Vec<u8>, failures: &[Failure]) -> Result<(), AllocError>
+pub(crate) fn push_failures(out: &mut Vec<u8>, failures: &[FailureEffect]) -> Result<(), AllocError>
     ensures ok { OnOk result (out.new.items ≡ out.old.items ++ spec.failures_text failures.now) }
     ensures err { OnErr result (StartsWith out.new.items out.old.items) }
 {

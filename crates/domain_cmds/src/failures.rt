@@ -5,7 +5,7 @@ ghost use Rattle.domain_cmds.specs.Failures as spec;
 ghost use Rattle.domain_cmds.specs.declared.failure.Failing.TheVariants as failing;
 
 use crate::counts::{changed_routes, lost_routes, moved_nodes, still_near};
-use crate::failure::{Failing, Failure};
+use crate::failure::{Failing, FailureEffect};
 use crate::reach::phases_to_rest;
 use crate::resting::RestingPlan;
 use crate::routes::Column;
@@ -13,10 +13,10 @@ use domain_routes::Plan;
 use std::alloc::{AllocError, Global};
 
 /// What a failure changes, by the routes before it and after it.
-fn failure_of(size: u16, what: Failing, before: &[Column], after: &[Column]) -> Failure
+fn failure_of(size: u16, what: Failing, before: &[Column], after: &[Column]) -> FailureEffect
     ensures { result ≡ spec.failure_of size what before.now after.now }
 {
-    Failure {
+    FailureEffect {
         what,
         changed: changed_routes(size, what, before, after),
         lost: lost_routes(size, what, before, after),
@@ -33,7 +33,7 @@ fn link_failure(
     before: &[Column],
     u: u16,
     w: u16,
-) -> Result<Failure, AllocError>
+) -> Result<FailureEffect, AllocError>
     requires u { u < domain.old.size }
     requires w { w < domain.old.size }
     requires apart { u ≢ w }
@@ -46,7 +46,7 @@ fn link_failure(
 }
 
 /// Whether there is a link between two nodes, of which the first is the lesser.
-fn is_link(plan: &Plan, u: u16, w: u16) -> bool
+pub(crate) fn is_link(plan: &Plan, u: u16, w: u16) -> bool
     requires u { u < plan.now.size }
     requires w { w < plan.now.size }
     ensures value { result ≡ (nat_lt u w && is_linked plan.now u w) }
@@ -63,7 +63,7 @@ fn push_link(
     before: &[Column],
     u: u16,
     w: u16,
-    found: &mut Vec<Failure>,
+    found: &mut Vec<FailureEffect>,
 ) -> Result<(), AllocError>
     requires u { u < domain.old.size }
     requires w { w < domain.old.size }
@@ -85,7 +85,7 @@ fn push_links_of(
     domain: &mut RestingPlan,
     before: &[Column],
     u: u16,
-    found: &mut Vec<Failure>,
+    found: &mut Vec<FailureEffect>,
 ) -> Result<(), AllocError>
     requires { u < domain.old.size }
     ensures ok { OnOk result (spec.AddsFailures domain.old before.now (spec.links_of domain.old u) found.old.items found.new.items) }
@@ -102,7 +102,7 @@ pub(crate) fn link_failures(
     alloc: Global,
     domain: &mut RestingPlan,
     before: &[Column],
-) -> Result<Vec<Failure>, AllocError>
+) -> Result<Vec<FailureEffect>, AllocError>
     ensures ok { IfOk result (λ all. spec.AreFailures domain.old before.now (spec.all_links domain.old) all.items) }
     ensures same { domain.new ≡ domain.old }
 {
@@ -119,7 +119,7 @@ fn node_failure(
     domain: &mut RestingPlan,
     before: &[Column],
     x: u16,
-) -> Result<Failure, AllocError>
+) -> Result<FailureEffect, AllocError>
     requires { x < domain.old.size }
     ensures ok { IfOk result (λ failure. spec.IsFailure domain.old before.now (failing.Node x) failure) }
     ensures same { domain.new ≡ domain.old }
@@ -133,7 +133,7 @@ pub(crate) fn node_failures(
     alloc: Global,
     domain: &mut RestingPlan,
     before: &[Column],
-) -> Result<Vec<Failure>, AllocError>
+) -> Result<Vec<FailureEffect>, AllocError>
     ensures ok { IfOk result (λ all. spec.AreFailures domain.old before.now (spec.all_nodes domain.old) all.items) }
     ensures same { domain.new ≡ domain.old }
 {

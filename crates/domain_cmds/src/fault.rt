@@ -3,7 +3,7 @@ ghost use Rattle.std.specs.Prelude.{◌≡◌};
 
 /// Why the state of a domain's script refuses a command.
 #[derive(Clone, Copy)]
-pub(crate) enum StateFault {
+pub(crate) enum DomainStateFault {
     /// O2: the node of a `prefix` is not in the domain.
     NoSuchNode,
     /// O4: no domain is set up.
@@ -22,7 +22,7 @@ pub(crate) enum StateFault {
     Unplayable,
 }
 
-impl StateFault {
+impl DomainStateFault {
     ghost use Rattle.domain_cmds.specs.Faults.{state_code};
 
     /// The code that names the fault.
@@ -30,14 +30,14 @@ impl StateFault {
         ensures { result.now ≡ state_code self }
     {
         match self {
-            StateFault::NoSuchNode => "O2",
-            StateFault::NoDomain => "O4",
-            StateFault::TooLate => "O5",
-            StateFault::UnknownFilter => "O6",
-            StateFault::BadNode => "D1",
-            StateFault::Linked => "D2",
-            StateFault::Apart => "D3",
-            StateFault::Unplayable => "D4",
+            DomainStateFault::NoSuchNode => "O2",
+            DomainStateFault::NoDomain => "O4",
+            DomainStateFault::TooLate => "O5",
+            DomainStateFault::UnknownFilter => "O6",
+            DomainStateFault::BadNode => "D1",
+            DomainStateFault::Linked => "D2",
+            DomainStateFault::Apart => "D3",
+            DomainStateFault::Unplayable => "D4",
         }
     }
 }

@@ -2,7 +2,7 @@
 //!
 //! **A contract sees the filters that have a name as a list of names with filters, in no order**: the value of a type with a model holds no
 //! function.
-ghost use Rattle.std.specs.Prelude.{◌≡◌, [], IfOk, IfSome, OnErr};
+ghost use Rattle.std.specs.Prelude.{◌≡◌, ◌≢◌, ℕ, List, [], IfOk, IfSome, None, OnErr};
 ghost use Rattle.std.specs.Io.{StartsWith};
 ghost use Rattle.std.specs.Option.{option_map};
 ghost use Rattle.operator_cmds.specs.Replies.{Answers};
@@ -26,7 +26,7 @@ pub(crate) struct Filters {
     /// The filter of each name.
     named: NamedFilters,
     /// What is told of the last filter that was refused.
-    told: Option<Diagnosis>,
+    diagnosis: Option<Diagnosis>,
 }
 
 impl Model for Filters {
@@ -48,7 +48,7 @@ impl Filters {
         Filters {
             size,
             named: BTreeMap::new(alloc),
-            told: None,
+            diagnosis: None,
         }
     }
 
@@ -65,6 +65,7 @@ impl Filters {
         ensures ok { IfOk result (Answers (λ answer. AnswersSource (gives source.entry) (lacks source.entry) self.old.size number name.now
             (filter_named self.old.named) answer (filter_named self.new.named)) out.old.items out.new.items) }
         ensures err { OnErr result (StartsWith out.new.items out.old.items) }
+        ensures left { OnErr result (self.new ≡ self.old) }
     {
         name_source(
             alloc,
@@ -73,7 +74,7 @@ impl Filters {
             name,
             source,
             self.size,
-            &mut self.told,
+            &mut self.diagnosis,
             out,
         )
     }
@@ -86,8 +87,17 @@ impl Filters {
     }
 
     /// What is told of the last filter that was refused.
-    pub(crate) fn told(&self) -> Option<Diagnosis> {
-        self.told
+    pub(crate) fn diagnosis(&self) -> Option<Diagnosis> {
+        self.diagnosis
+    }
+
+    /// A name has no filter any more.
+    pub(crate) fn forget(&mut self, name: &[u8])
+        ensures size { self.new.size ≡ self.old.size }
+        ensures forgotten { filter_named self.new.named name.now ≡ None }
+        ensures kept { (other : List ℕ) → other ≢ name.now → filter_named self.new.named other ≡ filter_named self.old.named other }
+    {
+        let _ = self.named.remove(name);
     }
 
     /// The filter of a name.

@@ -15,6 +15,9 @@
 
 mod asking;
 mod command;
+mod comparing;
+mod comparison_report;
+mod comparison_text;
 mod counts;
 mod engine;
 mod failure;
@@ -24,18 +27,24 @@ mod fault;
 mod felt;
 mod filters;
 mod laws;
+mod left;
+mod origins;
+mod paged;
 mod planning;
 mod playing;
 mod reach;
 mod read;
 mod resting;
 mod routes;
+mod said;
 mod still;
 mod text;
 mod verb;
 mod without;
 
-pub use command::{Command, DomainSize, Question};
+pub use command::{DomainCommand, DomainSize, Question};
 pub use engine::{run_domain, run_watched_domain};
 pub use laws::{failures_stand_still_as_cuts, marks_are_of_a_plan};
+pub use left::{Left, LeftDomain, compare_domains, leave_domain};
+pub use paged::{Paged, run_paged_domain};
 pub use read::read_command;

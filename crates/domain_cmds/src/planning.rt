@@ -1,17 +1,25 @@
 //! A domain that is set up: its plan, and what its script did with it.
-ghost use Rattle.std.specs.Prelude.{◌≡◌, ◌≢◌, ◌<◌, IfOk, IfSome, IsTrue, OnErr};
+ghost use Rattle.std.specs.Prelude.{◌≡◌, ◌≢◌, ◌<◌, ℕ, List, IfOk, IfSome, IsTrue, MatchOption, None, OnErr, OnOk};
 ghost use Rattle.std.specs.Io.{StartsWith};
 ghost use Rattle.std.specs.Option.{option_map};
+ghost use Rattle.domain_routes.specs.PlanView.{IsPlan};
 ghost use Rattle.domain_routes.specs.Still as rest;
+ghost use Rattle.domain_cmds.specs.Origins.{Notes};
+ghost use Rattle.domain_cmds.specs.Paging as paging;
+ghost use Rattle.domain_cmds.specs.Short.{IsShort, IsShortSource};
+ghost use Rattle.domain_cmds.specs.State.{filter_named};
 ghost use Rattle.domain_cmds.specs.Script as spec;
 
 use crate::asking::answer_question;
-use crate::command::{Command, DomainSize, Question};
-use crate::fault::StateFault;
+use crate::command::{DomainCommand, DomainSize, Question};
+use crate::fault::DomainStateFault;
 use crate::filters::Filters;
+use crate::origins::Origins;
 use crate::playing::{Change, Playing};
 use crate::resting::RestingPlan;
 use crate::routes::Column;
+use crate::said::said_of;
+use domain_reports::{Shell, push_domain, push_page};
 use domain_routes::{Between, Plan};
 use filter_source::Diagnosis;
 use line_protocol::LineReply;
@@ -28,6 +36,8 @@ pub(crate) struct Planning {
     domain: RestingPlan,
     /// The filter of each name.
     filters: Filters,
+    /// Where they come from, and where they are used.
+    origins: Origins,
     /// A command came after which prefixes stay.
     begun: bool,
     /// All routes at rest at the last `mark`.
@@ -41,6 +51,7 @@ pub(crate) struct Planning {
 impl Model for Planning {
     ghost use Rattle.std.specs.Prelude.{◌≡◌, IfSome};
     ghost use Rattle.std.specs.Option.{option_map};
+    ghost use Rattle.domain_cmds.specs.Origins.{AreLastOf, AreOriginsOf};
     ghost use Rattle.domain_cmds.specs.State.{PlanningView};
 
     ghost Value = { PlanningView };
@@ -53,17 +64,18 @@ impl Model for Planning {
       since = p.since;
     } };
 
-    // The filters fit the domain, and so do the plans between which it stayed.
-    ghost invariant = { λ p. (p.filters.size ≡ p.domain.size) × IfSome p.since (λ between. between.most.size ≡ p.domain.size) };
+    // The filters fit the domain, and so do the plans between which it stayed. Where its filters come from is known.
+    ghost invariant = { λ p. (p.filters.size ≡ p.domain.size) × IfSome p.since (λ between. between.most.size ≡ p.domain.size)
+        × AreOriginsOf p.domain p.origins × AreLastOf p.origins p.filters.named };
 }
 
 /// Why two nodes that have a link, or none, are not to have one, or none.
-fn link_fault(is_linked: bool, linked: bool) -> Option<StateFault>
+fn link_fault(is_linked: bool, linked: bool) -> Option<DomainStateFault>
     ensures { result ≡ spec.link_fault is_linked linked }
 {
     match (is_linked, linked) {
-        (true, true) => Some(StateFault::Linked),
-        (false, false) => Some(StateFault::Apart),
+        (true, true) => Some(DomainStateFault::Linked),
+        (false, false) => Some(DomainStateFault::Apart),
         _ => None,
     }
 }
@@ -119,11 +131,53 @@ fn loosen_node(since: &mut Option<Between>, plan: &Plan, u: u16)
     }
 }
 
+/// Notes where the filter comes from that has a name now.
+fn note_named(
+    alloc: Global,
+    filters: &Filters,
+    origins: &mut Origins,
+    number: u32,
+    name: &[u8],
+    source: FilterSource<'_>,
+) -> Result<(), AllocError>
+    ensures ok { OnOk result (MatchOption (filter_named filters.now.named name.now) (origins.new ≡ origins.old)
+        (λ filter. Notes number name.now source.entry filter origins.old origins.new)) }
+    ensures err { OnErr result (origins.new ≡ origins.old) }
+{
+    match filters.get(name)? {
+        Some(filter) => origins.note(alloc, number, name, source, filter),
+        None => Ok(()),
+    }
+}
+
+/// Notes where the filter comes from that has a name now. Where memory is refused, the name is free again.
+fn note_origin(
+    alloc: Global,
+    filters: &mut Filters,
+    origins: &mut Origins,
+    number: u32,
+    name: &[u8],
+    source: FilterSource<'_>,
+) -> Result<(), AllocError>
+    ensures ok { OnOk result ((filters.new ≡ filters.old) × MatchOption (filter_named filters.old.named name.now) (origins.new ≡ origins.old)
+        (λ filter. Notes number name.now source.entry filter origins.old origins.new)) }
+    ensures err { OnErr result ((origins.new ≡ origins.old) × (filter_named filters.new.named name.now ≡ None)) }
+    ensures others { OnErr result ((other : List ℕ) → other ≢ name.now → filter_named filters.new.named other ≡ filter_named filters.old.named other) }
+    ensures size { filters.new.size ≡ filters.old.size }
+{
+    match note_named(alloc, filters, origins, number, name, source) {
+        Ok(()) => Ok(()),
+        Err(error) => {
+            filters.forget(name);
+            Err(error)
+        }
+    }
+}
+
 impl Planning {
     ghost use Rattle.operator_cmds.specs.Replies.{Answers};
     ghost use Rattle.operator_cmds.specs.Script.{gives, lacks};
     ghost use Rattle.domain_cmds.specs.CommandView.{view_of};
-    ghost use Rattle.domain_cmds.specs.State.{filter_named};
 
     /// A domain of so many nodes without links, with the default prefixes.
     pub(crate) fn new(alloc: Global, size: DomainSize) -> Result<Planning, AllocError>
@@ -131,9 +185,13 @@ impl Planning {
     {
         let prefixes = default_prefixes(alloc, size.nodes)?;
         let plan = Plan::new(alloc, prefixes)?.unwrap();
+        let domain = RestingPlan::new(plan);
+        let filters = Filters::new(alloc, size.nodes);
+        let origins = Origins::new(alloc);
         Ok(Planning {
-            domain: RestingPlan::new(plan),
-            filters: Filters::new(alloc, size.nodes),
+            domain,
+            filters,
+            origins,
             begun: false,
             marked: None,
             since: None,
@@ -143,7 +201,8 @@ impl Planning {
 
     /// The number of nodes.
     pub(crate) fn size(&self) -> u16
-        ensures { result ≡ self.now.plan.size }
+        ensures value { result ≡ self.now.plan.size }
+        ensures limits { IsPlan self.now.plan }
     {
         self.domain.size()
     }
@@ -156,8 +215,8 @@ impl Planning {
     }
 
     /// What is told of the last filter that was refused.
-    pub(crate) fn told(&self) -> Option<Diagnosis> {
-        self.filters.told()
+    pub(crate) fn diagnosis(&self) -> Option<Diagnosis> {
+        self.filters.diagnosis()
     }
 
     /// Carries out a command, and answers it.
@@ -165,19 +224,24 @@ impl Planning {
         &mut self,
         alloc: Global,
         number: u32,
-        command: Command<'_>,
+        command: DomainCommand<'_>,
         out: &mut Vec<u8>,
     ) -> Result<LineReply, AllocError>
+        requires { IsShort (view_of command) }
         ensures ok { IfOk result (Answers (λ answer. spec.AnswersPlanned self.old number (view_of command.entry) answer self.new) out.old.items out.new.items) }
         ensures err { OnErr result (StartsWith out.new.items out.old.items) }
     {
         match command {
-            Command::Domain(_) => refuse(out, StateFault::TooLate.code(), u64::from(number)),
-            Command::Prefix { node, prefix } => self.set_prefix(number, node, prefix, out),
-            Command::Load { name, text } => {
+            DomainCommand::Domain(_) => refuse(
+                out,
+                DomainStateFault::TooLate.code(),
+                u64::from(number),
+            ),
+            DomainCommand::Prefix { node, prefix } => self.set_prefix(number, node, prefix, out),
+            DomainCommand::Load { name, text } => {
                 self.load(alloc, number, name, FilterSource::Text(text), out)
             }
-            Command::Code { name, bytes } => {
+            DomainCommand::Code { name, bytes } => {
                 self.load(
                     alloc,
                     number,
@@ -186,16 +250,17 @@ impl Planning {
                     out,
                 )
             }
-            Command::Link { linked, u, w } => self.set_linked(number, u, w, linked, out),
-            Command::Use {
+            DomainCommand::Link { linked, u, w } => self.set_linked(number, u, w, linked, out),
+            DomainCommand::Use {
                 direction,
                 u,
                 w,
                 name,
             } => self.use_filter(number, direction, u, w, name, out),
-            Command::Anew(u) => self.begin_anew(number, u, out),
-            Command::Mark => self.mark(alloc, out),
-            Command::Ask(question) => self.ask(alloc, number, question, out),
+            DomainCommand::Anew(u) => self.begin_anew(number, u, out),
+            DomainCommand::Mark => self.mark(alloc, out),
+            DomainCommand::Json => self.answer_json(alloc, out),
+            DomainCommand::Ask(question) => self.ask(alloc, number, question, out),
         }
     }
 
@@ -211,10 +276,10 @@ impl Planning {
         ensures err { OnErr result (StartsWith out.new.items out.old.items) }
     {
         if self.begun {
-            return refuse(out, StateFault::TooLate.code(), u64::from(number));
+            return refuse(out, DomainStateFault::TooLate.code(), u64::from(number));
         }
-        if node >= self.size() {
-            return refuse(out, StateFault::NoSuchNode.code(), u64::from(number));
+        if node >= self.domain.size() {
+            return refuse(out, DomainStateFault::NoSuchNode.code(), u64::from(number));
         }
         self.domain.set_prefix(node, prefix);
         confirm(out)
@@ -229,10 +294,23 @@ impl Planning {
         source: FilterSource<'_>,
         out: &mut Vec<u8>,
     ) -> Result<LineReply, AllocError>
+        requires { IsShortSource source }
         ensures ok { IfOk result (Answers (λ answer. spec.AnswersLoad (gives source.entry) (lacks source.entry) self.old number name.now answer self.new) out.old.items out.new.items) }
         ensures err { OnErr result (StartsWith out.new.items out.old.items) }
     {
-        self.filters.load(alloc, number, name, source, out)
+        let reply = self.filters.load(alloc, number, name, source, out)?;
+        if reply != LineReply::Answered {
+            return Ok(reply);
+        }
+        note_origin(
+            alloc,
+            &mut self.filters,
+            &mut self.origins,
+            number,
+            name,
+            source,
+        )?;
+        Ok(reply)
     }
 
     /// Answers `link` and `cut`: two nodes are neighbours from now on, or no more.
@@ -248,14 +326,14 @@ impl Planning {
         ensures err { OnErr result (StartsWith out.new.items out.old.items) }
     {
         self.begun = true;
-        if !are_a_pair(self.size(), u, w) {
-            return refuse(out, StateFault::BadNode.code(), u64::from(number));
+        let size = self.domain.size();
+        if !are_a_pair(size, u, w) {
+            return refuse(out, DomainStateFault::BadNode.code(), u64::from(number));
         }
         if let Some(why) = link_fault(self.domain.plan().is_linked(u, w), linked) {
             return refuse(out, why.code(), u64::from(number));
         }
         self.playing.note(Change::Link(u, w, linked))?;
-        let size = self.size();
         self.domain.set_linked(u, w, linked);
         loosen_link(&mut self.since, size, u, w);
         confirm(out)
@@ -275,15 +353,20 @@ impl Planning {
         ensures err { OnErr result (StartsWith out.new.items out.old.items) }
     {
         let Some(filter) = self.filters.get(name)? else {
-            return refuse(out, StateFault::UnknownFilter.code(), u64::from(number));
+            return refuse(
+                out,
+                DomainStateFault::UnknownFilter.code(),
+                u64::from(number),
+            );
         };
         self.begun = true;
-        if !are_a_pair(self.size(), u, w) {
-            return refuse(out, StateFault::BadNode.code(), u64::from(number));
+        let size = self.domain.size();
+        if !are_a_pair(size, u, w) {
+            return refuse(out, DomainStateFault::BadNode.code(), u64::from(number));
         }
         let played = Arc::try_clone(&filter)?;
         self.playing.note(Change::Filter(direction, u, w, played))?;
-        let size = self.size();
+        self.origins.note_use(direction, u, w, name)?;
         self.domain.set_filter(direction, u, w, filter);
         loosen_filter(&mut self.since, size, direction, u, w);
         confirm(out)
@@ -300,8 +383,8 @@ impl Planning {
         ensures err { OnErr result (StartsWith out.new.items out.old.items) }
     {
         self.begun = true;
-        if u >= self.size() {
-            return refuse(out, StateFault::BadNode.code(), u64::from(number));
+        if u >= self.domain.size() {
+            return refuse(out, DomainStateFault::BadNode.code(), u64::from(number));
         }
         self.playing.note_anew(self.domain.plan(), u)?;
         loosen_node(&mut self.since, self.domain.plan(), u);
@@ -330,6 +413,41 @@ impl Planning {
             number,
             out,
         )
+    }
+
+    /// Answers `json`: the whole domain, for programs.
+    fn answer_json(&mut self, alloc: Global, out: &mut Vec<u8>) -> Result<LineReply, AllocError>
+        ensures ok { IfOk result (Answers (λ answer. spec.Asks (spec.IsToldDomain self.old.plan) self.old answer self.new) out.old.items out.new.items) }
+        ensures err { OnErr result (StartsWith out.new.items out.old.items) }
+    {
+        self.begun = true;
+        let said = said_of(alloc, &mut self.domain, &self.origins)?;
+        let mut line = Vec::new(alloc);
+        push_domain(alloc, &mut line, &said.report())?;
+        out.extend_from_slice(line.as_slice())?;
+        Ok(LineReply::Answered)
+    }
+
+    /// Adds the page of the domain, whose script has this name.
+    pub(crate) fn push_page(
+        &mut self,
+        alloc: Global,
+        out: &mut Vec<u8>,
+        shell: Shell<'_>,
+        name: &[u8],
+    ) -> Result<(), AllocError>
+        ensures ok { OnOk result (paging.AddsPage shell.entry name.now self.old.plan out.old.items out.new.items) }
+        ensures same { self.new ≡ self.old }
+    {
+        let said = said_of(alloc, &mut self.domain, &self.origins)?;
+        push_page(alloc, out, shell, name, &said.report())
+    }
+
+    /// Its prefixes, links and filters.
+    pub(crate) fn into_domain(self) -> RestingPlan
+        ensures { result ≡ self.plan }
+    {
+        self.domain
     }
 
     /// Answers `mark`: remembers all routes at rest.

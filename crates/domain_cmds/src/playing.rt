@@ -8,7 +8,7 @@
 //! domain weighs.
 ghost use Rattle.std.specs.Prelude.{◌≡◌, ◌≢◌, ◌<◌, ◌≤◌, IfOk, IfSome, IsTrue, length};
 
-use domain_player::{LinkFault, Routers, SettleFault, Settled};
+use domain_player::{LinkingFault, Routers, SettleFault, Settled};
 use domain_routes::Plan;
 use filter_verifier::Verified;
 use operator_cmds::Direction;
@@ -48,11 +48,11 @@ impl From<AllocError> for PlayFault {
     }
 }
 
-impl From<LinkFault> for PlayFault {
-    fn from(fault: LinkFault) -> PlayFault {
+impl From<LinkingFault> for PlayFault {
+    fn from(fault: LinkingFault) -> PlayFault {
         match fault {
-            LinkFault::Memory => PlayFault::Memory,
-            LinkFault::NoSession => PlayFault::Closed,
+            LinkingFault::Memory => PlayFault::Memory,
+            LinkingFault::NoSession => PlayFault::Closed,
         }
     }
 }

@@ -10,8 +10,8 @@ ghost use Rattle.domain_cmds.specs.CommandView as command;
 ghost use Rattle.domain_cmds.specs.Commands as spec;
 ghost use Rattle.domain_cmds.specs.Readings.{IsRead, IsReadIn};
 
-use crate::command::{Command, DomainSize, Question};
-use crate::verb::{Verb, read_verb};
+use crate::command::{DomainCommand, DomainSize, Question};
+use crate::verb::{DomainVerb, read_verb};
 use filter_code::{LARGEST_SIZE, SMALLEST_SIZE};
 use line_protocol::{LINE_LIMIT, next_word};
 use operator_cmds::{
@@ -44,27 +44,27 @@ fn read_nodes(rest: &[u8]) -> Result<(u16, u16), CommandFault>
 }
 
 /// A `domain` command by the bytes after its first word.
-fn read_domain<'a>(rest: &[u8]) -> Result<Command<'a>, CommandFault>
+fn read_domain<'a>(rest: &[u8]) -> Result<DomainCommand<'a>, CommandFault>
     ensures { IsRead result (spec.domain_of (one_of (words rest.now))) }
 {
     let nodes = read_node(rest)?;
     if SMALLEST_SIZE <= u32::from(nodes) && u32::from(nodes) <= LARGEST_SIZE {
-        Ok(Command::Domain(DomainSize { nodes }))
+        Ok(DomainCommand::Domain(DomainSize { nodes }))
     } else {
         Err(CommandFault::Numbers)
     }
 }
 
 /// A `link` or a `cut` command by the bytes after its first word.
-fn read_link<'a>(linked: bool, rest: &[u8]) -> Result<Command<'a>, CommandFault>
+fn read_link<'a>(linked: bool, rest: &[u8]) -> Result<DomainCommand<'a>, CommandFault>
     ensures { IsRead result (made (λ p. command.Link linked p.0 p.1) (spec.nodes_in (two_of (words rest.now)))) }
 {
     let (u, w) = read_nodes(rest)?;
-    Ok(Command::Link { linked, u, w })
+    Ok(DomainCommand::Link { linked, u, w })
 }
 
 /// An `import` or an `export` command by the bytes after its first word.
-fn read_use(direction: Direction, rest: &[u8]) -> Result<Command<'_>, CommandFault>
+fn read_use(direction: Direction, rest: &[u8]) -> Result<DomainCommand<'_>, CommandFault>
     ensures { IsRead result (made (λ p. command.Use direction p.0 p.1 p.2) (spec.filter_in (three_of (words rest.now)))) }
 {
     let Some((u, w, name)) = three_words(rest) else {
@@ -74,7 +74,7 @@ fn read_use(direction: Direction, rest: &[u8]) -> Result<Command<'_>, CommandFau
         return Err(CommandFault::Words);
     }
     let (u, w) = read_both(u, w)?;
-    Ok(Command::Use {
+    Ok(DomainCommand::Use {
         direction,
         u,
         w,
@@ -83,36 +83,39 @@ fn read_use(direction: Direction, rest: &[u8]) -> Result<Command<'_>, CommandFau
 }
 
 /// A `draw` command by the bytes after its first word.
-fn read_drawing<'a>(rest: &[u8]) -> Result<Command<'a>, CommandFault>
+fn read_drawing<'a>(rest: &[u8]) -> Result<DomainCommand<'a>, CommandFault>
     ensures { IsRead result (spec.drawing_in (words rest.now) (two_of (words rest.now))) }
 {
     let Some((node, option)) = two_words(rest) else {
-        return Ok(Command::Ask(Question::Draw(read_node(rest)?)));
+        return Ok(DomainCommand::Ask(Question::Draw(read_node(rest)?)));
     };
     if option != b"changes".as_slice() {
         return Err(CommandFault::Words);
     }
     match read_small(node) {
-        Some(v) => Ok(Command::Ask(Question::DrawChanges(v))),
+        Some(v) => Ok(DomainCommand::Ask(Question::DrawChanges(v))),
         None => Err(CommandFault::Numbers),
     }
 }
 
 /// A `failures` command by the bytes after its first word.
-fn read_failures<'a>(rest: &[u8]) -> Result<Command<'a>, CommandFault>
+fn read_failures<'a>(rest: &[u8]) -> Result<DomainCommand<'a>, CommandFault>
     ensures { IsRead result (spec.failures_in (words rest.now) (one_of (words rest.now))) }
 {
     let Some(what) = one_word(rest) else {
-        return read_alone(Command::Ask(Question::Failures), rest);
+        return read_alone(DomainCommand::Ask(Question::Failures), rest);
     };
     if what != b"nodes".as_slice() {
         return Err(CommandFault::Words);
     }
-    Ok(Command::Ask(Question::NodeFailures))
+    Ok(DomainCommand::Ask(Question::NodeFailures))
 }
 
 /// A command after which nothing follows.
-fn read_alone<'a>(command: Command<'a>, rest: &[u8]) -> Result<Command<'a>, CommandFault>
+fn read_alone<'a>(
+    command: DomainCommand<'a>,
+    rest: &[u8],
+) -> Result<DomainCommand<'a>, CommandFault>
     ensures { IsRead result (spec.alone (view_of command.entry) (words rest.now)) }
 {
     match next_word(rest) {
@@ -122,49 +125,54 @@ fn read_alone<'a>(command: Command<'a>, rest: &[u8]) -> Result<Command<'a>, Comm
 }
 
 /// A command by its verb and the bytes after it.
-fn read_rest(alloc: Global, verb: Verb, rest: &[u8]) -> Result<Command<'_>, CommandFault>
+fn read_rest(
+    alloc: Global,
+    verb: DomainVerb,
+    rest: &[u8],
+) -> Result<DomainCommand<'_>, CommandFault>
     ensures { IsReadIn result (spec.command_of (Some verb) (words rest.now) (without_front_blanks (after_word rest.now))) }
 {
     match verb {
-        Verb::Domain => read_domain(rest),
-        Verb::Prefix => {
+        DomainVerb::Domain => read_domain(rest),
+        DomainVerb::Prefix => {
             let (node, prefix) = read_node_prefix(rest)?;
-            Ok(Command::Prefix { node, prefix })
+            Ok(DomainCommand::Prefix { node, prefix })
         }
-        Verb::Load => {
+        DomainVerb::Load => {
             let (name, text) = read_load(rest)?;
-            Ok(Command::Load { name, text })
+            Ok(DomainCommand::Load { name, text })
         }
-        Verb::Code => {
+        DomainVerb::Code => {
             let (name, bytes) = read_code(alloc, rest)?;
-            Ok(Command::Code { name, bytes })
+            Ok(DomainCommand::Code { name, bytes })
         }
-        Verb::Link => read_link(true, rest),
-        Verb::Cut => read_link(false, rest),
-        Verb::Import => read_use(Direction::Import, rest),
-        Verb::Export => read_use(Direction::Export, rest),
-        Verb::Anew => Ok(Command::Anew(read_node(rest)?)),
-        Verb::Route => {
+        DomainVerb::Link => read_link(true, rest),
+        DomainVerb::Cut => read_link(false, rest),
+        DomainVerb::Import => read_use(Direction::Import, rest),
+        DomainVerb::Export => read_use(Direction::Export, rest),
+        DomainVerb::Anew => Ok(DomainCommand::Anew(read_node(rest)?)),
+        DomainVerb::Route => {
             let (u, v) = read_nodes(rest)?;
-            Ok(Command::Ask(Question::Route(u, v)))
+            Ok(DomainCommand::Ask(Question::Route(u, v)))
         }
-        Verb::Path => {
+        DomainVerb::Path => {
             let (u, v) = read_nodes(rest)?;
-            Ok(Command::Ask(Question::Path(u, v)))
+            Ok(DomainCommand::Ask(Question::Path(u, v)))
         }
-        Verb::Table => Ok(Command::Ask(Question::Table(read_node(rest)?))),
-        Verb::Draw => read_drawing(rest),
-        Verb::Reach => read_alone(Command::Ask(Question::Reach), rest),
-        Verb::Mark => read_alone(Command::Mark, rest),
-        Verb::Changes => read_alone(Command::Ask(Question::Changes), rest),
-        Verb::Failures => read_failures(rest),
-        Verb::Settle => read_alone(Command::Ask(Question::Settle), rest),
+        DomainVerb::Table => Ok(DomainCommand::Ask(Question::Table(read_node(rest)?))),
+        DomainVerb::Draw => read_drawing(rest),
+        DomainVerb::Reach => read_alone(DomainCommand::Ask(Question::Reach), rest),
+        DomainVerb::Mark => read_alone(DomainCommand::Mark, rest),
+        DomainVerb::Changes => read_alone(DomainCommand::Ask(Question::Changes), rest),
+        DomainVerb::Failures => read_failures(rest),
+        DomainVerb::Settle => read_alone(DomainCommand::Ask(Question::Settle), rest),
+        DomainVerb::Json => read_alone(DomainCommand::Json, rest),
     }
 }
 
 /// Reads a line of a domain's script as a command, or finds the first thing that is wrong with it. The tests that need the
 /// script's state are not made here.
-pub fn read_command(alloc: Global, line: &[u8]) -> Result<Command<'_>, CommandFault>
+pub fn read_command(alloc: Global, line: &[u8]) -> Result<DomainCommand<'_>, CommandFault>
     ensures { IsReadIn result (spec.command_in line.now) }
 {
     if line.len() > LINE_LIMIT {

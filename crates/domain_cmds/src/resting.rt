@@ -4,7 +4,7 @@
 //! of a plan have all of them.
 ghost use Rattle.std.specs.Prelude.{◌≡◌, ◌≢◌, ◌<◌, IfOk, true, false};
 ghost use Rattle.domain_routes.specs.Edits.{linking, with_prefix};
-ghost use Rattle.domain_routes.specs.PlanView.{PlanView, is_linked};
+ghost use Rattle.domain_routes.specs.PlanView.{IsPlan, PlanView, is_linked};
 ghost use Rattle.domain_cmds.specs.Failures.{IsAlone};
 ghost use Rattle.domain_cmds.specs.Rests.{AreAllRoutes};
 ghost use Rattle.domain_cmds.specs.Script.{filtering};
@@ -57,7 +57,8 @@ impl RestingPlan {
 
     /// The number of nodes.
     pub(crate) fn size(&self) -> u16
-        ensures { result ≡ self.now.size }
+        ensures value { result ≡ self.now.size }
+        ensures limits { IsPlan self.now }
     {
         self.plan.size()
     }

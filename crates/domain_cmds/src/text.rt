@@ -287,7 +287,7 @@ pub(crate) fn is_same(a: Best, b: Best) -> bool
 }
 
 /// Adds a blank and two numbers, with a colon between them.
-fn push_pair(out: &mut Vec<u8>, u: u16, v: u16) -> Result<(), AllocError>
+pub(crate) fn push_pair(out: &mut Vec<u8>, u: u16, v: u16) -> Result<(), AllocError>
     ensures ok { OnOk result (out.new.items ≡ out.old.items ++ pair_text u v) }
     ensures err { OnErr result (StartsWith out.new.items out.old.items) }
 {

@@ -1,10 +1,12 @@
 //! The first word of a command.
-ghost use Rattle.std.specs.Prelude.{◌≡◌, find};
+ghost use Rattle.std.specs.Prelude.{◌≡◌};
 ghost use Rattle.domain_cmds.specs.Verbs as spec;
+
+use line_protocol::{Spelled, first_spelled};
 
 /// What a command does, as its first word says.
 #[derive(Clone, Copy)]
-pub enum Verb {
+pub enum DomainVerb {
     /// `domain`
     Domain,
     /// `prefix`
@@ -41,76 +43,67 @@ pub enum Verb {
     Failures,
     /// `settle`
     Settle,
+    /// `json`
+    Json,
 }
 
 /// All of them.
-pub static VERBS: [Verb; 18] = [
-    Verb::Domain,
-    Verb::Prefix,
-    Verb::Load,
-    Verb::Code,
-    Verb::Link,
-    Verb::Cut,
-    Verb::Import,
-    Verb::Export,
-    Verb::Anew,
-    Verb::Route,
-    Verb::Path,
-    Verb::Table,
-    Verb::Draw,
-    Verb::Reach,
-    Verb::Mark,
-    Verb::Changes,
-    Verb::Failures,
-    Verb::Settle,
+pub static VERBS: [DomainVerb; 19] = [
+    DomainVerb::Domain,
+    DomainVerb::Prefix,
+    DomainVerb::Load,
+    DomainVerb::Code,
+    DomainVerb::Link,
+    DomainVerb::Cut,
+    DomainVerb::Import,
+    DomainVerb::Export,
+    DomainVerb::Anew,
+    DomainVerb::Route,
+    DomainVerb::Path,
+    DomainVerb::Table,
+    DomainVerb::Draw,
+    DomainVerb::Reach,
+    DomainVerb::Mark,
+    DomainVerb::Changes,
+    DomainVerb::Failures,
+    DomainVerb::Settle,
+    DomainVerb::Json,
 ];
 
-impl Verb {
+impl Spelled for DomainVerb {
     ghost use Rattle.domain_cmds.specs.Verbs.{verb_text};
 
-    /// How it is written.
-    fn text(&self) -> &'static str
-        ensures { result.now ≡ verb_text self.now }
-    {
+    ghost spelling = { verb_text };
+
+    fn text(&self) -> &'static str {
         match self {
-            Verb::Domain => "domain",
-            Verb::Prefix => "prefix",
-            Verb::Load => "load",
-            Verb::Code => "code",
-            Verb::Link => "link",
-            Verb::Cut => "cut",
-            Verb::Import => "import",
-            Verb::Export => "export",
-            Verb::Anew => "anew",
-            Verb::Route => "route",
-            Verb::Path => "path",
-            Verb::Table => "table",
-            Verb::Draw => "draw",
-            Verb::Reach => "reach",
-            Verb::Mark => "mark",
-            Verb::Changes => "changes",
-            Verb::Failures => "failures",
-            Verb::Settle => "settle",
+            DomainVerb::Domain => "domain",
+            DomainVerb::Prefix => "prefix",
+            DomainVerb::Load => "load",
+            DomainVerb::Code => "code",
+            DomainVerb::Link => "link",
+            DomainVerb::Cut => "cut",
+            DomainVerb::Import => "import",
+            DomainVerb::Export => "export",
+            DomainVerb::Anew => "anew",
+            DomainVerb::Route => "route",
+            DomainVerb::Path => "path",
+            DomainVerb::Table => "table",
+            DomainVerb::Draw => "draw",
+            DomainVerb::Reach => "reach",
+            DomainVerb::Mark => "mark",
+            DomainVerb::Changes => "changes",
+            DomainVerb::Failures => "failures",
+            DomainVerb::Settle => "settle",
+            DomainVerb::Json => "json",
         }
     }
 }
 
 /// The verb that is written so.
 #[tactic(auto, unfolding(crate::specs::Verbs::verb_in))]
-pub fn read_verb(word: &[u8]) -> Option<Verb>
+pub(crate) fn read_verb(word: &[u8]) -> Option<DomainVerb>
     ensures { spec.verb_in word.now ≡ result }
 {
     first_spelled(&VERBS, word)
-}
-
-/// The first of the verbs that is written so.
-fn first_spelled(verbs: &[Verb], word: &[u8]) -> Option<Verb>
-    ensures { find (spec.is_spelled word.now) verbs.now ≡ result }
-{
-    for verb in verbs {
-        if verb.text().as_bytes() == word {
-            return Some(*verb);
-        }
-    }
-    None
 }

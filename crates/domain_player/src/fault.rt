@@ -5,7 +5,7 @@ use thiserror::Error;
 
 /// Why two nodes were not linked.
 #[derive(Clone, Copy, Debug, PartialEq, Eq, Error)]
-pub enum LinkFault {
+pub enum LinkingFault {
     /// Memory was refused.
     #[error("out of memory")]
     Memory,
@@ -14,14 +14,14 @@ pub enum LinkFault {
     NoSession,
 }
 
-impl From<AllocError> for LinkFault {
+impl From<AllocError> for LinkingFault {
     ghost use Rattle.std.specs.Prelude.{◌≡◌};
-    ghost use Rattle.domain_player.specs.declared.fault.LinkFault.TheVariants.{Memory};
+    ghost use Rattle.domain_player.specs.declared.fault.LinkingFault.TheVariants.{Memory};
 
     ghost from_gives = { λ _ e. e ≡ Memory };
 
-    fn from(_: AllocError) -> LinkFault {
-        LinkFault::Memory
+    fn from(_: AllocError) -> LinkingFault {
+        LinkingFault::Memory
     }
 }
 

@@ -11,6 +11,6 @@ mod sending;
 mod sent;
 mod settling;
 
-pub use fault::{LinkFault, SettleFault};
+pub use fault::{LinkingFault, SettleFault};
 pub use routers::Routers;
 pub use settling::Settled;

@@ -9,22 +9,22 @@ ghost use Rattle.routing_domain.specs.Domain.{IsInOrder, are_linked};
 ghost use Rattle.routing_domain.specs.Events.{CanLink, cuts, in_session, links};
 ghost use Rattle.domain_player.specs.Play.{domain_of, router_at};
 
-use crate::fault::LinkFault;
+use crate::fault::LinkingFault;
 use netchange_core::{Event, Reply, Tables};
 use std::alloc::AllocError;
 
 /// The channel to a node that is down is there.
-fn enter_up(router: &mut Tables, node: u16) -> Result<(), LinkFault>
+fn enter_up(router: &mut Tables, node: u16) -> Result<(), LinkingFault>
     requires neighbour { is_no_neighbour router.old.opening node ≡ false }
     requires down { is_up (neighbour_at router.old.neighbours node) ≡ false }
     ensures up { OnOk result (router.new ≡ (next router.old (event.Up node)).world) }
     ensures left { OnOk result (router.old.sessions ≢ last_session) }
-    ensures spent { result ≡ Err LinkFault.NoSession → router.old.sessions ≡ last_session }
+    ensures spent { result ≡ Err LinkingFault.NoSession → router.old.sessions ≡ last_session }
 {
     match router.apply(&Event::Up(node)) {
         Ok(Reply::Opened(_)) => Ok(()),
-        Ok(_) => Err(LinkFault::NoSession),
-        Err(_) => Err(LinkFault::Memory),
+        Ok(_) => Err(LinkingFault::NoSession),
+        Err(_) => Err(LinkingFault::Memory),
     }
 }
 
@@ -39,7 +39,7 @@ fn enter_down(router: &mut Tables, node: u16) -> Result<(), AllocError>
 }
 
 /// The first node enters that the channel to the second is there, then the second that the one to the first is.
-pub(crate) fn link_both(tables: &mut [Tables], u: u16, w: u16) -> Result<(), LinkFault>
+pub(crate) fn link_both(tables: &mut [Tables], u: u16, w: u16) -> Result<(), LinkingFault>
     requires from { u < length tables.old }
     requires to { w < length tables.old }
     requires apart { u ≢ w }
@@ -47,7 +47,7 @@ pub(crate) fn link_both(tables: &mut [Tables], u: u16, w: u16) -> Result<(), Lin
     requires unlinked { are_linked (domain_of tables.old []) u w ≡ false }
     ensures linked { OnOk result (domain_of tables.new [] ≡ links (domain_of tables.old []) u w) }
     ensures left { OnOk result (CanLink (domain_of tables.old []) u w) }
-    ensures spent { result ≡ Err LinkFault.NoSession →
+    ensures spent { result ≡ Err LinkingFault.NoSession →
         ((router_at tables.old u).sessions ≡ last_session) ⊎ ((router_at tables.old w).sessions ≡ last_session) }
 {
     enter_up(&mut tables[usize::from(u)], w)?;

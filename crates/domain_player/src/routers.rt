@@ -12,7 +12,7 @@ ghost use Rattle.routing_domain.specs.Rest.{IsRest};
 ghost use Rattle.routing_domain.specs.Weight.{weight};
 ghost use Rattle.domain_player.specs.Play.{domain, opening_of, router_at};
 
-use crate::fault::{LinkFault, SettleFault};
+use crate::fault::{LinkingFault, SettleFault};
 use crate::filters::enter;
 use crate::links::{cut_both, link_both};
 use crate::opening::open_tables;
@@ -74,13 +74,13 @@ impl Routers {
 
     /// Two nodes are neighbours from now on: the first enters that the channel to the second is there, then the second that the
     /// one to the first is. After a fault the routers are closed.
-    pub fn link(&mut self, u: u16, w: u16) -> Result<(), LinkFault>
+    pub fn link(&mut self, u: u16, w: u16) -> Result<(), LinkingFault>
         requires from { u < length self.old }
         requires to { w < length self.old }
         requires apart { u ≢ w }
         requires unlinked { are_linked (domain self.old) u w ≡ false }
         ensures linked { OnOk result (domain self.new ≡ links (domain self.old) u w) }
-        ensures spent { result ≡ Err LinkFault.NoSession →
+        ensures spent { result ≡ Err LinkingFault.NoSession →
             ((router_at self.old u).sessions ≡ last_session) ⊎ ((router_at self.old w).sessions ≡ last_session) }
         ensures closed { OnErr result (self.new ≡ []) }
     {

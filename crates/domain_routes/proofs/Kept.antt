@@ -18,7 +18,7 @@ pub record IsRound (m : Topology) (to : ℕ) (old new : ℕ → Best) (before af
 
 -- the way through the node is longer than its own route
 longer : (m : Topology) (to : ℕ) (old new : ℕ → Best) (before after : ℕ → Bool) (w : ℕ) → IsRound m to old new before after w → (u : ℕ) → u < m.size →
-    (old w).dist < suc (m.toll u w (old w).dist)
+    (old w).dist < suc (m.filtered u w (old w).dist)
 longer m to old new before after w r u short =
     omega (arith, r.nearer u w (old w).dist short r.nearest.member (r.settled.bounded w r.nearest.member))
 
@@ -31,7 +31,7 @@ pub keeps : (m : Topology) (to : ℕ) (old new : ℕ → Best) (before after : �
 keeps m to old new before after w r u short near =
     ⊎_elim
     (λ linked. ⊎_elim
-    (λ taken. absurd (not_before (old u) (suc (m.toll u w (old w).dist)) w
+    (λ taken. absurd (not_before (old u) (suc (m.filtered u w (old w).dist)) w
     (omega (arith, longer m to old new before after w r u short, near)) (taken.1)))
     (λ kept. kept.0)
     ((r.offered u short).taken linked))

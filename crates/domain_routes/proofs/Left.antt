@@ -13,7 +13,7 @@ use Rattle.domain_routes.specs.Offers.{ComesBefore, StaysBehind, hop_of, way}
 use Rattle.domain_routes.specs.PlanView.{PlanView, is_linked}
 use Rattle.domain_routes.specs.Routes.{AreRoutes, nowhere, own_route, route_at}
 use Rattle.domain_routes.specs.Solving.{AreAllDone, IsBestSoFar, IsFound, IsOffered, is_done}
-use Rattle.domain_routes.specs.Topology.{toll, topology}
+use Rattle.domain_routes.specs.Topology.{filtered, topology}
 use Rattle.domain_routes.specs.declared.best.Best.{Best}
 use Rattle.domain_routes.proofs.Offering.{behind_way, tie_in_reach}
 use Rattle.domain_routes.proofs.One.{route_of_parts}
@@ -49,10 +49,10 @@ left_more plan before done k left here = λ u short is.
 
 -- links that are fewer, and the same tolls
 module _ (n : Topology) (to : ℕ) (linked : ℕ → ℕ → Bool) (tolls : ℕ → ℕ → ℕ → ℕ) (fewer : (u w : ℕ) → n.linked u w ≡ true → linked u w ≡ true)
-    (same : (u w x : ℕ) → n.toll u w x ≡ tolls u w x) (routes : List Best)
-    (were : AreRoutes (record { size = n.size; linked = linked; toll = tolls }) to routes) where
+    (same : (u w x : ℕ) → n.filtered u w x ≡ tolls u w x) (routes : List Best)
+    (were : AreRoutes (record { size = n.size; linked = linked; filtered = tolls }) to routes) where
   abbrev was : Topology
-  was = record { size = n.size; linked = linked; toll = tolls }
+  was = record { size = n.size; linked = linked; filtered = tolls }
 
   abbrev route : ℕ → Best
   route u = route_at n.size routes u
@@ -85,7 +85,7 @@ module _ (n : Topology) (to : ℕ) (linked : ℕ → ℕ → Bool) (tolls : ℕ 
   }
   found_left done u Nowhere other left goes = goes.1
 
-  first_left : (u w : ℕ) (via : Via) → u ≢ to → w < n.size → n.linked u w ≡ true → dist u ≡ suc (n.toll u w (dist w)) → GoesVia was to dist u via
+  first_left : (u w : ℕ) (via : Via) → u ≢ to → w < n.size → n.linked u w ≡ true → dist u ≡ suc (n.filtered u w (dist w)) → GoesVia was to dist u via
       → hop_of via ≤ w
   first_left u w Local other member joined tie goes = absurd (other goes)
   first_left u w (Node x) other member joined tie goes =
@@ -124,21 +124,21 @@ module _ (n : Topology) (to : ℕ) (linked : ℕ → ℕ → Bool) (tolls : ℕ 
 
 -- the routes of a plan before links were cut, of as many nodes
 of_size : (now : PlanView) (v : ℕ) (before : List Best) (w : WereRoutes now v before)
-    → AreRoutes (record { size = now.size; linked = is_linked w.whole; toll = toll w.whole v }) v before
+    → AreRoutes (record { size = now.size; linked = is_linked w.whole; filtered = filtered w.whole v }) v before
 of_size now v before w =
-    subst (λ n. AreRoutes (record { size = n; linked = is_linked w.whole; toll = toll w.whole v }) v before) (sym w.fewer.size) w.routes
+    subst (λ n. AreRoutes (record { size = n; linked = is_linked w.whole; filtered = filtered w.whole v }) v before) (sym w.fewer.size) w.routes
 
 pub one_each : (now : PlanView) (v : ℕ) (before : List Best) → WereRoutes now v before → length before ≡ now.size
 one_each now v before w = (of_size now v before w).one_a_node
 
 pub were_hops : (now : PlanView) (v : ℕ) (before : List Best) → WereRoutes now v before → HasHops now.size before
 were_hops now v before w =
-    hops_within (topology now v) v (is_linked w.whole) (toll w.whole v) w.fewer.linked (same_toll w.whole now w.fewer v) before (of_size now v before w)
+    hops_within (topology now v) v (is_linked w.whole) (filtered w.whole v) w.fewer.linked (same_toll w.whole now w.fewer v) before (of_size now v before w)
 
 pub were_best : (now : PlanView) (v : ℕ) (before : List Best) → WereRoutes now v before → v < now.size → (done : ℕ → Bool) → AreLeft now before done
     → AreBestBefore (topology now v) v (route_at now.size before) done 0
 were_best now v before w short done left =
-    left_best (topology now v) v (is_linked w.whole) (toll w.whole v) w.fewer.linked (same_toll w.whole now w.fewer v) before (of_size now v before w)
+    left_best (topology now v) v (is_linked w.whole) (filtered w.whole v) w.fewer.linked (same_toll w.whole now w.fewer v) before (of_size now v before w)
     short done left
 
 -- the destination's own route is left
@@ -148,7 +148,7 @@ own_left now v before w short =
     left_more now before (replicate now.size false) v
     (λ u within done. absurd (false≢true (sym (get_or-replicate now.size u false true within) ∙ done)))
     (subst (IsLeft (is_linked now) (is_done (replicate now.size false)) v)
-    (sym (goes_local (topology now v) v (is_linked w.whole) (toll w.whole v) w.fewer.linked (same_toll w.whole now w.fewer v) before
+    (sym (goes_local (topology now v) v (is_linked w.whole) (filtered w.whole v) w.fewer.linked (same_toll w.whole now w.fewer v) before
     (of_size now v before w) short))
     tt)
 
@@ -167,7 +167,7 @@ hop_read size before k u w d hops is short long leads =
 -- of the ways through nodes before one
 pub record IsBestBelow (m : Topology) (routes : ℕ → Best) (done : ℕ → Bool) (u n : ℕ) (route : Best) : Type 0 where
   pub found : IsFound m routes done u route.dist route.via
-  pub behind : (w : ℕ) → w < m.size → w < n → done w ≡ true → m.linked u w ≡ true → StaysBehind (suc (m.toll u w (routes w).dist)) w route
+  pub behind : (w : ℕ) → w < m.size → w < n → done w ≡ true → m.linked u w ≡ true → StaysBehind (suc (m.filtered u w (routes w).dist)) w route
 
 module _ (m : Topology) (routes : ℕ → Best) (done : ℕ → Bool) (u : ℕ) where
   -- none
@@ -191,19 +191,19 @@ module _ (m : Topology) (routes : ℕ → Best) (done : ℕ → Bool) (u : ℕ) 
   }
 
   -- one whose way does not come before
-  below_keeps : (n : ℕ) (route : Best) → IsBestBelow m routes done u n route → StaysBehind (suc (m.toll u n (routes n).dist)) n route
+  below_keeps : (n : ℕ) (route : Best) → IsBestBelow m routes done u n route → StaysBehind (suc (m.filtered u n (routes n).dist)) n route
       → IsBestBelow m routes done u (n + 1) route
   below_keeps n route b here = record {
     found = b.found;
     behind = λ w member less is joined. ⊎_elim
-        (λ (same : w ≡ n). subst (λ k. StaysBehind (suc (m.toll u k (routes k).dist)) k route) (sym same) here)
+        (λ (same : w ≡ n). subst (λ k. StaysBehind (suc (m.filtered u k (routes k).dist)) k route) (sym same) here)
         (λ (other : w ≢ n). b.behind w member (omega (arith, less, other)) is joined)
         (cases_eq w n);
   }
 
   -- one whose way does
   below_takes : (n : ℕ) (route : Best) → n < m.size → done n ≡ true → m.linked u n ≡ true → IsBestBelow m routes done u n route
-      → ComesBefore (suc (m.toll u n (routes n).dist)) n route → IsBestBelow m routes done u (n + 1) (way (suc (m.toll u n (routes n).dist)) n)
+      → ComesBefore (suc (m.filtered u n (routes n).dist)) n route → IsBestBelow m routes done u (n + 1) (way (suc (m.filtered u n (routes n).dist)) n)
   below_takes n route short is joined b comes = record {
     found = record {
       member = short;
@@ -211,15 +211,15 @@ module _ (m : Topology) (routes : ℕ → Best) (done : ℕ → Bool) (u : ℕ) 
       linked = joined;
       one_more = refl;
       in_reach = ⊎_elim
-          (λ (shorter : suc (m.toll u n (routes n).dist) < route.dist). omega (arith, shorter, in_bounds route.dist route.via b.found))
-          (λ (tie : (suc (m.toll u n (routes n).dist) ≡ route.dist) × (n < hop_of route.via)).
+          (λ (shorter : suc (m.filtered u n (routes n).dist) < route.dist). omega (arith, shorter, in_bounds route.dist route.via b.found))
+          (λ (tie : (suc (m.filtered u n (routes n).dist) ≡ route.dist) × (n < hop_of route.via)).
           omega (arith, tie.0, tie_in_reach m routes done u route.dist n route.via b.found (tie.1)))
           comes;
     };
     behind = λ w member less there linked. ⊎_elim
-        (λ (same : w ≡ n). subst (λ k. StaysBehind (suc (m.toll u k (routes k).dist)) k (way (suc (m.toll u n (routes n).dist)) n)) (sym same)
+        (λ (same : w ≡ n). subst (λ k. StaysBehind (suc (m.filtered u k (routes k).dist)) k (way (suc (m.filtered u n (routes n).dist)) n)) (sym same)
         (record { near = omega arith; first = λ _. omega arith }))
-        (λ (other : w ≢ n). behind_way (suc (m.toll u n (routes n).dist)) n route comes (suc (m.toll u w (routes w).dist)) w
+        (λ (other : w ≢ n). behind_way (suc (m.filtered u n (routes n).dist)) n route comes (suc (m.filtered u w (routes w).dist)) w
         (b.behind w member (omega (arith, less, other)) there linked))
         (cases_eq w n);
   }
@@ -230,9 +230,9 @@ module _ (m : Topology) (routes : ℕ → Best) (done : ℕ → Bool) (u : ℕ) 
   below_more n old new short is b o =
       ⊎_elim
       (λ (joined : m.linked u n ≡ true). ⊎_elim
-      (λ (taken : (new ≡ way (suc (m.toll u n (routes n).dist)) n) × ComesBefore (suc (m.toll u n (routes n).dist)) n old).
+      (λ (taken : (new ≡ way (suc (m.filtered u n (routes n).dist)) n) × ComesBefore (suc (m.filtered u n (routes n).dist)) n old).
       subst (IsBestBelow m routes done u (n + 1)) (sym (taken.0)) (below_takes n old short is joined b (taken.1)))
-      (λ (kept : (new ≡ old) × StaysBehind (suc (m.toll u n (routes n).dist)) n old).
+      (λ (kept : (new ≡ old) × StaysBehind (suc (m.filtered u n (routes n).dist)) n old).
       subst (IsBestBelow m routes done u (n + 1)) (sym (kept.0)) (below_keeps n old b (kept.1)))
       (o.taken joined))
       (λ (apart : m.linked u n ≡ false). subst (IsBestBelow m routes done u (n + 1)) (sym (o.kept apart)) (below_skips n old b (λ _. apart)))
@@ -247,7 +247,7 @@ best_same : (m : Topology) (a b : ℕ → Best) (done : ℕ → Bool) (u : ℕ) 
     → IsBestSoFar m a done u route → IsBestSoFar m b done u route
 best_same m a b done u route same best = record {
   found = found_same route.dist route.via best.found;
-  behind = λ w member is joined. subst (λ (r : Best). StaysBehind (suc (m.toll u w r.dist)) w route) (sym (same w is)) (best.behind w member is joined);
+  behind = λ w member is joined. subst (λ (r : Best). StaysBehind (suc (m.filtered u w r.dist)) w route) (sym (same w is)) (best.behind w member is joined);
 }
   where
     found_same : (dist : ℕ) (via : Via) → IsFound m a done u dist via → IsFound m b done u dist via
@@ -256,7 +256,7 @@ best_same m a b done u route same best = record {
       member = f.member;
       before = f.before;
       linked = f.linked;
-      one_more = subst (λ (r : Best). dist ≡ suc (m.toll u w r.dist)) (sym (same w f.before)) f.one_more;
+      one_more = subst (λ (r : Best). dist ≡ suc (m.filtered u w r.dist)) (sym (same w f.before)) f.one_more;
       in_reach = f.in_reach;
     }
     found_same dist Nowhere f = f

@@ -10,13 +10,13 @@ use Rattle.routing_domain.specs.Rest.{IsRest, LeadsThrough, Topology}
 use Rattle.routing_domain.specs.Ways.{GoesVia}
 use Rattle.domain_routes.specs.OfDomain.{IsPlanOf}
 use Rattle.domain_routes.specs.PlanView.{PlanView, opening_of, peer}
-use Rattle.domain_routes.specs.Topology.{toll, topology}
+use Rattle.domain_routes.specs.Topology.{filtered, topology}
 
 -- two topologies of one size, with the same links and tolls between their nodes
 pub record AreAlike (m n : Topology) : Type 0 where
   pub size : m.size ≡ n.size
   pub linked : (u w : ℕ) → u < m.size → w < m.size → m.linked u w ≡ n.linked u w
-  pub toll : (u w x : ℕ) → u < m.size → w < m.size → m.toll u w x ≡ n.toll u w x
+  pub filtered : (u w x : ℕ) → u < m.size → w < m.size → m.filtered u w x ≡ n.filtered u w x
 
 pub leads_alike : (m n : Topology) → AreAlike m n → (to : ℕ) (dist : ℕ → ℕ) (u w : ℕ) → u < m.size → LeadsThrough m to dist u w →
     LeadsThrough n to dist u w
@@ -24,7 +24,7 @@ leads_alike m n s to dist u w short l = record {
   other = l.other;
   member = omega (arith, l.member, s.size);
   linked = sym (s.linked u w short l.member) ∙ l.linked;
-  one_more = l.one_more ∙ ap suc (s.toll u w (dist w) short l.member);
+  one_more = l.one_more ∙ ap suc (s.filtered u w (dist w) short l.member);
   in_reach = omega (arith, l.in_reach, s.size);
 }
 
@@ -35,7 +35,7 @@ rest_alike m n s to dist r = record {
   least = λ u short other w member linked.
       let here : u < m.size = omega (arith, short, s.size) in
       let there : w < m.size = omega (arith, member, s.size) in
-      omega (arith, s.toll u w (dist w) here there, r.least u here other w there (s.linked u w here there ∙ linked));
+      omega (arith, s.filtered u w (dist w) here there, r.least u here other w there (s.linked u w here there ∙ linked));
   led = λ u short other reach.
       let here : u < m.size = omega (arith, short, s.size) in
       let l : (w : ℕ) × LeadsThrough m to dist u w = r.led u here other (omega (arith, reach, s.size)) in
@@ -48,7 +48,7 @@ unfolding filtered_distance
 same_filtered_distance o p size prefixes None v d = refl
 same_filtered_distance o p size prefixes (Some f) v d = cc
 
-toll_alike : (d : Domain) (p : PlanView) → IsPlanOf d p → (v u w x : ℕ) → u < p.size → w < p.size → toll p v u w x ≡ imported d u w v (exported d w u v x)
+toll_alike : (d : Domain) (p : PlanView) → IsPlanOf d p → (v u w x : ℕ) → u < p.size → w < p.size → filtered p v u w x ≡ imported d u w v (exported d w u v x)
 toll_alike d p s v u w x short within =
     same_filtered_distance (opening_of p) (d.router u).opening (sym (s.sizes u short)) (sym (s.prefixes u short)) (peer p u w).imports v
     (filtered_distance (opening_of p) (peer p w u).exports v x)
@@ -62,7 +62,7 @@ pub alike : (d : Domain) (p : PlanView) → IsPlanOf d p → (v : ℕ) → AreAl
 alike d p s v = record {
   size = sym s.size;
   linked = λ u w short within. sym (s.linked u w short within);
-  toll = λ u w x short within. toll_alike d p s v u w x short within;
+  filtered = λ u w x short within. toll_alike d p s v u w x short within;
 }
 
 -- and back
@@ -70,7 +70,7 @@ pub alike_back : (m n : Topology) → AreAlike m n → AreAlike n m
 alike_back m n s = record {
   size = sym s.size;
   linked = λ u w short within. sym (s.linked u w (omega (arith, short, s.size)) (omega (arith, within, s.size)));
-  toll = λ u w x short within. sym (s.toll u w x (omega (arith, short, s.size)) (omega (arith, within, s.size)));
+  filtered = λ u w x short within. sym (s.filtered u w x (omega (arith, short, s.size)) (omega (arith, within, s.size)));
 }
 
 -- through whom a route goes in the one, it goes in the other

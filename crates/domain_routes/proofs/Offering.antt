@@ -31,26 +31,26 @@ found_still m to old new before after w r u dist (Node x) f =
       member = f.member;
       before = done;
       linked = f.linked;
-      one_more = subst (λ b. dist ≡ suc (m.toll u x b.dist)) (sym (r.keeps x f.member done)) f.one_more;
+      one_more = subst (λ b. dist ≡ suc (m.filtered u x b.dist)) (sym (r.keeps x f.member done)) f.one_more;
       in_reach = f.in_reach;
     }
 found_still m to old new before after w r u dist Nowhere f = f
 
 -- a route before which the way through the node does not come, and none that came before it
 behind_still : (m : Topology) (to : ℕ) (old new : ℕ → Best) (before after : ℕ → Bool) (w : ℕ) → IsStep m to old new before after w →
-    (u : ℕ) → (route : Best) → (m.linked u w ≡ true → StaysBehind (suc (m.toll u w (old w).dist)) w route) →
-    ((x : ℕ) → x < m.size → before x ≡ true → m.linked u x ≡ true → StaysBehind (suc (m.toll u x (old x).dist)) x route) →
-    (x : ℕ) → x < m.size → after x ≡ true → m.linked u x ≡ true → StaysBehind (suc (m.toll u x (new x).dist)) x route
+    (u : ℕ) → (route : Best) → (m.linked u w ≡ true → StaysBehind (suc (m.filtered u w (old w).dist)) w route) →
+    ((x : ℕ) → x < m.size → before x ≡ true → m.linked u x ≡ true → StaysBehind (suc (m.filtered u x (old x).dist)) x route) →
+    (x : ℕ) → x < m.size → after x ≡ true → m.linked u x ≡ true → StaysBehind (suc (m.filtered u x (new x).dist)) x route
 behind_still m to old new before after w r u route here there x short done linked =
-    subst (λ (b : Best). StaysBehind (suc (m.toll u x b.dist)) x route) (sym (r.keeps x short done))
+    subst (λ (b : Best). StaysBehind (suc (m.filtered u x b.dist)) x route) (sym (r.keeps x short done))
     (⊎_elim
-    (λ (same : x ≡ w). subst (λ n. m.linked u n ≡ true → StaysBehind (suc (m.toll u n (old n).dist)) n route) (sym same) here linked)
+    (λ (same : x ≡ w). subst (λ n. m.linked u n ≡ true → StaysBehind (suc (m.filtered u n (old n).dist)) n route) (sym same) here linked)
     (λ (other : x ≡ w → ⊥). there x short (sym (r.others x other) ∙ done) linked)
     (cases_eq x w))
 
 -- a route that stays is the best so far
 best_kept : (m : Topology) (to : ℕ) (old new : ℕ → Best) (before after : ℕ → Bool) (w : ℕ) → IsStep m to old new before after w →
-    (u : ℕ) → IsBestSoFar m old before u (old u) → (m.linked u w ≡ true → StaysBehind (suc (m.toll u w (old w).dist)) w (old u)) →
+    (u : ℕ) → IsBestSoFar m old before u (old u) → (m.linked u w ≡ true → StaysBehind (suc (m.filtered u w (old w).dist)) w (old u)) →
     IsBestSoFar m new after u (old u)
 best_kept m to old new before after w r u best here = record {
   found = found_still m to old new before after w r u (old u).dist (old u).via best.found;
@@ -81,25 +81,25 @@ behind_way length hop route comes more other behind =
 
 -- a way that is taken is the best so far
 best_taken : (m : Topology) (to : ℕ) (old new : ℕ → Best) (before after : ℕ → Bool) (w : ℕ) → IsStep m to old new before after w →
-    (u : ℕ) → u < m.size → IsBestSoFar m old before u (old u) → m.linked u w ≡ true → ComesBefore (suc (m.toll u w (old w).dist)) w (old u) →
-    IsBestSoFar m new after u (way (suc (m.toll u w (old w).dist)) w)
+    (u : ℕ) → u < m.size → IsBestSoFar m old before u (old u) → m.linked u w ≡ true → ComesBefore (suc (m.filtered u w (old w).dist)) w (old u) →
+    IsBestSoFar m new after u (way (suc (m.filtered u w (old w).dist)) w)
 best_taken m to old new before after w r u short best linked comes =
-    let length : ℕ = suc (m.toll u w (old w).dist) in
+    let length : ℕ = suc (m.filtered u w (old w).dist) in
     record {
       found = record {
         member = r.member;
         before = r.done;
         linked = linked;
-        one_more = ap (λ (b : Best). suc (m.toll u w b.dist)) (sym (r.keeps w r.member r.done));
+        one_more = ap (λ (b : Best). suc (m.filtered u w b.dist)) (sym (r.keeps w r.member r.done));
         in_reach = ⊎_elim
-            (λ (shorter : suc (m.toll u w (old w).dist) < (old u).dist). omega (arith, shorter, r.settled.bounded u short))
-            (λ (tie : (suc (m.toll u w (old w).dist) ≡ (old u).dist) × (w < hop_of (old u).via)).
+            (λ (shorter : suc (m.filtered u w (old w).dist) < (old u).dist). omega (arith, shorter, r.settled.bounded u short))
+            (λ (tie : (suc (m.filtered u w (old w).dist) ≡ (old u).dist) × (w < hop_of (old u).via)).
             omega (arith, tie.0, tie_in_reach m old before u (old u).dist w (old u).via best.found (tie.1)))
             comes;
       };
-      behind = λ x within done there. behind_still m to old new before after w r u (way (suc (m.toll u w (old w).dist)) w)
+      behind = λ x within done there. behind_still m to old new before after w r u (way (suc (m.filtered u w (old w).dist)) w)
           (λ _. record { near = omega arith; first = λ _. omega arith })
-          (λ y member was joined. behind_way (suc (m.toll u w (old w).dist)) w (old u) comes (suc (m.toll u y (old y).dist)) y (best.behind y member was joined))
+          (λ y member was joined. behind_way (suc (m.filtered u w (old w).dist)) w (old u) comes (suc (m.filtered u y (old y).dist)) y (best.behind y member was joined))
           x within done there;
     }
 
@@ -109,9 +109,9 @@ best_after m to old new before after w r u short other =
     let best : IsBestSoFar m old before u (old u) = r.settled.best u short other (inr short) in
     ⊎_elim
     (λ (linked : m.linked u w ≡ true). ⊎_elim
-    (λ (taken : (new u ≡ way (suc (m.toll u w (old w).dist)) w) × ComesBefore (suc (m.toll u w (old w).dist)) w (old u)).
+    (λ (taken : (new u ≡ way (suc (m.filtered u w (old w).dist)) w) × ComesBefore (suc (m.filtered u w (old w).dist)) w (old u)).
     subst (IsBestSoFar m new after u) (sym (taken.0)) (best_taken m to old new before after w r u short best linked (taken.1)))
-    (λ (kept : (new u ≡ old u) × StaysBehind (suc (m.toll u w (old w).dist)) w (old u)).
+    (λ (kept : (new u ≡ old u) × StaysBehind (suc (m.filtered u w (old w).dist)) w (old u)).
     subst (IsBestSoFar m new after u) (sym (kept.0)) (best_kept m to old new before after w r u best (λ _. kept.1)))
     ((r.offered u short).taken linked))
     (λ (apart : m.linked u w ≡ false).

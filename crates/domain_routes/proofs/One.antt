@@ -18,7 +18,7 @@ leads_too m to a b same u w short l = record {
   other = l.other;
   member = l.member;
   linked = l.linked;
-  one_more = sym (same u short) ∙ l.one_more ∙ ap (λ n. suc (m.toll u w n)) (same w l.member);
+  one_more = sym (same u short) ∙ l.one_more ∙ ap (λ n. suc (m.filtered u w n)) (same w l.member);
   in_reach = omega (arith, same u short, l.in_reach);
 }
 

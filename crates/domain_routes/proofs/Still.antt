@@ -21,7 +21,7 @@ use Rattle.domain_routes.specs.PlanView.{HasPlaces, IsPlan, PeerView, PlanView, 
 use Rattle.domain_routes.specs.Routes.{AreRoutes, route_at}
 use Rattle.domain_routes.specs.Still.{BetweenView, HasFewerLinks, HasSameFilters, IsBetween, IsSince, StaysBetween, after_anew, after_filter, after_link}
 use Rattle.domain_routes.specs.Still.{after_links_below, is_none, is_other, is_unfiltered, least_below, lesser_of_two, loose_between, one_below, still_between, unchanged}
-use Rattle.domain_routes.specs.Topology.{toll, topology}
+use Rattle.domain_routes.specs.Topology.{filtered, topology}
 use Rattle.domain_routes.proofs.Filtering.{unfiltered_plan}
 use Rattle.domain_routes.proofs.Linking.{AreEnds, IsLink, cases_ends, linked_here, linked_there, linking_keeps, linking_plan}
 use Rattle.domain_routes.proofs.OfDomain.{AreAlike, alike, goes_alike, rest_alike, same_filtered_distance}
@@ -397,7 +397,7 @@ between_none false false true g f = g refl
 between_none false false false g f = refl
 
 -- the same filters make the same toll
-toll_at : (p q : PlanView) → p.size ≡ q.size → p.prefixes ≡ q.prefixes → (v u w x : ℕ) → HasSameFilters p q u w → toll p v u w x ≡ toll q v u w x
+toll_at : (p q : PlanView) → p.size ≡ q.size → p.prefixes ≡ q.prefixes → (v u w x : ℕ) → HasSameFilters p q u w → filtered p v u w x ≡ filtered q v u w x
 toll_at p q size prefixes v u w x f =
     same_filtered_distance (opening_of p) (opening_of q) size prefixes (peer p u w).imports v
     (filtered_distance (opening_of p) (peer p w u).exports v x)
@@ -406,7 +406,7 @@ toll_at p q size prefixes v u w x f =
     ∙ ap (λ g. filtered_distance (opening_of q) g v (filtered_distance (opening_of q) (peer p w u).exports v x)) f.imports
     ∙ ap (λ g. filtered_distance (opening_of q) (peer q u w).imports v (filtered_distance (opening_of q) g v x)) f.exports
 
-pub same_toll : (p q : PlanView) → HasFewerLinks p q → (v u w x : ℕ) → toll q v u w x ≡ toll p v u w x
+pub same_toll : (p q : PlanView) → HasFewerLinks p q → (v u w x : ℕ) → filtered q v u w x ≡ filtered p v u w x
 same_toll p q f v u w x = toll_at q p f.size f.prefixes v u w x (record { imports = f.imports u w; exports = f.exports w u })
 
 -- without filters a distance stays
@@ -415,7 +415,7 @@ unfolding filtered_distance
 passes o None v d h = refl
 passes o (Some f) v d h = never h
 
-no_toll : (p : PlanView) (v u w x : ℕ) → is_unfiltered p u w ≡ true → toll p v u w x ≡ x
+no_toll : (p : PlanView) (v u w x : ℕ) → is_unfiltered p u w ≡ true → filtered p v u w x ≡ x
 no_toll p v u w x h =
     passes (opening_of p) (peer p u w).imports v (filtered_distance (opening_of p) (peer p w u).exports v x)
     (and_left (is_none (peer p u w).imports) (is_none (peer p w u).exports) h)
@@ -426,30 +426,30 @@ module _ (b : BetweenView) (p : PlanView) (s : IsSince b p) (v : ℕ) where
   loose = loose_between b
 
   -- where filters may have been replaced, the greatest has none
-  loose_toll : (u w x : ℕ) → loose.filters u w ≡ true → toll b.most v u w x ≡ (if loose.filters u w then x else toll p v u w x)
+  loose_toll : (u w x : ℕ) → loose.filters u w ≡ true → filtered b.most v u w x ≡ (if loose.filters u w then x else filtered p v u w x)
   loose_toll u w x h =
       no_toll b.most v u w x (and_right (is_other (is_linked b.most u w) (is_linked b.least u w)) (is_unfiltered b.most u w) h)
-      ∙ ap (λ (t : Bool). if t then x else toll p v u w x) (sym h)
+      ∙ ap (λ (t : Bool). if t then x else filtered p v u w x) (sym h)
 
-  kept_toll : (u w x : ℕ) → loose.filters u w ≡ false → toll b.most v u w x ≡ (if loose.filters u w then x else toll p v u w x)
+  kept_toll : (u w x : ℕ) → loose.filters u w ≡ false → filtered b.most v u w x ≡ (if loose.filters u w then x else filtered p v u w x)
   kept_toll u w x h = ⊎_elim
       (λ (is : loose.filters u w ≡ true). never (sym h ∙ is))
       (λ (same : HasSameFilters b.most p u w).
-      toll_at b.most p s.between.size s.between.prefixes v u w x same ∙ ap (λ (t : Bool). if t then x else toll p v u w x) (sym h))
+      toll_at b.most p s.between.size s.between.prefixes v u w x same ∙ ap (λ (t : Bool). if t then x else filtered p v u w x) (sym h))
       (s.between.filters u w)
 
   top : AreAlike (topology b.most v) (with_all (topology p v) loose)
   top = record {
     size = s.between.size;
     linked = λ u w _ _. between_all (is_linked b.most u w) (is_linked b.least u w) (is_linked p u w) (s.between.more u w) (s.between.fewer u w);
-    toll = λ u w x _ _. ⊎_elim (λ is. loose_toll u w x is) (λ isnt. kept_toll u w x isnt) (cases_Bool (loose.filters u w));
+    filtered = λ u w x _ _. ⊎_elim (λ is. loose_toll u w x is) (λ isnt. kept_toll u w x isnt) (cases_Bool (loose.filters u w));
   }
 
   bottom : AreAlike (topology b.least v) (with_none (topology p v) loose)
   bottom = record {
     size = s.least.size;
     linked = λ u w _ _. between_none (is_linked b.most u w) (is_linked b.least u w) (is_linked p u w) (s.between.more u w) (s.between.fewer u w);
-    toll = λ u w x _ _. same_toll p b.least s.least v u w x;
+    filtered = λ u w x _ _. same_toll p b.least s.least v u w x;
   }
 
 -- so it is in a domain with the links and filters of a plan
@@ -457,21 +457,21 @@ all_alike : (m n : Topology) (loose : Loose) → AreAlike m n → AreAlike (with
 all_alike m n loose s = record {
   size = s.size;
   linked = λ u w short within. ap (λ (b : Bool). if loose.links u w then true else b) (s.linked u w short within);
-  toll = λ u w x short within. ap (λ y. if loose.filters u w then x else y) (s.toll u w x short within);
+  filtered = λ u w x short within. ap (λ y. if loose.filters u w then x else y) (s.filtered u w x short within);
 }
 
 none_alike : (m n : Topology) (loose : Loose) → AreAlike m n → AreAlike (with_none m loose) (with_none n loose)
 none_alike m n loose s = record {
   size = s.size;
   linked = λ u w short within. ap (λ (b : Bool). if loose.links u w then false else b) (s.linked u w short within);
-  toll = λ u w x short within. s.toll u w x short within;
+  filtered = λ u w x short within. s.filtered u w x short within;
 }
 
 alike_on : (m n o : Topology) → AreAlike m n → AreAlike n o → AreAlike m o
 alike_on m n o one next = record {
   size = one.size ∙ next.size;
   linked = λ u w short within. one.linked u w short within ∙ next.linked u w (omega (arith, short, one.size)) (omega (arith, within, one.size));
-  toll = λ u w x short within. one.toll u w x short within ∙ next.toll u w x (omega (arith, short, one.size)) (omega (arith, within, one.size));
+  filtered = λ u w x short within. one.filtered u w x short within ∙ next.filtered u w x (omega (arith, short, one.size)) (omega (arith, within, one.size));
 }
 
 is_loose : (b : BetweenView) → IsPlan b.most → IsPlan b.least → IsLoose (loose_between b)

@@ -24,7 +24,7 @@ pub record LeadsOver (m : Topology) (routes : ℕ → Best) (done : ℕ → Bool
   pub member : w < m.size
   pub before : done w ≡ true
   pub linked : m.linked u w ≡ true
-  pub one_more : dist ≡ suc (m.toll u w (routes w).dist)
+  pub one_more : dist ≡ suc (m.filtered u w (routes w).dist)
   pub in_reach : dist < m.size
 
 abbrev pub IsFound : Topology → (ℕ → Best) → (ℕ → Bool) → ℕ → ℕ → Via → Type 0
@@ -36,7 +36,7 @@ IsFound m routes done u dist Nowhere = dist ≡ m.size
 pub record IsBestSoFar (m : Topology) (routes : ℕ → Best) (done : ℕ → Bool) (u : ℕ) (route : Best) : Type 0 where
   pub found : IsFound m routes done u route.dist route.via
   pub behind : (w : ℕ) → w < m.size → done w ≡ true → m.linked u w ≡ true →
-      StaysBehind (suc (m.toll u w (routes w).dist)) w route
+      StaysBehind (suc (m.filtered u w (routes w).dist)) w route
 
 pub record AreBestSoFar (m : Topology) (to : ℕ) (routes : ℕ → Best) (done : ℕ → Bool) : Type 0 where
   pub own : routes to ≡ own_route
@@ -46,7 +46,7 @@ pub record AreBestSoFar (m : Topology) (to : ℕ) (routes : ℕ → Best) (done 
 
 -- a node took the way through another at this distance, if they are neighbours and it came before the node's route
 pub record IsOffered (m : Topology) (w dist u : ℕ) (old new : Best) : Type 0 where
-  pub taken : m.linked u w ≡ true → IsBetter old (suc (m.toll u w dist)) w new
+  pub taken : m.linked u w ≡ true → IsBetter old (suc (m.filtered u w dist)) w new
   pub kept : m.linked u w ≡ false → new ≡ old
 
 -- each node was offered the way through this one

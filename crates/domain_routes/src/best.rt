@@ -26,22 +26,22 @@ fn hop_of(via: Via) -> u16
 
 /// Whether a way through a neighbour, one more than what its distance comes to, comes before a route: it is shorter, or as short
 /// through the neighbour of the lesser number.
-pub(crate) fn comes_before(route: Best, toll: u16, hop: u16) -> bool
-    ensures { MatchBool result (ComesBefore (suc toll) hop route) (StaysBehind (suc toll) hop route) }
+pub(crate) fn comes_before(route: Best, filtered: u16, hop: u16) -> bool
+    ensures { MatchBool result (ComesBefore (suc filtered) hop route) (StaysBehind (suc filtered) hop route) }
 {
-    let length = u32::from(toll) + 1;
+    let length = u32::from(filtered) + 1;
     let dist = u32::from(route.dist);
     length < dist || (length == dist && hop < hop_of(route.via))
 }
 
 /// The better of a route and the way through a neighbour, one more than what its distance comes to. Of two that are as
 /// short, the one through the neighbour of the lesser number.
-pub(crate) fn better(route: Best, toll: u16, hop: u16) -> Best
-    ensures { IsBetter route (suc toll) hop result }
+pub(crate) fn better(route: Best, filtered: u16, hop: u16) -> Best
+    ensures { IsBetter route (suc filtered) hop result }
 {
-    if comes_before(route, toll, hop) {
+    if comes_before(route, filtered, hop) {
         Best {
-            dist: toll + 1,
+            dist: filtered + 1,
             via: Via::Node(hop),
         }
     } else {

@@ -94,7 +94,7 @@ fn offered(plan: &Plan, v: u16, u: u16, w: u16, dist: u16, route: Best) -> Best
     ensures { IsOffered (topology plan.now v) w dist u route result }
 {
     if plan.is_linked(u, w) {
-        better(route, plan.toll(v, u, w, dist), w)
+        better(route, plan.filtered(v, u, w, dist), w)
     } else {
         route
     }
@@ -187,7 +187,7 @@ fn stays(plan: &Plan, v: u16, u: u16, w: u16, dist: u16, route: Best) -> bool
     if !plan.is_linked(u, w) {
         return true;
     }
-    !comes_before(route, plan.toll(v, u, w, dist), w)
+    !comes_before(route, plan.filtered(v, u, w, dist), w)
 }
 
 /// A node is offered the way through another at this distance, if they are neighbours. Whether it keeps its route, where it is done.

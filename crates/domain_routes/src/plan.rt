@@ -12,7 +12,7 @@ ghost use Rattle.std.specs.Option.{SomeIff};
 ghost use Rattle.domain_routes.specs.Edits.{exporting, importing, linking, unfiltered, unlinked, with_prefix};
 ghost use Rattle.domain_routes.specs.PlanView.{IsPlan, IsSize, is_linked, opening_of, peer, stranger};
 ghost use Rattle.domain_routes.specs.Still.{HasFewerLinks};
-ghost use Rattle.domain_routes.specs.Topology.{toll};
+ghost use Rattle.domain_routes.specs.Topology.{filtered};
 
 use crate::peer::Peer;
 use crate::row::Row;
@@ -210,12 +210,12 @@ impl Plan {
     }
 
     /// What the second node's distance from a destination comes to at the first, under the filters between them.
-    pub(crate) fn toll(&self, v: u16, u: u16, w: u16, dist: u16) -> u16
+    pub(crate) fn filtered(&self, v: u16, u: u16, w: u16, dist: u16) -> u16
         requires v { v < self.now.size }
         requires u { u < self.now.size }
         requires w { w < self.now.size }
         requires reachable { dist ≤ self.now.size }
-        ensures value { result ≡ toll self.now v u w dist }
+        ensures value { result ≡ filtered self.now v u w dist }
         ensures reachable { result ≤ self.now.size }
     {
         let told = filtered_distance(&self.opening, self.peer(w, u).exports(), v, dist);

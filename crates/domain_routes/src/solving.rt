@@ -53,7 +53,7 @@ fn offer_one(plan: &Plan, row: &Row, v: u16, w: u16, dist: u16, u: u16, routes: 
 {
     if row.peer(u).is_linked() {
         let k = usize::from(u);
-        routes[k] = better(routes[k], plan.toll(v, u, w, dist), w);
+        routes[k] = better(routes[k], plan.filtered(v, u, w, dist), w);
     }
 }
 

@@ -85,7 +85,10 @@ fn parse_single<'a>(alloc: Global, input: Input<'a>) -> Result<(Expr, Input<'a>)
 }
 
 /// An operand without parentheses.
-pub fn parse_atom<'a>(alloc: Global, input: Input<'a>) -> Result<(Expr, Input<'a>), ParseFault>
+pub(crate) fn parse_atom<'a>(
+    alloc: Global,
+    input: Input<'a>,
+) -> Result<(Expr, Input<'a>), ParseFault>
     ensures { Reads view expr_kept spec.atom_of input.entry result }
 {
     match input.eat(Symbol::Defined) {
@@ -136,7 +139,7 @@ fn parse_suffix<'a>(input: Input<'a>) -> Result<(Suffix, Input<'a>), ParseFault>
 
 /// An operand's suffixes, if any follow.
 #[inline(always)]
-pub fn parse_suffixes<'a>(
+pub(crate) fn parse_suffixes<'a>(
     alloc: Global,
     inner: Expr,
     input: Input<'a>,

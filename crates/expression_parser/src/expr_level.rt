@@ -119,7 +119,7 @@ fn op_of(level: Level, symbol: Symbol) -> Option<Op>
 
 /// An operator of a level, if one comes first, and what is left after it.
 #[inline(always)]
-pub fn eat_operator<'a>(level: Level, input: Input<'a>) -> Option<(Op, Input<'a>)>
+pub(crate) fn eat_operator<'a>(level: Level, input: Input<'a>) -> Option<(Op, Input<'a>)>
     ensures found { Finds (λ x. (x.0, remaining x.1)) result (spec.an_operator level (remaining input.entry)) }
     ensures shorter { IfSome result (λ x. length (remaining x.1) < length (remaining input.entry)) }
     ensures placed { IfSome result (λ x. Spans (Some (first_place input.entry) ∷ []) input.entry x.1) }
@@ -152,7 +152,7 @@ fn first_level(input: Input) -> Option<Level>
 
 /// The level of the operator that comes first, if that binds more strongly than those of `outer` and less than those of `inner`.
 #[inline(always)]
-pub fn next_level(outer: Option<Level>, inner: Option<Level>, input: Input) -> Option<Level>
+pub(crate) fn next_level(outer: Option<Level>, inner: Option<Level>, input: Input) -> Option<Level>
     ensures { MatchOption result
         ((level : Level) → levels.IsBetween outer inner level → spec.an_operator level (remaining input.entry) ≡ None)
         (λ found. levels.IsBetween outer inner found × ((level : Level) → level ≢ found → spec.an_operator level (remaining input.entry) ≡ None)) }
@@ -166,7 +166,7 @@ pub fn next_level(outer: Option<Level>, inner: Option<Level>, input: Input) -> O
 }
 
 /// The kind of a chain of `&&` or `||`, by the operator that comes first.
-pub fn join_level(input: Input) -> Level
+pub(crate) fn join_level(input: Input) -> Level
     ensures { result ≡ spec.level_of (remaining input.entry) }
 {
     match input.eat(Symbol::Or) {

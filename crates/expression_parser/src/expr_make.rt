@@ -6,7 +6,7 @@ use crate::tree::{Expr, Membership, Op, Set, Suffix};
 use std::alloc::{AllocError, Global};
 
 /// An expression in parentheses, the first of which has the place `at`.
-pub fn group(alloc: Global, at: usize, inner: Expr) -> Result<Expr, AllocError>
+pub(crate) fn group(alloc: Global, at: usize, inner: Expr) -> Result<Expr, AllocError>
     ensures is { IfOk result (λ t. view t ≡ ExprView.group (view inner)) }
     ensures placed { IfOk result (λ t. expr_kept t ≡ Some at ∷ (expr_kept inner ++ None ∷ [])) }
 {
@@ -17,7 +17,7 @@ pub fn group(alloc: Global, at: usize, inner: Expr) -> Result<Expr, AllocError>
 }
 
 /// `!`, which has the place `at`, and its operand.
-pub fn negation(alloc: Global, at: usize, inner: Expr) -> Result<Expr, AllocError>
+pub(crate) fn negation(alloc: Global, at: usize, inner: Expr) -> Result<Expr, AllocError>
     ensures is { IfOk result (λ t. view t ≡ ExprView.negation (view inner)) }
     ensures placed { IfOk result (λ t. expr_kept t ≡ Some at ∷ expr_kept inner) }
 {
@@ -26,7 +26,11 @@ pub fn negation(alloc: Global, at: usize, inner: Expr) -> Result<Expr, AllocErro
 
 /// An operand and the operators after it.
 #[inline(always)]
-pub fn chain(alloc: Global, first: Expr, more: Vec<(usize, Op, Expr)>) -> Result<Expr, AllocError>
+pub(crate) fn chain(
+    alloc: Global,
+    first: Expr,
+    more: Vec<(usize, Op, Expr)>,
+) -> Result<Expr, AllocError>
     ensures is { IfOk result (λ t. view t ≡ chain_of (view first) (view_more more.items)) }
     ensures placed { IfOk result (λ t. expr_kept t ≡ expr_kept first ++ joined (map operand_kept (kept_more more.items))) }
 {
@@ -34,7 +38,13 @@ pub fn chain(alloc: Global, first: Expr, more: Vec<(usize, Op, Expr)>) -> Result
 }
 
 /// Two operands and the operator between them, which has the place `at`.
-pub fn binary(alloc: Global, at: usize, op: Op, left: Expr, right: Expr) -> Result<Expr, AllocError>
+pub(crate) fn binary(
+    alloc: Global,
+    at: usize,
+    op: Op,
+    left: Expr,
+    right: Expr,
+) -> Result<Expr, AllocError>
     ensures is { IfOk result (λ t. view t ≡ ExprView.binary op (view left) (view right)) }
     ensures placed { IfOk result (λ t. expr_kept t ≡ expr_kept left ++ Some at ∷ expr_kept right) }
 {
@@ -42,7 +52,12 @@ pub fn binary(alloc: Global, at: usize, op: Op, left: Expr, right: Expr) -> Resu
 }
 
 /// An operand and a set.
-pub fn member(alloc: Global, op: Membership, left: Expr, set: Set) -> Result<Expr, AllocError>
+pub(crate) fn member(
+    alloc: Global,
+    op: Membership,
+    left: Expr,
+    set: Set,
+) -> Result<Expr, AllocError>
     ensures is { IfOk result (λ t. view t ≡ ExprView.member op (view left) (view_members set.members)) }
     ensures placed { IfOk result (λ t. expr_kept t ≡ expr_kept left ++ None ∷ set_kept set) }
 {
@@ -50,7 +65,11 @@ pub fn member(alloc: Global, op: Membership, left: Expr, set: Set) -> Result<Exp
 }
 
 /// An operand and its suffixes.
-pub fn suffixed(alloc: Global, inner: Expr, suffixes: Vec<Suffix>) -> Result<Expr, AllocError>
+pub(crate) fn suffixed(
+    alloc: Global,
+    inner: Expr,
+    suffixes: Vec<Suffix>,
+) -> Result<Expr, AllocError>
     ensures is { IfOk result (λ t. view t ≡ suffixes_of (view inner) suffixes.items) }
     ensures placed { IfOk result (λ t. expr_kept t ≡ expr_kept inner ++ joined (map suffix_kept suffixes.items)) }
 {
@@ -58,7 +77,7 @@ pub fn suffixed(alloc: Global, inner: Expr, suffixes: Vec<Suffix>) -> Result<Exp
 }
 
 /// An operand and one suffix.
-pub fn suffixed_once(alloc: Global, inner: Expr, suffix: Suffix) -> Result<Expr, AllocError>
+pub(crate) fn suffixed_once(alloc: Global, inner: Expr, suffix: Suffix) -> Result<Expr, AllocError>
     ensures is { IfOk result (λ t. view t ≡ ExprView.suffixed (view inner) suffix) }
     ensures placed { IfOk result (λ t. expr_kept t ≡ expr_kept inner ++ suffix_kept suffix) }
 {

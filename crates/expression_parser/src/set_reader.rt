@@ -173,7 +173,7 @@ fn parse_range_set<'a>(
 }
 
 /// A set, after its `[`, which has the place `at`.
-pub fn parse_set<'a>(
+pub(crate) fn parse_set<'a>(
     alloc: Global,
     at: usize,
     input: Input<'a>,

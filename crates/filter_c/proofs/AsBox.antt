@@ -23,7 +23,7 @@ use Rattle.std_heap.proofs.Global.TheLaws as heap
 use Rattle.filter_c.specs.Handles.{block_owns, handle_owns}
 use Rattle.filter_c.specs.contracts.block.Block as Block
 use Rattle.filter_c.specs.contracts.owner.Owner as Owner
-use Rattle.filter_c.specs.contracts.handle.Filter as Filter
+use Rattle.filter_c.specs.contracts.handle.FilterHandle as FilterHandle
 use Rattle.filter_c.proofs.owner.Owner.TheLaws as owner
 
 -- The heap's handle as a call passes it: its layout without a name. Its drop does nothing.
@@ -52,7 +52,7 @@ abbrev pub FromBlock : Slot 0
 FromBlock = plain (λ _. Block.the_row Owner.the_row)
 
 abbrev pub FromHandle : Slot 0
-FromHandle = plain (λ _. Filter.the_row)
+FromHandle = plain (λ _. FilterHandle.the_row)
 
 -- a struct of one pointer, as it is stored
 abbrev pub pointer_word : Ptr → Val
@@ -79,13 +79,13 @@ module _ {M : Type 1} {𝓤 : Ura M} {𝓛 : Logic 𝓤} {K : Type 0} {Γ : List
 
   -- a handle owns what its block does, or nothing
   pub handle_in : K → (p : Ptr) (x : Option (Owner.the_row).Denot)
-      → Step K 𝓛 (‵ ((Filter.the_row).own_val (record { at = p; value = x }) (pointer_word p ∷ [])) ∷ Γ) G (‵ (handle_owns Owner.the_row p x) ∷ Γ) G
+      → Step K 𝓛 (‵ ((FilterHandle.the_row).own_val (record { at = p; value = x }) (pointer_word p ∷ [])) ∷ Γ) G (‵ (handle_owns Owner.the_row p x) ∷ Γ) G
   handle_in t p x = step (λ s. nothing t $ feq_i t (List Val) (ptr_val p ∷ []) (ptr_val p ∷ []) refl $ fjoin t $
       feq_i t (List Val) (pointer_word p ∷ []) (pointer_word p ∷ []) refl $ fjoin t $
-      fpack t (Valss (RawPtr ∷ [])) (within (shape Filter.the_type) (p, tt) (pointer_word p ∷ [])) (ptr_val p ∷ [], tt) $ fjoin t $ s)
+      fpack t (Valss (RawPtr ∷ [])) (within (shape FilterHandle.the_type) (p, tt) (pointer_word p ∷ [])) (ptr_val p ∷ [], tt) $ fjoin t $ s)
 
-  pub handle_out : K → (d : (Filter.the_row).Denot) (vs : List Val)
+  pub handle_out : K → (d : (FilterHandle.the_row).Denot) (vs : List Val)
       → (vs ≡ pointer_word d.at ∷ [] → Seq K 𝓛 (‵ (handle_owns Owner.the_row d.at d.value) ∷ Γ) G)
-      → Seq K 𝓛 (‵ ((Filter.the_row).own_val d vs) ∷ Γ) G
+      → Seq K 𝓛 (‵ ((FilterHandle.the_row).own_val d vs) ∷ Γ) G
   handle_out t d vs k = fsplit t $ fpick t (λ vss. fsplit t $ feq_l t (λ ev. fsplit t $ feq_l t (λ ep. drop t $
       k (ev ∙ (λ j. vstruct (of_list (ep j ++ [])) ∷ [])))))

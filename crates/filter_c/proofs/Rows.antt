@@ -4,7 +4,7 @@ use Rattle.std.specs.Prelude.{None}
 use Rattle.std.specs.List.{list_any}
 use Rattle.filter_code.specs.declared.instruction.Instr.TheVariants as instr
 use Rattle.filter_code.specs.declared.outcome.Outcome.TheVariants as outcome
-use Rattle.filter_c.specs.Answers.{outcome_told, reads_metric, reads_prefix}
+use Rattle.filter_c.specs.Answers.{outcome_given, reads_metric, reads_prefix}
 use Rattle.filter_c.specs.Openings.{code_bytes, line_of, put}
 
 -- two bytes of words in buffers of none to four bytes, which have other bytes before
@@ -35,10 +35,10 @@ long_code = refl
 no_place : line_of (codes "a\nb") None ≡ 0
 no_place = refl
 
-rejected : outcome_told 0 0 ≡ outcome.Reject
+rejected : outcome_given 0 0 ≡ outcome.Reject
 rejected = refl
 
-accepted : outcome_told 1 5 ≡ outcome.Accept 5
+accepted : outcome_given 1 5 ≡ outcome.Accept 5
 accepted = refl
 
 -- a filter that accepts every route reads nothing of it, and one that adds to the metric reads that

@@ -10,28 +10,28 @@ use Rattle.filter_source.specs.declared.failure.Failure.{Failure}
 use Rattle.filter_source.specs.declared.failure.Failure.TheVariants as failure
 use Rattle.filter_verifier.specs.Safe.{IsSafe}
 use Rattle.filter_verifier.specs.VerifiedView.{VerifiedView}
-use Rattle.filter_reports.specs.Explanations.{AreRefusalWords}
+use Rattle.refusal_words.specs.Explanations.{AreRefusalWords}
 use Rattle.filter_reports.specs.VerifiedFilters.{IsVerifiedOf}
-use Rattle.filter_c.specs.Openings.{IsDiagnosisOfFile, IsTold, IsVerifiedFile, Shows, Tells, put, refused_told}
+use Rattle.filter_c.specs.Openings.{IsDiagnosisOfFile, IsShown, IsVerifiedFile, Shows, Tells, put, refused_as}
 use Rattle.filter_c.specs.declared.refused.Refused.{Refused}
 
 -- what holds of the diagnosis of a failure is told
-pub tells : (P : Diagnosis → Type 0) (e : Failure) (text : List ℕ) (refused : Refused) (old new : List ℕ) → OnDiagnosis P e → IsTold e text refused old new → Tells P text refused old new
-tells P (failure.Refused told) text refused old new on is = record { told = told; holds = on; shows = is }
+pub tells : (P : Diagnosis → Type 0) (e : Failure) (text : List ℕ) (refused : Refused) (old new : List ℕ) → OnDiagnosis P e → IsShown e text refused old new → Tells P text refused old new
+tells P (failure.Refused diagnosis) text refused old new on is = record { diagnosis = diagnosis; holds = on; shows = is }
 tells P failure.Memory text refused old new on is = absurd is
 
 -- words that are put in a buffer, and what is told beside them, show a diagnosis
-pub shows : (told : Diagnosis) (text : List ℕ) (refused : Refused) (old new words : List ℕ) → AreRefusalWords told words
-    → refused ≡ refused_told text told words → new ≡ put words old → Shows told text refused old new
-shows told text refused old new words are told' put' = record { words = words; are_its_words = are; tells = told'; shown = put' }
+pub shows : (diagnosis : Diagnosis) (text : List ℕ) (refused : Refused) (old new words : List ℕ) → AreRefusalWords diagnosis words
+    → refused ≡ refused_as text diagnosis words → new ≡ put words old → Shows diagnosis text refused old new
+shows diagnosis text refused old new words are diagnosis' put' = record { words = words; are_its_words = are; tells = diagnosis'; shown = put' }
 
 -- a refusal of the bytes, or of their code
 pub by_bytes : (bytes : List ℕ) (size : ℕ) (e : Failure) → OnRefusal (λ why. code_in_file bytes ≡ Err why) e → OnDiagnosis TellsOfFile e → OnDiagnosis (IsDiagnosisOfFile size bytes) e
-by_bytes bytes size (failure.Refused told) no_code tells = inl (no_code, tells)
+by_bytes bytes size (failure.Refused diagnosis) no_code tells = inl (no_code, tells)
 by_bytes bytes size failure.Memory no_code tells = tt
 
 pub by_code : (bytes : List ℕ) (size : ℕ) (program : CodeView) (e : Failure) → code_in_file bytes ≡ Ok program → OnRefusal (IsUnsafe program size) e → OnDiagnosis (TellsOfCode program [] size) e → OnDiagnosis (IsDiagnosisOfFile size bytes) e
-by_code bytes size program (failure.Refused told) code unsafe' tells = inr (program, code, unsafe', tells)
+by_code bytes size program (failure.Refused diagnosis) code unsafe' tells = inr (program, code, unsafe', tells)
 by_code bytes size program failure.Memory code unsafe' tells = tt
 
 -- the code of the bytes, verified

@@ -13,13 +13,13 @@ use Rattle.filter_verifier.specs.Bounds.{cost, peak}
 use Rattle.filter_verifier.specs.VerifiedView.{VerifiedView}
 use Rattle.filter_machine.specs.Verdicts.{announced}
 use Rattle.filter_c.specs.declared.answer.Answer.{Answer}
-use Rattle.filter_c.specs.declared.answer.Route.{Route}
+use Rattle.filter_c.specs.declared.answer.CRoute.{CRoute}
 use Rattle.filter_c.specs.declared.bounds.Bounds.{Bounds}
 
 -- the outcome that a verdict and a metric tell: 0 rejects, and any other number accepts with the metric
-abbrev pub outcome_told : ℕ → ℕ → Outcome
-outcome_told zero metric = outcome.Reject
-outcome_told (suc n) metric = outcome.Accept metric
+abbrev pub outcome_given : ℕ → ℕ → Outcome
+outcome_given zero metric = outcome.Reject
+outcome_given (suc n) metric = outcome.Accept metric
 
 -- the route to the first bits of an address, in a domain of the filter's size
 abbrev pub route_to : VerifiedView → ℕ → ℕ → ℕ → RouteView
@@ -31,17 +31,17 @@ abbrev pub IsAnswer : VerifiedView → ℕ → ℕ → ℕ → Answer → Type 0
 IsAnswer v address len metric a =
     (a.verdict ≤ 2)
     × ((a.verdict ≡ 2) ↔ ((32 < len) ⊎ (v.size < metric)))
-    × (len ≤ 32 → metric ≤ v.size → outcome_told a.verdict a.metric ≡ outcome_of v.program (route_to v address len metric))
-    × (len ≤ 32 → metric ≤ v.size → EndsAfter v.program (route_to v address len metric) a.steps (outcome_told a.verdict a.metric))
+    × (len ≤ 32 → metric ≤ v.size → outcome_given a.verdict a.metric ≡ outcome_of v.program (route_to v address len metric))
+    × (len ≤ 32 → metric ≤ v.size → EndsAfter v.program (route_to v address len metric) a.steps (outcome_given a.verdict a.metric))
     × (a.steps ≤ cost v.program.instrs 0)
     × (a.verdict ≡ 1 → (metric ≤ a.metric) × (a.metric ≤ v.size))
     × (a.verdict ≢ 1 → a.metric ≡ 0)
     × (a.verdict ≡ 2 → a.steps ≡ 0)
 
 -- Each route that has room for its answer is answered at its place, and what is behind is as it was.
-pub record AreAnswers (v : VerifiedView) (routes : List Route) (old new : List Answer) : Type 0 where
+pub record AreAnswers (v : VerifiedView) (routes : List CRoute) (old new : List Answer) : Type 0 where
   pub room : length new ≡ length old
-  pub answered : (i : ℕ) (r : Route) (a : Answer) → i < length routes → i < length old
+  pub answered : (i : ℕ) (r : CRoute) (a : Answer) → i < length routes → i < length old
       → IsAnswer v (get_or routes i r).address (get_or routes i r).length (get_or routes i r).metric (get_or new i a)
   pub kept : (i : ℕ) (a : Answer) → length routes ≤ i → get_or new i a ≡ get_or old i a
 

@@ -1,8 +1,8 @@
 -- What C reads of a source that is opened, or refused. (This project's own choice.)
 use Rattle.std.specs.Prelude.{◌≡◌, ◌⊎◌, ℕ, ◌+◌, ◌-◌, List, [], ◌∷◌, ◌++◌, Option, Some, None, Ok, Err, drop, if◌then◌else◌, length, min, nat_lt, take}
 use Rattle.filter_code.specs.CodeView.{CodeView}
-use Rattle.filter_reports.specs.Explanations.{AreRefusalWords}
-use Rattle.filter_reports.specs.Places.{column_at, line_at}
+use Rattle.refusal_words.specs.Explanations.{AreRefusalWords}
+use Rattle.refusal_words.specs.Places.{column_at, line_at}
 use Rattle.filter_source.specs.Diagnoses.{TellsOfCode, TellsOfFile}
 use Rattle.filter_source.specs.Refusals.{refusal_code, refusal_place}
 use Rattle.filter_source.specs.Sources.{IsUnsafe, code_in_file}
@@ -21,9 +21,9 @@ pub record IsVerifiedFile (size : ℕ) (bytes : List ℕ) (verified : VerifiedVi
 
 -- A code file gives no verified code for a size, and this is told of it: it gives no code, or code that may go wrong.
 abbrev pub IsDiagnosisOfFile : ℕ → List ℕ → Diagnosis → Type 0
-IsDiagnosisOfFile size bytes told =
-    ((code_in_file bytes ≡ Err told.refusal) × TellsOfFile told)
-    ⊎ ((program : CodeView) × (code_in_file bytes ≡ Ok program) × IsUnsafe program size told.refusal × TellsOfCode program [] size told)
+IsDiagnosisOfFile size bytes diagnosis =
+    ((code_in_file bytes ≡ Err diagnosis.refusal) × TellsOfFile diagnosis)
+    ⊎ ((program : CodeView) × (code_in_file bytes ≡ Ok program) × IsUnsafe program size diagnosis.refusal × TellsOfCode program [] size diagnosis)
 
 -- a code of a letter and one or two digits as four bytes, of which the last are 0
 abbrev pub code_bytes : List ℕ → List ℕ
@@ -50,29 +50,29 @@ put words buffer = if nat_lt 0 (length buffer)
     then take (fitting words buffer) words ++ 0 ∷ drop (fitting words buffer + 1) buffer
     else buffer
 
-abbrev pub refused_told : List ℕ → Diagnosis → List ℕ → Refused
-refused_told text told words = record {
-  place = refusal_place told.refusal;
-  line = line_of text told.byte;
-  column = column_of text told.byte;
+abbrev pub refused_as : List ℕ → Diagnosis → List ℕ → Refused
+refused_as text diagnosis words = record {
+  place = refusal_place diagnosis.refusal;
+  line = line_of text diagnosis.byte;
+  column = column_of text diagnosis.byte;
   words_size = length words + 1;
-  code = code_bytes (refusal_code told.refusal);
+  code = code_bytes (refusal_code diagnosis.refusal);
 }
 
 -- C is told so of a diagnosis: its words are in the buffer as far as they fit, and their number is told.
-pub record Shows (told : Diagnosis) (text : List ℕ) (refused : Refused) (old new : List ℕ) : Type 0 where
+pub record Shows (diagnosis : Diagnosis) (text : List ℕ) (refused : Refused) (old new : List ℕ) : Type 0 where
   pub words : List ℕ
-  pub are_its_words : AreRefusalWords told words
-  pub tells : refused ≡ refused_told text told words
+  pub are_its_words : AreRefusalWords diagnosis words
+  pub tells : refused ≡ refused_as text diagnosis words
   pub shown : new ≡ put words old
 
 -- it is told so of a failure; of memory nothing is told
-abbrev pub IsTold : Failure → List ℕ → Refused → List ℕ → List ℕ → Type 0
-IsTold (failure.Refused told) text refused old new = Shows told text refused old new
-IsTold failure.Memory text refused old new = ⊥
+abbrev pub IsShown : Failure → List ℕ → Refused → List ℕ → List ℕ → Type 0
+IsShown (failure.Refused diagnosis) text refused old new = Shows diagnosis text refused old new
+IsShown failure.Memory text refused old new = ⊥
 
 -- a diagnosis for which this holds is told
 pub record Tells (P : Diagnosis → Type 0) (text : List ℕ) (refused : Refused) (old new : List ℕ) : Type 0 where
-  pub told : Diagnosis
-  pub holds : P told
-  pub shows : Shows told text refused old new
+  pub diagnosis : Diagnosis
+  pub holds : P diagnosis
+  pub shows : Shows diagnosis text refused old new

@@ -19,7 +19,7 @@ const NO_ROUTE: u32 = 2;
 /// A route: to the first `length` bits of an address, received with a metric.
 #[repr(C)]
 #[derive(Clone, Copy)]
-pub struct Route {
+pub struct CRoute {
     /// The address, its first byte the highest.
     pub address: u32,
     /// The metric.
@@ -41,7 +41,7 @@ pub struct Answer {
 }
 
 /// What a filter says of the route to the first `length` bits of an address, received with a metric.
-pub fn answer_of(verified: &Verified, address: u32, length: u8, metric: u32) -> Answer
+pub(crate) fn answer_of(verified: &Verified, address: u32, length: u8, metric: u32) -> Answer
     ensures { IsAnswer verified.now address length metric result }
 {
     let none = Answer {
@@ -73,7 +73,7 @@ pub fn answer_of(verified: &Verified, address: u32, length: u8, metric: u32) -> 
 }
 
 /// The answers to routes, each at the place of its route, as far as there is room.
-pub fn answer_all(verified: &Verified, routes: &[Route], answers: &mut [Answer])
+pub(crate) fn answer_all(verified: &Verified, routes: &[CRoute], answers: &mut [Answer])
     ensures { AreAnswers verified.now routes.now answers.old answers.new }
 {
     let count = routes.len().min(answers.len());

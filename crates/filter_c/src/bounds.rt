@@ -67,7 +67,7 @@ fn code_size(alloc: Global, code: &Code) -> Result<u64, AllocError>
 }
 
 /// The bounds of all runs.
-pub fn bounds_of(alloc: Global, verified: &Verified) -> Result<Bounds, AllocError>
+pub(crate) fn bounds_of(alloc: Global, verified: &Verified) -> Result<Bounds, AllocError>
     ensures { IfOk result (AreBounds verified.now) }
 {
     let code = verified.code();

@@ -3,7 +3,7 @@
 //! **A handle is a struct of one pointer, and a ghost value says what it owns.** C has it by value or by its address, and no pointer is returned:
 //! an exported function may not return one, nor take a struct with a type parameter, an enum, a `&str`, or a type behind whose `&` memory is
 //! shared, as a `Vec` or a `Box` is. So the box crosses as an address without a type, and five functions, proved by hand over the separation logic
-//! below contracts, take it apart and make it again: `Filter::none`, `of_block` and `into_block`, and `Block::of` and `into_box`.
+//! below contracts, take it apart and make it again: `FilterHandle::none`, `of_block` and `into_block`, and `Block::of` and `into_box`.
 //!
 //! **Each thread has a handle of its own.** The box holds one owner of an `Arc`. With one handle for many calls at once `run` would require memory
 //! that the kit's rules for C have a caller treat as what a `&mut` points to; and a handle behind a `&` could not be read, since nothing shares
@@ -25,31 +25,31 @@ use std::ptr::null_mut;
 /// One owner of a verified filter in a box of its own, or none and a null pointer.
 #[repr(C)]
 #[derive(Drop)]
-pub struct Filter {
+pub struct FilterHandle {
     at: *mut u8,
     pub ghost value: { Option Owner },
 }
 
-impl Model for Filter {
+impl Model for FilterHandle {
     ghost also_owns = { λ f. handle_owns owner_row f.at f.value };
 }
 
 /// It may go to another thread.
-unsafe impl Send for Filter {}
+unsafe impl Send for FilterHandle {}
 
-impl Filter {
+impl FilterHandle {
     /// No filter.
-    pub fn none() -> Filter
+    pub fn none() -> FilterHandle
         ensures { result.value ≡ None }
     {
-        Filter { at: null_mut() }
+        FilterHandle { at: null_mut() }
     }
 
     /// The handle of a box.
-    pub fn of(boxed: Box<Owner>) -> Filter
+    pub fn of(boxed: Box<Owner>) -> FilterHandle
         ensures { result.value ≡ Some boxed.value }
     {
-        Filter::of_block(Block::of(boxed))
+        FilterHandle::of_block(Block::of(boxed))
     }
 
     /// The box of a handle.
@@ -60,18 +60,18 @@ impl Filter {
         self.into_block().into_box(alloc)
     }
 
-    fn of_block(block: Block<Owner>) -> Filter
+    fn of_block(block: Block<Owner>) -> FilterHandle
         ensures { result.value ≡ Some block.value }
     {
         let Block { at } = block;
-        Filter { at: at.cast() }
+        FilterHandle { at: at.cast() }
     }
 
     fn into_block(self) -> Block<Owner>
         requires { self.value ≢ None }
         ensures { self.value ≡ Some result.value }
     {
-        let Filter { at } = self;
+        let FilterHandle { at } = self;
         Block { at: at.cast() }
     }
 }

@@ -24,9 +24,9 @@ mod opening;
 mod owner;
 mod refused;
 
-use answer::{Answer, Route, answer_all, answer_of};
+use answer::{Answer, CRoute, answer_all, answer_of};
 use bounds::{Bounds, bounds_of};
-use handle::Filter;
+use handle::FilterHandle;
 use opening::{another, open_file, open_text};
 use refused::{Refused, tell};
 use std::alloc::Global;
@@ -46,7 +46,7 @@ pub extern "C" fn gomthau_filter_open(
     alloc: Global,
     text: &[u8],
     size: u32,
-    filter: &mut Filter,
+    filter: &mut FilterHandle,
     refused: &mut Refused,
     words: &mut [u8],
 ) -> u32
@@ -58,7 +58,7 @@ pub extern "C" fn gomthau_filter_open(
 {
     match open_text(alloc, text, size) {
         Ok(boxed) => {
-            *filter = Filter::of(boxed);
+            *filter = FilterHandle::of(boxed);
             DONE
         }
         Err(failure) => tell(alloc, text, failure, refused, words),
@@ -72,7 +72,7 @@ pub extern "C" fn gomthau_filter_open_code(
     alloc: Global,
     bytes: &[u8],
     size: u32,
-    filter: &mut Filter,
+    filter: &mut FilterHandle,
     refused: &mut Refused,
     words: &mut [u8],
 ) -> u32
@@ -84,7 +84,7 @@ pub extern "C" fn gomthau_filter_open_code(
 {
     match open_file(alloc, bytes, size) {
         Ok(boxed) => {
-            *filter = Filter::of(boxed);
+            *filter = FilterHandle::of(boxed);
             DONE
         }
         Err(failure) => tell(alloc, bytes, failure, refused, words),
@@ -95,7 +95,7 @@ pub extern "C" fn gomthau_filter_open_code(
 #[unsafe(no_mangle)]
 pub extern "C" fn gomthau_filter_run(
     alloc: Global,
-    filter: &mut Filter,
+    filter: &mut FilterHandle,
     address: u32,
     length: u8,
     metric: u32,
@@ -104,9 +104,9 @@ pub extern "C" fn gomthau_filter_run(
     ensures answer { IfSome filter.old.value (λ o. IsAnswer (arc_value o.filter) address length metric result) }
     ensures kept { filter.new.value ≡ filter.old.value }
 {
-    let boxed = replace(filter, Filter::none()).into_box(alloc);
+    let boxed = replace(filter, FilterHandle::none()).into_box(alloc);
     let answer = answer_of(&boxed.filter, address, length, metric);
-    *filter = Filter::of(boxed);
+    *filter = FilterHandle::of(boxed);
     answer
 }
 
@@ -114,24 +114,24 @@ pub extern "C" fn gomthau_filter_run(
 #[unsafe(no_mangle)]
 pub extern "C" fn gomthau_filter_run_all(
     alloc: Global,
-    filter: &mut Filter,
-    routes: &[Route],
+    filter: &mut FilterHandle,
+    routes: &[CRoute],
     answers: &mut [Answer],
 )
     requires { filter.old.value ≢ None }
     ensures answers { IfSome filter.old.value (λ o. AreAnswers (arc_value o.filter) routes.now answers.old answers.new) }
     ensures kept { filter.new.value ≡ filter.old.value }
 {
-    let boxed = replace(filter, Filter::none()).into_box(alloc);
+    let boxed = replace(filter, FilterHandle::none()).into_box(alloc);
     answer_all(&boxed.filter, routes, answers);
-    *filter = Filter::of(boxed);
+    *filter = FilterHandle::of(boxed);
 }
 
 /// The bounds of a filter, and what it reads.
 #[unsafe(no_mangle)]
 pub extern "C" fn gomthau_filter_bounds(
     alloc: Global,
-    filter: &mut Filter,
+    filter: &mut FilterHandle,
     bounds: &mut Bounds,
 ) -> u32
     requires { filter.old.value ≢ None }
@@ -139,9 +139,9 @@ pub extern "C" fn gomthau_filter_bounds(
     ensures unchanged { result ≢ 0 → bounds.new ≡ bounds.old }
     ensures kept { filter.new.value ≡ filter.old.value }
 {
-    let boxed = replace(filter, Filter::none()).into_box(alloc);
+    let boxed = replace(filter, FilterHandle::none()).into_box(alloc);
     let found = bounds_of(alloc, &boxed.filter);
-    *filter = Filter::of(boxed);
+    *filter = FilterHandle::of(boxed);
     match found {
         Ok(found) => {
             *bounds = found;
@@ -155,8 +155,8 @@ pub extern "C" fn gomthau_filter_bounds(
 #[unsafe(no_mangle)]
 pub extern "C" fn gomthau_filter_share(
     alloc: Global,
-    filter: &mut Filter,
-    other: &mut Filter,
+    filter: &mut FilterHandle,
+    other: &mut FilterHandle,
 ) -> u32
     requires open { filter.old.value ≢ None }
     requires none { other.old.value ≡ None }
@@ -164,12 +164,12 @@ pub extern "C" fn gomthau_filter_share(
     ensures some { (result ≡ 0) ↔ (other.new.value ≢ None) }
     ensures same { result ≡ 0 → IfSome filter.old.value (λ o. IfSome other.new.value (λ p. arc_value p.filter ≡ arc_value o.filter)) }
 {
-    let boxed = replace(filter, Filter::none()).into_box(alloc);
+    let boxed = replace(filter, FilterHandle::none()).into_box(alloc);
     let shared = another(&boxed, alloc);
-    *filter = Filter::of(boxed);
+    *filter = FilterHandle::of(boxed);
     match shared {
         Ok(shared) => {
-            *other = Filter::of(shared);
+            *other = FilterHandle::of(shared);
             DONE
         }
         Err(_) => NO_MEMORY,
@@ -178,9 +178,9 @@ pub extern "C" fn gomthau_filter_share(
 
 /// Closes a handle. The last one of a filter frees it.
 #[unsafe(no_mangle)]
-pub extern "C" fn gomthau_filter_close(alloc: Global, filter: &mut Filter)
+pub extern "C" fn gomthau_filter_close(alloc: Global, filter: &mut FilterHandle)
     requires { filter.old.value ≢ None }
     ensures { filter.new.value ≡ None }
 {
-    drop(replace(filter, Filter::none()).into_box(alloc));
+    drop(replace(filter, FilterHandle::none()).into_box(alloc));
 }

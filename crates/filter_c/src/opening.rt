@@ -22,7 +22,7 @@ fn in_box(alloc: Global, verified: Verified) -> Result<Box<Owner>, AllocError>
 }
 
 /// Another owner, in a box.
-pub fn another(owner: &Owner, alloc: Global) -> Result<Box<Owner>, AllocError>
+pub(crate) fn another(owner: &Owner, alloc: Global) -> Result<Box<Owner>, AllocError>
     ensures { IfOk result (λ b. arc_value b.value.filter ≡ arc_value owner.now.filter) }
 {
     let filter = Arc::try_clone(&owner.filter)?;
@@ -31,7 +31,7 @@ pub fn another(owner: &Owner, alloc: Global) -> Result<Box<Owner>, AllocError>
 
 /// The verified filter of a text, in a box.
 #[tactic(auto, using(crate::proofs::Tellings::same_of_text))]
-pub fn open_text(alloc: Global, text: &[u8], size: u32) -> Result<Box<Owner>, Failure>
+pub(crate) fn open_text(alloc: Global, text: &[u8], size: u32) -> Result<Box<Owner>, Failure>
     ensures verified { IfOk result (λ b. IsVerifiedOf size text.now (arc_value b.value.filter)) }
     ensures refused { IfErr result (OnDiagnosis (IsDiagnosis size false text.now)) }
 {
@@ -54,7 +54,7 @@ fn verified_file(alloc: Global, bytes: &[u8], size: u32) -> Result<Verified, Fai
 
 /// The same in a box.
 #[tactic(auto, using(crate::proofs::Tellings::same_of_file))]
-pub fn open_file(alloc: Global, bytes: &[u8], size: u32) -> Result<Box<Owner>, Failure>
+pub(crate) fn open_file(alloc: Global, bytes: &[u8], size: u32) -> Result<Box<Owner>, Failure>
     ensures verified { IfOk result (λ b. IsVerifiedFile size bytes.now (arc_value b.value.filter)) }
     ensures refused { IfErr result (OnDiagnosis (IsDiagnosisOfFile size bytes.now)) }
 {

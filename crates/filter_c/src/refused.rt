@@ -1,9 +1,9 @@
 //! What C is told of a refusal.
 ghost use Rattle.std.specs.Prelude.{◌≡◌, ◌≢◌, OnErr, OnOk};
-ghost use Rattle.filter_c.specs.Openings.{IsTold, Shows, code_bytes, column_of, line_of, put};
+ghost use Rattle.filter_c.specs.Openings.{IsShown, Shows, code_bytes, column_of, line_of, put};
 
-use filter_reports::{place_in, refusal_words};
 use filter_source::{Diagnosis, Failure};
+use refusal_words::{place_in, refusal_words};
 use std::alloc::{AllocError, Global};
 
 /// The source is refused.
@@ -71,40 +71,40 @@ fn put(words: &[u8], buffer: &mut [u8])
 fn show(
     alloc: Global,
     text: &[u8],
-    told: &Diagnosis,
+    diagnosis: &Diagnosis,
     refused: &mut Refused,
     buffer: &mut [u8],
 ) -> Result<(), AllocError>
-    ensures told { OnOk result (Shows told.now text.now refused.new buffer.old buffer.new) }
+    ensures diagnosis { OnOk result (Shows diagnosis.now text.now refused.new buffer.old buffer.new) }
     ensures kept { OnErr result ((refused.new ≡ refused.old) × (buffer.new ≡ buffer.old)) }
 {
-    let words = refusal_words(alloc, text, told)?;
-    let (line, column) = place_of(text, told.byte);
+    let words = refusal_words(alloc, text, diagnosis)?;
+    let (line, column) = place_of(text, diagnosis.byte);
     *refused = Refused {
-        place: told.refusal.at() as u64,
+        place: diagnosis.refusal.at() as u64,
         line,
         column,
         words_size: words.len() as u64 + 1,
-        code: code_of(told.refusal.code().as_bytes()),
+        code: code_of(diagnosis.refusal.code().as_bytes()),
     };
     put(words.as_slice(), buffer);
     Ok(())
 }
 
 /// What C is told of a failure.
-pub fn tell(
+pub(crate) fn tell(
     alloc: Global,
     text: &[u8],
     failure: Failure,
     refused: &mut Refused,
     buffer: &mut [u8],
 ) -> u32
-    ensures told { result ≡ 1 → IsTold failure text.now refused.new buffer.old buffer.new }
+    ensures diagnosis { result ≡ 1 → IsShown failure text.now refused.new buffer.old buffer.new }
     ensures kept { result ≢ 1 → (refused.new ≡ refused.old) × (buffer.new ≡ buffer.old) }
     ensures failed { result ≢ 0 }
 {
     match failure {
-        Failure::Refused(told) => match show(alloc, text, &told, refused, buffer) {
+        Failure::Refused(diagnosis) => match show(alloc, text, &diagnosis, refused, buffer) {
             Ok(()) => REFUSED,
             Err(_) => NO_MEMORY,
         },

@@ -33,20 +33,20 @@ parts_cut fault format name old new size limit parts text shown held holds is sa
 judged : (size : ℕ) (text : List ℕ) (r : Result VerifiedView Diagnosis) → MatchResult r (IsVerifiedOf size text) (IsDiagnosis size false text)
     → IsJudged size text (result_err r)
 judged size text (Ok v) h = (h.filter, is_filter size text v h)
-judged size text (Err told) h = h
+judged size text (Err diagnosis) h = h
 
-pub second_refused : (size : ℕ) (old new : Named) (v : VerifiedView) (told : Diagnosis) → IsVerifiedOf size old.text v
-    → IsDiagnosis size false new.text told → AreRefused size old new None (Some told)
-second_refused size old new v told is_v h = record {
+pub second_refused : (size : ℕ) (old new : Named) (v : VerifiedView) (diagnosis : Diagnosis) → IsVerifiedOf size old.text v
+    → IsDiagnosis size false new.text diagnosis → AreRefused size old new None (Some diagnosis)
+second_refused size old new v diagnosis is_v h = record {
   old_judged = (is_v.filter, is_filter size old.text v is_v);
   new_judged = h;
   refused = λ first second. cc;
 }
 
-pub first_refused : (size : ℕ) (old new : Named) (told : Diagnosis) (r : Result VerifiedView Diagnosis) (after : Option Diagnosis)
-    → after ≡ result_err r → IsDiagnosis size false old.text told
-    → MatchResult r (IsVerifiedOf size new.text) (IsDiagnosis size false new.text) → AreRefused size old new (Some told) after
-first_refused size old new told r after is h g = record {
+pub first_refused : (size : ℕ) (old new : Named) (diagnosis : Diagnosis) (r : Result VerifiedView Diagnosis) (after : Option Diagnosis)
+    → after ≡ result_err r → IsDiagnosis size false old.text diagnosis
+    → MatchResult r (IsVerifiedOf size new.text) (IsDiagnosis size false new.text) → AreRefused size old new (Some diagnosis) after
+first_refused size old new diagnosis r after is h g = record {
   old_judged = h;
   new_judged = subst (IsJudged size new.text) (sym is) (judged size new.text r g);
   refused = λ first. absurd (let no : ⊥ = cc in no);
@@ -84,15 +84,15 @@ module _ (format : Format) (size limit : ℕ) (is_explained : Bool) (old new : N
         ))
 
   -- one of them is refused
-  module _ (before after : Option Diagnosis) (are : AreRefused size old new before after) (held holds tells told : Option (List ℕ)) where
+  module _ (before after : Option Diagnosis) (are : AreRefused size old new before after) (held holds stderr_before stderr_after : Option (List ℕ)) where
     pub refused_told : (r : Result Compared ProgramFault)
-        → IfOk r (λ end. (end ≡ compared.Refused) × RefusesBoth format is_explained old new before after held holds tells told)
-        → IfOk r (ComparesNamed format size limit is_explained old new held holds tells told)
+        → IfOk r (λ end. (end ≡ compared.Refused) × RefusesBoth format is_explained old new before after held holds stderr_before stderr_after)
+        → IfOk r (ComparesNamed format size limit is_explained old new held holds stderr_before stderr_after)
     refused_told (Ok end) h = inl (h.0, before, after, are, h.1)
     refused_told (Err fault) h = tt
 
     pub refused_cut : (r : Result Compared ProgramFault)
-        → IfErr r (λ fault. CutsRefusingBoth (stream_fault fault) format is_explained old new before after held holds tells told)
-        → IfErr r (λ fault. ComparesNamedOff (stream_fault fault) format size limit is_explained old new held holds tells told)
+        → IfErr r (λ fault. CutsRefusingBoth (stream_fault fault) format is_explained old new before after held holds stderr_before stderr_after)
+        → IfErr r (λ fault. ComparesNamedOff (stream_fault fault) format size limit is_explained old new held holds stderr_before stderr_after)
     refused_cut (Ok end) h = tt
     refused_cut (Err fault) h = inr (inl (before, after, are, h))

@@ -14,8 +14,8 @@ use Rattle.filter_diff.proofs.Witness.{has_route}
 use Rattle.filter_diff.specs.Answers.{answer_of, differs}
 use Rattle.filter_diff.specs.Endings.{outcome_at}
 use Rattle.filter_diff.specs.Parts.{Has, HasRoute, Holds, InOne, IsIn, IsDecided, IsEnough, IsReal, IsSame, IsTrueOf, is_difference, is_undecided}
-use Rattle.filter_diff.specs.declared.answer.Answer.{Answer}
-use Rattle.filter_diff.specs.declared.route_part.Finding.{Finding}
+use Rattle.filter_diff.specs.declared.answer.Comparison.{Comparison}
+use Rattle.filter_diff.specs.declared.route_part.PartFinding.{PartFinding}
 use Rattle.filter_diff.specs.declared.route_part.RoutePart.{RoutePart}
 use Rattle.filter_parser.specs.SyntaxText.{FilterView, IsText}
 use Rattle.filter_verifier.specs.Safe.{IsRouteOf}
@@ -30,8 +30,8 @@ use Rattle.filter_diff.specs.Expectations.{IsCovered, IsMet, IsShown, route_of}
 use Rattle.filter_diff.specs.declared.checking.Counterexample.{Counterexample}
 use Rattle.filter_diff.specs.declared.expectation.Expectation.{Expectation}
 use Rattle.filter_code.specs.declared.outcome.Outcome.TheVariants as outcome
-use Rattle.filter_diff.specs.declared.answer.Answer.TheVariants as answer
-use Rattle.filter_diff.specs.declared.route_part.Finding.TheVariants as finding
+use Rattle.filter_diff.specs.declared.answer.Comparison.TheVariants as answer
+use Rattle.filter_diff.specs.declared.route_part.PartFinding.TheVariants as finding
 
 -- an outcome says one verdict, and a verdict has one outcome
 one_verdict : (v w : Verdict) (end : Outcome) → Says v end → Says w end → v ≡ w
@@ -62,7 +62,7 @@ module _ (f g : FilterView) (p q : CodeView) (size : ℕ) (of_f : SaysTheSame f 
       (of_g.says route h))
   same_or_in route parts h (inr among) = inr among
 
-  holds : (found : Finding) (route : RouteView) → IsRouteOf size route → Holds p q found route → HoldsOf f g found route
+  holds : (found : PartFinding) (route : RouteView) → IsRouteOf size route → Holds p q found route → HoldsOf f g found route
   holds finding.Undecided route h is = tt
   holds (finding.Differ before after) route h is = record {
     old_says = subst (Says (meaning f route)) is.old_is (of_f.says route h);
@@ -105,7 +105,7 @@ one_of : (parts : List RoutePart) → answer_of parts ≡ answer.Differ → list
 one_of [] e = let no : ⊥ = cc in absurd no
 one_of (part ∷ parts) e = chosen (list_any differs (part ∷ parts)) e
 
-disagree : (f g : FilterView) (found : Finding) (route : RouteView) → is_difference found ≡ true → HoldsOf f g found route
+disagree : (f g : FilterView) (found : PartFinding) (route : RouteView) → is_difference found ≡ true → HoldsOf f g found route
     → meaning f route ≢ meaning g route
 disagree f g finding.Undecided route e h = let no : ⊥ = cc in absurd no
 disagree f g (finding.Differ before after) route e h = h.differ
@@ -149,7 +149,7 @@ shown_otherwise f program size expected shown says is expected_said =
     (shown_verdict f program size expected shown says is) expected_said)
 
 -- parts that are decided come to something
-first_differs : (found : Finding) → is_undecided found ≡ false → is_difference found ≡ true
+first_differs : (found : PartFinding) → is_undecided found ≡ false → is_difference found ≡ true
 first_differs finding.Undecided e = let no : ⊥ = cc in absurd no
 first_differs (finding.Differ before after) e = refl
 
@@ -168,17 +168,17 @@ all_decided (part ∷ parts) all e =
     (first_differs part.finding (All-head IsDecided part parts all))) e
 
 -- what the comparison of two texts comes to
-compared_same : (found : Answer) → compared.Same ≡ compared_as found → found ≡ answer.Same
+compared_same : (found : Comparison) → compared.Same ≡ compared_as found → found ≡ answer.Same
 compared_same answer.Same e = refl
 compared_same answer.Differ e = let no : ⊥ = cc in absurd no
 compared_same answer.Undecided e = let no : ⊥ = cc in absurd no
 
-compared_differ : (found : Answer) → compared.Differ ≡ compared_as found → found ≡ answer.Differ
+compared_differ : (found : Comparison) → compared.Differ ≡ compared_as found → found ≡ answer.Differ
 compared_differ answer.Same e = let no : ⊥ = cc in absurd no
 compared_differ answer.Differ e = refl
 compared_differ answer.Undecided e = let no : ⊥ = cc in absurd no
 
-compared_undecided : (found : Answer) → compared.Undecided ≡ compared_as found → found ≡ answer.Undecided
+compared_undecided : (found : Comparison) → compared.Undecided ≡ compared_as found → found ≡ answer.Undecided
 compared_undecided answer.Same e = let no : ⊥ = cc in absurd no
 compared_undecided answer.Differ e = let no : ⊥ = cc in absurd no
 compared_undecided answer.Undecided e = refl
@@ -187,13 +187,13 @@ compared_undecided answer.Undecided e = refl
 of_text : (text : List ℕ) (size : ℕ) (f : FilterView) (is_f : IsFilterOf text size f) → SaysTheSame f is_f.program size
 of_text text size f is_f = says_the_same f is_f.program size is_f.translates.means is_f.safe
 
-module _ (format : Format) (size limit : ℕ) (is_explained : Bool) (old new : Named) (held holds tells told : Option (List ℕ)) where
+module _ (format : Format) (size limit : ℕ) (is_explained : Bool) (old new : Named) (held holds stderr_before stderr_after : Option (List ℕ)) where
   parts_of : (f g : FilterView) (is_f : IsFilterOf old.text size f) (is_g : IsFilterOf new.text size g) (parts : List RoutePart)
       → AreParts is_f.program is_g.program size limit parts → ArePartsOf f g size parts
   parts_of f g is_f is_g parts are =
       of_filters f g is_f.program is_g.program size limit parts (of_text old.text size f is_f) (of_text new.text size g is_g) are
 
-  pub filters_same : ComparesNamed format size limit is_explained old new held holds tells told compared.Same
+  pub filters_same : ComparesNamed format size limit is_explained old new held holds stderr_before stderr_after compared.Same
       → (f : FilterView) × (g : FilterView) × IsText old.text f × IsText new.text g
       × ((route : RouteView) → IsRouteOf size route → meaning f route ≡ meaning g route)
   filters_same (inl refused) = let is = refused.0 in let no : ⊥ = cc in absurd no
@@ -206,7 +206,7 @@ module _ (format : Format) (size limit : ℕ) (is_explained : Bool) (old new : N
         (compared_same (answer_of writes.parts) writes.comes_to),
   )
 
-  pub filters_differ : ComparesNamed format size limit is_explained old new held holds tells told compared.Differ
+  pub filters_differ : ComparesNamed format size limit is_explained old new held holds stderr_before stderr_after compared.Differ
       → (f : FilterView) × (g : FilterView) × IsText old.text f × IsText new.text g
       × (route : RouteView) × IsRouteOf size route × (meaning f route ≢ meaning g route)
   filters_differ (inl refused) = let is = refused.0 in let no : ⊥ = cc in absurd no
@@ -215,7 +215,7 @@ module _ (format : Format) (size limit : ℕ) (is_explained : Bool) (old new : N
       (compared_differ (answer_of writes.parts) writes.comes_to) in
       (f, g, is_f.translates.spelled, is_g.translates.spelled, one.0, one.1, one.2)
 
-  pub filters_decided : IsEnough size limit → ComparesNamed format size limit is_explained old new held holds tells told compared.Undecided → ⊥
+  pub filters_decided : IsEnough size limit → ComparesNamed format size limit is_explained old new held holds stderr_before stderr_after compared.Undecided → ⊥
   filters_decided enough (inl refused) = let is = refused.0 in let no : ⊥ = cc in absurd no
   filters_decided enough (inr (keeps, f, is_f, g, is_g, writes)) =
       all_decided writes.parts (writes.are_parts.decided enough) (compared_undecided (answer_of writes.parts) writes.comes_to)

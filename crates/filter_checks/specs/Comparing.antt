@@ -6,8 +6,8 @@ use Rattle.filter_reports.specs.Checking.{IsDiagnosis}
 use Rattle.filter_reports.specs.Cuts.{IsCut}
 use Rattle.filter_diff.specs.Answers.{answer_of}
 use Rattle.filter_diff.specs.Parts.{Cover, IsDecided, IsEnough, IsReal, IsTrueOf}
-use Rattle.filter_diff.specs.declared.answer.Answer.{Answer}
-use Rattle.filter_diff.specs.declared.answer.Answer.TheVariants as answer
+use Rattle.filter_diff.specs.declared.answer.Comparison.{Comparison}
+use Rattle.filter_diff.specs.declared.answer.Comparison.TheVariants as answer
 use Rattle.filter_diff.specs.declared.route_part.RoutePart.{RoutePart}
 use Rattle.filter_parser.specs.SyntaxText.{FilterView}
 use Rattle.filter_source.specs.declared.diagnosis.Diagnosis.{Diagnosis}
@@ -25,7 +25,7 @@ use Rattle.filter_checks.specs.declared.comparing.Compared.TheVariants as compar
 -- is refused.
 abbrev pub IsJudged : ℕ → List ℕ → Option Diagnosis → Type 0
 IsJudged size text None = (filter : FilterView) × IsFilterOf text size filter
-IsJudged size text (Some told) = IsDiagnosis size false text told
+IsJudged size text (Some diagnosis) = IsDiagnosis size false text diagnosis
 
 -- These are parts of the routes outside of which the two codes have the same outcome; each has a route, and on each of its routes holds
 -- what is found of it. None is undecided where the limit leaves out no class of routes. Equal codes have no parts, whatever the limit is.
@@ -37,7 +37,7 @@ pub record AreParts (old new : CodeView) (size limit : ℕ) (parts : List RouteP
   pub none : old ≡ new → parts ≡ []
 
 -- what the comparison comes to
-abbrev pub compared_as : Answer → Compared
+abbrev pub compared_as : Comparison → Compared
 compared_as answer.Same = compared.Same
 compared_as answer.Differ = compared.Differ
 compared_as answer.Undecided = compared.Undecided
@@ -55,22 +55,22 @@ IsCutParts fault format name old new size limit held holds =
     ((fault ≡ Memory) × Appends held holds [])
     ⊎ ((parts : List RoutePart) × AreParts old new size limit parts × IsCut fault held holds (parts_in format name size parts))
 
--- It was said why one text is refused, if it is, and then the same of another. `tells` and `told` are what standard error held before and holds
+-- It was said why one text is refused, if it is, and then the same of another. `stderr_before` and `stderr_after` are what standard error held before and holds
 -- now.
 pub record RefusesBoth (format : Format) (is_explained : Bool) (old new : Named) (before after : Option Diagnosis)
-    (held holds tells told : Option (List ℕ)) : Type 0 where
+    (held holds stderr_before stderr_after : Option (List ℕ)) : Type 0 where
   pub writes : Option (List ℕ)
   pub between : Option (List ℕ)
-  pub old_told : RefusesIf format is_explained old before held writes tells between
-  pub new_told : RefusesIf format is_explained new after writes holds between told
+  pub old_told : RefusesIf format is_explained old before held writes stderr_before between
+  pub new_told : RefusesIf format is_explained new after writes holds between stderr_after
 
 -- A fault cut what is said of the one, or of the other.
 abbrev pub CutsRefusingBoth : StreamFault → Format → Bool → Named → Named → Option Diagnosis → Option Diagnosis → Option (List ℕ)
     → Option (List ℕ) → Option (List ℕ) → Option (List ℕ) → Type 0
-CutsRefusingBoth fault format is_explained old new before after held holds tells told =
-    CutsRefusingIf fault format is_explained old before held holds tells told
-    ⊎ ((writes : Option (List ℕ)) × (between : Option (List ℕ)) × RefusesIf format is_explained old before held writes tells between
-    × CutsRefusingIf fault format is_explained new after writes holds between told)
+CutsRefusingBoth fault format is_explained old new before after held holds stderr_before stderr_after =
+    CutsRefusingIf fault format is_explained old before held holds stderr_before stderr_after
+    ⊎ ((writes : Option (List ℕ)) × (between : Option (List ℕ)) × RefusesIf format is_explained old before held writes stderr_before between
+    × CutsRefusingIf fault format is_explained new after writes holds between stderr_after)
 
 -- Two texts were judged, at least one of which is refused.
 pub record AreRefused (size : ℕ) (old new : Named) (before after : Option Diagnosis) : Type 0 where
@@ -81,18 +81,18 @@ pub record AreRefused (size : ℕ) (old new : Named) (before after : Option Diag
 -- The texts spell filters, and the lines of the comparison of their codes were written, and nothing told; or a text is refused, which was
 -- said.
 abbrev pub ComparesNamed : Format → ℕ → ℕ → Bool → Named → Named → Option (List ℕ) → Option (List ℕ) → Option (List ℕ) → Option (List ℕ) → Compared → Type 0
-ComparesNamed format size limit is_explained old new held holds tells told end =
+ComparesNamed format size limit is_explained old new held holds stderr_before stderr_after end =
     ((end ≡ compared.Refused) × (before : Option Diagnosis) × (after : Option Diagnosis)
-    × AreRefused size old new before after × RefusesBoth format is_explained old new before after held holds tells told)
-    ⊎ (Keeps tells told × (f : FilterView) × (is_f : IsFilterOf old.text size f) × (g : FilterView) × (is_g : IsFilterOf new.text size g)
+    × AreRefused size old new before after × RefusesBoth format is_explained old new before after held holds stderr_before stderr_after)
+    ⊎ (Keeps stderr_before stderr_after × (f : FilterView) × (is_f : IsFilterOf old.text size f) × (g : FilterView) × (is_g : IsFilterOf new.text size g)
     × WritesParts format new.name is_f.program is_g.program size limit held holds end)
 
 -- A fault ended it: before anything was written or told, for want of memory; while a refusal was told; or while the lines were written.
 abbrev pub ComparesNamedOff : StreamFault → Format → ℕ → ℕ → Bool → Named → Named → Option (List ℕ) → Option (List ℕ) → Option (List ℕ)
     → Option (List ℕ) → Type 0
-ComparesNamedOff fault format size limit is_explained old new held holds tells told =
-    ((fault ≡ Memory) × Appends held holds [] × Keeps tells told)
+ComparesNamedOff fault format size limit is_explained old new held holds stderr_before stderr_after =
+    ((fault ≡ Memory) × Appends held holds [] × Keeps stderr_before stderr_after)
     ⊎ (((before : Option Diagnosis) × (after : Option Diagnosis) × AreRefused size old new before after
-    × CutsRefusingBoth fault format is_explained old new before after held holds tells told)
-    ⊎ (Keeps tells told × (f : FilterView) × (is_f : IsFilterOf old.text size f) × (g : FilterView) × (is_g : IsFilterOf new.text size g)
+    × CutsRefusingBoth fault format is_explained old new before after held holds stderr_before stderr_after)
+    ⊎ (Keeps stderr_before stderr_after × (f : FilterView) × (is_f : IsFilterOf old.text size f) × (g : FilterView) × (is_g : IsFilterOf new.text size g)
     × IsCutParts fault format new.name is_f.program is_g.program size limit held holds))

@@ -1,6 +1,6 @@
 -- How it is told that a text is no test file. (This project's own choice.)
 use Rattle.std.specs.Prelude.{ℕ, Bool, true, false, List, [], ◌∷◌, ◌++◌, codes, decimal}
-use Rattle.filter_reports.specs.Shown.{shown}
+use Rattle.refusal_words.specs.Shown.{shown}
 use Rattle.filter_checks.specs.declared.test_file.TestFileFault.{TestFileFault}
 use Rattle.filter_checks.specs.declared.test_file.TestFileFault.TheVariants as fault
 

@@ -7,8 +7,8 @@ use Rattle.line_protocol.specs.Lines.{numbered}
 use Rattle.line_protocol.specs.Words.{words}
 use Rattle.prefix_patterns.specs.Reading.{◌>>=◌}
 use Rattle.filter_checks.specs.Reading.{first_keyword, first_number, first_word, no_more, test_in}
-use Rattle.filter_checks.specs.declared.keyword.Keyword.{Keyword}
-use Rattle.filter_checks.specs.declared.keyword.Keyword.TheVariants as word
+use Rattle.filter_checks.specs.declared.keyword.TestKeyword.{TestKeyword}
+use Rattle.filter_checks.specs.declared.keyword.TestKeyword.TheVariants as word
 use Rattle.filter_checks.specs.declared.test_file.TestFileFault.{TestFileFault}
 use Rattle.filter_checks.specs.declared.test_file.TestFileFault.TheVariants as fault
 use Rattle.filter_checks.specs.declared.test_file.Test.{Test}
@@ -37,7 +37,7 @@ only_word ws = do
   Some w.0
 
 -- `filter FILE`
-abbrev pub filter_of : Keyword → List (List ℕ) → Option (List ℕ)
+abbrev pub filter_of : TestKeyword → List (List ℕ) → Option (List ℕ)
 filter_of word.Filter ws = only_word ws
 filter_of _ ws = None
 
@@ -57,7 +57,7 @@ only_size ws = do
   as_size n.0
 
 -- `size N`
-abbrev pub size_of : Keyword → List (List ℕ) → Option ℕ
+abbrev pub size_of : TestKeyword → List (List ℕ) → Option ℕ
 size_of word.Size ws = only_size ws
 size_of _ ws = None
 

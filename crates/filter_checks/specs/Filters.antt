@@ -6,8 +6,8 @@ use Rattle.filter_reports.specs.Saying.{Says}
 use Rattle.filter_compiler.specs.Verdicts.{meaning}
 use Rattle.filter_diff.specs.Endings.{outcome_at}
 use Rattle.filter_diff.specs.Parts.{Has, HasRoute, InOne}
-use Rattle.filter_diff.specs.declared.route_part.Finding.{Finding}
-use Rattle.filter_diff.specs.declared.route_part.Finding.TheVariants as finding
+use Rattle.filter_diff.specs.declared.route_part.PartFinding.{PartFinding}
+use Rattle.filter_diff.specs.declared.route_part.PartFinding.TheVariants as finding
 use Rattle.filter_diff.specs.declared.route_part.RoutePart.{RoutePart}
 use Rattle.filter_parser.specs.SyntaxText.{FilterView}
 use Rattle.filter_verifier.specs.Safe.{IsRouteOf}
@@ -19,7 +19,7 @@ pub record Disagree (f g : FilterView) (before after : Outcome) (route : RouteVi
   pub differ : meaning f route ≢ meaning g route
 
 -- a finding holds of what two filters say of a route
-abbrev pub HoldsOf : FilterView → FilterView → Finding → RouteView → Type 0
+abbrev pub HoldsOf : FilterView → FilterView → PartFinding → RouteView → Type 0
 HoldsOf f g finding.Undecided route = Unit {0}
 HoldsOf f g (finding.Differ before after) route = Disagree f g (outcome_at route before) (outcome_at route after) route
 

@@ -1,11 +1,11 @@
 -- The fixed words of a test file. (This project's own choice.)
-use Rattle.std.specs.Prelude.{ℕ, Bool, List, [], ◌∷◌, Option, find, codes}
-use Rattle.std.specs.Str.{bytes_eq}
-use Rattle.filter_checks.specs.declared.keyword.Keyword.{Keyword}
-use Rattle.filter_checks.specs.declared.keyword.Keyword.TheVariants as word
+use Rattle.std.specs.Prelude.{ℕ, List, [], ◌∷◌, Option, find, codes}
+use Rattle.line_protocol.specs.Words.{is_spelled}
+use Rattle.filter_checks.specs.declared.keyword.TestKeyword.{TestKeyword}
+use Rattle.filter_checks.specs.declared.keyword.TestKeyword.TheVariants as word
 
 -- how each is written
-abbrev pub keyword_text : Keyword → List ℕ
+abbrev pub keyword_text : TestKeyword → List ℕ
 keyword_text word.Filter = codes "filter"
 keyword_text word.Size = codes "size"
 keyword_text word.Every = codes "every"
@@ -15,13 +15,9 @@ keyword_text word.Accept = codes "accept"
 keyword_text word.Reject = codes "reject"
 
 -- all of them
-abbrev pub keywords : List Keyword
+abbrev pub keywords : List TestKeyword
 keywords = word.Filter ∷ word.Size ∷ word.Every ∷ word.Metric ∷ word.Arrow ∷ word.Accept ∷ word.Reject ∷ []
 
--- whether a keyword is written so
-abbrev pub is_spelled : List ℕ → Keyword → Bool
-is_spelled text keyword = bytes_eq (keyword_text keyword) text
-
 -- the keyword that is written so
-unfoldable pub keyword_in : List ℕ → Option Keyword
-keyword_in text = find (is_spelled text) keywords
+unfoldable pub keyword_in : List ℕ → Option TestKeyword
+keyword_in text = find (is_spelled keyword_text text) keywords

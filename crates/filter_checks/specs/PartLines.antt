@@ -4,10 +4,10 @@ use Rattle.filter_code.specs.Outcomes.{fault_code}
 use Rattle.filter_code.specs.declared.outcome.Outcome.{Outcome}
 use Rattle.filter_code.specs.declared.outcome.Outcome.TheVariants as outcome
 use Rattle.filter_diff.specs.Answers.{undecided}
-use Rattle.filter_diff.specs.declared.ending.Ending.{Ending}
-use Rattle.filter_diff.specs.declared.ending.Ending.TheVariants as ending
-use Rattle.filter_diff.specs.declared.route_part.Finding.{Finding}
-use Rattle.filter_diff.specs.declared.route_part.Finding.TheVariants as finding
+use Rattle.filter_diff.specs.declared.ending.RunEnding.{RunEnding}
+use Rattle.filter_diff.specs.declared.ending.RunEnding.TheVariants as ending
+use Rattle.filter_diff.specs.declared.route_part.PartFinding.{PartFinding}
+use Rattle.filter_diff.specs.declared.route_part.PartFinding.TheVariants as finding
 use Rattle.filter_diff.specs.declared.route_part.RoutePart.{RoutePart}
 use Rattle.prefix_patterns.specs.Spelling.{prefix_text}
 
@@ -18,16 +18,16 @@ outcome_text outcome.Reject = codes "reject"
 outcome_text (outcome.Fault kind at) = codes "fault " ++ fault_code kind ++ 32 ∷ decimal at
 
 -- how the runs on all routes of a part end: `accept` alone is with the metric received
-abbrev pub ending_text : Ending → List ℕ
+abbrev pub ending_text : RunEnding → List ℕ
 ending_text ending.Unchanged = codes "accept"
 ending_text (ending.Fixed end) = outcome_text end
 
 -- what was found of a part, before and behind its routes
-abbrev pub finding_word : Finding → List ℕ
+abbrev pub finding_word : PartFinding → List ℕ
 finding_word finding.Undecided = codes "undecided "
 finding_word (finding.Differ before after) = codes "differ "
 
-abbrev pub endings_text : Finding → List ℕ
+abbrev pub endings_text : PartFinding → List ℕ
 endings_text finding.Undecided = []
 endings_text (finding.Differ before after) = codes ": " ++ ending_text before ++ codes " | " ++ ending_text after
 

@@ -1,11 +1,11 @@
 -- Parts of the routes as they are written: in lines for people, or in lines of JSON. (This project's own choice.)
 use Rattle.std.specs.Prelude.{ℕ, ◌-◌, ◌==◌, List, [], ◌++◌, Option, Some, None, count_by, flat_map, if◌then◌else◌, length, take}
 use Rattle.filter_diff.specs.Answers.{answer_of, undecided}
-use Rattle.filter_diff.specs.declared.answer.Answer.{Answer}
-use Rattle.filter_diff.specs.declared.answer.Answer.TheVariants as answer
-use Rattle.filter_diff.specs.declared.ending.Ending.{Ending}
-use Rattle.filter_diff.specs.declared.route_part.Finding.{Finding}
-use Rattle.filter_diff.specs.declared.route_part.Finding.TheVariants as finding
+use Rattle.filter_diff.specs.declared.answer.Comparison.{Comparison}
+use Rattle.filter_diff.specs.declared.answer.Comparison.TheVariants as answer
+use Rattle.filter_diff.specs.declared.ending.RunEnding.{RunEnding}
+use Rattle.filter_diff.specs.declared.route_part.PartFinding.{PartFinding}
+use Rattle.filter_diff.specs.declared.route_part.PartFinding.TheVariants as finding
 use Rattle.filter_diff.specs.declared.route_part.RoutePart.{RoutePart}
 use Rattle.prefix_patterns.specs.Spelling.{prefix_text}
 use Rattle.report_formats.specs.Parts.{PartView, part_line as json_part}
@@ -17,11 +17,11 @@ use Rattle.report_formats.specs.declared.report.Severity.TheVariants as severity
 use Rattle.filter_checks.specs.PartLines.{ending_text, hidden_words, last_words, part_words, parts_text, shown_limit}
 
 -- how much is wrong with a part, and with a comparison
-abbrev pub severity_of : Finding → Severity
+abbrev pub severity_of : PartFinding → Severity
 severity_of finding.Undecided = severity.Undecided
 severity_of (finding.Differ before after) = severity.Error
 
-abbrev pub severity_of_answer : Answer → Severity
+abbrev pub severity_of_answer : Comparison → Severity
 severity_of_answer answer.Same = severity.Ok
 severity_of_answer answer.Differ = severity.Error
 severity_of_answer answer.Undecided = severity.Undecided
@@ -43,10 +43,10 @@ view_with part before after = record {
 abbrev pub report_with : RoutePart → Option (List ℕ) → Option (List ℕ) → List ℕ
 report_with part before after = json_part (view_with part before after)
 
-abbrev pub difference : RoutePart → Ending → Ending → List ℕ
+abbrev pub difference : RoutePart → RunEnding → RunEnding → List ℕ
 difference part before after = report_with part (Some (ending_text before)) (Some (ending_text after))
 
-abbrev pub report_by : RoutePart → Finding → List ℕ
+abbrev pub report_by : RoutePart → PartFinding → List ℕ
 report_by part finding.Undecided = report_with part None None
 report_by part (finding.Differ before after) = difference part before after
 
@@ -54,7 +54,7 @@ abbrev pub part_report : RoutePart → List ℕ
 part_report part = report_by part part.finding
 
 -- a report on the whole comparison, under the name of the newer filter
-abbrev pub whole_view : List ℕ → Answer → List ℕ → ReportView
+abbrev pub whole_view : List ℕ → Comparison → List ℕ → ReportView
 whole_view name found words = record {
   severity = severity_of_answer found;
   code = None;
@@ -65,7 +65,7 @@ whole_view name found words = record {
 }
 
 -- how many parts have no report, and what is said of all other routes
-abbrev pub hidden_report : List ℕ → Answer → ℕ → List ℕ
+abbrev pub hidden_report : List ℕ → Comparison → ℕ → List ℕ
 hidden_report name found count = if count == 0 then [] else report_line (whole_view name found (hidden_words count))
 
 abbrev pub last_report : List ℕ → ℕ → List RoutePart → List ℕ

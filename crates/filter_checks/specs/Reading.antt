@@ -2,16 +2,16 @@
 use Rattle.std.specs.Prelude.{ℕ, ◌==◌, Bool, List, [], ◌∷◌, Option, Some, None, if◌then◌else◌, length, nat_le, ⊤}
 use Rattle.std.specs.Str.{bytes_eq}
 use Rattle.filter_code.specs.declared.outcome.Outcome.TheVariants as outcome
-use Rattle.filter_diff.specs.declared.ending.Ending.{Ending}
-use Rattle.filter_diff.specs.declared.ending.Ending.TheVariants as ending
+use Rattle.filter_diff.specs.declared.ending.RunEnding.{RunEnding}
+use Rattle.filter_diff.specs.declared.ending.RunEnding.TheVariants as ending
 use Rattle.filter_diff.specs.declared.expectation.Expectation.{Expectation}
 use Rattle.prefix_patterns.specs.Bits.{address_length}
 use Rattle.prefix_patterns.specs.Matching.{PrefixPattern}
 use Rattle.prefix_patterns.specs.Reading.{◌>>=◌, number_in, parts_at, prefix_in}
 use Rattle.prefix_patterns.specs.Token.{dot}
 use Rattle.filter_checks.specs.Keywords.{keyword_in, keyword_text}
-use Rattle.filter_checks.specs.declared.keyword.Keyword.{Keyword}
-use Rattle.filter_checks.specs.declared.keyword.Keyword.TheVariants as word
+use Rattle.filter_checks.specs.declared.keyword.TestKeyword.{TestKeyword}
+use Rattle.filter_checks.specs.declared.keyword.TestKeyword.TheVariants as word
 
 -- what is read, and the words after it
 abbrev pub Read : Type 0 → Type 0
@@ -35,14 +35,14 @@ first_number most ws = do
   Some (n, w.1)
 
 -- a keyword
-unfoldable pub first_keyword : List (List ℕ) → Read Keyword
+unfoldable pub first_keyword : List (List ℕ) → Read TestKeyword
 first_keyword ws = do
   w ← first_word ws
   k ← keyword_in w.0
   Some (k, w.1)
 
 -- the words after an arrow
-abbrev pub behind : Keyword → List (List ℕ) → Option (List (List ℕ))
+abbrev pub behind : TestKeyword → List (List ℕ) → Option (List (List ℕ))
 behind word.Arrow ws = Some ws
 behind _ ws = None
 
@@ -52,7 +52,7 @@ behind_arrow ws = do
   behind k.0 k.1
 
 -- `accept`: with the metric received, or with the one that follows
-unfoldable pub accepted_in : ℕ → List (List ℕ) → Option Ending
+unfoldable pub accepted_in : ℕ → List (List ℕ) → Option RunEnding
 accepted_in size [] = Some ending.Unchanged
 accepted_in size (w ∷ ws) = do
   metric ← number_in size w
@@ -60,14 +60,14 @@ accepted_in size (w ∷ ws) = do
   Some (ending.Fixed (outcome.Accept metric))
 
 -- a verdict, as the last of the words
-unfoldable pub verdict_of : ℕ → Keyword → List (List ℕ) → Option Ending
+unfoldable pub verdict_of : ℕ → TestKeyword → List (List ℕ) → Option RunEnding
 verdict_of size word.Accept ws = accepted_in size ws
 verdict_of size word.Reject ws = do
   end ← no_more ws
   Some (ending.Fixed outcome.Reject)
 verdict_of size _ ws = None
 
-unfoldable pub verdict_in : ℕ → List (List ℕ) → Option Ending
+unfoldable pub verdict_in : ℕ → List (List ℕ) → Option RunEnding
 verdict_in size ws = do
   k ← first_keyword ws
   verdict_of size k.0 k.1
@@ -115,7 +115,7 @@ named_metrics size ws = do
   rest ← behind_arrow w.1
   Some (metrics, rest)
 
-abbrev pub metrics_by : ℕ → Keyword → List (List ℕ) → Read (ℕ × ℕ)
+abbrev pub metrics_by : ℕ → TestKeyword → List (List ℕ) → Read (ℕ × ℕ)
 metrics_by size word.Arrow ws = Some ((0, size), ws)
 metrics_by size word.Metric ws = named_metrics size ws
 metrics_by size _ ws = None

@@ -12,7 +12,7 @@ ghost use Rattle.filter_checks.specs.declared.comparing.Compared.TheVariants as 
 use crate::part_reports::parts_in;
 use code_file::write_code;
 use filter_code::Code;
-use filter_diff::{Answer, RoutePart, answer_of, compare, join_all};
+use filter_diff::{Comparison, RoutePart, answer_of, compare, join_all};
 use filter_reports::{NamedText, ProgramFault, verified_filter};
 use filter_source::{Diagnosis, Failure};
 use filter_verifier::Verified;
@@ -41,7 +41,7 @@ fn judge(alloc: Global, text: &[u8], size: u32) -> Result<Result<Verified, Diagn
 {
     match verified_filter(alloc, text, size) {
         Ok(verified) => Ok(Ok(verified)),
-        Err(Failure::Refused(told)) => Ok(Err(told)),
+        Err(Failure::Refused(diagnosis)) => Ok(Err(diagnosis)),
         Err(Failure::Memory) => Err(AllocError),
     }
 }
@@ -86,13 +86,13 @@ fn find_parts(
 }
 
 /// What the comparison comes to, by what its parts come to.
-fn compared_as(found: Answer) -> Compared
+fn compared_as(found: Comparison) -> Compared
     ensures { result ≡ spec.compared_as found }
 {
     match found {
-        Answer::Same => Compared::Same,
-        Answer::Differ => Compared::Differ,
-        Answer::Undecided => Compared::Undecided,
+        Comparison::Same => Compared::Same,
+        Comparison::Differ => Compared::Differ,
+        Comparison::Undecided => Compared::Undecided,
     }
 }
 
@@ -194,25 +194,25 @@ pub fn compare_named<W: Write, E: Write>(
             Ok(new_code) => {
                 write_comparison(alloc, format, new.name, &old_code, &new_code, limit, writer)
             }
-            Err(told) => refuse_both(
+            Err(diagnosis) => refuse_both(
                 alloc,
                 format,
                 is_explained,
                 old,
                 new,
                 None,
-                Some(told),
+                Some(diagnosis),
                 writer,
                 errors,
             ),
         },
-        Err(told) => refuse_both(
+        Err(diagnosis) => refuse_both(
             alloc,
             format,
             is_explained,
             old,
             new,
-            Some(told),
+            Some(diagnosis),
             after.err(),
             writer,
             errors,

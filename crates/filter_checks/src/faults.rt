@@ -3,8 +3,8 @@ ghost use Rattle.std.specs.Prelude.{◌≡◌, ◌++◌, IfOk, OnOk};
 ghost use Rattle.filter_checks.specs.Faults as spec;
 
 use crate::test_file::TestFileFault;
-use filter_reports::push_shown;
 use line_protocol::push_decimal;
+use refusal_words::push_shown;
 use std::alloc::{AllocError, Global};
 
 impl TestFileFault {

@@ -8,7 +8,7 @@ ghost use Rattle.filter_diff.specs.Answers.{answer_of};
 ghost use Rattle.filter_diff.specs.Endings.{outcome_at};
 ghost use Rattle.filter_diff.specs.Parts.{IsEnough};
 ghost use Rattle.filter_diff.specs.Expectations.{IsCovered, IsMet, IsShown, route_of};
-ghost use Rattle.filter_diff.specs.declared.answer.Answer.TheVariants as answer;
+ghost use Rattle.filter_diff.specs.declared.answer.Comparison.TheVariants as answer;
 ghost use Rattle.filter_diff.specs.declared.checking.Counterexample.{Counterexample as TheCounterexample};
 ghost use Rattle.filter_diff.specs.declared.expectation.Expectation.{Expectation as TheExpectation};
 ghost use Rattle.filter_diff.specs.declared.route_part.RoutePart.{RoutePart as RoutePartView};
@@ -58,14 +58,14 @@ pub fn shown_routes_are_of_filters()
 /// Two texts of which `compare_named` answers `Same` spell filters of one meaning: the two say the same of every route in a domain of the
 /// size. Where it answers `Differ` they do not say the same of every route.
 pub fn compared_filters_mean_the_same()
-    ensures same { (format : Format) (size limit : ℕ) (is_explained : Bool) (old new : Named) (held holds tells told : Option (List ℕ))
-        → ComparesNamed format size limit is_explained old new held holds tells told compared.Same
+    ensures same { (format : Format) (size limit : ℕ) (is_explained : Bool) (old new : Named) (held holds stderr_before stderr_after : Option (List ℕ))
+        → ComparesNamed format size limit is_explained old new held holds stderr_before stderr_after compared.Same
         → (f : FilterView) × (g : FilterView) × IsText old.text f × IsText new.text g
         × ((route : RouteView) → IsRouteOf size route → meaning f route ≡ meaning g route) }
-    ensures differ { (format : Format) (size limit : ℕ) (is_explained : Bool) (old new : Named) (held holds tells told : Option (List ℕ))
-        → ComparesNamed format size limit is_explained old new held holds tells told compared.Differ
+    ensures differ { (format : Format) (size limit : ℕ) (is_explained : Bool) (old new : Named) (held holds stderr_before stderr_after : Option (List ℕ))
+        → ComparesNamed format size limit is_explained old new held holds stderr_before stderr_after compared.Differ
         → (f : FilterView) × (g : FilterView) × IsText old.text f × IsText new.text g
         × (route : RouteView) × IsRouteOf size route × (meaning f route ≢ meaning g route) }
-    ensures decided { (format : Format) (size limit : ℕ) (is_explained : Bool) (old new : Named) (held holds tells told : Option (List ℕ)) → IsEnough size limit
-        → ComparesNamed format size limit is_explained old new held holds tells told compared.Undecided → ⊥ }
+    ensures decided { (format : Format) (size limit : ℕ) (is_explained : Bool) (old new : Named) (held holds stderr_before stderr_after : Option (List ℕ)) → IsEnough size limit
+        → ComparesNamed format size limit is_explained old new held holds stderr_before stderr_after compared.Undecided → ⊥ }
 {}

@@ -25,4 +25,4 @@ pub use part_lines::{parts_text, push_outcome};
 pub use place::path_beside;
 pub use results::{end_in, head_in, skipped_in};
 pub use test_file::{Test, TestFile, TestFileFault, read_tests};
-pub use testing::{Failures, Ran, Tested, test_named};
+pub use testing::{Failures, RanTest, Tested, test_named};

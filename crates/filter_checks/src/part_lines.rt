@@ -3,9 +3,9 @@ ghost use Rattle.std.specs.Prelude.{◌≡◌, ◌++◌, ◌-◌, IfOk, OnOk, fl
 ghost use Rattle.filter_checks.specs.PartLines as spec;
 
 use filter_code::Outcome;
-use filter_diff::{Ending, Finding, RoutePart, count_undecided};
-use filter_reports::push_prefix;
+use filter_diff::{PartFinding, RoutePart, RunEnding, count_undecided};
 use line_protocol::push_decimal;
+use refusal_words::push_prefix;
 use std::alloc::{AllocError, Global};
 
 /// So many parts have a line at most.
@@ -31,32 +31,32 @@ pub fn push_outcome(out: &mut Vec<u8>, end: Outcome) -> Result<(), AllocError>
 }
 
 /// Puts how the runs on all routes of a part end at the end of `out`.
-pub(crate) fn push_ending(out: &mut Vec<u8>, end: Ending) -> Result<(), AllocError>
+pub(crate) fn push_ending(out: &mut Vec<u8>, end: RunEnding) -> Result<(), AllocError>
     ensures { OnOk result (out.new.items ≡ out.old.items ++ spec.ending_text end) }
 {
     match end {
-        Ending::Unchanged => out.extend_from_slice(b"accept"),
-        Ending::Fixed(end) => push_outcome(out, end),
+        RunEnding::Unchanged => out.extend_from_slice(b"accept"),
+        RunEnding::Fixed(end) => push_outcome(out, end),
     }
 }
 
 /// Puts what stands before the routes of a part at the end of `out`.
-fn push_finding_word(out: &mut Vec<u8>, found: Finding) -> Result<(), AllocError>
+fn push_finding_word(out: &mut Vec<u8>, found: PartFinding) -> Result<(), AllocError>
     ensures { OnOk result (out.new.items ≡ out.old.items ++ spec.finding_word found) }
 {
     match found {
-        Finding::Undecided => out.extend_from_slice(b"undecided "),
-        Finding::Differ(_, _) => out.extend_from_slice(b"differ "),
+        PartFinding::Undecided => out.extend_from_slice(b"undecided "),
+        PartFinding::Differ(_, _) => out.extend_from_slice(b"differ "),
     }
 }
 
 /// Puts what stands behind the routes of a part at the end of `out`.
-fn push_endings(out: &mut Vec<u8>, found: Finding) -> Result<(), AllocError>
+fn push_endings(out: &mut Vec<u8>, found: PartFinding) -> Result<(), AllocError>
     ensures { OnOk result (out.new.items ≡ out.old.items ++ spec.endings_text found) }
 {
     match found {
-        Finding::Undecided => Ok(()),
-        Finding::Differ(before, after) => {
+        PartFinding::Undecided => Ok(()),
+        PartFinding::Differ(before, after) => {
             out.extend_from_slice(b": ")?;
             push_ending(out, before)?;
             out.extend_from_slice(b" | ")?;

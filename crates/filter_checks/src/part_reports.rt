@@ -9,35 +9,35 @@ use crate::part_lines::{
     hidden_count, parts_text, push_ending, push_hidden_words, push_last_words, push_part_words,
     shown_parts,
 };
-use filter_diff::{Answer, Ending, Finding, RoutePart, answer_of, count_undecided};
-use filter_reports::push_prefix;
+use filter_diff::{Comparison, PartFinding, RoutePart, RunEnding, answer_of, count_undecided};
 use prefix_patterns::Prefix;
+use refusal_words::push_prefix;
 use report_formats::{Format, PartReport, Report, Severity, push_part, push_report};
 use std::alloc::{AllocError, Global};
 
 /// How much is wrong with a part.
-fn severity_of(found: Finding) -> Severity
+fn severity_of(found: PartFinding) -> Severity
     ensures { result ≡ spec.severity_of found }
 {
     match found {
-        Finding::Undecided => Severity::Undecided,
-        Finding::Differ(_, _) => Severity::Error,
+        PartFinding::Undecided => Severity::Undecided,
+        PartFinding::Differ(_, _) => Severity::Error,
     }
 }
 
 /// How much is wrong with a comparison.
-fn severity_of_answer(found: Answer) -> Severity
+fn severity_of_answer(found: Comparison) -> Severity
     ensures { result ≡ spec.severity_of_answer found }
 {
     match found {
-        Answer::Same => Severity::Ok,
-        Answer::Differ => Severity::Error,
-        Answer::Undecided => Severity::Undecided,
+        Comparison::Same => Severity::Ok,
+        Comparison::Differ => Severity::Error,
+        Comparison::Undecided => Severity::Undecided,
     }
 }
 
 /// What a filter does with the routes of a part.
-fn ending_of(alloc: Global, end: Ending) -> Result<Vec<u8>, AllocError>
+fn ending_of(alloc: Global, end: RunEnding) -> Result<Vec<u8>, AllocError>
     ensures { IfOk result (λ text. text.items ≡ ending_text end) }
 {
     let mut text = Vec::new(alloc);
@@ -98,8 +98,8 @@ fn push_difference(
     alloc: Global,
     out: &mut Vec<u8>,
     part: &RoutePart,
-    before: Ending,
-    after: Ending,
+    before: RunEnding,
+    after: RunEnding,
 ) -> Result<(), AllocError>
     ensures { OnOk result (out.new.items ≡ out.old.items ++ spec.difference part.now before after) }
 {
@@ -113,8 +113,8 @@ fn push_part_report(alloc: Global, out: &mut Vec<u8>, part: &RoutePart) -> Resul
     ensures { OnOk result (out.new.items ≡ out.old.items ++ spec.part_report part.now) }
 {
     match part.finding {
-        Finding::Undecided => push_report_on(alloc, out, part, None, None),
-        Finding::Differ(before, after) => push_difference(alloc, out, part, before, after),
+        PartFinding::Undecided => push_report_on(alloc, out, part, None, None),
+        PartFinding::Differ(before, after) => push_difference(alloc, out, part, before, after),
     }
 }
 
@@ -137,7 +137,7 @@ fn push_whole<'a>(
     alloc: Global,
     out: &mut Vec<u8>,
     name: &'a [u8],
-    found: Answer,
+    found: Comparison,
     words: &'a [u8],
 ) -> Result<(), AllocError>
     ensures { OnOk result (out.new.items ≡ out.old.items ++ report_line (spec.whole_view name.now found words.now)) }
@@ -161,7 +161,7 @@ fn push_hidden_report(
     alloc: Global,
     out: &mut Vec<u8>,
     name: &[u8],
-    found: Answer,
+    found: Comparison,
     count: usize,
 ) -> Result<(), AllocError>
     ensures { OnOk result (out.new.items ≡ out.old.items ++ spec.hidden_report name.now found count) }

@@ -9,9 +9,9 @@ ghost use Rattle.prefix_patterns.specs.Bits.{address_length};
 ghost use Rattle.prefix_patterns.specs.Reading.{parts_at};
 ghost use Rattle.filter_checks.specs.Reading as spec;
 
-use crate::keyword::{Keyword, find_keyword, is_every};
+use crate::keyword::{TestKeyword, find_keyword, is_every};
 use filter_code::Outcome;
-use filter_diff::{Ending, Expectation};
+use filter_diff::{Expectation, RunEnding};
 use line_protocol::next_word;
 use prefix_patterns::{ADDRESS_LENGTH, Pattern, Prefix, cut_at, read_number, read_prefix};
 
@@ -44,7 +44,7 @@ pub(crate) fn first_number(line: &[u8], most: u32) -> Option<(u32, &[u8])>
 
 /// A keyword, and the bytes after it.
 #[tactic(auto, unfolding(crate::specs::Reading::first_keyword))]
-pub(crate) fn first_keyword(line: &[u8]) -> Option<(Keyword, &[u8])>
+pub(crate) fn first_keyword(line: &[u8]) -> Option<(TestKeyword, &[u8])>
     ensures { spec.first_keyword (words line.now) ≡ option_map (λ p. (p.0, words p.1.now)) result }
 {
     let (word, rest) = first_word(line)?;
@@ -59,36 +59,36 @@ fn behind_arrow(line: &[u8]) -> Option<&[u8]>
 {
     let (keyword, rest) = first_keyword(line)?;
     match keyword {
-        Keyword::Arrow => Some(rest),
+        TestKeyword::Arrow => Some(rest),
         _ => None,
     }
 }
 
 /// `accept`: with the metric received, or with the one that follows.
 #[tactic(auto, unfolding(crate::specs::Reading::accepted_in))]
-fn accepted_in(line: &[u8], size: u32) -> Option<Ending>
+fn accepted_in(line: &[u8], size: u32) -> Option<RunEnding>
     ensures { spec.accepted_in size (words line.now) ≡ result }
 {
     match next_word(line) {
-        None => Some(Ending::Unchanged),
+        None => Some(RunEnding::Unchanged),
         Some((word, rest)) => {
             let metric = read_number(word, size)?;
             no_more(rest)?;
-            Some(Ending::Fixed(Outcome::Accept(metric)))
+            Some(RunEnding::Fixed(Outcome::Accept(metric)))
         }
     }
 }
 
 /// A verdict by its keyword, where nothing follows.
 #[tactic(auto, unfolding(crate::specs::Reading::verdict_of))]
-fn verdict_of(keyword: Keyword, line: &[u8], size: u32) -> Option<Ending>
+fn verdict_of(keyword: TestKeyword, line: &[u8], size: u32) -> Option<RunEnding>
     ensures { spec.verdict_of size keyword (words line.now) ≡ result }
 {
     match keyword {
-        Keyword::Accept => accepted_in(line, size),
-        Keyword::Reject => {
+        TestKeyword::Accept => accepted_in(line, size),
+        TestKeyword::Reject => {
             no_more(line)?;
-            Some(Ending::Fixed(Outcome::Reject))
+            Some(RunEnding::Fixed(Outcome::Reject))
         }
         _ => None,
     }
@@ -96,7 +96,7 @@ fn verdict_of(keyword: Keyword, line: &[u8], size: u32) -> Option<Ending>
 
 /// A verdict, where nothing follows.
 #[tactic(auto, unfolding(crate::specs::Reading::verdict_in))]
-fn verdict_in(line: &[u8], size: u32) -> Option<Ending>
+fn verdict_in(line: &[u8], size: u32) -> Option<RunEnding>
     ensures { spec.verdict_in size (words line.now) ≡ result }
 {
     let (keyword, rest) = first_keyword(line)?;
@@ -172,12 +172,12 @@ fn named_metrics(line: &[u8], size: u32) -> Option<((u32, u32), &[u8])>
 }
 
 /// Metrics by the keyword before them, and the bytes after the arrow.
-fn metrics_by(keyword: Keyword, line: &[u8], size: u32) -> Option<((u32, u32), &[u8])>
+fn metrics_by(keyword: TestKeyword, line: &[u8], size: u32) -> Option<((u32, u32), &[u8])>
     ensures { spec.metrics_by size keyword (words line.now) ≡ option_map (λ p. (p.0, words p.1.now)) result }
 {
     match keyword {
-        Keyword::Arrow => Some(((0, size), line)),
-        Keyword::Metric => named_metrics(line, size),
+        TestKeyword::Arrow => Some(((0, size), line)),
+        TestKeyword::Metric => named_metrics(line, size),
         _ => None,
     }
 }

@@ -7,9 +7,9 @@ ghost use Rattle.report_formats.specs.Reports.{report_line};
 ghost use Rattle.filter_checks.specs.Results as spec;
 
 use crate::tap::{all_lines, plan_line, push_found, skipped_line};
-use crate::testing::Ran;
-use filter_diff::{Checked, Counterexample};
-use filter_reports::place_in;
+use crate::testing::RanTest;
+use filter_diff::{Counterexample, ExpectationResult};
+use refusal_words::place_in;
 use report_formats::{
     Report, Severity, TestFormat, document_end, document_head, push_broken, push_failed,
     push_passed, push_report,
@@ -17,13 +17,13 @@ use report_formats::{
 use std::alloc::{AllocError, Global};
 
 /// How much is wrong with a test.
-fn severity_of(checked: &Checked) -> Severity
+fn severity_of(checked: &ExpectationResult) -> Severity
     ensures { result ≡ spec.severity_of checked.now }
 {
     match checked {
-        Checked::Holds => Severity::Ok,
-        Checked::Fails(_) => Severity::Error,
-        Checked::Undecided => Severity::Undecided,
+        ExpectationResult::Holds => Severity::Ok,
+        ExpectationResult::Fails(_) => Severity::Error,
+        ExpectationResult::Undecided => Severity::Undecided,
     }
 }
 
@@ -38,22 +38,26 @@ fn failure_words(alloc: Global, found: &Counterexample) -> Result<Vec<u8>, Alloc
 }
 
 /// Puts what is said of a test behind its line at the end of `out`.
-fn push_said(alloc: Global, out: &mut Vec<u8>, checked: &Checked) -> Result<(), AllocError>
+fn push_said(
+    alloc: Global,
+    out: &mut Vec<u8>,
+    checked: &ExpectationResult,
+) -> Result<(), AllocError>
     ensures { OnOk result (out.new.items ≡ out.old.items ++ spec.said checked.now) }
 {
     match checked {
-        Checked::Holds => Ok(()),
-        Checked::Fails(found) => {
+        ExpectationResult::Holds => Ok(()),
+        ExpectationResult::Fails(found) => {
             let words = failure_words(alloc, found)?;
             out.extend_from_slice(b": ")?;
             out.extend_from_slice(words.as_slice())
         }
-        Checked::Undecided => out.extend_from_slice(b": undecided"),
+        ExpectationResult::Undecided => out.extend_from_slice(b": undecided"),
     }
 }
 
 /// The line of a test, and what is said of it.
-fn words_of(alloc: Global, ran: &Ran) -> Result<Vec<u8>, AllocError>
+fn words_of(alloc: Global, ran: &RanTest) -> Result<Vec<u8>, AllocError>
     ensures { IfOk result (λ words. words.items ≡ spec.result_words ran.now) }
 {
     let mut words = Vec::new(alloc);
@@ -92,7 +96,7 @@ fn push_test_report(
     alloc: Global,
     out: &mut Vec<u8>,
     name: &[u8],
-    ran: &Ran,
+    ran: &RanTest,
 ) -> Result<(), AllocError>
     ensures { OnOk result (out.new.items ≡ out.old.items ++ spec.test_report name.now ran.now) }
 {
@@ -106,7 +110,7 @@ fn push_reports(
     alloc: Global,
     out: &mut Vec<u8>,
     name: &[u8],
-    all: &[Ran],
+    all: &[RanTest],
 ) -> Result<(), AllocError>
     ensures { OnOk result (out.new.items ≡ out.old.items ++ flat_map (spec.test_report name.now) all.now) }
 {
@@ -131,19 +135,24 @@ fn push_failure(
 }
 
 /// Puts the element of a test at the end of `out`.
-fn push_case(alloc: Global, out: &mut Vec<u8>, name: &[u8], ran: &Ran) -> Result<(), AllocError>
+fn push_case(alloc: Global, out: &mut Vec<u8>, name: &[u8], ran: &RanTest) -> Result<(), AllocError>
     ensures { OnOk result (out.new.items ≡ out.old.items ++ spec.case_of name.now ran.now) }
 {
     let line = ran.line.as_slice();
     match &ran.checked {
-        Checked::Holds => push_passed(alloc, out, name, line),
-        Checked::Fails(found) => push_failure(alloc, out, name, line, found),
-        Checked::Undecided => push_broken(alloc, out, name, line, b"undecided"),
+        ExpectationResult::Holds => push_passed(alloc, out, name, line),
+        ExpectationResult::Fails(found) => push_failure(alloc, out, name, line, found),
+        ExpectationResult::Undecided => push_broken(alloc, out, name, line, b"undecided"),
     }
 }
 
 /// Puts the elements of tests at the end of `out`.
-fn push_cases(alloc: Global, out: &mut Vec<u8>, name: &[u8], all: &[Ran]) -> Result<(), AllocError>
+fn push_cases(
+    alloc: Global,
+    out: &mut Vec<u8>,
+    name: &[u8],
+    all: &[RanTest],
+) -> Result<(), AllocError>
     ensures { OnOk result (out.new.items ≡ out.old.items ++ flat_map (spec.case_of name.now) all.now) }
 {
     for ran in all {
@@ -158,7 +167,7 @@ pub(crate) fn results_in(
     format: TestFormat,
     name: &[u8],
     before: u64,
-    all: &[Ran],
+    all: &[RanTest],
 ) -> Result<Vec<u8>, AllocError>
     requires { before + length all.now < 2 ^ 64 }
     ensures { IfOk result (λ out. out.items ≡ spec.results_in format name.now before all.now) }
@@ -173,12 +182,12 @@ pub(crate) fn results_in(
 }
 
 /// What is said of a file whose tests were not run, by what people are told of it: the first line of that.
-fn not_run_words(alloc: Global, told: &[u8]) -> Result<Vec<u8>, AllocError>
-    ensures { IfOk result (λ words. words.items ≡ spec.not_run_words told.now) }
+fn not_run_words(alloc: Global, diagnosis: &[u8]) -> Result<Vec<u8>, AllocError>
+    ensures { IfOk result (λ words. words.items ≡ spec.not_run_words diagnosis.now) }
 {
     let mut words = Vec::new(alloc);
     words.extend_from_slice(b"not run: ")?;
-    words.extend_from_slice(place_in(told, 0).behind)?;
+    words.extend_from_slice(place_in(diagnosis, 0).behind)?;
     Ok(words)
 }
 
@@ -218,11 +227,11 @@ pub fn skipped_in(
     format: TestFormat,
     number: u64,
     name: &[u8],
-    told: &[u8],
+    diagnosis: &[u8],
 ) -> Result<Vec<u8>, AllocError>
-    ensures { IfOk result (λ out. out.items ≡ spec.skipped_in format number name.now told.now) }
+    ensures { IfOk result (λ out. out.items ≡ spec.skipped_in format number name.now diagnosis.now) }
 {
-    let words = not_run_words(alloc, told)?;
+    let words = not_run_words(alloc, diagnosis)?;
     match format {
         TestFormat::Tap => skipped_line(alloc, number, name, words.as_slice()),
         TestFormat::Json => skipped_report(alloc, name, words.as_slice()),

@@ -10,19 +10,19 @@ ghost use Rattle.prefix_patterns.specs.Spelling.{prefix_text};
 ghost use Rattle.filter_checks.specs.Tap as spec;
 
 use crate::part_lines::push_outcome;
-use crate::testing::Ran;
-use filter_diff::{Checked, Counterexample};
-use filter_reports::{push_prefix, push_shown};
+use crate::testing::RanTest;
+use filter_diff::{Counterexample, ExpectationResult};
 use line_protocol::push_decimal;
+use refusal_words::{push_prefix, push_shown};
 use std::alloc::{AllocError, Global};
 
 /// How the line of a test begins.
-fn result_word(checked: &Checked) -> &'static [u8]
+fn result_word(checked: &ExpectationResult) -> &'static [u8]
     ensures { result.now ≡ spec.result_word checked.now }
 {
     match checked {
-        Checked::Holds => b"ok ",
-        Checked::Fails(_) | Checked::Undecided => b"not ok ",
+        ExpectationResult::Holds => b"ok ",
+        ExpectationResult::Fails(_) | ExpectationResult::Undecided => b"not ok ",
     }
 }
 
@@ -42,23 +42,27 @@ pub(crate) fn push_found(
 }
 
 /// Puts the comment behind the line of a test at the end of `out`, if the test does not hold.
-fn push_note(alloc: Global, out: &mut Vec<u8>, checked: &Checked) -> Result<(), AllocError>
+fn push_note(
+    alloc: Global,
+    out: &mut Vec<u8>,
+    checked: &ExpectationResult,
+) -> Result<(), AllocError>
     ensures { OnOk result (out.new.items ≡ out.old.items ++ spec.note checked.now) }
 {
     match checked {
-        Checked::Holds => Ok(()),
-        Checked::Fails(found) => {
+        ExpectationResult::Holds => Ok(()),
+        ExpectationResult::Fails(found) => {
             out.extend_from_slice(b"# ")?;
             push_found(alloc, out, found)?;
             out.push(b'\n')?;
             Ok(())
         }
-        Checked::Undecided => out.extend_from_slice(b"# undecided\n"),
+        ExpectationResult::Undecided => out.extend_from_slice(b"# undecided\n"),
     }
 }
 
 /// Puts the lines of a test at the end of `out`, by its number in the stream.
-fn push_test(alloc: Global, out: &mut Vec<u8>, number: u64, ran: &Ran) -> Result<(), AllocError>
+fn push_test(alloc: Global, out: &mut Vec<u8>, number: u64, ran: &RanTest) -> Result<(), AllocError>
     ensures { OnOk result (out.new.items ≡ out.old.items ++ spec.test_lines number ran.now) }
 {
     out.extend_from_slice(result_word(&ran.checked))?;
@@ -70,7 +74,7 @@ fn push_test(alloc: Global, out: &mut Vec<u8>, number: u64, ran: &Ran) -> Result
 }
 
 /// The lines of tests, before which the stream has so many others.
-pub(crate) fn all_lines(alloc: Global, before: u64, all: &[Ran]) -> Result<Vec<u8>, AllocError>
+pub(crate) fn all_lines(alloc: Global, before: u64, all: &[RanTest]) -> Result<Vec<u8>, AllocError>
     requires { before + length all.now < 2 ^ 64 }
     ensures { IfOk result (λ out. out.items ≡ spec.all_lines before all.now) }
 {
@@ -94,19 +98,24 @@ fn push_place(alloc: Global, out: &mut Vec<u8>, name: &[u8], line: usize) -> Res
 }
 
 /// Puts what people are told of a test at the end of `out`, if it does not hold.
-fn push_told(alloc: Global, out: &mut Vec<u8>, name: &[u8], ran: &Ran) -> Result<(), AllocError>
-    ensures { OnOk result (out.new.items ≡ out.old.items ++ spec.told_of name.now ran.now) }
+fn push_failure(
+    alloc: Global,
+    out: &mut Vec<u8>,
+    name: &[u8],
+    ran: &RanTest,
+) -> Result<(), AllocError>
+    ensures { OnOk result (out.new.items ≡ out.old.items ++ spec.failure_of name.now ran.now) }
 {
     match &ran.checked {
-        Checked::Holds => Ok(()),
-        Checked::Fails(found) => {
+        ExpectationResult::Holds => Ok(()),
+        ExpectationResult::Fails(found) => {
             push_place(alloc, out, name, ran.number)?;
             out.extend_from_slice(b"does not hold: ")?;
             push_found(alloc, out, found)?;
             out.push(b'\n')?;
             Ok(())
         }
-        Checked::Undecided => {
+        ExpectationResult::Undecided => {
             push_place(alloc, out, name, ran.number)?;
             out.extend_from_slice(b"undecided\n")
         }
@@ -114,47 +123,47 @@ fn push_told(alloc: Global, out: &mut Vec<u8>, name: &[u8], ran: &Ran) -> Result
 }
 
 /// What people are told of tests, where words are wanted.
-pub(crate) fn told_of_all(
+pub(crate) fn failures_of(
     alloc: Global,
     is_explained: bool,
     name: &[u8],
-    all: &[Ran],
+    all: &[RanTest],
 ) -> Result<Vec<u8>, AllocError>
-    ensures { IfOk result (λ out. out.items ≡ spec.told_of_all is_explained name.now all.now) }
+    ensures { IfOk result (λ out. out.items ≡ spec.failures_of is_explained name.now all.now) }
 {
     let mut out = Vec::new(alloc);
     if !is_explained {
         return Ok(out);
     }
     for ran in all {
-        push_told(alloc, &mut out, name, ran)?;
+        push_failure(alloc, &mut out, name, ran)?;
     }
     Ok(out)
 }
 
 /// Whether a test does not hold.
-fn is_wrong(ran: &Ran) -> bool
+fn is_wrong(ran: &RanTest) -> bool
     ensures { result ≡ spec.is_wrong ran.now }
 {
-    matches!(ran.checked, Checked::Fails(_))
+    matches!(ran.checked, ExpectationResult::Fails(_))
 }
 
 /// Whether it is not decided that a test holds.
-fn is_undecided(ran: &Ran) -> bool
+fn is_undecided(ran: &RanTest) -> bool
     ensures { result ≡ spec.is_undecided ran.now }
 {
-    matches!(ran.checked, Checked::Undecided)
+    matches!(ran.checked, ExpectationResult::Undecided)
 }
 
 /// How many tests do not hold.
-pub(crate) fn count_wrong(all: &[Ran]) -> usize
+pub(crate) fn count_wrong(all: &[RanTest]) -> usize
     ensures { result ≡ count_by spec.is_wrong all.now }
 {
     all.iter().filter(|ran| is_wrong(ran)).count()
 }
 
 /// Of how many it is not decided.
-pub(crate) fn count_undecided(all: &[Ran]) -> usize
+pub(crate) fn count_undecided(all: &[RanTest]) -> usize
     ensures { result ≡ count_by spec.is_undecided all.now }
 {
     all.iter().filter(|ran| is_undecided(ran)).count()

@@ -13,7 +13,7 @@ ghost use Rattle.line_protocol.specs.Lines.{answerable_from};
 ghost use Rattle.line_protocol.specs.Words.{words};
 ghost use Rattle.filter_checks.specs.Files as spec;
 
-use crate::keyword::Keyword;
+use crate::keyword::TestKeyword;
 use crate::lines::next_line;
 use crate::reading::{first_keyword, first_number, first_word, no_more, test_in};
 use filter_code::{LARGEST_SIZE, SMALLEST_SIZE};
@@ -87,7 +87,7 @@ fn filter_in(line: &[u8]) -> Option<&[u8]>
 {
     let (keyword, rest) = first_keyword(line)?;
     match keyword {
-        Keyword::Filter => only_word(rest),
+        TestKeyword::Filter => only_word(rest),
         _ => None,
     }
 }
@@ -113,7 +113,7 @@ fn size_in(line: &[u8]) -> Option<u32>
 {
     let (keyword, rest) = first_keyword(line)?;
     match keyword {
-        Keyword::Size => only_size(rest),
+        TestKeyword::Size => only_size(rest),
         _ => None,
     }
 }

@@ -11,32 +11,33 @@ ghost use Rattle.filter_reports.specs.Faults.{stream_fault};
 ghost use Rattle.filter_reports.specs.Naming.{named};
 ghost use Rattle.filter_checks.specs.Files.{file_view, test_view};
 ghost use Rattle.filter_checks.specs.Results.{results_in as lines_of};
-ghost use Rattle.filter_checks.specs.Tap.{is_undecided, is_wrong, told_of_all as words_of};
+ghost use Rattle.filter_checks.specs.Tap.{is_undecided, is_wrong, failures_of as words_of};
 ghost use Rattle.filter_checks.specs.Testing as spec;
 ghost use Rattle.filter_checks.specs.declared.testing.Tested.TheVariants as tested;
 
 use crate::results::results_in;
-use crate::tap::{count_undecided, count_wrong, told_of_all};
+use crate::tap::{count_undecided, count_wrong, failures_of};
 use crate::test_file::{Test, TestFile};
 use filter_code::Code;
-use filter_diff::{Checked, check_expectation};
-use filter_reports::{NamedText, ProgramFault, explain, tell_refusal, verified_filter};
+use filter_diff::{ExpectationResult, check_expectation};
+use filter_reports::{NamedText, ProgramFault, tell_refusal, verified_filter};
 use filter_source::Failure;
 use filter_verifier::Verified;
 use line_protocol::{StreamFault, write_text};
+use refusal_words::explain;
 use report_formats::TestFormat;
 use std::alloc::{AllocError, Global};
 use std::io::Write;
 
 /// A test that was run.
 #[derive(Drop)]
-pub struct Ran {
+pub struct RanTest {
     /// The number of its line, counted from 1.
     pub number: usize,
     /// Its line.
     pub line: Vec<u8>,
     /// What was found.
-    pub checked: Checked,
+    pub checked: ExpectationResult,
 }
 
 /// How many tests of a file do not hold, or may not.
@@ -64,12 +65,12 @@ fn run_test(
     size: u32,
     limit: u64,
     test: &Test,
-) -> Result<Ran, AllocError>
+) -> Result<RanTest, AllocError>
     requires { size ≤ largest_size }
     ensures { IfOk result (λ ran. spec.IsRun code.now size limit (test_view test.now) ran) }
 {
     let checked = check_expectation(alloc, code, &test.expected, size, limit)?;
-    Ok(Ran {
+    Ok(RanTest {
         number: test.number,
         line: Vec::from_slice(alloc, test.line.as_slice())?,
         checked,
@@ -83,7 +84,7 @@ fn run_all(
     size: u32,
     limit: u64,
     tests: &[Test],
-) -> Result<Vec<Ran>, AllocError>
+) -> Result<Vec<RanTest>, AllocError>
     requires { size ≤ largest_size }
     ensures run { IfOk result (λ all. spec.AreRun code.now size limit (map test_view tests.now) all.items) }
     ensures count { IfOk result (λ all. vec_len all ≡ length tests.now) }
@@ -98,7 +99,7 @@ fn run_all(
 
 /// What is found of the tests of a file, as it is written and told.
 #[derive(Drop)]
-struct Report {
+struct TestReport {
     /// The lines that are written.
     lines: Vec<u8>,
     /// What is told in words.
@@ -114,8 +115,8 @@ fn report_on(
     before: u64,
     is_explained: bool,
     name: &[u8],
-    all: &[Ran],
-) -> Result<Report, AllocError>
+    all: &[RanTest],
+) -> Result<TestReport, AllocError>
     requires { before + length all.now < 2 ^ 64 }
     ensures lines { IfOk result (λ report. report.lines.items ≡ lines_of format name.now before all.now) }
     ensures words { IfOk result (λ report. report.words.items ≡ words_of is_explained name.now all.now) }
@@ -123,8 +124,8 @@ fn report_on(
     ensures undecided { IfOk result (λ report. report.failed.undecided ≡ count_by is_undecided all.now) }
 {
     let lines = results_in(alloc, format, name, before, all)?;
-    let words = told_of_all(alloc, is_explained, name, all)?;
-    Ok(Report {
+    let words = failures_of(alloc, is_explained, name, all)?;
+    Ok(TestReport {
         lines,
         words,
         failed: Failures {
@@ -144,7 +145,7 @@ fn report_of(
     is_explained: bool,
     name: &[u8],
     file: &TestFile,
-) -> Result<Report, AllocError>
+) -> Result<TestReport, AllocError>
     requires size { code.now.size ≡ file.now.size }
     requires fits { before + length file.now.tests.items < 2 ^ 64 }
     ensures { IfOk result (λ report. spec.IsReport format code.now.program before limit is_explained name.now (file_view file.now)
@@ -157,12 +158,12 @@ fn report_of(
 
 /// Writes a report.
 fn write_report<W: Write, E: Write>(
-    report: &Report,
+    report: &TestReport,
     writer: &mut W,
     errors: &mut E,
 ) -> Result<(), ProgramFault>
     ensures written { OnOk result (Appends (W.contents writer.old) (W.contents writer.new) report.now.lines.items) }
-    ensures told { OnOk result (Appends (E.contents errors.old) (E.contents errors.new) report.now.words.items) }
+    ensures diagnosis { OnOk result (Appends (E.contents errors.old) (E.contents errors.new) report.now.words.items) }
     ensures cut { IfErr result (λ fault. (stream_fault fault ≡ StreamFault.Write)
         × spec.CutsReport report.now.lines.items report.now.words.items (W.contents writer.old) (W.contents writer.new) (E.contents errors.old) (E.contents errors.new)) }
 {
@@ -233,14 +234,14 @@ pub fn test_named<W: Write, E: Write>(
             )?;
             Ok(Tested::Ran(failed))
         }
-        Err(Failure::Refused(told)) => {
-            let words = explain(alloc, filter.name, filter.text, &told)?;
+        Err(Failure::Refused(diagnosis)) => {
+            let words = explain(alloc, filter.name, filter.text, &diagnosis)?;
             tell_refusal(
                 alloc,
                 errors,
                 filter.name,
                 filter.text,
-                &Some(told),
+                &Some(diagnosis),
                 is_explained,
             )?;
             Ok(Tested::Refused(words))

@@ -21,8 +21,8 @@ use Rattle.filter_diff.specs.Parts.{IsIn}
 use Rattle.filter_diff.specs.Searches.{Compare, IsLeft}
 use Rattle.filter_diff.specs.declared.checking.Counterexample.{Counterexample}
 use Rattle.filter_diff.specs.declared.class.Class.{Class}
-use Rattle.filter_diff.specs.declared.ending.Ending.{Ending}
-use Rattle.filter_diff.specs.declared.ending.Ending.TheVariants as ending
+use Rattle.filter_diff.specs.declared.ending.RunEnding.{RunEnding}
+use Rattle.filter_diff.specs.declared.ending.RunEnding.TheVariants as ending
 use Rattle.filter_diff.specs.declared.expectation.Expectation.{Expectation}
 use Rattle.filter_diff.specs.declared.found.Found.{Found}
 use Rattle.filter_diff.specs.declared.found.Found.TheVariants as found
@@ -34,7 +34,7 @@ pub whole_net : (class : Class) (route : RouteView) → length class.known ≡ c
 whole_net class route long of = sym (take_all (length class.known) route.net (omega (arith, of.long))) ∙ of.begins
 
 -- how a run ends on the one route of which all is known
-pub ends_one : (program : CodeView) (class : Class) (metric : ℕ) (end : Ending) (ran : RouteView) (before after : Outcome) (what : Found)
+pub ends_one : (program : CodeView) (class : Class) (metric : ℕ) (end : RunEnding) (ran : RouteView) (before after : Outcome) (what : Found)
     → class.metric ≡ Some metric → length class.known ≡ class.len → ran ≡ record { net = class.known; metric = metric; size = class.size }
     → before ≡ outcome_of program ran → ((route : RouteView) → route.metric ≡ metric → after ≡ outcome_at route end)
     → Compare (ending.Fixed before) (ending.Fixed after) what → EndsAs program class end what
@@ -54,7 +54,7 @@ ends_one program class metric end ran before after found.AsksBits known long is 
 ends_one program class metric end ran before after found.AsksMetric known long is before_is after_is asks = tt
 
 -- how the runs on all routes of a class end, by what is known of the metric
-pub ends_compared : (program : CodeView) (class : Class) (end known expected : Ending) (what : Found)
+pub ends_compared : (program : CodeView) (class : Class) (end known expected : RunEnding) (what : Found)
     → Always class (λ route. outcome_of program route ≡ outcome_at route end)
     → ((route : RouteView) → IsKnown class.metric route.metric → outcome_at route known ≡ outcome_at route expected)
     → Compare end known what → EndsAs program class expected what

@@ -9,15 +9,15 @@ use Rattle.prefix_patterns.specs.Matching.{LiesWithin}
 use Rattle.filter_code.specs.RouteView.{RouteView}
 use Rattle.filter_diff.specs.Joins.{IsFoundOfBoth, Joins}
 use Rattle.filter_diff.specs.Parts.{Has}
-use Rattle.filter_diff.specs.declared.route_part.Finding.{Finding}
+use Rattle.filter_diff.specs.declared.route_part.PartFinding.{PartFinding}
 use Rattle.filter_diff.specs.declared.route_part.RoutePart.{RoutePart}
 
 -- a part of its parts
-abbrev pub part : List Bool → ℕ → ℕ → ℕ → ℕ → Finding → RoutePart
+abbrev pub part : List Bool → ℕ → ℕ → ℕ → ℕ → PartFinding → RoutePart
 part prefix shortest longest least greatest finding =
     record { prefix = prefix; shortest = shortest; longest = longest; least = least; greatest = greatest; finding = finding }
 
-lengths_by : (a b : RoutePart) (found : Finding) (route : RouteView) (in_first : Bool) → nat_le (length route.net) a.longest ≡ in_first →
+lengths_by : (a b : RoutePart) (found : PartFinding) (route : RouteView) (in_first : Bool) → nat_le (length route.net) a.longest ≡ in_first →
     a.prefix ≡ b.prefix → a.least ≡ b.least → a.greatest ≡ b.greatest → a.longest + 1 ≡ b.shortest →
     Has (part a.prefix a.shortest b.longest a.least a.greatest found) route → Has a route ⊎ Has b route
 lengths_by a b found route true e prefix least greatest near h =
@@ -29,13 +29,13 @@ lengths_by a b found route false e prefix least greatest near h =
     let to : route.metric ≤ b.greatest = omega (arith, h.greatest) in
     inr (record { within = subst (LiesWithin route.net) prefix h.within; shortest = shortest; longest = h.longest; least = from; greatest = to })
 
-lengths_first : (a b : RoutePart) (found : Finding) (route : RouteView) → a.longest ≤ b.longest → Has a route →
+lengths_first : (a b : RoutePart) (found : PartFinding) (route : RouteView) → a.longest ≤ b.longest → Has a route →
     Has (part a.prefix a.shortest b.longest a.least a.greatest found) route
 lengths_first a b found route more h =
     let longest : length route.net ≤ b.longest = omega (arith, h.longest) in
     record { within = h.within; shortest = h.shortest; longest = longest; least = h.least; greatest = h.greatest }
 
-lengths_second : (a b : RoutePart) (found : Finding) (route : RouteView) → a.prefix ≡ b.prefix → a.least ≡ b.least → a.greatest ≡ b.greatest →
+lengths_second : (a b : RoutePart) (found : PartFinding) (route : RouteView) → a.prefix ≡ b.prefix → a.least ≡ b.least → a.greatest ≡ b.greatest →
     a.shortest ≤ b.shortest → Has b route → Has (part a.prefix a.shortest b.longest a.least a.greatest found) route
 lengths_second a b found route prefix least greatest more h =
     let shortest : a.shortest ≤ length route.net = omega (arith, h.shortest) in
@@ -43,7 +43,7 @@ lengths_second a b found route prefix least greatest more h =
     let to : route.metric ≤ a.greatest = omega (arith, h.greatest) in
     record { within = subst (LiesWithin route.net) (sym prefix) h.within; shortest = shortest; longest = h.longest; least = from; greatest = to }
 
-pub joins_lengths : (a b : RoutePart) (found : Finding) → IsFoundOfBoth a b found → a.prefix ≡ b.prefix → a.least ≡ b.least → a.greatest ≡ b.greatest →
+pub joins_lengths : (a b : RoutePart) (found : PartFinding) → IsFoundOfBoth a b found → a.prefix ≡ b.prefix → a.least ≡ b.least → a.greatest ≡ b.greatest →
     a.shortest ≤ a.longest → a.longest + 1 ≡ b.shortest → b.shortest ≤ b.longest →
     Joins a b (part a.prefix a.shortest b.longest a.least a.greatest found)
 joins_lengths a b found of_both prefix least greatest a_order near b_order = record {
@@ -60,7 +60,7 @@ joins_lengths a b found of_both prefix least greatest a_order near b_order = rec
   };
 }
 
-metrics_by : (a b : RoutePart) (found : Finding) (route : RouteView) (in_first : Bool) → nat_le route.metric a.greatest ≡ in_first →
+metrics_by : (a b : RoutePart) (found : PartFinding) (route : RouteView) (in_first : Bool) → nat_le route.metric a.greatest ≡ in_first →
     a.prefix ≡ b.prefix → a.shortest ≡ b.shortest → a.longest ≡ b.longest → a.greatest + 1 ≡ b.least →
     Has (part a.prefix a.shortest a.longest a.least b.greatest found) route → Has a route ⊎ Has b route
 metrics_by a b found route true e prefix shortest longest near h =
@@ -72,13 +72,13 @@ metrics_by a b found route false e prefix shortest longest near h =
     let to : length route.net ≤ b.longest = omega (arith, h.longest) in
     inr (record { within = subst (LiesWithin route.net) prefix h.within; shortest = from; longest = to; least = least; greatest = h.greatest })
 
-metrics_first : (a b : RoutePart) (found : Finding) (route : RouteView) → a.greatest ≤ b.greatest → Has a route →
+metrics_first : (a b : RoutePart) (found : PartFinding) (route : RouteView) → a.greatest ≤ b.greatest → Has a route →
     Has (part a.prefix a.shortest a.longest a.least b.greatest found) route
 metrics_first a b found route more h =
     let greatest : route.metric ≤ b.greatest = omega (arith, h.greatest) in
     record { within = h.within; shortest = h.shortest; longest = h.longest; least = h.least; greatest = greatest }
 
-metrics_second : (a b : RoutePart) (found : Finding) (route : RouteView) → a.prefix ≡ b.prefix → a.shortest ≡ b.shortest → a.longest ≡ b.longest →
+metrics_second : (a b : RoutePart) (found : PartFinding) (route : RouteView) → a.prefix ≡ b.prefix → a.shortest ≡ b.shortest → a.longest ≡ b.longest →
     a.least ≤ b.least → Has b route → Has (part a.prefix a.shortest a.longest a.least b.greatest found) route
 metrics_second a b found route prefix shortest longest more h =
     let least : a.least ≤ route.metric = omega (arith, h.least) in
@@ -86,7 +86,7 @@ metrics_second a b found route prefix shortest longest more h =
     let to : length route.net ≤ a.longest = omega (arith, h.longest) in
     record { within = subst (LiesWithin route.net) (sym prefix) h.within; shortest = from; longest = to; least = least; greatest = h.greatest }
 
-pub joins_metrics : (a b : RoutePart) (found : Finding) → IsFoundOfBoth a b found → a.prefix ≡ b.prefix → a.shortest ≡ b.shortest → a.longest ≡ b.longest →
+pub joins_metrics : (a b : RoutePart) (found : PartFinding) → IsFoundOfBoth a b found → a.prefix ≡ b.prefix → a.shortest ≡ b.shortest → a.longest ≡ b.longest →
     a.least ≤ a.greatest → a.greatest + 1 ≡ b.least → b.least ≤ b.greatest →
     Joins a b (part a.prefix a.shortest a.longest a.least b.greatest found)
 joins_metrics a b found of_both prefix shortest longest a_order near b_order = record {
@@ -116,7 +116,7 @@ begins_more : (net whole : List Bool) (bit : Bool) → LiesWithin net whole → 
 begins_more net whole bit begins h is =
     subst (λ (b : Bool). LiesWithin net (whole ++ (b ∷ []))) is (begins_longer net whole false begins h)
 
-halves_by : (a b : RoutePart) (whole : List Bool) (found : Finding) (route : RouteView) (bit : Bool) → get_or route.net (length whole) false ≡ bit →
+halves_by : (a b : RoutePart) (whole : List Bool) (found : PartFinding) (route : RouteView) (bit : Bool) → get_or route.net (length whole) false ≡ bit →
     a.prefix ≡ whole ++ (false ∷ []) → b.prefix ≡ whole ++ (true ∷ []) → a.shortest ≡ b.shortest → a.longest ≡ b.longest →
     a.least ≡ b.least → a.greatest ≡ b.greatest → length a.prefix ≤ a.shortest →
     Has (part whole a.shortest a.longest a.least a.greatest found) route → Has a route ⊎ Has b route
@@ -141,7 +141,7 @@ halves_by a b whole found route true is first_half second_half shortest longest 
       greatest = omega (arith, h.greatest);
     })
 
-pub joins_halves : (a b : RoutePart) (whole : List Bool) (found : Finding) → IsFoundOfBoth a b found → a.prefix ≡ whole ++ (false ∷ []) →
+pub joins_halves : (a b : RoutePart) (whole : List Bool) (found : PartFinding) → IsFoundOfBoth a b found → a.prefix ≡ whole ++ (false ∷ []) →
     b.prefix ≡ whole ++ (true ∷ []) → a.shortest ≡ b.shortest → a.longest ≡ b.longest → a.least ≡ b.least → a.greatest ≡ b.greatest →
     length a.prefix ≤ a.shortest → Joins a b (part whole a.shortest a.longest a.least a.greatest found)
 joins_halves a b whole found of_both first_half second_half shortest longest least greatest deep = record {

@@ -15,6 +15,6 @@ pub mod Ordered
 pub mod Marking
 pub mod Reached
 pub mod Completed
-pub mod Settled
+pub mod Explored
 pub mod Counted
 pub mod Seen

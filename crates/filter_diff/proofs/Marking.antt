@@ -14,7 +14,7 @@ use Rattle.filter_diff.specs.Marking.{AreAllMarked, AreTop, Extend, Extends, IsA
 use Rattle.filter_diff.specs.Reaching.{AreOnTop, IsOnTop, has_truth}
 use Rattle.filter_diff.specs.Symbols.{config_at, value_at}
 use Rattle.filter_diff.specs.declared.mark.Mark.{Mark}
-use Rattle.filter_diff.specs.declared.symbol.Symbol.{Symbol}
+use Rattle.filter_diff.specs.declared.symbol.SymbolicValue.{SymbolicValue}
 
 -- one of two
 or_first : (a b : Bool) → a ≡ true → (a || b) ≡ true
@@ -141,12 +141,12 @@ pub all_marked_more : (program : CodeView) (before after : List Mark) (route : R
 all_marked_more program before after route more marked steps c going = marked_more program before after c more (marked steps c going)
 
 -- the symbol on top and the value for which it stands
-pub top_value : (route : RouteView) (stack : List Symbol) (truth : Bool) → IsTop truth stack →
+pub top_value : (route : RouteView) (stack : List SymbolicValue) (truth : Bool) → IsTop truth stack →
     slice_get (map (value_at route) stack) 0 ≡ Some (value.Bool truth)
 top_value route stack truth top = slice_get-map (value_at route) stack 0 ∙ ap (option_map (value_at route)) top
 
 -- the two ints on top
-pub top_ints : (route : RouteView) (pc : ℕ) (stack : List Symbol) (locals : List (Option Symbol)) (metric : Option ℕ)
+pub top_ints : (route : RouteView) (pc : ℕ) (stack : List SymbolicValue) (locals : List (Option SymbolicValue)) (metric : Option ℕ)
     (raised : Bool) → AreTop raised stack → AreOnTop raised (config_at route pc stack locals metric)
 top_ints route pc stack locals metric raised top = (
   top.0,
@@ -172,8 +172,8 @@ neither true b e = let no : ⊥ = cc in absurd no
 neither false b e = e
 
 -- the configuration that runs come to is marked
-pub marked_here : (program : CodeView) (route : RouteView) (i : Instr) (mark : Mark) (pc : ℕ) (stack : List Symbol)
-    (locals : List (Option Symbol)) (metric : Option ℕ) (before after : List Mark) → slice_get program.instrs pc ≡ Some i →
+pub marked_here : (program : CodeView) (route : RouteView) (i : Instr) (mark : Mark) (pc : ℕ) (stack : List SymbolicValue)
+    (locals : List (Option SymbolicValue)) (metric : Option ℕ) (before after : List Mark) → slice_get program.instrs pc ≡ Some i →
     Shows i stack mark → IsAdded mark pc before after → IsMarked program after (config_at route pc stack locals metric)
 marked_here program route i mark pc stack locals metric before after here shows added = record {
   mark = joined added.had mark;

@@ -15,8 +15,8 @@ use Rattle.filter_diff.specs.Ordering.{IsCompared, IsDisorder, IsKeptAt, IsLostA
 use Rattle.filter_diff.specs.Parts.{IsIn}
 use Rattle.filter_diff.specs.Searches.{IsLeft}
 use Rattle.filter_diff.specs.declared.class.Class.{Class}
-use Rattle.filter_diff.specs.declared.ending.Ending.{Ending}
-use Rattle.filter_diff.specs.declared.ending.Ending.TheVariants as ending
+use Rattle.filter_diff.specs.declared.ending.RunEnding.{RunEnding}
+use Rattle.filter_diff.specs.declared.ending.RunEnding.TheVariants as ending
 use Rattle.filter_diff.specs.declared.found.Found.{Found}
 use Rattle.filter_diff.specs.declared.found.Found.TheVariants as found
 use Rattle.filter_diff.specs.declared.ordering.Disorder.{Disorder}
@@ -73,7 +73,7 @@ said_of_one program class metric ran next before after what known long below ran
     (below_all class metric known below) is
 
 -- all routes of a class with a metric
-pub said_of_all : (program : CodeView) (class next_one : Class) (metric : ℕ) (a b : Ending) (before after : Outcome) (what : Found)
+pub said_of_all : (program : CodeView) (class next_one : Class) (metric : ℕ) (a b : RunEnding) (before after : Outcome) (what : Found)
     → class.metric ≡ Some metric → metric + 1 < class.size → next_one ≡ record class { metric = Some (metric + 1) }
     → Always class (λ route. outcome_of program route ≡ outcome_at route a)
     → Always next_one (λ route. outcome_of program route ≡ outcome_at route b)
@@ -88,7 +88,7 @@ said_of_all program class next_one metric a b before after what known below next
     (below_all class metric known below) is
 
 -- where all runs of a class with any metric end alike, the order is kept
-kept_alike : (size : ℕ) (route : RouteView) (end : Ending) → comes_to size (outcome_at route end) ≤ comes_to size (outcome_at (with_next route) end)
+kept_alike : (size : ℕ) (route : RouteView) (end : RunEnding) → comes_to size (outcome_at route end) ≤ comes_to size (outcome_at (with_next route) end)
 kept_alike size route ending.Unchanged = omega arith
 kept_alike size route (ending.Fixed outcome) = omega arith
 
@@ -101,7 +101,7 @@ any_of class any route of = record {
   size = of.size;
 }
 
-pub kept_by_any : (program : CodeView) (class : Class) (end : Ending) → class.metric ≡ None
+pub kept_by_any : (program : CodeView) (class : Class) (end : RunEnding) → class.metric ≡ None
     → Always class (λ route. outcome_of program route ≡ outcome_at route end) → Throughout class (λ (route : RouteView). IsKeptAt program route)
 kept_by_any program class end any ends route is_in of _ =
     let a : comes_to route.size (outcome_of program route) ≡ comes_to route.size (outcome_at route end) = ap (comes_to route.size) (ends route of) in

@@ -14,19 +14,19 @@ use Rattle.filter_diff.specs.Classes.{Always, IsKnown, IsOf, IsOfSize, IsUpTo}
 use Rattle.filter_diff.specs.Marking.{AreAllMarked, AreMarked, AreSound, Extend, IsAdded, IsMarked, IsNoted, Shows, extent_of, joined}
 use Rattle.filter_diff.specs.Parts.{Has, IsIn}
 use Rattle.filter_diff.specs.Reaching.{AreOnTop, Comes, IsCondition, IsMax, IsOnTop, IsSound, has_truth}
-use Rattle.filter_diff.specs.Settling.{AreSettled, IsSettled}
+use Rattle.filter_diff.specs.Exploring.{AreExplored, IsExplored}
 use Rattle.filter_diff.specs.Symbols.{config_at}
 use Rattle.filter_diff.specs.Turns.{Parts, Takes}
 use Rattle.filter_diff.specs.declared.class.Class.{Class}
 use Rattle.filter_diff.specs.declared.mark.Mark.{Mark}
-use Rattle.filter_diff.specs.declared.route_part.Finding.TheVariants as finding
+use Rattle.filter_diff.specs.declared.route_part.PartFinding.TheVariants as finding
 use Rattle.filter_diff.specs.declared.route_part.RoutePart.{RoutePart}
-use Rattle.filter_diff.specs.declared.symbol.Symbol.{Symbol}
-use Rattle.filter_diff.specs.declared.ending.Ending.{Ending}
+use Rattle.filter_diff.specs.declared.symbol.SymbolicValue.{SymbolicValue}
+use Rattle.filter_diff.specs.declared.ending.RunEnding.{RunEnding}
 use Rattle.filter_diff.specs.declared.turn.Turn.{Turn}
 use Rattle.filter_diff.specs.declared.turn.Turn.TheVariants as turn
 use Rattle.filter_diff.proofs.Marking.{added_more, extend_further, marked_here, marked_more, or_either, set_from, top_ints, top_value, truth_either}
-use Rattle.filter_diff.proofs.Settled.{settled_more}
+use Rattle.filter_diff.proofs.Explored.{explored_more}
 use Rattle.filter_diff.proofs.Steps.{begun}
 use Rattle.filter_diff.proofs.Witness.{has_route}
 
@@ -35,7 +35,7 @@ abbrev pub AreMarkedBefore : CodeView → List Mark → RouteView → ℕ → Ty
 AreMarkedBefore program marks route n = (k : ℕ) → k < n → (c : Config) → after program route k ≡ Going c → IsMarked program marks c
 
 -- the runs of a class come to a configuration, and what they came to before is marked
-abbrev pub ComeMarked : CodeView → Class → List Mark → ℕ → List Symbol → List (Option Symbol) → Option ℕ → Type 0
+abbrev pub ComeMarked : CodeView → Class → List Mark → ℕ → List SymbolicValue → List (Option SymbolicValue) → Option ℕ → Type 0
 ComeMarked program class marks pc stack locals metric = Always class (λ (route : RouteView).
     (n : ℕ) × ReachesIn program route n (config_at route pc stack locals metric) × AreMarkedBefore program marks route n)
 
@@ -43,7 +43,7 @@ pub none_before : (program : CodeView) (marks : List Mark) (route : RouteView) �
 none_before program marks route k h c going = absurd (omega arith)
 
 -- they begin with nothing
-pub begin_marked : (program : CodeView) (class : Class) (marks : List Mark) (stack : List Symbol) (locals : List (Option Symbol)) →
+pub begin_marked : (program : CodeView) (class : Class) (marks : List Mark) (stack : List SymbolicValue) (locals : List (Option SymbolicValue)) →
     stack ≡ [] → locals ≡ replicate program.locals None → ComeMarked program class marks 0 stack locals class.metric
 begin_marked program class marks stack locals none e route of =
     (0, begun program class stack locals none e route of, none_before program marks route)
@@ -59,8 +59,8 @@ marked_next program marks route n c at marked so_far =
     (λ d going. subst (IsMarked program marks) (same_going (after program route n) c d at going) marked)
 
 -- what the instruction shows is marked, with what was marked before
-pub marked_now : (program : CodeView) (class : Class) (i : Instr) (mark : Mark) (pc : ℕ) (stack : List Symbol)
-    (locals : List (Option Symbol)) (metric : Option ℕ) (before after : List Mark) →
+pub marked_now : (program : CodeView) (class : Class) (i : Instr) (mark : Mark) (pc : ℕ) (stack : List SymbolicValue)
+    (locals : List (Option SymbolicValue)) (metric : Option ℕ) (before after : List Mark) →
     ComeMarked program class before pc stack locals metric → slice_get program.instrs pc ≡ Some i → Shows i stack mark →
     IsAdded mark pc before after → Always class (λ (route : RouteView).
     (n : ℕ) × ReachesIn program route n (config_at route pc stack locals metric) × AreMarkedBefore program after route (n + 1))
@@ -109,7 +109,7 @@ all_marked program marks route n end ended so_far k c going =
     all_by program marks route n end ended so_far k c going (nat_lt k n) refl
 
 -- an instruction ends them
-pub end_marked : (program : CodeView) (class : Class) (i : Instr) (mark : Mark) (from to : Parts) (end : Ending) (before after : List Mark) →
+pub end_marked : (program : CodeView) (class : Class) (i : Instr) (mark : Mark) (from to : Parts) (end : RunEnding) (before after : List Mark) →
     ComeMarked program class before from.pc from.stack from.locals from.metric → slice_get program.instrs from.pc ≡ Some i →
     Shows i from.stack mark → IsAdded mark from.pc before after → Takes program class i from to (turn.Ended end) →
     Always class (λ (route : RouteView). AreAllMarked program after route)
@@ -119,20 +119,20 @@ end_marked program class i mark from to end before after come here shows added t
     all_marked program after route (r.0 + 1) _ ends.ended r.2
 
 -- or they come to a place from which on all is marked
-settled_by : (program : CodeView) (marks : List Mark) (route : RouteView) (n : ℕ) (c : Config) → after program route n ≡ Going c →
-    IsSettled program marks c.pc → AreMarkedBefore program marks route n → (k : ℕ) (d : Config) → after program route k ≡ Going d →
+explored_by : (program : CodeView) (marks : List Mark) (route : RouteView) (n : ℕ) (c : Config) → after program route n ≡ Going c →
+    IsExplored program marks c.pc → AreMarkedBefore program marks route n → (k : ℕ) (d : Config) → after program route k ≡ Going d →
     (before : Bool) → nat_lt k n ≡ before → IsMarked program marks d
-settled_by program marks route n c at settled so_far k d going true e = so_far k (grind (arith, nat_tests)) d going
-settled_by program marks route n c at settled so_far k d going false e =
-    settled route n c at refl k d (grind (arith, nat_tests)) going
+explored_by program marks route n c at explored so_far k d going true e = so_far k (grind (arith, nat_tests)) d going
+explored_by program marks route n c at explored so_far k d going false e =
+    explored route n c at refl k d (grind (arith, nat_tests)) going
 
-pub come_settled : (program : CodeView) (class : Class) (before marks : List Mark) (settled : List Bool) (pc : ℕ) (stack : List Symbol)
-    (locals : List (Option Symbol)) (metric : Option ℕ) → Extend before marks → AreSettled program before settled →
-    ComeMarked program class marks pc stack locals metric → slice_get settled pc ≡ Some true →
+pub come_explored : (program : CodeView) (class : Class) (before marks : List Mark) (explored : List Bool) (pc : ℕ) (stack : List SymbolicValue)
+    (locals : List (Option SymbolicValue)) (metric : Option ℕ) → Extend before marks → AreExplored program before explored →
+    ComeMarked program class marks pc stack locals metric → slice_get explored pc ≡ Some true →
     Always class (λ (route : RouteView). AreAllMarked program marks route)
-come_settled program class before marks settled pc stack locals metric more are come here route of k d going =
+come_explored program class before marks explored pc stack locals metric more are come here route of k d going =
     let r = come route of in
-    settled_by program marks route r.0 _ r.1.is_there (settled_more program before marks pc more (are pc here)) r.2 k d going (nat_lt k r.0) refl
+    explored_by program marks route r.0 _ r.1.is_there (explored_more program before marks pc more (are pc here)) r.2 k d going (nat_lt k r.0) refl
 
 -- a class has a route
 pub record HasOne (class : Class) : Type 0 where
@@ -181,8 +181,8 @@ pub has_one : (class : Class) → IsOfSize class.size class → HasOne class
 has_one class real = one_by class class.metric refl real
 
 -- what is marked is so on that route
-sound_either : (program : CodeView) (size pc : ℕ) (i : Instr) (mark had : Mark) (route : RouteView) (stack : List Symbol)
-    (locals : List (Option Symbol)) (metric : Option ℕ) (truth : Bool) → IsSound program size pc had →
+sound_either : (program : CodeView) (size pc : ℕ) (i : Instr) (mark had : Mark) (route : RouteView) (stack : List SymbolicValue)
+    (locals : List (Option SymbolicValue)) (metric : Option ℕ) (truth : Bool) → IsSound program size pc had →
     slice_get program.instrs pc ≡ Some i → Shows i stack mark → Comes program size pc (config_at route pc stack locals metric) →
     (has_truth truth had ≡ true) ⊎ (has_truth truth mark ≡ true) →
     IsCondition program pc × (c : Config) × Comes program size pc c × IsOnTop truth c
@@ -192,8 +192,8 @@ sound_either program size pc i mark had route stack locals metric truth sound he
     let is : slice_get program.instrs pc ≡ Some (instr.JumpIfNot shown.0.0) = here ∙ ap Some shown.0.1 in
     (record { skipped = shown.0.0; instruction = is }, config_at route pc stack locals metric, comes, top_value route stack truth shown.1)
 
-raised_either : (program : CodeView) (size pc : ℕ) (i : Instr) (mark had : Mark) (route : RouteView) (stack : List Symbol)
-    (locals : List (Option Symbol)) (metric : Option ℕ) → IsSound program size pc had → slice_get program.instrs pc ≡ Some i →
+raised_either : (program : CodeView) (size pc : ℕ) (i : Instr) (mark had : Mark) (route : RouteView) (stack : List SymbolicValue)
+    (locals : List (Option SymbolicValue)) (metric : Option ℕ) → IsSound program size pc had → slice_get program.instrs pc ≡ Some i →
     Shows i stack mark → Comes program size pc (config_at route pc stack locals metric) →
     (had.is_raised ≡ true) ⊎ (mark.is_raised ≡ true) → IsMax program pc × (c : Config) × Comes program size pc c × AreOnTop true c
 raised_either program size pc i mark had route stack locals metric sound here shows comes (inl e) = sound.raised e
@@ -205,8 +205,8 @@ raised_either program size pc i mark had route stack locals metric sound here sh
       top_ints route pc stack locals metric true shown.1,
     )
 
-sound_here : (program : CodeView) (size pc : ℕ) (i : Instr) (mark had : Mark) (route : RouteView) (stack : List Symbol)
-    (locals : List (Option Symbol)) (metric : Option ℕ) → IsSound program size pc had → slice_get program.instrs pc ≡ Some i →
+sound_here : (program : CodeView) (size pc : ℕ) (i : Instr) (mark had : Mark) (route : RouteView) (stack : List SymbolicValue)
+    (locals : List (Option SymbolicValue)) (metric : Option ℕ) → IsSound program size pc had → slice_get program.instrs pc ≡ Some i →
     Shows i stack mark → Comes program size pc (config_at route pc stack locals metric) → IsSound program size pc (joined had mark)
 sound_here program size pc i mark had route stack locals metric sound here shows comes = record {
   reached = λ e. (_, comes);
@@ -223,8 +223,8 @@ sound_at program size pc mark before after added sound here place now (inl e) =
     subst (λ (p : ℕ). IsSound program size p now) (sym e.0) (subst (IsSound program size pc) (sym e.1) here)
 sound_at program size pc mark before after added sound here place now (inr there) = sound place now there
 
-pub sound_added : (program : CodeView) (class : Class) (i : Instr) (mark : Mark) (pc : ℕ) (stack : List Symbol)
-    (locals : List (Option Symbol)) (metric : Option ℕ) (before after : List Mark) → IsOfSize class.size class →
+pub sound_added : (program : CodeView) (class : Class) (i : Instr) (mark : Mark) (pc : ℕ) (stack : List SymbolicValue)
+    (locals : List (Option SymbolicValue)) (metric : Option ℕ) (before after : List Mark) → IsOfSize class.size class →
     ComeMarked program class before pc stack locals metric → slice_get program.instrs pc ≡ Some i → Shows i stack mark →
     IsAdded mark pc before after → AreSound program class.size before → AreSound program class.size after
 sound_added program class i mark pc stack locals metric before after real come here shows added sound place now there =
@@ -239,14 +239,14 @@ sound_added program class i mark pc stack locals metric before after real come h
     (subst (λ (marks : List Mark). slice_get marks place ≡ Some now) added.set there))
 
 -- the same where what the instruction shows is added to the mark of its place
-module _ (program : CodeView) (class : Class) (i : Instr) (stack : List Symbol) (from to : Parts) (first before after : List Mark)
+module _ (program : CodeView) (class : Class) (i : Instr) (stack : List SymbolicValue) (from to : Parts) (first before after : List Mark)
     (here : slice_get program.instrs from.pc ≡ Some i) (noted : IsNoted i from.pc stack from.stack before after true)
     (come : ComeMarked program class before from.pc stack from.locals from.metric) where
   shows : Shows i from.stack noted.0
-  shows = subst (λ (s : List Symbol). Shows i s noted.0) (sym noted.1) noted.2
+  shows = subst (λ (s : List SymbolicValue). Shows i s noted.0) (sym noted.1) noted.2
 
   come_here : ComeMarked program class before from.pc from.stack from.locals from.metric
-  come_here = subst (λ (s : List Symbol). ComeMarked program class before from.pc s from.locals from.metric) (sym noted.1) come
+  come_here = subst (λ (s : List SymbolicValue). ComeMarked program class before from.pc s from.locals from.metric) (sym noted.1) come
 
   pub go_on_noted : Takes program class i from to turn.On → ComeMarked program class after (to.pc + 1) to.stack to.locals to.metric
   go_on_noted takes = go_on_marked program class i noted.0 from to before after come_here here shows noted.3 takes

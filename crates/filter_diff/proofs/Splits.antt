@@ -11,7 +11,7 @@ use Rattle.filter_code.specs.declared.outcome.Outcome.{Outcome}
 use Rattle.filter_diff.specs.Classes.{IsKnown, IsOf}
 use Rattle.filter_diff.specs.Searches.{Compare, HasBit, IsLeft, Says}
 use Rattle.filter_diff.specs.declared.class.Class.{Class}
-use Rattle.filter_diff.specs.declared.ending.Ending.TheVariants as ending
+use Rattle.filter_diff.specs.declared.ending.RunEnding.TheVariants as ending
 use Rattle.filter_diff.specs.declared.found.Found.{Found}
 use Rattle.filter_diff.specs.declared.found.Found.TheVariants as found
 

@@ -16,7 +16,7 @@ use Rattle.filter_diff.specs.Endings.{outcome_at}
 use Rattle.filter_diff.specs.Symbols.{config_at, metric_at, value_at}
 use Rattle.filter_diff.specs.Turns.{EndSo, Parts, Takes}
 use Rattle.filter_diff.specs.declared.class.Class.{Class}
-use Rattle.filter_diff.specs.declared.symbol.Symbol.{Symbol}
+use Rattle.filter_diff.specs.declared.symbol.SymbolicValue.{SymbolicValue}
 use Rattle.filter_diff.specs.declared.turn.Turn.{Turn}
 use Rattle.filter_diff.specs.declared.turn.Turn.TheVariants as turn
 
@@ -34,7 +34,7 @@ map-nothing f zero = refl
 map-nothing f (suc n) = ap (λ ys. None ∷ ys) (map-nothing f n)
 
 -- STORE keeps a symbol
-pub stores : (program : CodeView) (route : RouteView) (pc : ℕ) (value : Symbol) (stack : List Symbol) (locals : List (Option Symbol))
+pub stores : (program : CodeView) (route : RouteView) (pc : ℕ) (value : SymbolicValue) (stack : List SymbolicValue) (locals : List (Option SymbolicValue))
     (metric : Option ℕ) (i : ℕ) → i < length locals →
     carry_out program route (config_at route pc (value ∷ stack) locals metric) (Some (instr.Store i))
     ≡ Going (config_at route (pc + 1) stack (slice_set locals i (Some value)) metric)
@@ -42,8 +42,8 @@ stores program route pc value stack locals metric i h =
     let named : nat_lt i (length (map (option_map (value_at route)) locals)) ≡ true = rw length-map (grind (arith, nat_tests)) in
     rw (named, map-slice_set (option_map (value_at route)) locals i (Some value)) refl
 
-pub stores_at : (program : CodeView) (route : RouteView) (pc i : ℕ) (instruction : Instr) (value : Symbol) (before stack : List Symbol)
-    (locals after : List (Option Symbol)) (metric : Option ℕ) → instruction ≡ instr.Store i → before ≡ value ∷ stack →
+pub stores_at : (program : CodeView) (route : RouteView) (pc i : ℕ) (instruction : Instr) (value : SymbolicValue) (before stack : List SymbolicValue)
+    (locals after : List (Option SymbolicValue)) (metric : Option ℕ) → instruction ≡ instr.Store i → before ≡ value ∷ stack →
     after ≡ slice_set locals i (Some value) → i < length locals →
     carry_out program route (config_at route pc before locals metric) (Some instruction)
     ≡ Going (config_at route (pc + 1) stack after metric)
@@ -51,7 +51,7 @@ stores_at program route pc i instruction value before stack locals after metric 
     rw (is, taken, set) (stores program route pc value stack locals metric i h)
 
 -- the runs of a class come to a configuration
-abbrev pub Come : CodeView → Class → ℕ → List Symbol → List (Option Symbol) → Option ℕ → Type 0
+abbrev pub Come : CodeView → Class → ℕ → List SymbolicValue → List (Option SymbolicValue) → Option ℕ → Type 0
 Come program class pc stack locals metric =
     Always class (λ (route : RouteView). (n : ℕ) × ReachesIn program route n (config_at route pc stack locals metric))
 
@@ -60,13 +60,13 @@ known_metric route None h = refl
 known_metric route (Some m) h = sym h
 
 -- they begin with nothing
-pub begun : (program : CodeView) (class : Class) (stack : List Symbol) (locals : List (Option Symbol)) → stack ≡ [] →
+pub begun : (program : CodeView) (class : Class) (stack : List SymbolicValue) (locals : List (Option SymbolicValue)) → stack ≡ [] →
     locals ≡ replicate program.locals None →
     Always class (λ (route : RouteView). ReachesIn program route 0 (config_at route 0 stack locals class.metric))
 begun program class stack locals none e route of =
     rw (none, e, map-nothing (value_at route) program.locals, known_metric route class.metric of.received) (begun_in program route)
 
-pub begin : (program : CodeView) (class : Class) (stack : List Symbol) (locals : List (Option Symbol)) → stack ≡ [] →
+pub begin : (program : CodeView) (class : Class) (stack : List SymbolicValue) (locals : List (Option SymbolicValue)) → stack ≡ [] →
     locals ≡ replicate program.locals None → Come program class 0 stack locals class.metric
 begin program class stack locals none e route of = (0, begun program class stack locals none e route of)
 

@@ -6,8 +6,8 @@ use Rattle.filter_code.specs.CodeView.{CodeView}
 use Rattle.filter_code.specs.Machine.{outcome_of}
 use Rattle.filter_diff.specs.Endings.{outcome_at}
 use Rattle.filter_diff.specs.Parts.{IsIn}
-use Rattle.filter_diff.specs.declared.checking.Checked.{Checked}
-use Rattle.filter_diff.specs.declared.checking.Checked.TheVariants as checked
+use Rattle.filter_diff.specs.declared.checking.ExpectationResult.{ExpectationResult}
+use Rattle.filter_diff.specs.declared.checking.ExpectationResult.TheVariants as checked
 use Rattle.filter_diff.specs.declared.checking.Counterexample.{Counterexample}
 use Rattle.filter_diff.specs.declared.expectation.Expectation.{Expectation}
 
@@ -42,7 +42,7 @@ pub record IsShown (program : CodeView) (size : ℕ) (expected : Expectation) (s
   pub otherwise : shown.outcome ≢ outcome_at (route_of size shown) expected.ending
 
 -- what is found of an expectation
-abbrev pub IsFoundOf : CodeView → ℕ → Expectation → Checked → Type 0
+abbrev pub IsFoundOf : CodeView → ℕ → Expectation → ExpectationResult → Type 0
 IsFoundOf program size expected checked.Holds = IsMet program size expected
 IsFoundOf program size expected (checked.Fails shown) = IsShown program size expected shown
 IsFoundOf program size expected checked.Undecided = Unit {0}

@@ -5,21 +5,21 @@ use Rattle.filter_code.specs.CodeView.{CodeView}
 use Rattle.filter_code.specs.declared.outcome.Outcome.TheVariants as outcome
 use Rattle.filter_diff.specs.Endings.{outcome_at}
 use Rattle.filter_diff.specs.Parts.{Has, Holds, InOne, IsDecided, IsReal, IsTrueOf, is_undecided}
-use Rattle.filter_diff.specs.declared.ending.Ending.{Ending}
-use Rattle.filter_diff.specs.declared.route_part.Finding.{Finding}
+use Rattle.filter_diff.specs.declared.ending.RunEnding.{RunEnding}
+use Rattle.filter_diff.specs.declared.route_part.PartFinding.{PartFinding}
 use Rattle.filter_diff.specs.declared.route_part.RoutePart.{RoutePart}
 
 -- to end so is to accept each route of a part with the metric that it was received with
-abbrev pub KeepsMetric : RoutePart → Ending → Type 0
+abbrev pub KeepsMetric : RoutePart → RunEnding → Type 0
 KeepsMetric part end = (route : RouteView) → Has part route → outcome_at route end ≡ outcome.Accept route.metric
 
 -- one ending says the same as another does of the routes of one part, and as a third does of those of another part
-pub record IsEndingOfBoth (a b : RoutePart) (first second end : Ending) : Type 0 where
+pub record IsEndingOfBoth (a b : RoutePart) (first second end : RunEnding) : Type 0 where
   pub in_first : (route : RouteView) → Has a route → outcome_at route first ≡ outcome_at route end
   pub in_second : (route : RouteView) → Has b route → outcome_at route second ≡ outcome_at route end
 
 -- what was found of two parts is true of the routes of both where it is true of each what was found there, and is decided where this is
-pub record IsFoundOfBoth (a b : RoutePart) (found : Finding) : Type 0 where
+pub record IsFoundOfBoth (a b : RoutePart) (found : PartFinding) : Type 0 where
   pub in_first : (old new : CodeView) (route : RouteView) → Has a route → Holds old new a.finding route → Holds old new found route
   pub in_second : (old new : CodeView) (route : RouteView) → Has b route → Holds old new b.finding route → Holds old new found route
   pub first_decided : is_undecided a.finding ≡ is_undecided found

@@ -13,5 +13,5 @@ pub mod Turns
 pub mod Searches
 pub mod Meeting
 pub mod Marking
-pub mod Settling
+pub mod Exploring
 pub mod Joins

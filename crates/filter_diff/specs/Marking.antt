@@ -13,8 +13,8 @@ use Rattle.filter_diff.specs.declared.class.Class.{Class}
 use Rattle.filter_diff.specs.declared.mark.Mark.{Mark}
 use Rattle.filter_diff.specs.declared.extent.Extent.{Extent}
 use Rattle.filter_diff.specs.declared.extent.Extent.TheVariants as extent
-use Rattle.filter_diff.specs.declared.symbol.Symbol.{Symbol}
-use Rattle.filter_diff.specs.declared.symbol.Symbol.TheVariants as symbol
+use Rattle.filter_diff.specs.declared.symbol.SymbolicValue.{SymbolicValue}
+use Rattle.filter_diff.specs.declared.symbol.SymbolicValue.TheVariants as symbol
 use Rattle.filter_diff.specs.declared.turn.Turn.{Turn}
 use Rattle.filter_diff.specs.declared.turn.Turn.TheVariants as turn
 
@@ -47,16 +47,16 @@ abbrev pub IsJump : Instr → Type 0
 IsJump i = (skipped : ℕ) × (i ≡ instr.JumpIfNot skipped)
 
 -- a symbol is on top, and it is this bool
-abbrev pub IsTop : Bool → List Symbol → Type 0
+abbrev pub IsTop : Bool → List SymbolicValue → Type 0
 IsTop truth stack = slice_get stack 0 ≡ Some (symbol.Bool truth)
 
 -- two symbols are on top that are ints, and whether the upper one is greater
-abbrev pub AreTop : Bool → List Symbol → Type 0
+abbrev pub AreTop : Bool → List SymbolicValue → Type 0
 AreTop raised stack = (upper lower : ℕ) × (slice_get stack 0 ≡ Some (symbol.Int upper)) × (slice_get stack 1 ≡ Some (symbol.Int lower))
     × (raised ≡ nat_lt lower upper)
 
 -- a mark is just what runs show of an instruction that they come to with this stack
-pub record Shows (i : Instr) (stack : List Symbol) (mark : Mark) : Type 0 where
+pub record Shows (i : Instr) (stack : List SymbolicValue) (mark : Mark) : Type 0 where
   pub reached : mark.is_reached ≡ true
   pub condition : (skipped : ℕ) → i ≡ instr.JumpIfNot skipped → (truth : Bool) × IsTop truth stack × (has_truth truth mark ≡ true)
   pub real : (truth : Bool) → has_truth truth mark ≡ true → IsJump i × IsTop truth stack
@@ -103,7 +103,7 @@ pub record IsAdded (mark : Mark) (place : ℕ) (before after : List Mark) : Type
   pub set : after ≡ slice_set before place (joined had mark)
 
 -- what runs show of an instruction is added to the mark of its place, or nothing is
-abbrev pub IsNoted : Instr → ℕ → List Symbol → List Symbol → List Mark → List Mark → Bool → Type 0
+abbrev pub IsNoted : Instr → ℕ → List SymbolicValue → List SymbolicValue → List Mark → List Mark → Bool → Type 0
 IsNoted i place stack same before after true = (mark : Mark) × (same ≡ stack) × Shows i stack mark × IsAdded mark place before after
 IsNoted i place stack same before after false = after ≡ before
 

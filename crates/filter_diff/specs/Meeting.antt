@@ -8,7 +8,7 @@ use Rattle.filter_diff.specs.Endings.{outcome_at}
 use Rattle.filter_diff.specs.Expectations.{IsMetAt, IsMissedAt}
 use Rattle.filter_diff.specs.Parts.{IsIn}
 use Rattle.filter_diff.specs.declared.class.Class.{Class}
-use Rattle.filter_diff.specs.declared.ending.Ending.{Ending}
+use Rattle.filter_diff.specs.declared.ending.RunEnding.{RunEnding}
 use Rattle.filter_diff.specs.declared.expectation.Expectation.{Expectation}
 use Rattle.filter_diff.specs.declared.found.Found.{Found}
 use Rattle.filter_diff.specs.declared.found.Found.TheVariants as found
@@ -18,7 +18,7 @@ abbrev pub Throughout : Class → (RouteView → Type 0) → Type 0
 Throughout class P = (route : RouteView) → IsIn class.size route → IsOf class route → P route
 
 -- the runs on all routes of a class end so, or none does, if that is found
-abbrev pub EndsAs : CodeView → Class → Ending → Found → Type 0
+abbrev pub EndsAs : CodeView → Class → RunEnding → Found → Type 0
 EndsAs program class end found.Same = Always class (λ route. outcome_of program route ≡ outcome_at route end)
 EndsAs program class end (found.Differ a b) = Always class (λ route. outcome_of program route ≢ outcome_at route end)
 EndsAs program class end _ = Unit {0}

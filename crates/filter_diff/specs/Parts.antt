@@ -8,8 +8,8 @@ use Rattle.filter_code.specs.CodeView.{CodeView}
 use Rattle.filter_code.specs.Machine.{outcome_of}
 use Rattle.filter_code.specs.declared.outcome.Outcome.{Outcome}
 use Rattle.filter_diff.specs.Endings.{outcome_at}
-use Rattle.filter_diff.specs.declared.route_part.Finding.{Finding}
-use Rattle.filter_diff.specs.declared.route_part.Finding.TheVariants as finding
+use Rattle.filter_diff.specs.declared.route_part.PartFinding.{PartFinding}
+use Rattle.filter_diff.specs.declared.route_part.PartFinding.TheVariants as finding
 use Rattle.filter_diff.specs.declared.route_part.RoutePart.{RoutePart}
 
 -- the routes of a domain: a prefix of at most 32 bits, and a metric of at most the size
@@ -60,16 +60,16 @@ pub record Differs (old new : CodeView) (before after : Outcome) (route : RouteV
   pub differ : before ≢ after
 
 -- a finding holds of a route
-abbrev pub Holds : CodeView → CodeView → Finding → RouteView → Type 0
+abbrev pub Holds : CodeView → CodeView → PartFinding → RouteView → Type 0
 Holds old new finding.Undecided route = Unit {0}
 Holds old new (finding.Differ before after) route = Differs old new (outcome_at route before) (outcome_at route after) route
 
 -- what was found is a difference, or nothing
-abbrev pub is_difference : Finding → Bool
+abbrev pub is_difference : PartFinding → Bool
 is_difference finding.Undecided = false
 is_difference (finding.Differ before after) = true
 
-abbrev pub is_undecided : Finding → Bool
+abbrev pub is_undecided : PartFinding → Bool
 is_undecided finding.Undecided = true
 is_undecided (finding.Differ before after) = false
 

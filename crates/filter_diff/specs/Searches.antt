@@ -6,13 +6,13 @@ use Rattle.filter_diff.specs.Classes.{Always, IsOf, IsOfSize}
 use Rattle.filter_diff.specs.Endings.{outcome_at}
 use Rattle.filter_diff.specs.Parts.{Differs, Has, InOne, IsIn, IsReal, IsSame}
 use Rattle.filter_diff.specs.declared.class.Class.{Class}
-use Rattle.filter_diff.specs.declared.ending.Ending.{Ending}
+use Rattle.filter_diff.specs.declared.ending.RunEnding.{RunEnding}
 use Rattle.filter_diff.specs.declared.found.Found.{Found}
 use Rattle.filter_diff.specs.declared.found.Found.TheVariants as found
 use Rattle.filter_diff.specs.declared.route_part.RoutePart.{RoutePart}
 
 -- two endings are the same at each route, or different at each
-abbrev pub Compare : Ending → Ending → Found → Type 0
+abbrev pub Compare : RunEnding → RunEnding → Found → Type 0
 Compare before after found.Same = (route : RouteView) → outcome_at route before ≡ outcome_at route after
 Compare before after (found.Differ a b) = (a ≡ before) × (b ≡ after) × ((route : RouteView) → outcome_at route before ≢ outcome_at route after)
 Compare before after _ = Unit {0}

@@ -9,15 +9,15 @@ use Rattle.filter_code.specs.RouteView.{RouteView}
 use Rattle.filter_code.specs.CodeView.{CodeView}
 use Rattle.filter_code.specs.Machine.{Config, Going, carry_out, overfills, unless_full}
 use Rattle.filter_code.specs.Table.{Frame}
-use Rattle.filter_diff.specs.declared.symbol.Symbol.{Symbol}
-use Rattle.filter_diff.specs.declared.symbol.Symbol.TheVariants as symbol
+use Rattle.filter_diff.specs.declared.symbol.SymbolicValue.{SymbolicValue}
+use Rattle.filter_diff.specs.declared.symbol.SymbolicValue.TheVariants as symbol
 
 -- the address of a prefix of which so many bits are kept, the others cleared
 abbrev pub kept_address : ℕ → RouteView → Value
 kept_address kept route = value.Addr (record { 0 = address_of (take kept route.net) })
 
 -- the value that a symbol stands for
-abbrev pub value_at : RouteView → Symbol → Value
+abbrev pub value_at : RouteView → SymbolicValue → Value
 value_at route (symbol.Int n) = value.Int n
 value_at route (symbol.Bool b) = value.Bool b
 value_at route (symbol.Ip a) = value.Addr a
@@ -31,7 +31,7 @@ metric_at route None = route.metric
 metric_at route (Some metric) = metric
 
 -- the configuration that symbols stand for
-abbrev pub config_at : RouteView → ℕ → List Symbol → List (Option Symbol) → Option ℕ → Config
+abbrev pub config_at : RouteView → ℕ → List SymbolicValue → List (Option SymbolicValue) → Option ℕ → Config
 config_at route pc stack locals metric =
     let frame : Frame Value = record { stack = map (value_at route) stack; locals = map (option_map (value_at route)) locals } in
     record { pc = pc; frame = frame; metric = metric_at route metric }

@@ -3,11 +3,11 @@ ghost use Rattle.std.specs.Prelude.{◌≡◌, ◌≤◌, count_by, length};
 ghost use Rattle.std.specs.List.{list_any};
 ghost use Rattle.filter_diff.specs.Answers as spec;
 
-use crate::route_part::{Finding, RoutePart};
+use crate::route_part::{PartFinding, RoutePart};
 
 /// What a comparison comes to.
 #[derive(Clone, Copy, PartialEq, Eq)]
-pub enum Answer {
+pub enum Comparison {
     /// There are no parts: the two codes have the same outcome on every route.
     Same,
     /// They differ on some routes.
@@ -21,14 +21,14 @@ impl RoutePart {
     pub fn differs(&self) -> bool
         ensures { result ≡ spec.differs self.now }
     {
-        matches!(self.finding, Finding::Differ(_, _))
+        matches!(self.finding, PartFinding::Differ(_, _))
     }
 
     /// Whether its routes are undecided.
     pub fn is_undecided(&self) -> bool
         ensures { result ≡ spec.undecided self.now }
     {
-        matches!(self.finding, Finding::Undecided)
+        matches!(self.finding, PartFinding::Undecided)
     }
 }
 
@@ -47,14 +47,14 @@ pub fn count_undecided(parts: &[RoutePart]) -> usize
 }
 
 /// What parts come to: the same if and only if there are none.
-pub fn answer_of(parts: &[RoutePart]) -> Answer
+pub fn answer_of(parts: &[RoutePart]) -> Comparison
     ensures { result ≡ spec.answer_of parts.now }
 {
     if parts.is_empty() {
-        Answer::Same
+        Comparison::Same
     } else if has_difference(parts) {
-        Answer::Differ
+        Comparison::Differ
     } else {
-        Answer::Undecided
+        Comparison::Undecided
     }
 }

@@ -9,11 +9,11 @@ ghost use Rattle.filter_diff.specs.Expectations.{IsFoundOf, IsMetAt, IsMissedAt,
 ghost use Rattle.filter_diff.specs.Meeting.{EndsAs, SaysMet, Throughout};
 ghost use Rattle.filter_diff.specs.Parts.{IsEnough, IsIn};
 ghost use Rattle.filter_diff.specs.Searches.{IsLeft, IsWhole, is_asking, most_tried, most_tried_of};
-ghost use Rattle.filter_diff.specs.declared.checking.Checked.TheVariants as checked;
+ghost use Rattle.filter_diff.specs.declared.checking.ExpectationResult.TheVariants as checked;
 
 use crate::class::Class;
 use crate::comparison::all_classes;
-use crate::ending::Ending;
+use crate::ending::RunEnding;
 use crate::expectation::{Expectation, outcome_of};
 use crate::found::Found;
 use crate::search::{endings, outcomes, split};
@@ -36,7 +36,7 @@ pub struct Counterexample {
 
 /// What is found of an expectation.
 #[derive(Clone, Copy)]
-pub enum Checked {
+pub enum ExpectationResult {
     /// The runs on all of its routes end so.
     Holds,
     /// The run on this one of its routes ends otherwise.
@@ -57,7 +57,7 @@ fn matched(class: &Class, pattern: &Pattern) -> Option<bool>
 }
 
 /// Whether the run on the one route whose bits and whose metric are known ends so.
-fn ends_on_route(code: &Code, class: &Class, metric: u32, ending: Ending) -> Found
+fn ends_on_route(code: &Code, class: &Class, metric: u32, ending: RunEnding) -> Found
     requires known { class.now.metric ≡ Some metric }
     requires whole { length class.now.known ≡ class.now.len }
     ensures said { EndsAs code.now class.now ending result }
@@ -70,17 +70,17 @@ fn ends_on_route(code: &Code, class: &Class, metric: u32, ending: Ending) -> Fou
 }
 
 /// An ending on routes with this metric, where it is known.
-fn known_ending(ending: Ending, metric: Option<u32>) -> Ending
+fn known_ending(ending: RunEnding, metric: Option<u32>) -> RunEnding
     ensures { (route : RouteView) → IsKnown metric route.metric → outcome_at route result ≡ outcome_at route ending }
 {
     match metric {
-        Some(metric) => Ending::Fixed(outcome_of(ending, metric)),
+        Some(metric) => RunEnding::Fixed(outcome_of(ending, metric)),
         None => ending,
     }
 }
 
 /// Whether the runs on all routes of a class end so.
-fn ends_on_class(code: &Code, class: &Class, ending: Ending) -> Found
+fn ends_on_class(code: &Code, class: &Class, ending: RunEnding) -> Found
     ensures { EndsAs code.now class.now ending result }
 {
     match trial(code, class) {
@@ -91,7 +91,7 @@ fn ends_on_class(code: &Code, class: &Class, ending: Ending) -> Found
 }
 
 /// What is found of a class, whether all is known of its routes or not.
-fn ends(code: &Code, class: &Class, ending: Ending) -> Found
+fn ends(code: &Code, class: &Class, ending: RunEnding) -> Found
     requires small { class.now.size ≤ 250 }
     requires real { IsOfSize class.now.size class.now }
     ensures said { EndsAs code.now class.now ending result }
@@ -185,7 +185,7 @@ fn shown(code: &Code, class: &Class, expected: &Expectation) -> Option<Counterex
 }
 
 /// What is shown of a class on which the runs do not end as is expected: its first route.
-fn failure(code: &Code, class: &Class, expected: &Expectation) -> Checked
+fn failure(code: &Code, class: &Class, expected: &Expectation) -> ExpectationResult
     requires small { class.now.size ≤ 250 }
     requires real { IsOfSize class.now.size class.now }
     requires missed { Throughout class.now (λ route. IsMissedAt code.now expected.now route) }
@@ -193,8 +193,8 @@ fn failure(code: &Code, class: &Class, expected: &Expectation) -> Checked
     ensures decided { smallest_size ≤ class.now.size → result ≢ checked.Undecided }
 {
     match shown(code, class, expected) {
-        Some(route) => Checked::Fails(route),
-        None => Checked::Undecided,
+        Some(route) => ExpectationResult::Fails(route),
+        None => ExpectationResult::Undecided,
     }
 }
 
@@ -203,7 +203,7 @@ fn split_further(
     class: &Class,
     asks_metric: bool,
     todo: &mut Vec<Class>,
-) -> Result<Option<Checked>, AllocError>
+) -> Result<Option<ExpectationResult>, AllocError>
     requires small { class.now.size ≤ 250 }
     requires real { IsOfSize class.now.size class.now }
     ensures found { IfOk result (λ end. IfSome end (λ found. (found ≡ checked.Undecided) × IsWhole class.now)) }
@@ -218,7 +218,7 @@ fn split_further(
     if split(class, asks_metric, todo)? {
         return Ok(None);
     }
-    Ok(Some(Checked::Undecided))
+    Ok(Some(ExpectationResult::Undecided))
 }
 
 /// Deals with a class: the runs on its routes end as is expected, or they are in classes that are appended, or this is found.
@@ -227,7 +227,7 @@ fn visit(
     class: &Class,
     expected: &Expectation,
     todo: &mut Vec<Class>,
-) -> Result<Option<Checked>, AllocError>
+) -> Result<Option<ExpectationResult>, AllocError>
     requires small { class.now.size ≤ 250 }
     requires real { IsOfSize class.now.size class.now }
     ensures found { IfOk result (λ end. IfSome end (IsFoundOf code.now class.now.size expected.now)) }
@@ -262,7 +262,7 @@ pub fn check_expectation(
     expected: &Expectation,
     size: u32,
     limit: u64,
-) -> Result<Checked, AllocError>
+) -> Result<ExpectationResult, AllocError>
     requires { size ≤ largest_size }
     ensures found { IfOk result (IsFoundOf code.now size expected.now) }
     ensures decided { IsEnough size limit → IfOk result (λ found. found ≢ checked.Undecided) }
@@ -277,7 +277,7 @@ pub fn check_expectation(
             size,
         };
         if left == 0 {
-            return Ok(Checked::Undecided);
+            return Ok(ExpectationResult::Undecided);
         }
         left -= 1;
         match visit(code, &class, expected, &mut todo)? {
@@ -285,5 +285,5 @@ pub fn check_expectation(
             Some(found) => return Ok(found),
         }
     }
-    Ok(Checked::Holds)
+    Ok(ExpectationResult::Holds)
 }

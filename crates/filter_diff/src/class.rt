@@ -4,7 +4,7 @@ ghost use Rattle.filter_diff.specs.Classes.{Always};
 ghost use Rattle.filter_code.specs.declared.value.Value.TheVariants as value;
 ghost use Rattle.filter_diff.specs.Symbols.{kept_address, value_at};
 
-use crate::symbol::Symbol;
+use crate::symbol::SymbolicValue;
 use prefix_patterns::{Pattern, PatternSet, Prefix};
 
 /// A class of routes, and what is known of them: the first bits of the prefix, its length, the metric received or nothing of
@@ -51,25 +51,25 @@ impl Class {
     }
 
     /// The address of the route's prefix with so many of its bits, and the others cleared: one address if these bits are known.
-    pub(crate) fn kept(&self, bits: u8) -> Symbol
+    pub(crate) fn kept(&self, bits: u8) -> SymbolicValue
         ensures { Always self.now (λ route. value_at route result ≡ kept_address bits route) }
     {
         if bits <= self.known.len() {
             let first = Prefix::new(self.known.address(), bits).unwrap();
-            Symbol::Ip(first.address())
+            SymbolicValue::Ip(first.address())
         } else {
-            Symbol::OwnIp(bits)
+            SymbolicValue::OwnIp(bits)
         }
     }
 
     /// The route's prefix: one prefix if all of its bits are known.
-    pub(crate) fn own_net(&self) -> Symbol
+    pub(crate) fn own_net(&self) -> SymbolicValue
         ensures { Always self.now (λ route. value_at route result ≡ value.Net route.net) }
     {
         if self.known.len() == self.len {
-            Symbol::Net(self.known)
+            SymbolicValue::Net(self.known)
         } else {
-            Symbol::OwnNet
+            SymbolicValue::OwnNet
         }
     }
 }

@@ -9,7 +9,7 @@ ghost use Rattle.filter_diff.specs.Classes.{IsOf, IsOfSize};
 ghost use Rattle.filter_diff.specs.Searches.{IsLeft, most_tried, most_tried_of, split_by_bits};
 
 use crate::class::Class;
-use crate::route_part::{Finding, RoutePart};
+use crate::route_part::{PartFinding, RoutePart};
 use crate::search::{push_part, visit};
 use filter_code::Code;
 use prefix_patterns::{ADDRESS_LENGTH, Ip, Prefix};
@@ -70,7 +70,7 @@ pub fn compare(
             size,
         };
         if left == 0 {
-            push_part(old, new, &class, Finding::Undecided, &mut parts)?;
+            push_part(old, new, &class, PartFinding::Undecided, &mut parts)?;
         } else {
             left -= 1;
             visit(old, new, &class, &mut parts, &mut todo)?;

@@ -7,8 +7,8 @@ ghost use Rattle.filter_code.specs.Machine.{Going, carry_out, unless_full};
 ghost use Rattle.filter_code.specs.RouteView.{RouteView};
 ghost use Rattle.filter_code.specs.declared.instruction.Instr.TheVariants as instr_is;
 ghost use Rattle.filter_code.specs.declared.value.Value.TheVariants as value;
-ghost use Rattle.filter_diff.specs.declared.symbol.Symbol.{Symbol as SymbolView};
-ghost use Rattle.filter_diff.specs.declared.symbol.Symbol.TheVariants as symbol;
+ghost use Rattle.filter_diff.specs.declared.symbol.SymbolicValue.{SymbolicValue as SymbolView};
+ghost use Rattle.filter_diff.specs.declared.symbol.SymbolicValue.TheVariants as symbol;
 ghost use Rattle.filter_code.specs.Limits.{stack_limit};
 ghost use Rattle.filter_diff.specs.Classes.{Always};
 ghost use Rattle.filter_diff.specs.Symbols.{Puts, config_at, value_at};
@@ -16,20 +16,20 @@ ghost use Rattle.filter_diff.specs.Turns.{Restacks};
 
 use crate::class::Class;
 use crate::judge::{equal, less, within};
-use crate::symbol::Symbol;
+use crate::symbol::SymbolicValue;
 use filter_code::{Code, Instr, Stack};
 use prefix_patterns::{ADDRESS_LENGTH, Ip, Prefix};
 
 /// What an instruction without operands puts on the stack, if it is one of these.
-fn literal(instr: &Instr, class: &Class) -> Option<Symbol>
+fn literal(instr: &Instr, class: &Class) -> Option<SymbolicValue>
     ensures { IfSome result (λ v. Always class.now (λ route. (program : CodeView) →
         Puts program instr.now route (λ rest. rest) (value_at route v))) }
 {
     match instr {
-        Instr::Int(number) => Some(Symbol::Int(*number)),
-        Instr::Bool(truth) => Some(Symbol::Bool(*truth)),
-        Instr::Ip(ip) => Some(Symbol::Ip(*ip)),
-        Instr::Prefix(prefix) => Some(Symbol::Net(*prefix)),
+        Instr::Int(number) => Some(SymbolicValue::Int(*number)),
+        Instr::Bool(truth) => Some(SymbolicValue::Bool(*truth)),
+        Instr::Ip(ip) => Some(SymbolicValue::Ip(*ip)),
+        Instr::Prefix(prefix) => Some(SymbolicValue::Net(*prefix)),
         Instr::Net => Some(class.own_net()),
         _ => None,
     }
@@ -46,16 +46,16 @@ fn masked(ip: Ip, bits: u8) -> Option<Ip>
 }
 
 /// What MASK gives, where that can be said.
-fn mask(bits: u8, a: Symbol, class: &Class) -> Option<Symbol>
+fn mask(bits: u8, a: SymbolicValue, class: &Class) -> Option<SymbolicValue>
     ensures { IfSome result (λ v. Always class.now (λ route. (program : CodeView) →
         Puts program (instr_is.Mask bits) route (λ rest. value_at route a ∷ rest) (value_at route v))) }
 {
     match a {
-        Symbol::Ip(ip) => match masked(ip, bits) {
-            Some(masked) => Some(Symbol::Ip(masked)),
+        SymbolicValue::Ip(ip) => match masked(ip, bits) {
+            Some(masked) => Some(SymbolicValue::Ip(masked)),
             None => None,
         },
-        Symbol::OwnIp(kept) => {
+        SymbolicValue::OwnIp(kept) => {
             if class.len < kept || ADDRESS_LENGTH < class.len || ADDRESS_LENGTH < bits {
                 return None;
             }
@@ -69,7 +69,7 @@ fn mask(bits: u8, a: Symbol, class: &Class) -> Option<Symbol>
 }
 
 /// What MEMBER gives, where that can be said.
-fn member(set: u8, a: Symbol, class: &Class, code: &Code) -> Option<Symbol>
+fn member(set: u8, a: SymbolicValue, class: &Class, code: &Code) -> Option<SymbolicValue>
     ensures { IfSome result (λ v. Always class.now (λ route.
         Puts code.now (instr_is.Member set) route (λ rest. value_at route a ∷ rest) (value_at route v))) }
 {
@@ -77,9 +77,9 @@ fn member(set: u8, a: Symbol, class: &Class, code: &Code) -> Option<Symbol>
         return None;
     };
     match a {
-        Symbol::Net(prefix) => Some(Symbol::Bool(patterns.matches(&prefix))),
-        Symbol::OwnNet => match class.matches_any(patterns) {
-            Some(truth) => Some(Symbol::Bool(truth)),
+        SymbolicValue::Net(prefix) => Some(SymbolicValue::Bool(patterns.matches(&prefix))),
+        SymbolicValue::OwnNet => match class.matches_any(patterns) {
+            Some(truth) => Some(SymbolicValue::Bool(truth)),
             None => None,
         },
         _ => None,
@@ -87,7 +87,7 @@ fn member(set: u8, a: Symbol, class: &Class, code: &Code) -> Option<Symbol>
 }
 
 /// What INSET gives, where that can be said.
-fn in_set(set: u8, a: Symbol, code: &Code) -> Option<Symbol>
+fn in_set(set: u8, a: SymbolicValue, code: &Code) -> Option<SymbolicValue>
     ensures { IfSome result (λ v. (route : RouteView) →
         Puts code.now (instr_is.InSet set) route (λ rest. value_at route a ∷ rest) (value_at route v)) }
 {
@@ -95,29 +95,29 @@ fn in_set(set: u8, a: Symbol, code: &Code) -> Option<Symbol>
         return None;
     };
     match a {
-        Symbol::Int(number) => Some(Symbol::Bool(ranges.holds(number))),
+        SymbolicValue::Int(number) => Some(SymbolicValue::Bool(ranges.holds(number))),
         _ => None,
     }
 }
 
 /// What an instruction with one operand gives, where that can be said.
-fn one(instr: &Instr, a: Symbol, class: &Class, code: &Code) -> Option<Symbol>
+fn one(instr: &Instr, a: SymbolicValue, class: &Class, code: &Code) -> Option<SymbolicValue>
     ensures { IfSome result (λ v. Always class.now (λ route.
         Puts code.now instr.now route (λ rest. value_at route a ∷ rest) (value_at route v))) }
 {
     match instr {
         Instr::Not => match a {
-            Symbol::Bool(truth) => Some(Symbol::Bool(!truth)),
+            SymbolicValue::Bool(truth) => Some(SymbolicValue::Bool(!truth)),
             _ => None,
         },
         Instr::Addr => match a {
-            Symbol::Net(prefix) => Some(Symbol::Ip(prefix.address())),
-            Symbol::OwnNet => Some(class.kept(class.len)),
+            SymbolicValue::Net(prefix) => Some(SymbolicValue::Ip(prefix.address())),
+            SymbolicValue::OwnNet => Some(class.kept(class.len)),
             _ => None,
         },
         Instr::Len => match a {
-            Symbol::Net(prefix) => Some(Symbol::Int(u32::from(prefix.len()))),
-            Symbol::OwnNet => Some(Symbol::Int(u32::from(class.len))),
+            SymbolicValue::Net(prefix) => Some(SymbolicValue::Int(u32::from(prefix.len()))),
+            SymbolicValue::OwnNet => Some(SymbolicValue::Int(u32::from(class.len))),
             _ => None,
         },
         Instr::Mask(bits) => mask(*bits, a, class),
@@ -128,51 +128,56 @@ fn one(instr: &Instr, a: Symbol, class: &Class, code: &Code) -> Option<Symbol>
 }
 
 /// What an instruction gives for two ints, if it is arithmetic and does not fault.
-fn arithmetic(instr: &Instr, a: u32, b: u32) -> Option<Symbol>
+fn arithmetic(instr: &Instr, a: u32, b: u32) -> Option<SymbolicValue>
     ensures { IfSome result (λ v. (program : CodeView) (route : RouteView) →
         Puts program instr.now route (λ rest. value.Int b ∷ (value.Int a ∷ rest)) (value_at route v)) }
 {
     match instr {
-        Instr::Add => Some(Symbol::Int(a.wrapping_add(b))),
-        Instr::Sub => Some(Symbol::Int(a.wrapping_sub(b))),
-        Instr::Mul => Some(Symbol::Int(a.wrapping_mul(b))),
-        Instr::Div if b > 0 => Some(Symbol::Int(a / b)),
-        Instr::Max => Some(Symbol::Int(a.max(b))),
+        Instr::Add => Some(SymbolicValue::Int(a.wrapping_add(b))),
+        Instr::Sub => Some(SymbolicValue::Int(a.wrapping_sub(b))),
+        Instr::Mul => Some(SymbolicValue::Int(a.wrapping_mul(b))),
+        Instr::Div if b > 0 => Some(SymbolicValue::Int(a / b)),
+        Instr::Max => Some(SymbolicValue::Int(a.max(b))),
         _ => None,
     }
 }
 
 /// What an instruction with two operands gives, of which the second was on top, where that can be said.
-fn two(instr: &Instr, a: Symbol, b: Symbol, class: &Class) -> Option<Symbol>
+fn two(instr: &Instr, a: SymbolicValue, b: SymbolicValue, class: &Class) -> Option<SymbolicValue>
     ensures { IfSome result (λ v. Always class.now (λ route. (program : CodeView) →
         Puts program instr.now route (λ rest. value_at route b ∷ (value_at route a ∷ rest)) (value_at route v))) }
 {
     match instr {
         Instr::Eq => match equal(a, b, class) {
-            Some(truth) => Some(Symbol::Bool(truth)),
+            Some(truth) => Some(SymbolicValue::Bool(truth)),
             None => None,
         },
         Instr::Lt => match less(a, b, class) {
-            Some(truth) => Some(Symbol::Bool(truth)),
+            Some(truth) => Some(SymbolicValue::Bool(truth)),
             None => None,
         },
         Instr::Le => match less(b, a, class) {
-            Some(truth) => Some(Symbol::Bool(!truth)),
+            Some(truth) => Some(SymbolicValue::Bool(!truth)),
             None => None,
         },
         Instr::Within => match within(a, b, class) {
-            Some(truth) => Some(Symbol::Bool(truth)),
+            Some(truth) => Some(SymbolicValue::Bool(truth)),
             None => None,
         },
         _ => match (a, b) {
-            (Symbol::Int(a), Symbol::Int(b)) => arithmetic(instr, a, b),
+            (SymbolicValue::Int(a), SymbolicValue::Int(b)) => arithmetic(instr, a, b),
             _ => None,
         },
     }
 }
 
 /// What an instruction takes off the stack.
-fn given(instr: &Instr, class: &Class, code: &Code, stack: &mut Stack<Symbol>) -> Option<Symbol>
+fn given(
+    instr: &Instr,
+    class: &Class,
+    code: &Code,
+    stack: &mut Stack<SymbolicValue>,
+) -> Option<SymbolicValue>
     ensures { IfSome result (λ v. Always class.now (λ route. (pc : ℕ) (locals : List (Option SymbolView)) (metric : Option ℕ) →
         carry_out code.now route (config_at route pc stack.old locals metric) (Some instr.now)
         ≡ unless_full (nat_lt stack_limit (1 + length stack.new)) pc (Going (config_at route (pc + 1) (v ∷ stack.new) locals metric)))) }
@@ -202,7 +207,12 @@ fn given(instr: &Instr, class: &Class, code: &Code, stack: &mut Stack<Symbol>) -
 }
 
 /// Carries out an instruction that computes. Whether that could be said.
-pub(crate) fn compute(instr: &Instr, class: &Class, code: &Code, stack: &mut Stack<Symbol>) -> bool
+pub(crate) fn compute(
+    instr: &Instr,
+    class: &Class,
+    code: &Code,
+    stack: &mut Stack<SymbolicValue>,
+) -> bool
     ensures { Restacks code.now class.now instr.now stack.old stack.new result }
 {
     match given(instr, class, code, stack) {

@@ -4,7 +4,7 @@ ghost use Rattle.filter_code.specs.RouteView.{RouteView};
 ghost use Rattle.prefix_patterns.specs.Matching.{matches};
 ghost use Rattle.filter_diff.specs.Endings.{outcome_at};
 
-use crate::ending::Ending;
+use crate::ending::RunEnding;
 use filter_code::Outcome;
 use prefix_patterns::{Pattern, Prefix};
 
@@ -18,7 +18,7 @@ pub struct Expectation {
     /// The greatest metric received.
     pub greatest: u32,
     /// How the runs are to end.
-    pub ending: Ending,
+    pub ending: RunEnding,
 }
 
 impl Expectation {
@@ -38,11 +38,11 @@ impl Expectation {
 }
 
 /// How a run ends on a route with this metric.
-pub(crate) fn outcome_of(ending: Ending, metric: u32) -> Outcome
+pub(crate) fn outcome_of(ending: RunEnding, metric: u32) -> Outcome
     ensures { (route : RouteView) → route.metric ≡ metric → result ≡ outcome_at route ending }
 {
     match ending {
-        Ending::Unchanged => Outcome::Accept(metric),
-        Ending::Fixed(outcome) => outcome,
+        RunEnding::Unchanged => Outcome::Accept(metric),
+        RunEnding::Fixed(outcome) => outcome,
     }
 }

@@ -1,4 +1,4 @@
-use crate::ending::Ending;
+use crate::ending::RunEnding;
 
 /// What was found of a class.
 #[derive(Clone, Copy)]
@@ -6,7 +6,7 @@ pub(crate) enum Found {
     /// The two codes have the same outcome on each route.
     Same,
     /// They end so on each route, and differently.
-    Differ(Ending, Ending),
+    Differ(RunEnding, RunEnding),
     /// One more bit has to be known.
     AsksBits,
     /// The metric has to be known.

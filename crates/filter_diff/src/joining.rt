@@ -2,11 +2,11 @@
 
 ghost use Rattle.std.specs.Prelude.{◌≡◌, ◌+◌, ◌≤◌, ◌++◌, [], ◌∷◌, true, false, IfOk, IfSome, IsTrue, List, OnOk};
 ghost use Rattle.filter_diff.specs.Joins.{IsEndingOfBoth, IsFoundOfBoth, Joins, KeepsMetric, StandFor};
-ghost use Rattle.filter_diff.specs.declared.route_part.Finding.TheVariants as finding;
+ghost use Rattle.filter_diff.specs.declared.route_part.PartFinding.TheVariants as finding;
 ghost use Rattle.filter_diff.specs.declared.route_part.RoutePart.{RoutePart as RoutePartView};
 
-use crate::ending::Ending;
-use crate::route_part::{Finding, RoutePart};
+use crate::ending::RunEnding;
+use crate::route_part::{PartFinding, RoutePart};
 use crate::search::longer;
 use filter_code::Outcome;
 use prefix_patterns::Prefix;
@@ -26,21 +26,26 @@ fn same_prefix(a: &Prefix, b: &Prefix) -> bool
 }
 
 /// Whether an ending is that each route of a part keeps its metric. It is so, too, where it names the only metric that the part has.
-fn keeps_metric(part: &RoutePart, end: Ending) -> bool
+fn keeps_metric(part: &RoutePart, end: RunEnding) -> bool
     ensures { IsTrue result → KeepsMetric part.now end }
 {
     match end {
-        Ending::Unchanged => true,
-        Ending::Fixed(Outcome::Accept(metric)) => {
+        RunEnding::Unchanged => true,
+        RunEnding::Fixed(Outcome::Accept(metric)) => {
             part.least == metric && part.greatest == metric
         }
-        Ending::Fixed(_) => false,
+        RunEnding::Fixed(_) => false,
     }
 }
 
 /// What two endings, of the routes of one part and of another, are for both: the same, or that each route keeps its metric. So metrics that
 /// are kept are one part, however many they are.
-fn ending_of_both(a: &RoutePart, b: &RoutePart, first: Ending, second: Ending) -> Option<Ending>
+fn ending_of_both(
+    a: &RoutePart,
+    b: &RoutePart,
+    first: RunEnding,
+    second: RunEnding,
+) -> Option<RunEnding>
     ensures { IfSome result (IsEndingOfBoth a.now b.now first second) }
 {
     if first == second {
@@ -52,37 +57,37 @@ fn ending_of_both(a: &RoutePart, b: &RoutePart, first: Ending, second: Ending) -
     if !keeps_metric(b, second) {
         return None;
     }
-    Some(Ending::Unchanged)
+    Some(RunEnding::Unchanged)
 }
 
 /// What is found of the routes of two parts where both codes end differently on each.
 fn difference_of_both(
     a: &RoutePart,
     b: &RoutePart,
-    first: (Ending, Ending),
-    second: (Ending, Ending),
-) -> Option<Finding>
+    first: (RunEnding, RunEnding),
+    second: (RunEnding, RunEnding),
+) -> Option<PartFinding>
     requires first { a.now.finding ≡ finding.Differ first.0 first.1 }
     requires second { b.now.finding ≡ finding.Differ second.0 second.1 }
     ensures { IfSome result (IsFoundOfBoth a.now b.now) }
 {
     let before = ending_of_both(a, b, first.0, second.0)?;
     let after = ending_of_both(a, b, first.1, second.1)?;
-    Some(Finding::Differ(before, after))
+    Some(PartFinding::Differ(before, after))
 }
 
 /// What was found of two parts, if it is the same.
-fn finding_of_both(a: &RoutePart, b: &RoutePart) -> Option<Finding>
+fn finding_of_both(a: &RoutePart, b: &RoutePart) -> Option<PartFinding>
     ensures { IfSome result (IsFoundOfBoth a.now b.now) }
 {
     match a.finding {
-        Finding::Undecided => match b.finding {
-            Finding::Undecided => Some(Finding::Undecided),
-            Finding::Differ(_, _) => None,
+        PartFinding::Undecided => match b.finding {
+            PartFinding::Undecided => Some(PartFinding::Undecided),
+            PartFinding::Differ(_, _) => None,
         },
-        Finding::Differ(before, after) => match b.finding {
-            Finding::Undecided => None,
-            Finding::Differ(other_before, other_after) => {
+        PartFinding::Differ(before, after) => match b.finding {
+            PartFinding::Undecided => None,
+            PartFinding::Differ(other_before, other_after) => {
                 difference_of_both(a, b, (before, after), (other_before, other_after))
             }
         },

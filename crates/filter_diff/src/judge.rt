@@ -4,12 +4,12 @@ ghost use Rattle.std.specs.Prelude.{◌≡◌, ◌≤◌, IfSome, length};
 ghost use Rattle.prefix_patterns.specs.Bits.{address_length, address_of};
 ghost use Rattle.prefix_patterns.specs.Matching.{matches};
 ghost use Rattle.filter_code.specs.RouteView.{RouteView};
-ghost use Rattle.filter_diff.specs.declared.symbol.Symbol.TheVariants as symbol;
+ghost use Rattle.filter_diff.specs.declared.symbol.SymbolicValue.TheVariants as symbol;
 ghost use Rattle.filter_diff.specs.Classes.{Always};
 ghost use Rattle.filter_diff.specs.Judging.{IsBetween, IsEqual, IsLess, IsWithin, last_address};
 
 use crate::class::Class;
-use crate::symbol::Symbol;
+use crate::symbol::SymbolicValue;
 use prefix_patterns::{ADDRESS_LENGTH, Ip, Pattern, Prefix};
 
 /// The first and the last address of a prefix.
@@ -24,12 +24,12 @@ fn ends_of(prefix: Prefix) -> (u64, u64)
 }
 
 /// Numbers between which the addresses lie that a symbol stands for. None if it may be no address.
-pub(crate) fn bounds(symbol: Symbol, class: &Class) -> Option<(u64, u64)>
+pub(crate) fn bounds(symbol: SymbolicValue, class: &Class) -> Option<(u64, u64)>
     ensures { IfSome result (λ ends. Always class.now (λ route. IsBetween ends.0 ends.1 route symbol)) }
 {
     match symbol {
-        Symbol::Ip(ip) => Some((u64::from(ip.0), u64::from(ip.0))),
-        Symbol::OwnIp(kept) => {
+        SymbolicValue::Ip(ip) => Some((u64::from(ip.0), u64::from(ip.0))),
+        SymbolicValue::OwnIp(kept) => {
             let bits = class.known.len();
             if kept < bits || class.len < kept || ADDRESS_LENGTH < class.len {
                 return None;
@@ -51,7 +51,7 @@ fn pattern_of(prefix: Prefix, low: u8, high: u8, class: &Class) -> Option<bool>
 }
 
 /// Whether two ips are equal, if all are or none is.
-fn equal_ips(a: Symbol, b: Symbol, class: &Class) -> Option<bool>
+fn equal_ips(a: SymbolicValue, b: SymbolicValue, class: &Class) -> Option<bool>
     ensures { IfSome result (λ r. Always class.now (λ route. IsEqual route a b r)) }
 {
     let (least, most) = bounds(a, class)?;
@@ -66,12 +66,12 @@ fn equal_ips(a: Symbol, b: Symbol, class: &Class) -> Option<bool>
 }
 
 /// Whether an address of the route is equal to another value, if all are or none is.
-fn equal_own(a: Symbol, b: Symbol, class: &Class, kept: u8) -> Option<bool>
+fn equal_own(a: SymbolicValue, b: SymbolicValue, class: &Class, kept: u8) -> Option<bool>
     requires { a ≡ symbol.OwnIp kept }
     ensures { IfSome result (λ r. Always class.now (λ route. IsEqual route a b r)) }
 {
     match b {
-        Symbol::OwnIp(other) => {
+        SymbolicValue::OwnIp(other) => {
             if other == kept {
                 Some(true)
             } else {
@@ -83,63 +83,63 @@ fn equal_own(a: Symbol, b: Symbol, class: &Class, kept: u8) -> Option<bool>
 }
 
 /// Whether a prefix is equal to another value, if all are or none is.
-fn equal_prefix(a: Prefix, b: Symbol, class: &Class) -> Option<bool>
+fn equal_prefix(a: Prefix, b: SymbolicValue, class: &Class) -> Option<bool>
     ensures { IfSome result (λ r. Always class.now (λ route. IsEqual route (symbol.Net a) b r)) }
 {
     match b {
-        Symbol::Net(b) => Some(a == b),
-        Symbol::OwnNet => pattern_of(a, a.len(), a.len(), class),
+        SymbolicValue::Net(b) => Some(a == b),
+        SymbolicValue::OwnNet => pattern_of(a, a.len(), a.len(), class),
         _ => None,
     }
 }
 
 /// Whether the route's prefix is equal to another value, if all are or none is.
-fn equal_net(b: Symbol, class: &Class) -> Option<bool>
+fn equal_net(b: SymbolicValue, class: &Class) -> Option<bool>
     ensures { IfSome result (λ r. Always class.now (λ route. IsEqual route symbol.OwnNet b r)) }
 {
     match b {
-        Symbol::Net(b) => pattern_of(b, b.len(), b.len(), class),
-        Symbol::OwnNet => Some(true),
+        SymbolicValue::Net(b) => pattern_of(b, b.len(), b.len(), class),
+        SymbolicValue::OwnNet => Some(true),
         _ => None,
     }
 }
 
 /// Whether two ints are equal, if they are ints.
-fn equal_ints(a: u32, b: Symbol) -> Option<bool>
+fn equal_ints(a: u32, b: SymbolicValue) -> Option<bool>
     ensures { IfSome result (λ r. (route : RouteView) → IsEqual route (symbol.Int a) b r) }
 {
     match b {
-        Symbol::Int(b) => Some(a == b),
+        SymbolicValue::Int(b) => Some(a == b),
         _ => None,
     }
 }
 
 /// Whether two bools are equal, if they are bools.
-fn equal_bools(a: bool, b: Symbol) -> Option<bool>
+fn equal_bools(a: bool, b: SymbolicValue) -> Option<bool>
     ensures { IfSome result (λ r. (route : RouteView) → IsEqual route (symbol.Bool a) b r) }
 {
     match b {
-        Symbol::Bool(b) => Some(a == b),
+        SymbolicValue::Bool(b) => Some(a == b),
         _ => None,
     }
 }
 
 /// Whether two values of one kind are equal, if all are or none is.
-pub(crate) fn equal(a: Symbol, b: Symbol, class: &Class) -> Option<bool>
+pub(crate) fn equal(a: SymbolicValue, b: SymbolicValue, class: &Class) -> Option<bool>
     ensures { IfSome result (λ r. Always class.now (λ route. IsEqual route a b r)) }
 {
     match a {
-        Symbol::Int(a) => equal_ints(a, b),
-        Symbol::Bool(a) => equal_bools(a, b),
-        Symbol::Ip(_) => equal_ips(a, b, class),
-        Symbol::Net(a) => equal_prefix(a, b, class),
-        Symbol::OwnIp(kept) => equal_own(a, b, class, kept),
-        Symbol::OwnNet => equal_net(b, class),
+        SymbolicValue::Int(a) => equal_ints(a, b),
+        SymbolicValue::Bool(a) => equal_bools(a, b),
+        SymbolicValue::Ip(_) => equal_ips(a, b, class),
+        SymbolicValue::Net(a) => equal_prefix(a, b, class),
+        SymbolicValue::OwnIp(kept) => equal_own(a, b, class, kept),
+        SymbolicValue::OwnNet => equal_net(b, class),
     }
 }
 
 /// Whether the first of two ips is less, if all are or none is.
-fn less_ips(a: Symbol, b: Symbol, class: &Class) -> Option<bool>
+fn less_ips(a: SymbolicValue, b: SymbolicValue, class: &Class) -> Option<bool>
     ensures { IfSome result (λ r. Always class.now (λ route. IsLess route a b r)) }
 {
     let (least, most) = bounds(a, class)?;
@@ -154,12 +154,12 @@ fn less_ips(a: Symbol, b: Symbol, class: &Class) -> Option<bool>
 }
 
 /// Whether the first of two ints or ips is less, if all are or none is.
-pub(crate) fn less(a: Symbol, b: Symbol, class: &Class) -> Option<bool>
+pub(crate) fn less(a: SymbolicValue, b: SymbolicValue, class: &Class) -> Option<bool>
     ensures { IfSome result (λ r. Always class.now (λ route. IsLess route a b r)) }
 {
     match a {
-        Symbol::Int(a) => match b {
-            Symbol::Int(b) => Some(a < b),
+        SymbolicValue::Int(a) => match b {
+            SymbolicValue::Int(b) => Some(a < b),
             _ => None,
         },
         _ => less_ips(a, b, class),
@@ -168,7 +168,7 @@ pub(crate) fn less(a: Symbol, b: Symbol, class: &Class) -> Option<bool>
 
 /// Whether an address of the route lies within a prefix, if it does for all or for none: where all addresses that it may be lie between
 /// the first and the last one of the prefix, or all lie before or behind these.
-fn own_ip_within_prefix(a: Symbol, outer: Prefix, class: &Class, kept: u8) -> Option<bool>
+fn own_ip_within_prefix(a: SymbolicValue, outer: Prefix, class: &Class, kept: u8) -> Option<bool>
     requires { a ≡ symbol.OwnIp kept }
     ensures { IfSome result (λ r. Always class.now (λ route. IsWithin route a (symbol.Net outer) r)) }
 {
@@ -189,14 +189,14 @@ fn own_ip_within_prefix(a: Symbol, outer: Prefix, class: &Class, kept: u8) -> Op
 }
 
 /// Whether the first lies within a prefix, if all do or none does.
-fn within_prefix(a: Symbol, outer: Prefix, class: &Class) -> Option<bool>
+fn within_prefix(a: SymbolicValue, outer: Prefix, class: &Class) -> Option<bool>
     ensures { IfSome result (λ r. Always class.now (λ route. IsWithin route a (symbol.Net outer) r)) }
 {
     match a {
-        Symbol::Ip(ip) => Some(outer.contains(ip)),
-        Symbol::Net(inner) => Some(inner.within(&outer)),
-        Symbol::OwnNet => pattern_of(outer, outer.len(), ADDRESS_LENGTH, class),
-        Symbol::OwnIp(kept) => own_ip_within_prefix(a, outer, class, kept),
+        SymbolicValue::Ip(ip) => Some(outer.contains(ip)),
+        SymbolicValue::Net(inner) => Some(inner.within(&outer)),
+        SymbolicValue::OwnNet => pattern_of(outer, outer.len(), ADDRESS_LENGTH, class),
+        SymbolicValue::OwnIp(kept) => own_ip_within_prefix(a, outer, class, kept),
         _ => None,
     }
 }
@@ -212,25 +212,25 @@ fn ip_within_net(ip: Ip, class: &Class) -> Option<bool>
 }
 
 /// Whether the first lies within the route's prefix, if all do or none does.
-fn within_net(a: Symbol, class: &Class) -> Option<bool>
+fn within_net(a: SymbolicValue, class: &Class) -> Option<bool>
     ensures { IfSome result (λ r. Always class.now (λ route. IsWithin route a symbol.OwnNet r)) }
 {
     match a {
-        Symbol::Ip(ip) => ip_within_net(ip, class),
-        Symbol::Net(inner) => pattern_of(inner, 0, inner.len(), class),
-        Symbol::OwnIp(kept) if kept == class.len => Some(true),
-        Symbol::OwnNet => Some(true),
+        SymbolicValue::Ip(ip) => ip_within_net(ip, class),
+        SymbolicValue::Net(inner) => pattern_of(inner, 0, inner.len(), class),
+        SymbolicValue::OwnIp(kept) if kept == class.len => Some(true),
+        SymbolicValue::OwnNet => Some(true),
         _ => None,
     }
 }
 
 /// Whether the first lies within the second, if all do or none does.
-pub(crate) fn within(a: Symbol, b: Symbol, class: &Class) -> Option<bool>
+pub(crate) fn within(a: SymbolicValue, b: SymbolicValue, class: &Class) -> Option<bool>
     ensures { IfSome result (λ r. Always class.now (λ route. IsWithin route a b r)) }
 {
     match b {
-        Symbol::Net(outer) => within_prefix(a, outer, class),
-        Symbol::OwnNet => within_net(a, class),
+        SymbolicValue::Net(outer) => within_prefix(a, outer, class),
+        SymbolicValue::OwnNet => within_net(a, class),
         _ => None,
     }
 }

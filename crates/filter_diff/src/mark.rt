@@ -5,7 +5,7 @@ ghost use Rattle.filter_code.specs.declared.value.Value.TheVariants as value;
 ghost use Rattle.filter_diff.specs.Marking.{AreInts, AreNoInts, AreTop, IsFull, IsNoBool, IsTop, IsUnseen, Shows, ShowsAt};
 ghost use Rattle.filter_diff.specs.Marking.{joined, shown_raise, shown_truth, unmarked};
 
-use crate::symbol::Symbol;
+use crate::symbol::SymbolicValue;
 use filter_code::{Instr, Stack, Value};
 
 /// What was found of an instruction.
@@ -72,29 +72,29 @@ impl Mark {
 }
 
 /// The bool on top, if there is one. The stack stays as it is.
-fn truth_on(stack: &mut Stack<Symbol>) -> Option<bool>
+fn truth_on(stack: &mut Stack<SymbolicValue>) -> Option<bool>
     ensures { IfSome result (λ truth. (stack.new ≡ stack.old) × IsTop truth stack.old) }
 {
-    let Ok(Symbol::Bool(truth)) = stack.take_one() else {
+    let Ok(SymbolicValue::Bool(truth)) = stack.take_one() else {
         return None;
     };
-    match stack.push(Symbol::Bool(truth)) {
+    match stack.push(SymbolicValue::Bool(truth)) {
         Ok(()) => Some(truth),
         Err(_) => None,
     }
 }
 
 /// Whether the upper one of the two ints on top is greater, if there are two. The stack stays as it is.
-fn raise_on(stack: &mut Stack<Symbol>) -> Option<bool>
+fn raise_on(stack: &mut Stack<SymbolicValue>) -> Option<bool>
     ensures { IfSome result (λ raised. (stack.new ≡ stack.old) × AreTop raised stack.old) }
 {
-    let Ok((Symbol::Int(lower), Symbol::Int(upper))) = stack.take_two() else {
+    let Ok((SymbolicValue::Int(lower), SymbolicValue::Int(upper))) = stack.take_two() else {
         return None;
     };
-    let Ok(()) = stack.push(Symbol::Int(lower)) else {
+    let Ok(()) = stack.push(SymbolicValue::Int(lower)) else {
         return None;
     };
-    match stack.push(Symbol::Int(upper)) {
+    match stack.push(SymbolicValue::Int(upper)) {
         Ok(()) => Some(lower < upper),
         Err(_) => None,
     }
@@ -128,7 +128,7 @@ fn of_other(is_raised: bool) -> Mark
 
 /// What runs show of the instruction that they come to with a stack. None if it is a JUMPIFNOT whose condition is not known, or a MAX of
 /// which the ints are not. The stack stays as it is.
-pub(crate) fn mark_of(instr: &Instr, stack: &mut Stack<Symbol>) -> Option<Mark>
+pub(crate) fn mark_of(instr: &Instr, stack: &mut Stack<SymbolicValue>) -> Option<Mark>
     ensures { IfSome result (λ mark. (stack.new ≡ stack.old) × Shows instr.now stack.old mark) }
 {
     match instr {

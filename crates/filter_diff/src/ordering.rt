@@ -12,7 +12,7 @@ ghost use Rattle.filter_diff.specs.declared.ordering.Order.TheVariants as order;
 
 use crate::class::Class;
 use crate::comparison::all_classes;
-use crate::ending::Ending;
+use crate::ending::RunEnding;
 use crate::expectation::outcome_of;
 use crate::found::Found;
 use crate::search::split;
@@ -72,7 +72,7 @@ fn compared(size: u32, lesser: Outcome, next: Outcome) -> Found
     if is_kept(size, lesser, next) {
         Found::Same
     } else {
-        Found::Differ(Ending::Fixed(lesser), Ending::Fixed(next))
+        Found::Differ(RunEnding::Fixed(lesser), RunEnding::Fixed(next))
     }
 }
 

@@ -8,16 +8,16 @@ ghost use Rattle.filter_diff.specs.Parts.{IsEnough, IsIn};
 ghost use Rattle.filter_diff.specs.Reaching.{IsReach, NeverFaults, NeverFaultsOn};
 ghost use Rattle.filter_diff.specs.Searches.{IsLeft, IsWhole, most_tried, most_tried_of};
 ghost use Rattle.filter_diff.specs.declared.extent.Extent.TheVariants as extent;
-ghost use Rattle.filter_diff.specs.Settling.{AreSettled};
+ghost use Rattle.filter_diff.specs.Exploring.{AreExplored};
 
 use crate::class::Class;
 use crate::comparison::all_classes;
+use crate::exploring::{is_explored, mark_explored};
 use crate::extent::{Extent, extent_of};
 use crate::mark::{Mark, Reach, mark_of, mark_seen};
 use crate::search::split;
-use crate::settling::{is_settled, settle};
 use crate::slots::Slots;
-use crate::symbol::Symbol;
+use crate::symbol::SymbolicValue;
 use crate::trials::carry_out;
 use crate::turn::Turn;
 use filter_code::{Code, Instr, Route, Running, Stack};
@@ -32,7 +32,7 @@ fn add(mark: Mark, place: usize, marks: &mut [Mark])
 }
 
 /// Marks what runs show of the instruction that they come to with a stack. Whether that could be said. The stack stays as it is.
-fn note(instr: &Instr, place: usize, stack: &mut Stack<Symbol>, marks: &mut [Mark]) -> bool
+fn note(instr: &Instr, place: usize, stack: &mut Stack<SymbolicValue>, marks: &mut [Mark]) -> bool
     requires { place < length marks.old }
     ensures { IsNoted instr.now place stack.old stack.new marks.old marks.new result }
 {
@@ -46,10 +46,10 @@ fn note(instr: &Instr, place: usize, stack: &mut Stack<Symbol>, marks: &mut [Mar
 }
 
 /// Marks what the runs on all routes of a class come to, up to a place from which on all is marked already.
-fn mark_run(code: &Code, class: &Class, settled: &[bool], marks: &mut [Mark]) -> Extent
+fn mark_run(code: &Code, class: &Class, explored: &[bool], marks: &mut [Mark]) -> Extent
     requires real { IsOfSize class.now.size class.now }
     requires long { length marks.old ≡ length code.now.instrs }
-    requires settled { AreSettled code.now marks.old settled.now }
+    requires explored { AreExplored code.now marks.old explored.now }
     ensures marked { AreMarked code.now class.now marks.new result }
     ensures more { Extend marks.old marks.new }
     ensures sound { AreSound code.now class.now.size marks.old → AreSound code.now class.now.size marks.new }
@@ -60,7 +60,7 @@ fn mark_run(code: &Code, class: &Class, settled: &[bool], marks: &mut [Mark]) ->
     let mut metric = class.metric;
     let mut pc = 0;
     while let Some(instr) = instrs.get(pc) {
-        if is_settled(settled, pc) {
+        if is_explored(explored, pc) {
             return Extent::Whole;
         }
         if !note(instr, pc, &mut stack, marks) {
@@ -144,11 +144,11 @@ fn mark_one(code: &Code, class: &Class, metric: u32, marks: &mut [Mark]) -> Exte
 }
 
 /// Marks what the runs on all routes of a class come to, whether all is known of its routes or not.
-fn mark_class(code: &Code, class: &Class, settled: &[bool], marks: &mut [Mark]) -> Extent
+fn mark_class(code: &Code, class: &Class, explored: &[bool], marks: &mut [Mark]) -> Extent
     requires small { class.now.size ≤ 250 }
     requires real { IsOfSize class.now.size class.now }
     requires long { length marks.old ≡ length code.now.instrs }
-    requires settled { AreSettled code.now marks.old settled.now }
+    requires explored { AreExplored code.now marks.old explored.now }
     ensures marked { AreMarked code.now class.now marks.new result }
     ensures more { Extend marks.old marks.new }
     ensures sound { AreSound code.now class.now.size marks.old → AreSound code.now class.now.size marks.new }
@@ -156,7 +156,7 @@ fn mark_class(code: &Code, class: &Class, settled: &[bool], marks: &mut [Mark]) 
 {
     match class.metric {
         Some(metric) if class.known.len() == class.len => mark_one(code, class, metric, marks),
-        _ => mark_run(code, class, settled, marks),
+        _ => mark_run(code, class, explored, marks),
     }
 }
 
@@ -165,14 +165,14 @@ fn mark_class(code: &Code, class: &Class, settled: &[bool], marks: &mut [Mark]) 
 fn visit(
     code: &Code,
     class: &Class,
-    settled: &[bool],
+    explored: &[bool],
     marks: &mut [Mark],
     todo: &mut Vec<Class>,
 ) -> Result<bool, AllocError>
     requires small { class.now.size ≤ 250 }
     requires real { IsOfSize class.now.size class.now }
     requires long { length marks.old ≡ length code.now.instrs }
-    requires settled { AreSettled code.now marks.old settled.now }
+    requires explored { AreExplored code.now marks.old explored.now }
     ensures covered { IfOk result (λ done. IsTrue done → (route : RouteView) → IsIn class.now.size route → IsOf class.now route
         → AreAllMarked code.now marks.new route ⊎ IsLeft route todo.new.items) }
     ensures kept { OnOk result ((route : RouteView) → IsLeft route todo.old.items → IsLeft route todo.new.items) }
@@ -184,7 +184,7 @@ fn visit(
         ≤ most_tried_of class.now.size todo.old.items + most_tried class.now.size class.now) }
     ensures decided { IfOk result (λ done. smallest_size ≤ class.now.size → NeverFaults code.now class.now.size → done ≡ true) }
 {
-    match mark_class(code, class, settled, marks) {
+    match mark_class(code, class, explored, marks) {
         Extent::Whole => Ok(true),
         Extent::AsksBits => {
             let is_split = split(class, false, todo)?;
@@ -202,28 +202,28 @@ fn deal(
     code: &Code,
     class: &Class,
     marks: &mut [Mark],
-    settled: &mut [bool],
+    explored: &mut [bool],
     todo: &mut Vec<Class>,
 ) -> Result<bool, AllocError>
     requires small { class.now.size ≤ 250 }
     requires real { IsOfSize class.now.size class.now }
     requires long { length marks.old ≡ length code.now.instrs }
-    requires places { length settled.old ≡ length code.now.instrs }
-    requires settled { AreSettled code.now marks.old settled.old }
+    requires places { length explored.old ≡ length code.now.instrs }
+    requires explored { AreExplored code.now marks.old explored.old }
     ensures covered { IfOk result (λ done. IsTrue done → (route : RouteView) → IsIn class.now.size route → IsOf class.now route
         → AreAllMarked code.now marks.new route ⊎ IsLeft route todo.new.items) }
     ensures kept { OnOk result ((route : RouteView) → IsLeft route todo.old.items → IsLeft route todo.new.items) }
     ensures real { OnOk result (All (IsOfSize class.now.size) todo.old.items → All (IsOfSize class.now.size) todo.new.items) }
     ensures more { Extend marks.old marks.new }
     ensures sound { AreSound code.now class.now.size marks.old → AreSound code.now class.now.size marks.new }
-    ensures settled { OnOk result (AreSettled code.now marks.new settled.new) }
+    ensures explored { OnOk result (AreExplored code.now marks.new explored.new) }
     ensures few { OnOk result (vec_len todo.new ≤ vec_len todo.old + 253) }
     ensures tried { IfOk result (λ done. IsTrue done → most_tried_of class.now.size todo.new.items + 1
         ≤ most_tried_of class.now.size todo.old.items + most_tried class.now.size class.now) }
     ensures decided { IfOk result (λ done. smallest_size ≤ class.now.size → NeverFaults code.now class.now.size → done ≡ true) }
 {
-    let is_dealt = visit(code, class, settled, marks, todo)?;
-    settle(code, marks, settled);
+    let is_dealt = visit(code, class, explored, marks, todo)?;
+    mark_explored(code, marks, explored);
     Ok(is_dealt)
 }
 
@@ -255,7 +255,7 @@ pub fn reach(
     ensures decided { IsEnough size limit → NeverFaults code.now size → IfOk result (λ found. found.is_complete ≡ true) }
 {
     let mut marks = unmarked(alloc, watched)?;
-    let mut settled = vec![in alloc; false; watched.len()]?;
+    let mut explored = vec![in alloc; false; watched.len()]?;
     let mut todo = all_classes(alloc, size)?;
     let mut left = limit;
     while let Some(next) = todo.pop() {
@@ -272,7 +272,7 @@ pub fn reach(
             });
         }
         left -= 1;
-        let is_dealt = deal(code, &class, &mut marks, &mut settled, &mut todo)?;
+        let is_dealt = deal(code, &class, &mut marks, &mut explored, &mut todo)?;
         if !is_dealt {
             return Ok(Reach {
                 marks,

@@ -1,11 +1,11 @@
-use crate::ending::Ending;
+use crate::ending::RunEnding;
 use prefix_patterns::Prefix;
 
 /// What was found of the routes of a part.
 #[derive(Clone, Copy, PartialEq, Eq)]
-pub enum Finding {
+pub enum PartFinding {
     /// The runs of the old code end in the first way, those of the new one in the second, and these differ.
-    Differ(Ending, Ending),
+    Differ(RunEnding, RunEnding),
     /// The search ended before it could tell.
     Undecided,
 }
@@ -24,5 +24,5 @@ pub struct RoutePart {
     /// The greatest metric received.
     pub greatest: u32,
     /// What was found of them.
-    pub finding: Finding,
+    pub finding: PartFinding,
 }

@@ -8,12 +8,12 @@ ghost use Rattle.filter_diff.specs.Classes.{Always, IsOf, IsOfSize};
 ghost use Rattle.filter_diff.specs.Parts.{Holds, InOne, IsDecided, IsIn, IsReal, IsTrueOf, is_undecided};
 ghost use Rattle.filter_diff.specs.Searches.{AreReal, Compare, HasBit, IsDealt, IsLeft, IsPartOf, IsWhole, Says};
 ghost use Rattle.filter_diff.specs.Searches.{is_asking, most_tried, most_tried_of, split_by_bits};
-ghost use Rattle.filter_diff.specs.declared.ending.Ending.TheVariants as ending;
+ghost use Rattle.filter_diff.specs.declared.ending.RunEnding.TheVariants as ending;
 
 use crate::class::Class;
-use crate::ending::Ending;
+use crate::ending::RunEnding;
 use crate::found::Found;
-use crate::route_part::{Finding, RoutePart};
+use crate::route_part::{PartFinding, RoutePart};
 use crate::trials::trial;
 use crate::turn::Turn;
 use filter_code::{Code, Outcome, Route, run_checked};
@@ -28,7 +28,7 @@ pub(crate) fn outcomes(before: Outcome, after: Outcome) -> Found
     if before == after {
         Found::Same
     } else {
-        Found::Differ(Ending::Fixed(before), Ending::Fixed(after))
+        Found::Differ(RunEnding::Fixed(before), RunEnding::Fixed(after))
     }
 }
 
@@ -39,7 +39,7 @@ fn unchanged(after: Outcome) -> Found
 {
     match after {
         Outcome::Accept(_) => Found::AsksMetric,
-        _ => Found::Differ(Ending::Unchanged, Ending::Fixed(after)),
+        _ => Found::Differ(RunEnding::Unchanged, RunEnding::Fixed(after)),
     }
 }
 
@@ -49,22 +49,22 @@ fn unchanged_now(before: Outcome) -> Found
 {
     match before {
         Outcome::Accept(_) => Found::AsksMetric,
-        _ => Found::Differ(Ending::Fixed(before), Ending::Unchanged),
+        _ => Found::Differ(RunEnding::Fixed(before), RunEnding::Unchanged),
     }
 }
 
 /// Whether two endings are the same.
-pub(crate) fn endings(before: Ending, after: Ending) -> Found
+pub(crate) fn endings(before: RunEnding, after: RunEnding) -> Found
     ensures { Compare before after result }
 {
     match before {
-        Ending::Unchanged => match after {
-            Ending::Unchanged => Found::Same,
-            Ending::Fixed(after) => unchanged(after),
+        RunEnding::Unchanged => match after {
+            RunEnding::Unchanged => Found::Same,
+            RunEnding::Fixed(after) => unchanged(after),
         },
-        Ending::Fixed(before) => match after {
-            Ending::Unchanged => unchanged_now(before),
-            Ending::Fixed(after) => outcomes(before, after),
+        RunEnding::Fixed(before) => match after {
+            RunEnding::Unchanged => unchanged_now(before),
+            RunEnding::Fixed(after) => outcomes(before, after),
         },
     }
 }
@@ -148,7 +148,7 @@ fn with_bit(class: &Class, bit: bool) -> Option<Class>
 }
 
 /// The part with the routes of a class.
-pub(crate) fn part_of(class: &Class, finding: Finding) -> RoutePart
+pub(crate) fn part_of(class: &Class, finding: PartFinding) -> RoutePart
     ensures routes { IsPartOf class.now result }
     ensures finding { result.finding ≡ finding }
     ensures real { IsOfSize class.now.size class.now → IsReal class.now.size result }
@@ -269,7 +269,7 @@ pub(crate) fn push_part(
     old: &Code,
     new: &Code,
     class: &Class,
-    finding: Finding,
+    finding: PartFinding,
     parts: &mut Vec<RoutePart>,
 ) -> Result<(), AllocError>
     requires found { Always class.now (λ route. Holds old.now new.now finding route) }
@@ -310,7 +310,7 @@ fn split_further(
     ensures decided { OnOk result ((IsWhole class.now → ⊥) → All IsDecided parts.old.items → All IsDecided parts.new.items) }
 {
     if !split(class, asks_metric, todo)? {
-        push_part(old, new, class, Finding::Undecided, parts)?;
+        push_part(old, new, class, PartFinding::Undecided, parts)?;
     }
     Ok(())
 }
@@ -340,7 +340,7 @@ pub(crate) fn visit(
     match find(old, new, class) {
         Found::Same => {}
         Found::Differ(before, after) => {
-            push_part(old, new, class, Finding::Differ(before, after), parts)?;
+            push_part(old, new, class, PartFinding::Differ(before, after), parts)?;
         }
         Found::AsksBits => split_further(old, new, class, false, parts, todo)?,
         Found::AsksMetric => split_further(old, new, class, true, parts, todo)?,

@@ -1,7 +1,7 @@
 ghost use Rattle.std.specs.Prelude.{◌≡◌, ◌<◌, ◌≤◌, None, Some, length, replicate, slice_get, slice_set, IfSome};
 ghost use Rattle.filter_code.specs.Limits.{local_limit};
 
-use crate::symbol::Symbol;
+use crate::symbol::SymbolicValue;
 use filter_code::LOCAL_LIMIT;
 use std::marker::Model;
 
@@ -10,14 +10,14 @@ use std::marker::Model;
 /// A contract sees them as a list, in the order of their numbers.
 #[derive(Drop)]
 pub(crate) struct Slots {
-    values: [Option<Symbol>; LOCAL_LIMIT],
+    values: [Option<SymbolicValue>; LOCAL_LIMIT],
     count: usize,
 }
 
 impl Model for Slots {
     ghost use Rattle.std.specs.Prelude.{◌≡◌, ◌≤◌, List, Option, length, take};
     ghost use Rattle.filter_code.specs.Limits.{local_limit};
-    ghost use Rattle.filter_diff.specs.declared.symbol.Symbol.{Symbol as Local};
+    ghost use Rattle.filter_diff.specs.declared.symbol.SymbolicValue.{SymbolicValue as Local};
 
     ghost Value = { List (Option Local) };
 
@@ -39,7 +39,7 @@ impl Slots {
     }
 
     /// The value of a local variable, if there is one with this number, and it is not empty.
-    pub(crate) fn get(&self, local: u8) -> Option<Symbol>
+    pub(crate) fn get(&self, local: u8) -> Option<SymbolicValue>
         ensures { IfSome result (λ v. slice_get self.now local ≡ Some (Some v)) }
     {
         if usize::from(local) < self.count {
@@ -57,7 +57,7 @@ impl Slots {
     }
 
     /// Sets a local variable.
-    pub(crate) fn set(&mut self, local: u8, value: Symbol)
+    pub(crate) fn set(&mut self, local: u8, value: SymbolicValue)
         requires { local < length self.old }
         ensures { self.new ≡ slice_set self.old local (Some value) }
     {

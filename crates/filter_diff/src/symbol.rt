@@ -2,7 +2,7 @@ use prefix_patterns::{Ip, Prefix};
 
 /// A value of a run on each route of a class: one that is the same for all, or one by its rule.
 #[derive(Clone, Copy)]
-pub(crate) enum Symbol {
+pub(crate) enum SymbolicValue {
     /// An int.
     Int(u32),
     /// A bool.
@@ -17,14 +17,14 @@ pub(crate) enum Symbol {
     OwnNet,
 }
 
-impl Default for Symbol {
+impl Default for SymbolicValue {
     ghost use Rattle.std.specs.Prelude.{◌≡◌, false};
-    ghost use Rattle.filter_diff.specs.declared.symbol.Symbol.TheVariants as symbol;
+    ghost use Rattle.filter_diff.specs.declared.symbol.SymbolicValue.TheVariants as symbol;
 
     ghost is_default = { λ s. s ≡ symbol.Bool false };
 
     /// A bool, which fills the unused places of a `Stack`.
-    fn default() -> Symbol {
-        Symbol::Bool(false)
+    fn default() -> SymbolicValue {
+        SymbolicValue::Bool(false)
     }
 }

@@ -6,14 +6,14 @@ ghost use Rattle.filter_diff.specs.Turns.{EndSo, IsGiven, IsGivenIfKnown, Takes}
 
 use crate::class::Class;
 use crate::computing::compute;
-use crate::ending::Ending;
+use crate::ending::RunEnding;
 use crate::slots::Slots;
-use crate::symbol::Symbol;
+use crate::symbol::SymbolicValue;
 use crate::turn::Turn;
 use filter_code::{Code, Instr, Outcome, Stack};
 
 /// Puts a value on the stack, if there is room.
-fn give(value: Symbol, stack: &mut Stack<Symbol>) -> Turn
+fn give(value: SymbolicValue, stack: &mut Stack<SymbolicValue>) -> Turn
     ensures { IsGiven value stack.old stack.new result }
 {
     match stack.push(value) {
@@ -23,11 +23,11 @@ fn give(value: Symbol, stack: &mut Stack<Symbol>) -> Turn
 }
 
 /// Puts the metric on the stack, if it is known and there is room.
-fn give_metric(metric: Option<u32>, stack: &mut Stack<Symbol>) -> Turn
+fn give_metric(metric: Option<u32>, stack: &mut Stack<SymbolicValue>) -> Turn
     ensures { IsGivenIfKnown metric stack.old stack.new result }
 {
     match metric {
-        Some(metric) => give(Symbol::Int(metric), stack),
+        Some(metric) => give(SymbolicValue::Int(metric), stack),
         None => Turn::AsksMetric,
     }
 }
@@ -38,7 +38,7 @@ pub(crate) fn carry_out(
     instr: &Instr,
     code: &Code,
     class: &Class,
-    stack: &mut Stack<Symbol>,
+    stack: &mut Stack<SymbolicValue>,
     locals: &mut Slots,
     metric: &mut Option<u32>,
     pc: &mut usize,
@@ -70,7 +70,7 @@ pub(crate) fn carry_out(
             let Some(received) = class.metric else {
                 return Turn::AsksMetric;
             };
-            let Ok(Symbol::Int(value)) = stack.take_one() else {
+            let Ok(SymbolicValue::Int(value)) = stack.take_one() else {
                 return Turn::AsksBits;
             };
             if value < received {
@@ -84,7 +84,7 @@ pub(crate) fn carry_out(
             Turn::On
         }
         Instr::JumpIfNot(skipped) => {
-            let Ok(Symbol::Bool(truth)) = stack.take_one() else {
+            let Ok(SymbolicValue::Bool(truth)) = stack.take_one() else {
                 return Turn::AsksBits;
             };
             if !truth {
@@ -93,10 +93,10 @@ pub(crate) fn carry_out(
             Turn::On
         }
         Instr::Accept => match *metric {
-            Some(metric) => Turn::Ended(Ending::Fixed(Outcome::Accept(metric))),
-            None => Turn::Ended(Ending::Unchanged),
+            Some(metric) => Turn::Ended(RunEnding::Fixed(Outcome::Accept(metric))),
+            None => Turn::Ended(RunEnding::Unchanged),
         },
-        Instr::Reject => Turn::Ended(Ending::Fixed(Outcome::Reject)),
+        Instr::Reject => Turn::Ended(RunEnding::Fixed(Outcome::Reject)),
         _ => {
             if compute(instr, class, code, stack) {
                 Turn::On

@@ -1,4 +1,4 @@
-use crate::ending::Ending;
+use crate::ending::RunEnding;
 
 /// What an instruction does on all routes of a class.
 #[derive(Clone, Copy)]
@@ -6,7 +6,7 @@ pub(crate) enum Turn {
     /// The run goes on.
     On,
     /// The run ends.
-    Ended(Ending),
+    Ended(RunEnding),
     /// It takes more bits of the prefix to tell.
     AsksBits,
     /// It takes the metric to tell.

@@ -22,8 +22,8 @@ use Rattle.filter_lint.specs.Sets.{asked_by, asks_ints, covered_at, covered_of, 
 use Rattle.filter_lint.specs.SurveyedFilters.{SurveyedFilterView, is_first, known_at, known_of}
 use Rattle.filter_lint.specs.Truths.{IsTrueOf}
 use Rattle.filter_lint.specs.Variables.{declared_by, is_load_of, unread_at}
-use Rattle.filter_lint.specs.declared.warning.Bounds.{Bounds}
-use Rattle.filter_lint.specs.declared.warning.Cause.TheVariants as cause
+use Rattle.filter_lint.specs.declared.warning.ValueBounds.{ValueBounds}
+use Rattle.filter_lint.specs.declared.warning.WarningCause.TheVariants as cause
 use Rattle.filter_lint.specs.declared.warning.Operation.{Operation}
 use Rattle.filter_lint.specs.declared.warning.Warning.{Warning}
 use Rattle.filter_lint.proofs.Covered.{covered, covers_all}
@@ -41,7 +41,7 @@ module _ (program : CodeView) (size : ℕ) (text places : List ℕ) where
   here = record { text = text; program = program; places = places; size = size }
 
   -- an operation
-  if_wraps : (k byte : ℕ) (i : Instr) (what : Operation) (left right : Bounds) → slice_get program.instrs k ≡ Some i → slice_get places k ≡ Some byte
+  if_wraps : (k byte : ℕ) (i : Instr) (what : Operation) (left right : ValueBounds) → slice_get program.instrs k ≡ Some i → slice_get places k ≡ Some byte
       → operation_of i ≡ Some what → option_and_then top_two (known_at here k) ≡ Some (left, right) → (t : Bool) → may_wrap what left right ≡ t
       → IfSome (if t then Some (record { instruction = k; byte = byte; cause = cause.Wraps what left right }) else None) (IsTrueOf program size places)
   if_wraps k byte i what left right is there op known false e = tt
@@ -56,14 +56,14 @@ module _ (program : CodeView) (size : ℕ) (text places : List ℕ) where
     };
   }
 
-  if_first : (k byte : ℕ) (i : Instr) (what : Operation) (both : Bounds × Bounds) → slice_get program.instrs k ≡ Some i → slice_get places k ≡ Some byte
+  if_first : (k byte : ℕ) (i : Instr) (what : Operation) (both : ValueBounds × ValueBounds) → slice_get program.instrs k ≡ Some i → slice_get places k ≡ Some byte
       → operation_of i ≡ Some what → option_and_then top_two (known_at here k) ≡ Some both → (t : Bool)
       → IfSome (if t then wraps k byte what both.0 both.1 else None) (IsTrueOf program size places)
   if_first k byte i what both is there op known false = tt
   if_first k byte i what both is there op known true = if_wraps k byte i what both.0 both.1 is there op known (may_wrap what both.0 both.1) refl
 
   of_known : (k byte : ℕ) (i : Instr) (what : Operation) → slice_get program.instrs k ≡ Some i → slice_get places k ≡ Some byte
-      → operation_of i ≡ Some what → (both : Option (Bounds × Bounds)) → option_and_then top_two (known_at here k) ≡ both
+      → operation_of i ≡ Some what → (both : Option (ValueBounds × ValueBounds)) → option_and_then top_two (known_at here k) ≡ both
       → IfSome (option_and_then (λ both. if is_first places k byte then wraps k byte what both.0 both.1 else None) both) (IsTrueOf program size places)
   of_known k byte i what is there op None known = tt
   of_known k byte i what is there op (Some both) known = if_first k byte i what both is there op known (is_first places k byte)
@@ -133,7 +133,7 @@ module _ (program : CodeView) (size : ℕ) (text places : List ℕ) where
   variable_is_so k (Some i) is (Some byte) there = of_store k byte i is there
 
   -- a metric
-  if_large : (k byte : ℕ) (bounds : Bounds) → slice_get program.instrs k ≡ Some instr.SetMetric → slice_get places k ≡ Some byte
+  if_large : (k byte : ℕ) (bounds : ValueBounds) → slice_get program.instrs k ≡ Some instr.SetMetric → slice_get places k ≡ Some byte
       → option_and_then top_one (known_at here k) ≡ Some bounds → (t : Bool) → nat_le size bounds.low ≡ t
       → IfSome (if t then Some (record { instruction = k; byte = byte; cause = cause.Unreachable bounds }) else None) (IsTrueOf program size places)
   if_large k byte bounds is there known false e = tt
@@ -146,7 +146,7 @@ module _ (program : CodeView) (size : ℕ) (text places : List ℕ) where
     };
   }
 
-  of_setting : (k byte : ℕ) (i : Instr) (bounds : Bounds) → slice_get program.instrs k ≡ Some i → slice_get places k ≡ Some byte
+  of_setting : (k byte : ℕ) (i : Instr) (bounds : ValueBounds) → slice_get program.instrs k ≡ Some i → slice_get places k ≡ Some byte
       → option_and_then top_one (known_at here k) ≡ Some bounds
       → IfSome (if sets_metric i && nat_le size bounds.low
       then Some (record { instruction = k; byte = byte; cause = cause.Unreachable bounds }) else None) (IsTrueOf program size places)
@@ -154,7 +154,7 @@ module _ (program : CodeView) (size : ℕ) (text places : List ℕ) where
   of_setting k byte _ bounds is there known = tt
 
   of_bounds : (k byte : ℕ) (i : Instr) → slice_get program.instrs k ≡ Some i → slice_get places k ≡ Some byte
-      → (bounds : Option Bounds) → option_and_then top_one (known_at here k) ≡ bounds
+      → (bounds : Option ValueBounds) → option_and_then top_one (known_at here k) ≡ bounds
       → IfSome (option_and_then (λ bounds. if sets_metric i && nat_le size bounds.low
       then Some (record { instruction = k; byte = byte; cause = cause.Unreachable bounds }) else None) bounds) (IsTrueOf program size places)
   of_bounds k byte i is there None known = tt

@@ -6,7 +6,7 @@ use Rattle.std.specs.Option.{option_map_or}
 use Rattle.std.specs.Str.{bytes_eq}
 use Rattle.std.specs.Str.Lines.{strip_carriage_return}
 use Rattle.std.specs.declared.alloc.Global.{Global}
-use Rattle.filter_reports.specs.Places.{before_first_feed}
+use Rattle.refusal_words.specs.Places.{before_first_feed}
 use Rattle.line_protocol.specs.Words.{words}
 use Rattle.prefix_patterns.specs.Reading.{◌>>=◌}
 use Rattle.filter_lint.specs.WarningLines.{code_of}
@@ -55,15 +55,15 @@ abbrev pub is_allowed : List (String Global) → List ℕ → ℕ → List ℕ �
 is_allowed allowed text byte code = is_named allowed code || ends_with_comment (words (rest_of_line text byte)) code
 
 -- the warnings that are told: all that are not allowed, and no others
-abbrev pub is_told : List (String Global) → List ℕ → Warning → Bool
-is_told allowed text warning = not (is_allowed allowed text warning.byte (code_of warning.cause))
+abbrev pub is_shown : List (String Global) → List ℕ → Warning → Bool
+is_shown allowed text warning = not (is_allowed allowed text warning.byte (code_of warning.cause))
 
-abbrev pub told_of : List (String Global) → List ℕ → List Warning → List Warning
-told_of allowed text warnings = filter (is_told allowed text) warnings
+abbrev pub shown_of : List (String Global) → List ℕ → List Warning → List Warning
+shown_of allowed text warnings = filter (is_shown allowed text) warnings
 
 -- the same of prefixes with host bits
-abbrev pub are_told : List (String Global) → List ℕ → HostBits → Bool
-are_told allowed text found = not (is_allowed allowed text found.token.from (codes "W5"))
+abbrev pub are_shown : List (String Global) → List ℕ → HostBits → Bool
+are_shown allowed text found = not (is_allowed allowed text found.token.from (codes "W5"))
 
-abbrev pub told_host_bits : List (String Global) → List ℕ → List HostBits → List HostBits
-told_host_bits allowed text all = filter (are_told allowed text) all
+abbrev pub shown_host_bits : List (String Global) → List ℕ → List HostBits → List HostBits
+shown_host_bits allowed text all = filter (are_shown allowed text) all

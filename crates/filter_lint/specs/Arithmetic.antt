@@ -5,8 +5,8 @@ use Rattle.filter_code.specs.declared.instruction.Instr.TheVariants as instr
 use Rattle.filter_lint.specs.Finding.{below}
 use Rattle.filter_lint.specs.Known.{top_two}
 use Rattle.filter_lint.specs.SurveyedFilters.{SurveyedFilterView, is_first, known_at}
-use Rattle.filter_lint.specs.declared.warning.Bounds.{Bounds}
-use Rattle.filter_lint.specs.declared.warning.Cause.TheVariants as cause
+use Rattle.filter_lint.specs.declared.warning.ValueBounds.{ValueBounds}
+use Rattle.filter_lint.specs.declared.warning.WarningCause.TheVariants as cause
 use Rattle.filter_lint.specs.declared.warning.Operation.{Operation}
 use Rattle.filter_lint.specs.declared.warning.Operation.TheVariants as operation
 use Rattle.filter_lint.specs.declared.warning.Warning.{Warning}
@@ -19,13 +19,13 @@ operation_of instr.Mul = Some operation.Product
 operation_of _ = None
 
 -- it may wrap on ints within these bounds: a result from 2^32 on, or one below 0
-abbrev pub may_wrap : Operation → Bounds → Bounds → Bool
+abbrev pub may_wrap : Operation → ValueBounds → ValueBounds → Bool
 may_wrap operation.Sum left right = not (nat_lt (left.high + right.high) (2 ^ 32))
 may_wrap operation.Difference left right = nat_lt left.low right.high
 may_wrap operation.Product left right = not (nat_lt (left.high * right.high) (2 ^ 32))
 
 -- what is said of an operation at a byte of the text, where its instruction has this index
-abbrev pub wraps : ℕ → ℕ → Operation → Bounds → Bounds → Option Warning
+abbrev pub wraps : ℕ → ℕ → Operation → ValueBounds → ValueBounds → Option Warning
 wraps at byte what left right =
     if may_wrap what left right then Some (record { instruction = at; byte = byte; cause = cause.Wraps what left right }) else None
 

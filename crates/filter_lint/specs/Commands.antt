@@ -7,7 +7,7 @@ use Rattle.filter_diff.specs.declared.mark.Mark.{Mark}
 use Rattle.filter_lint.specs.Finding.{below}
 use Rattle.filter_lint.specs.Sites.{is_if_at}
 use Rattle.filter_lint.specs.SurveyedFilters.{SurveyedFilterView}
-use Rattle.filter_lint.specs.declared.warning.Cause.TheVariants as cause
+use Rattle.filter_lint.specs.declared.warning.WarningCause.TheVariants as cause
 use Rattle.filter_lint.specs.declared.warning.Warning.{Warning}
 
 -- an instruction that does what a command says: it ends the run or sets something, or jumps by the condition of an `if`

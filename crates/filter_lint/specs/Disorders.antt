@@ -4,7 +4,7 @@ use Rattle.filter_diff.specs.declared.ordering.Disorder.{Disorder}
 use Rattle.filter_diff.specs.declared.ordering.Order.{Order}
 use Rattle.filter_diff.specs.declared.ordering.Order.TheVariants as order
 use Rattle.filter_lint.specs.SurveyedFilters.{SurveyedFilterView}
-use Rattle.filter_lint.specs.declared.warning.Cause.TheVariants as cause
+use Rattle.filter_lint.specs.declared.warning.WarningCause.TheVariants as cause
 use Rattle.filter_lint.specs.declared.warning.Warning.{Warning}
 
 -- what is said of a filter, at the byte that its first instruction comes from, where this is found of the order of metrics; nothing where it
@@ -20,8 +20,8 @@ disorder_of source None = None
 disorder_of source (Some found) = disorder_at (slice_get source.places 0) found
 
 -- whether the search could tell what it was asked
-abbrev pub is_told : Option Order → Bool
-is_told None = true
-is_told (Some order.Kept) = true
-is_told (Some (order.Lost shown)) = true
-is_told (Some order.Undecided) = false
+abbrev pub is_decided_order : Option Order → Bool
+is_decided_order None = true
+is_decided_order (Some order.Kept) = true
+is_decided_order (Some (order.Lost shown)) = true
+is_decided_order (Some order.Undecided) = false

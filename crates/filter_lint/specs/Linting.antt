@@ -15,7 +15,7 @@ use Rattle.line_protocol.specs.declared.faults.StreamFault.{StreamFault}
 use Rattle.line_protocol.specs.declared.faults.StreamFault.TheVariants.{Memory, Write}
 use Rattle.refusal_reports.specs.Refusing.{CutsRefusing, Refuses}
 use Rattle.report_formats.specs.declared.format.Format.{Format}
-use Rattle.filter_lint.specs.Allowing.{told_host_bits, told_of}
+use Rattle.filter_lint.specs.Allowing.{shown_host_bits, shown_of}
 use Rattle.filter_lint.specs.HostBits.{AreHostBits}
 use Rattle.filter_lint.specs.Rules.{AreFound}
 use Rattle.filter_lint.specs.Truths.{IsTrueOf}
@@ -41,10 +41,10 @@ pub record IsReport (format : Format) (program : CodeView) (size limit : ℕ) (a
   pub ordered : IsEnough size limit → all.is_ordered ≡ true
   pub host_bits : List HostBits
   pub are_host_bits : AreHostBits source.text host_bits
-  pub lines_are : lines ≡ warnings_text format source.name source.text program.sets (told_of allowed source.text all.found.items)
-      (told_host_bits allowed source.text host_bits) all.is_complete all.is_ordered
+  pub lines_are : lines ≡ warnings_text format source.name source.text program.sets (shown_of allowed source.text all.found.items)
+      (shown_host_bits allowed source.text host_bits) all.is_complete all.is_ordered
   pub comes_to : found ≡ linted_as (all.is_complete && all.is_ordered)
-      (length (told_of allowed source.text all.found.items) + length (told_host_bits allowed source.text host_bits))
+      (length (shown_of allowed source.text all.found.items) + length (shown_host_bits allowed source.text host_bits))
 
 -- They were written. `held` and `holds` are what the writer held before and holds now.
 pub record WritesWarnings (format : Format) (program : CodeView) (size limit : ℕ) (allowed : List (String Global)) (asks_order : Bool) (places : List ℕ)
@@ -65,54 +65,54 @@ CutsWarnings fault format program size limit allowed asks_order places source he
 -- the text that its instruction comes from, and nothing told.
 abbrev pub LintsFilter : Format → ℕ → ℕ → List (String Global) → Bool → Named → Option (List ℕ) → Option (List ℕ) → Option (List ℕ) → Option (List ℕ)
     → Linted → Type 0
-LintsFilter format size limit allowed asks_order source held holds tells told found = (f : FilterView)
+LintsFilter format size limit allowed asks_order source held holds stderr_before stderr_after found = (f : FilterView)
     × (is_f : IsFilterOf source.text size f) × (places : List ℕ) × ArePlacesOf source.text places
-    × WritesWarnings format is_f.program size limit allowed asks_order places source held holds found × Keeps tells told
+    × WritesWarnings format is_f.program size limit allowed asks_order places source held holds found × Keeps stderr_before stderr_after
 
 -- The text is refused, which was told, and nothing written; or its warnings were written.
 abbrev pub LintsNamed : Format → ℕ → ℕ → List (String Global) → Bool → Bool → Named → Option (List ℕ) → Option (List ℕ) → Option (List ℕ)
     → Option (List ℕ) → Linted → Type 0
-LintsNamed format size limit allowed asks_order is_explained source held holds tells told linted.Refused = (why : Diagnosis)
-    × IsDiagnosis size false source.text why × Refuses format is_explained source why held holds tells told
-LintsNamed format size limit allowed asks_order is_explained source held holds tells told (linted.Warned count) =
-    LintsFilter format size limit allowed asks_order source held holds tells told (linted.Warned count)
-LintsNamed format size limit allowed asks_order is_explained source held holds tells told (linted.Undecided count) =
-    LintsFilter format size limit allowed asks_order source held holds tells told (linted.Undecided count)
+LintsNamed format size limit allowed asks_order is_explained source held holds stderr_before stderr_after linted.Refused = (why : Diagnosis)
+    × IsDiagnosis size false source.text why × Refuses format is_explained source why held holds stderr_before stderr_after
+LintsNamed format size limit allowed asks_order is_explained source held holds stderr_before stderr_after (linted.Warned count) =
+    LintsFilter format size limit allowed asks_order source held holds stderr_before stderr_after (linted.Warned count)
+LintsNamed format size limit allowed asks_order is_explained source held holds stderr_before stderr_after (linted.Undecided count) =
+    LintsFilter format size limit allowed asks_order source held holds stderr_before stderr_after (linted.Undecided count)
 
 -- A fault ended it: before anything was written or told, for want of memory; while a refusal was told; or while warnings were written.
 abbrev pub LintsNamedOff : StreamFault → Format → ℕ → ℕ → List (String Global) → Bool → Bool → Named → Option (List ℕ) → Option (List ℕ)
     → Option (List ℕ) → Option (List ℕ) → Type 0
-LintsNamedOff fault format size limit allowed asks_order is_explained source held holds tells told =
-    ((fault ≡ Memory) × Keeps held holds × Keeps tells told)
-    ⊎ (((why : Diagnosis) × IsDiagnosis size false source.text why × CutsRefusing fault format is_explained source why held holds tells told)
+LintsNamedOff fault format size limit allowed asks_order is_explained source held holds stderr_before stderr_after =
+    ((fault ≡ Memory) × Keeps held holds × Keeps stderr_before stderr_after)
+    ⊎ (((why : Diagnosis) × IsDiagnosis size false source.text why × CutsRefusing fault format is_explained source why held holds stderr_before stderr_after)
     ⊎ ((f : FilterView) × (is_f : IsFilterOf source.text size f) × (places : List ℕ) × ArePlacesOf source.text places
-    × CutsWarnings fault format is_f.program size limit allowed asks_order places source held holds × Keeps tells told))
+    × CutsWarnings fault format is_f.program size limit allowed asks_order places source held holds × Keeps stderr_before stderr_after))
 
 -- The text is refused, and nothing was told; or the warnings of the filter that it spells were told.
 abbrev pub WarnsNamed : Format → ℕ → ℕ → Named → Option (List ℕ) → Option (List ℕ) → Type 0
-WarnsNamed format size limit source tells told = ((why : Diagnosis) × IsDiagnosis size false source.text why × Keeps tells told)
+WarnsNamed format size limit source stderr_before stderr_after = ((why : Diagnosis) × IsDiagnosis size false source.text why × Keeps stderr_before stderr_after)
     ⊎ ((found : Linted) × (f : FilterView) × (is_f : IsFilterOf source.text size f) × (places : List ℕ) × ArePlacesOf source.text places
-    × WritesWarnings format is_f.program size limit [] false places source tells told found)
+    × WritesWarnings format is_f.program size limit [] false places source stderr_before stderr_after found)
 
 -- A fault ended it: before anything was told, for want of memory; or while they were told.
 abbrev pub WarnsNamedOff : StreamFault → Format → ℕ → ℕ → Named → Option (List ℕ) → Option (List ℕ) → Type 0
-WarnsNamedOff fault format size limit source tells told = ((fault ≡ Memory) × Keeps tells told)
+WarnsNamedOff fault format size limit source stderr_before stderr_after = ((fault ≡ Memory) × Keeps stderr_before stderr_after)
     ⊎ ((f : FilterView) × (is_f : IsFilterOf source.text size f) × (places : List ℕ) × ArePlacesOf source.text places
-    × CutsWarnings fault format is_f.program size limit [] false places source tells told)
+    × CutsWarnings fault format is_f.program size limit [] false places source stderr_before stderr_after)
 
 -- These are the lines of the prefixes of a text that have host bits, as they are among those of its warnings where no code is allowed.
 pub record AreHostBitsLines (format : Format) (source : Named) (lines : List ℕ) : Type 0 where
   pub host_bits : List HostBits
   pub are_host_bits : AreHostBits source.text host_bits
-  pub lines_are : lines ≡ host_bits_text format source.name source.text (told_host_bits [] source.text host_bits)
+  pub lines_are : lines ≡ host_bits_text format source.name source.text (shown_host_bits [] source.text host_bits)
 
 -- They were told.
-pub record TellsHostBits (format : Format) (source : Named) (tells told : Option (List ℕ)) : Type 0 where
+pub record TellsHostBits (format : Format) (source : Named) (stderr_before stderr_after : Option (List ℕ)) : Type 0 where
   pub lines : List ℕ
   pub are_lines : AreHostBitsLines format source lines
-  pub written : Appends tells told lines
+  pub written : Appends stderr_before stderr_after lines
 
 -- A fault kept them from being told whole: memory was refused, and nothing was told; or they were cut.
 abbrev pub CutsHostBits : StreamFault → Format → Named → Option (List ℕ) → Option (List ℕ) → Type 0
-CutsHostBits fault format source tells told = ((fault ≡ Memory) × Keeps tells told)
-    ⊎ ((lines : List ℕ) × AreHostBitsLines format source lines × (fault ≡ Write) × AppendsFront tells told lines)
+CutsHostBits fault format source stderr_before stderr_after = ((fault ≡ Memory) × Keeps stderr_before stderr_after)
+    ⊎ ((lines : List ℕ) × AreHostBitsLines format source lines × (fault ≡ Write) × AppendsFront stderr_before stderr_after lines)

@@ -4,7 +4,7 @@ use Rattle.std.specs.Prelude.{ℕ, if◌then◌else◌, List, length, Option, So
 use Rattle.filter_diff.specs.declared.mark.Mark.{Mark}
 use Rattle.filter_lint.specs.Finding.{below}
 use Rattle.filter_lint.specs.SurveyedFilters.{SurveyedFilterView}
-use Rattle.filter_lint.specs.declared.warning.Cause.TheVariants as cause
+use Rattle.filter_lint.specs.declared.warning.WarningCause.TheVariants as cause
 use Rattle.filter_lint.specs.declared.warning.Warning.{Warning}
 
 -- what is said of a MAX at a byte of the text, where its instruction has this index and this mark

@@ -5,7 +5,7 @@ use Rattle.filter_code.specs.declared.instruction.Instr.TheVariants as instr
 use Rattle.filter_lint.specs.Finding.{below}
 use Rattle.filter_lint.specs.Known.{top_one}
 use Rattle.filter_lint.specs.SurveyedFilters.{SurveyedFilterView, known_at}
-use Rattle.filter_lint.specs.declared.warning.Cause.TheVariants as cause
+use Rattle.filter_lint.specs.declared.warning.WarningCause.TheVariants as cause
 use Rattle.filter_lint.specs.declared.warning.Warning.{Warning}
 
 -- an instruction that sets the metric

@@ -3,8 +3,8 @@ use Rattle.std.specs.Prelude.{ℕ, nat_le, Bool, max, min, List, [], length, pos
 use Rattle.int_sets.specs.Holding.{NumberRange}
 use Rattle.filter_lint.specs.Finding.{below}
 use Rattle.filter_lint.specs.declared.sets.Asked.{Asked}
-use Rattle.filter_lint.specs.declared.warning.Bounds.{Bounds}
-use Rattle.filter_lint.specs.declared.warning.Cause.TheVariants as cause
+use Rattle.filter_lint.specs.declared.warning.ValueBounds.{ValueBounds}
+use Rattle.filter_lint.specs.declared.warning.WarningCause.TheVariants as cause
 use Rattle.filter_lint.specs.declared.warning.Warning.{Warning}
 
 -- some number is in both ranges: the greater of their first ones
@@ -12,7 +12,7 @@ abbrev pub overlaps : NumberRange → NumberRange → Bool
 overlaps other range = nat_le (max other.low range.low) (min other.high range.high)
 
 -- the first and the last number of a range
-abbrev pub bounds_of : NumberRange → Bounds
+abbrev pub bounds_of : NumberRange → ValueBounds
 bounds_of range = record { low = range.low; high = range.high }
 
 -- the first of the ranges before an index that shares a number with the range there

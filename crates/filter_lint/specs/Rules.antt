@@ -8,7 +8,7 @@ use Rattle.filter_diff.specs.declared.mark.Reach.{Reach}
 use Rattle.filter_diff.specs.declared.ordering.Order.{Order}
 use Rattle.filter_lint.specs.Commands.{unreached_commands}
 use Rattle.filter_lint.specs.Conditions.{constant_conditions}
-use Rattle.filter_lint.specs.Disorders.{disorder_of, is_told}
+use Rattle.filter_lint.specs.Disorders.{disorder_of, is_decided_order}
 use Rattle.filter_lint.specs.Hints.{hints}
 use Rattle.filter_lint.specs.Lowering.{metrics_not_lowered}
 use Rattle.filter_lint.specs.SurveyedFilters.{SurveyedFilterView}
@@ -36,4 +36,4 @@ pub record AreFound (program : CodeView) (text places : List ℕ) (size : ℕ) (
   pub is_order : IfSome order (IsOrderOf program size)
   pub found_is : all.found.items ≡ said_of (record { text = text; program = program; places = places; size = size }) reach order
   pub complete_is : all.is_complete ≡ reach.is_complete
-  pub ordered_is : all.is_ordered ≡ is_told order
+  pub ordered_is : all.is_ordered ≡ is_decided_order order

@@ -8,7 +8,7 @@ use Rattle.filter_lint.specs.Finding.{all_of, below}
 use Rattle.filter_lint.specs.Overlaps.{overlaps_of}
 use Rattle.filter_lint.specs.SurveyedFilters.{SurveyedFilterView}
 use Rattle.filter_lint.specs.declared.sets.Asked.{Asked}
-use Rattle.filter_lint.specs.declared.warning.Cause.TheVariants as cause
+use Rattle.filter_lint.specs.declared.warning.WarningCause.TheVariants as cause
 use Rattle.filter_lint.specs.declared.warning.Warning.{Warning}
 
 -- a pattern allows all lengths of another, and its prefix has no other bits

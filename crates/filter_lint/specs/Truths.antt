@@ -12,9 +12,9 @@ use Rattle.filter_verifier.specs.InStates.{in_state}
 use Rattle.filter_lint.specs.Arithmetic.{may_wrap, operation_of}
 use Rattle.filter_lint.specs.Known.{top_one, top_two}
 use Rattle.filter_lint.specs.Overlaps.{bounds_of}
-use Rattle.filter_lint.specs.declared.warning.Bounds.{Bounds}
-use Rattle.filter_lint.specs.declared.warning.Cause.{Cause}
-use Rattle.filter_lint.specs.declared.warning.Cause.TheVariants as cause
+use Rattle.filter_lint.specs.declared.warning.ValueBounds.{ValueBounds}
+use Rattle.filter_lint.specs.declared.warning.WarningCause.{WarningCause}
+use Rattle.filter_lint.specs.declared.warning.WarningCause.TheVariants as cause
 use Rattle.filter_lint.specs.declared.warning.Operation.{Operation}
 use Rattle.filter_lint.specs.declared.warning.Warning.{Warning}
 
@@ -26,7 +26,7 @@ pub record IsConstant (program : CodeView) (size at : ℕ) (truth : Bool) : Type
   pub some : Comes program size at come
 
 -- an operation that may wrap, by the ranges that the verifier knows of its operands
-pub record MayWrap (program : CodeView) (size at : ℕ) (what : Operation) (left right : Bounds) : Type 0 where
+pub record MayWrap (program : CodeView) (size at : ℕ) (what : Operation) (left right : ValueBounds) : Type 0 where
   pub i : Instr
   pub there : slice_get program.instrs at ≡ Some i
   pub is_operation : operation_of i ≡ Some what
@@ -41,7 +41,7 @@ pub record IsUnread (program : CodeView) (at : ℕ) : Type 0 where
   pub unread : (k : ℕ) → slice_get program.instrs k ≢ Some (instr.Load number)
 
 -- an instruction that sets the metric to what is at least the size, by the range that the verifier knows of it
-pub record IsUnreachable (program : CodeView) (size at : ℕ) (bounds : Bounds) : Type 0 where
+pub record IsUnreachable (program : CodeView) (size at : ℕ) (bounds : ValueBounds) : Type 0 where
   pub sets : slice_get program.instrs at ≡ Some instr.SetMetric
   pub known : top_one (in_state program size at) ≡ Some bounds
   pub large : size ≤ bounds.low
@@ -60,7 +60,7 @@ pub record IsCovered (program : CodeView) (at number first second : ℕ) : Type 
   pub covers : (prefix : List Bool) → Matches prefix inner → Matches prefix outer
 
 -- an instruction that asks for a set of ints, in which two ranges share a number: one of the first bounds, and before it one of the second bounds
-pub record IsOverlapping (program : CodeView) (at : ℕ) (first second : Bounds) : Type 0 where
+pub record IsOverlapping (program : CodeView) (at : ℕ) (first second : ValueBounds) : Type 0 where
   pub number : ℕ
   pub asks : slice_get program.instrs at ≡ Some (instr.InSet number)
   pub ranges : List NumberRange
@@ -87,7 +87,7 @@ pub record IsNotLowered (program : CodeView) (size at : ℕ) : Type 0 where
   pub above : AreOnTop true come
 
 -- why a warning is said is so
-abbrev pub IsSo : CodeView → ℕ → ℕ → Cause → Type 0
+abbrev pub IsSo : CodeView → ℕ → ℕ → WarningCause → Type 0
 IsSo program size at (cause.Constant place truth) = IsConstant program size at truth
 IsSo program size at cause.Unreached = IsNeverReached program size at
 IsSo program size at (cause.Wraps what left right) = MayWrap program size at what left right

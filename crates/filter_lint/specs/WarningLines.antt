@@ -8,9 +8,9 @@ use Rattle.filter_tokens.specs.Lexemes.{covered}
 use Rattle.filter_code.specs.declared.outcome.Outcome.{Outcome}
 use Rattle.filter_code.specs.declared.outcome.Outcome.TheVariants as outcome
 use Rattle.filter_diff.specs.declared.ordering.Disorder.{Disorder}
-use Rattle.filter_reports.specs.Explanations.{message, position}
-use Rattle.filter_reports.specs.Places.{column_at, line_at}
-use Rattle.filter_reports.specs.Shown.{shown}
+use Rattle.refusal_words.specs.Explanations.{message, position}
+use Rattle.refusal_words.specs.Places.{column_at, line_at}
+use Rattle.refusal_words.specs.Shown.{shown}
 use Rattle.report_formats.specs.Reports.{ReportView, report_line}
 use Rattle.report_formats.specs.declared.format.Format.{Format}
 use Rattle.report_formats.specs.declared.format.Format.TheVariants as formats
@@ -18,15 +18,15 @@ use Rattle.report_formats.specs.declared.report.Severity.TheVariants as severity
 use Rattle.filter_lint.specs.declared.host_bits.HostBits.{HostBits}
 use Rattle.filter_lint.specs.declared.site.Site.{Site}
 use Rattle.filter_lint.specs.declared.site.Site.TheVariants as site
-use Rattle.filter_lint.specs.declared.warning.Cause.{Cause}
-use Rattle.filter_lint.specs.declared.warning.Cause.TheVariants as cause
-use Rattle.filter_lint.specs.declared.warning.Bounds.{Bounds}
+use Rattle.filter_lint.specs.declared.warning.WarningCause.{WarningCause}
+use Rattle.filter_lint.specs.declared.warning.WarningCause.TheVariants as cause
+use Rattle.filter_lint.specs.declared.warning.ValueBounds.{ValueBounds}
 use Rattle.filter_lint.specs.declared.warning.Operation.{Operation}
 use Rattle.filter_lint.specs.declared.warning.Operation.TheVariants as operation
 use Rattle.filter_lint.specs.declared.warning.Warning.{Warning}
 
 -- the code of a rule
-abbrev pub code_of : Cause → List ℕ
+abbrev pub code_of : WarningCause → List ℕ
 code_of (cause.Constant place value) = codes "W1"
 code_of cause.Unreached = codes "W2"
 code_of (cause.Wraps what left right) = codes "W3"
@@ -66,7 +66,7 @@ abbrev pub constant_words : Site → Bool → List ℕ
 constant_words place value = if is_label place then label_words value else truth_words place value
 
 -- the bounds of an int: one number where they are the same
-abbrev pub bounds_text : Bounds → List ℕ
+abbrev pub bounds_text : ValueBounds → List ℕ
 bounds_text bounds = if bounds.low == bounds.high then decimal bounds.low else decimal bounds.low ++ codes ".." ++ decimal bounds.high
 
 -- what stands between the operands of an operation, and what is said behind them
@@ -80,7 +80,7 @@ wrap_words operation.Sum = codes " may wrap above 4294967295"
 wrap_words operation.Difference = codes " may wrap below 0"
 wrap_words operation.Product = codes " may wrap above 4294967295"
 
-abbrev pub wraps_words : Operation → Bounds → Bounds → List ℕ
+abbrev pub wraps_words : Operation → ValueBounds → ValueBounds → List ℕ
 wraps_words what left right = bounds_text left ++ sign_of what ++ bounds_text right ++ wrap_words what
 
 -- a pattern, as it is written in a set
@@ -124,11 +124,11 @@ abbrev pub covered_words : List (List PrefixPattern) → ℕ → ℕ → ℕ →
 covered_words sets number inner outer = pair_words (patterns_of sets number) inner outer
 
 -- what is said of two ranges of a set of ints
-abbrev pub overlapping_words : Bounds → Bounds → List ℕ
+abbrev pub overlapping_words : ValueBounds → ValueBounds → List ℕ
 overlapping_words range other = bounds_text range ++ codes " overlaps " ++ bounds_text other ++ of_same_set
 
 -- what is said of a metric that means unreachable
-abbrev pub unreachable_words : Bounds → List ℕ
+abbrev pub unreachable_words : ValueBounds → List ℕ
 unreachable_words bounds = codes "the metric is set to " ++ bounds_text bounds ++ codes ", which means unreachable"
 
 -- what is said of a metric that is not lowered
@@ -141,18 +141,18 @@ end_words (outcome.Accept after) = codes " becomes " ++ decimal after
 end_words outcome.Reject = codes " is rejected"
 end_words (outcome.Fault kind at) = codes " ends with a fault"
 
-abbrev pub fate_words : ℕ → Outcome → List ℕ
-fate_words metric end = decimal metric ++ end_words end
+abbrev pub outcome_words : ℕ → Outcome → List ℕ
+outcome_words metric end = decimal metric ++ end_words end
 
-abbrev pub fates_words : Disorder → List ℕ
-fates_words shown = fate_words shown.metric shown.lesser ++ codes ", and " ++ fate_words (shown.metric + 1) shown.next
+abbrev pub outcomes_words : Disorder → List ℕ
+outcomes_words shown = outcome_words shown.metric shown.lesser ++ codes ", and " ++ outcome_words (shown.metric + 1) shown.next
 
 abbrev pub disordered_words : Disorder → List ℕ
 disordered_words shown =
-    codes "the order of metrics is not kept: of " ++ prefix_text shown.prefix ++ codes " metric " ++ fates_words shown
+    codes "the order of metrics is not kept: of " ++ prefix_text shown.prefix ++ codes " metric " ++ outcomes_words shown
 
 -- what is said of a cause, in code with these sets
-abbrev pub words : List (List PrefixPattern) → Cause → List ℕ
+abbrev pub words : List (List PrefixPattern) → WarningCause → List ℕ
 words sets (cause.Constant place value) = constant_words place value
 words sets cause.Unreached = codes "no route reaches this command"
 words sets (cause.Wraps what left right) = wraps_words what left right

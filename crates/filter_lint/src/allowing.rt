@@ -15,8 +15,8 @@ ghost use Rattle.filter_lint.specs.Allowing as spec;
 
 use crate::host_bits::HostBits;
 use crate::warning::Warning;
-use filter_reports::place_in;
 use line_protocol::{next_word, strip_carriage_return};
+use refusal_words::place_in;
 use std::alloc::{AllocError, Global};
 
 /// Whether a word is this one.
@@ -137,37 +137,37 @@ fn is_allowed(allowed: &[String], text: &[u8], byte: usize, code: &[u8]) -> bool
 }
 
 /// The warnings of a text that are told, where these codes are allowed, in order.
-pub(crate) fn told_of(
+pub(crate) fn shown_of(
     alloc: Global,
     allowed: &[String],
     text: &[u8],
     warnings: &[Warning],
 ) -> Result<Vec<Warning>, AllocError>
-    ensures { IfOk result (λ told. told.items ≡ spec.told_of allowed.now text.now warnings.now) }
+    ensures { IfOk result (λ shown. shown.items ≡ spec.shown_of allowed.now text.now warnings.now) }
 {
-    let mut told = Vec::new(alloc);
+    let mut shown = Vec::new(alloc);
     for warning in warnings {
         if !is_allowed(allowed, text, warning.byte, warning.cause.code()) {
-            told.push(*warning)?;
+            shown.push(*warning)?;
         }
     }
-    Ok(told)
+    Ok(shown)
 }
 
 /// The prefixes of a text with host bits that are told, likewise.
-pub(crate) fn told_host_bits(
+pub(crate) fn shown_host_bits(
     alloc: Global,
     allowed: &[String],
     text: &[u8],
     all: &[HostBits],
 ) -> Result<Vec<HostBits>, AllocError>
-    ensures { IfOk result (λ told. told.items ≡ spec.told_host_bits allowed.now text.now all.now) }
+    ensures { IfOk result (λ shown. shown.items ≡ spec.shown_host_bits allowed.now text.now all.now) }
 {
-    let mut told = Vec::new(alloc);
+    let mut shown = Vec::new(alloc);
     for found in all {
         if !is_allowed(allowed, text, found.token.from, b"W5") {
-            told.push(*found)?;
+            shown.push(*found)?;
         }
     }
-    Ok(told)
+    Ok(shown)
 }

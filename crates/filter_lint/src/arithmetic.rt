@@ -4,7 +4,7 @@ ghost use Rattle.filter_lint.specs.Arithmetic as spec;
 
 use crate::finding::found_below;
 use crate::surveyed_filter::SurveyedFilter;
-use crate::warning::{Bounds, Cause, Operation, Warning};
+use crate::warning::{Operation, ValueBounds, Warning, WarningCause};
 use filter_code::Instr;
 use std::alloc::{AllocError, Global};
 
@@ -21,7 +21,7 @@ fn operation_of(instr: Instr) -> Option<Operation>
 }
 
 /// Whether an operation on ints within these bounds may wrap.
-fn may_wrap(operation: Operation, left: Bounds, right: Bounds) -> bool
+fn may_wrap(operation: Operation, left: ValueBounds, right: ValueBounds) -> bool
     ensures { result ≡ spec.may_wrap operation left right }
 {
     match operation {
@@ -36,8 +36,8 @@ fn wraps(
     at: usize,
     byte: usize,
     operation: Operation,
-    left: Bounds,
-    right: Bounds,
+    left: ValueBounds,
+    right: ValueBounds,
 ) -> Option<Warning>
     ensures { result ≡ spec.wraps at byte operation left right }
 {
@@ -47,7 +47,7 @@ fn wraps(
     Some(Warning {
         instruction: at,
         byte,
-        cause: Cause::Wraps(operation, left, right),
+        cause: WarningCause::Wraps(operation, left, right),
     })
 }
 

@@ -5,7 +5,7 @@ ghost use Rattle.filter_lint.specs.Commands as spec;
 use crate::finding::push_found;
 use crate::site::is_if;
 use crate::surveyed_filter::SurveyedFilter;
-use crate::warning::{Cause, Warning};
+use crate::warning::{Warning, WarningCause};
 use filter_code::Instr;
 use filter_diff::Mark;
 use std::alloc::{AllocError, Global};
@@ -64,7 +64,7 @@ fn unreached_at(
     Some(Warning {
         instruction: at,
         byte,
-        cause: Cause::Unreached,
+        cause: WarningCause::Unreached,
     })
 }
 

@@ -10,7 +10,7 @@ ghost use Rattle.filter_lint.specs.Conditions as spec;
 use crate::finding::found_below;
 use crate::site::{Site, site_at};
 use crate::surveyed_filter::SurveyedFilter;
-use crate::warning::{Cause, Warning};
+use crate::warning::{Warning, WarningCause};
 use filter_code::Instr;
 use filter_diff::Mark;
 use std::alloc::{AllocError, Global};
@@ -50,7 +50,7 @@ fn constant(text: &[u8], at: usize, byte: usize, mark: &Mark) -> Option<Warning>
     Some(Warning {
         instruction: at,
         byte,
-        cause: Cause::Constant(site, value),
+        cause: WarningCause::Constant(site, value),
     })
 }
 

@@ -12,7 +12,7 @@ ghost use Rattle.std.specs.Prelude.{◌≡◌, Some};
 ghost use Rattle.filter_lint.specs.Disorders as spec;
 
 use crate::surveyed_filter::SurveyedFilter;
-use crate::warning::{Cause, Warning};
+use crate::warning::{Warning, WarningCause};
 use filter_diff::Order;
 
 /// What is said of a filter, where this is found of the order of metrics, or that is not asked for. It is said where the filter's first
@@ -34,15 +34,15 @@ fn disorder_at(byte: usize, found: &Order) -> Option<Warning>
         Order::Lost(shown) => Some(Warning {
             instruction: 0,
             byte,
-            cause: Cause::Disordered(*shown),
+            cause: WarningCause::Disordered(*shown),
         }),
         Order::Kept | Order::Undecided => None,
     }
 }
 
 /// Whether the search could tell what it was asked.
-pub(crate) fn is_told(found: &Option<Order>) -> bool
-    ensures { result ≡ spec.is_told found.now }
+pub(crate) fn is_decided_order(found: &Option<Order>) -> bool
+    ensures { result ≡ spec.is_decided_order found.now }
 {
     match found {
         None | Some(Order::Kept | Order::Lost(_)) => true,

@@ -33,4 +33,4 @@ mod watching;
 pub use linting::{Linted, lint_named, tell_host_bits, warn_named};
 pub use members::{overlap_warnings, push_warning_words};
 pub use site::Site;
-pub use warning::{Bounds, Cause, Operation, Warning};
+pub use warning::{Operation, ValueBounds, Warning, WarningCause};

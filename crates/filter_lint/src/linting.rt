@@ -6,13 +6,13 @@ ghost use Rattle.filter_reports.specs.Naming.{named};
 ghost use Rattle.filter_diff.specs.Parts.{IsEnough};
 ghost use Rattle.filter_tokens.specs.Tokenization.{IsTokenization};
 ghost use Rattle.line_protocol.specs.Runs.{AppendsFront};
-ghost use Rattle.filter_lint.specs.Allowing.{told_host_bits as host_bits_told, told_of as warnings_told};
+ghost use Rattle.filter_lint.specs.Allowing.{shown_host_bits as host_bits_shown, shown_of as warnings_shown};
 ghost use Rattle.filter_lint.specs.Linting as spec;
 ghost use Rattle.filter_lint.specs.Rules.{AreFound};
 ghost use Rattle.filter_lint.specs.Truths.{IsTrueOf};
 ghost use Rattle.filter_lint.specs.WarningLines.{warnings_text as warnings_text_of};
 
-use crate::allowing::{told_host_bits, told_of};
+use crate::allowing::{shown_host_bits, shown_of};
 use crate::host_bits::{HostBits, host_bits_among};
 use crate::rules::{Warnings, find_warnings};
 use crate::warning::Warning;
@@ -40,7 +40,7 @@ pub enum Linted {
 
 /// The lines of the warnings of a filter, and what comes of it.
 #[derive(Drop)]
-struct Report {
+struct LintReport {
     lines: Vec<u8>,
     found: Linted,
 }
@@ -88,14 +88,14 @@ fn report_on(
     verified: &Verified,
     source: &NamedText<'_>,
     all: &Warnings,
-    told: &[Warning],
+    shown: &[Warning],
     host_bits: &[HostBits],
-) -> Result<Report, AllocError>
+) -> Result<LintReport, AllocError>
     ensures lines { IfOk result (λ report. report.lines.items
-        ≡ warnings_text_of format source.now.name.now source.now.text.now verified.now.program.sets told.now host_bits.now all.now.is_complete
+        ≡ warnings_text_of format source.now.name.now source.now.text.now verified.now.program.sets shown.now host_bits.now all.now.is_complete
         all.now.is_ordered) }
     ensures comes_to { IfOk result (λ report. report.found
-        ≡ spec.linted_as (all.now.is_complete && all.now.is_ordered) (length told.now + length host_bits.now)) }
+        ≡ spec.linted_as (all.now.is_complete && all.now.is_ordered) (length shown.now + length host_bits.now)) }
 {
     let lines = warnings_text(
         alloc,
@@ -103,15 +103,15 @@ fn report_on(
         source.name,
         source.text,
         verified.code().sets(),
-        told,
+        shown,
         host_bits,
         all.is_complete,
         all.is_ordered,
     )?;
     let is_decided = all.is_complete && all.is_ordered;
-    Ok(Report {
+    Ok(LintReport {
         lines,
-        found: linted_as(is_decided, told.len() + host_bits.len()),
+        found: linted_as(is_decided, shown.len() + host_bits.len()),
     })
 }
 
@@ -124,7 +124,7 @@ fn report_of(
     limit: u64,
     allowed: &[String],
     asks_order: bool,
-) -> Result<Report, AllocError>
+) -> Result<LintReport, AllocError>
     requires { IsTokenization placed.now.tokens.items 0 source.now.text.now }
     ensures { IfOk result (λ report. spec.IsReport format placed.now.verified.program placed.now.verified.size limit allowed.now asks_order
         placed.now.places.items (named source.now) report.lines.items report.found) }
@@ -138,21 +138,21 @@ fn report_of(
         asks_order,
     )?;
     let host_bits = host_bits_among(alloc, placed.tokens.as_slice())?;
-    let told = told_of(alloc, allowed, source.text, all.found.as_slice())?;
-    let told_bits = told_host_bits(alloc, allowed, source.text, host_bits.as_slice())?;
+    let shown = shown_of(alloc, allowed, source.text, all.found.as_slice())?;
+    let shown_bits = shown_host_bits(alloc, allowed, source.text, host_bits.as_slice())?;
     report_on(
         alloc,
         format,
         &placed.verified,
         source,
         &all,
-        told.as_slice(),
-        told_bits.as_slice(),
+        shown.as_slice(),
+        shown_bits.as_slice(),
     )
 }
 
 /// Writes the lines of a report.
-fn write_report<W: Write>(report: &Report, writer: &mut W) -> Result<(), ProgramFault>
+fn write_report<W: Write>(report: &LintReport, writer: &mut W) -> Result<(), ProgramFault>
     ensures written { OnOk result (Appends (W.contents writer.old) (W.contents writer.new) report.now.lines.items) }
     ensures cut { IfErr result (λ fault. (stream_fault fault ≡ StreamFault.Write)
         × AppendsFront (W.contents writer.old) (W.contents writer.new) report.now.lines.items) }
@@ -211,8 +211,16 @@ pub fn lint_named<W: Write, E: Write>(
             )?;
             Ok(found)
         }
-        Err(Failure::Refused(told)) => {
-            refuse(alloc, format, is_explained, source, told, writer, errors)?;
+        Err(Failure::Refused(diagnosis)) => {
+            refuse(
+                alloc,
+                format,
+                is_explained,
+                source,
+                diagnosis,
+                writer,
+                errors,
+            )?;
             Ok(Linted::Refused)
         }
         Err(Failure::Memory) => Err(ProgramFault::MEMORY),
@@ -253,8 +261,8 @@ fn host_bits_lines(
     ensures { IfOk result (λ lines. spec.AreHostBitsLines format (named source.now) lines.items) }
 {
     let host_bits = host_bits_among(alloc, tokens)?;
-    let told = told_host_bits(alloc, &[], source.text, host_bits.as_slice())?;
-    let lines = host_bits_text(alloc, format, source.name, source.text, told.as_slice())?;
+    let shown = shown_host_bits(alloc, &[], source.text, host_bits.as_slice())?;
+    let lines = host_bits_text(alloc, format, source.name, source.text, shown.as_slice())?;
     Ok(lines)
 }
 
@@ -268,7 +276,7 @@ pub fn tell_host_bits<E: Write>(
     errors: &mut E,
 ) -> Result<(), ProgramFault>
     requires { IsTokenization tokens.now 0 source.now.text.now }
-    ensures told { OnOk result (spec.TellsHostBits format (named source.now) (E.contents errors.old) (E.contents errors.new)) }
+    ensures shown { OnOk result (spec.TellsHostBits format (named source.now) (E.contents errors.old) (E.contents errors.new)) }
     ensures cut { IfErr result (λ fault. spec.CutsHostBits (stream_fault fault) format (named source.now)
         (E.contents errors.old) (E.contents errors.new)) }
 {

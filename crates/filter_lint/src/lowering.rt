@@ -4,7 +4,7 @@ ghost use Rattle.filter_lint.specs.Lowering as spec;
 
 use crate::finding::found_below;
 use crate::surveyed_filter::SurveyedFilter;
-use crate::warning::{Cause, Warning};
+use crate::warning::{Warning, WarningCause};
 use filter_diff::Mark;
 use std::alloc::{AllocError, Global};
 
@@ -18,7 +18,7 @@ fn not_lowered(at: usize, byte: usize, mark: &Mark) -> Option<Warning>
     Some(Warning {
         instruction: at,
         byte,
-        cause: Cause::NotLowered,
+        cause: WarningCause::NotLowered,
     })
 }
 

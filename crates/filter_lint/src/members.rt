@@ -1,13 +1,13 @@
 //! W4 by itself, for whoever tells it at places of another text than the filter's own.
 ghost use Rattle.std.specs.Prelude.{◌≡◌, ◌++◌, All, IfOk, OnOk};
-ghost use Rattle.filter_reports.specs.Explanations.{coded};
+ghost use Rattle.refusal_words.specs.Explanations.{coded};
 ghost use Rattle.filter_lint.specs.Sets.{overlapping_members as members};
 ghost use Rattle.filter_lint.specs.Truths.{IsTrueOf};
 ghost use Rattle.filter_lint.specs.WarningLines as lines;
 
 use crate::sets::overlapping_members;
 use crate::surveyed_filter::SurveyedFilter;
-use crate::warning::{Cause, Warning};
+use crate::warning::{Warning, WarningCause};
 use crate::warning_lines::push_words;
 use filter_code::Code;
 use filter_reports::PlacedCode;
@@ -60,7 +60,7 @@ pub fn push_warning_words(
     alloc: Global,
     out: &mut Vec<u8>,
     sets: &[PatternSet],
-    cause: &Cause,
+    cause: &WarningCause,
 ) -> Result<(), AllocError>
     ensures { OnOk result (out.new.items ≡ out.old.items ++ coded (lines.words sets.now cause.now) (lines.code_of cause.now)) }
 {

@@ -4,7 +4,7 @@ ghost use Rattle.filter_lint.specs.Metrics as spec;
 
 use crate::finding::found_below;
 use crate::surveyed_filter::SurveyedFilter;
-use crate::warning::{Cause, Warning};
+use crate::warning::{Warning, WarningCause};
 use filter_code::Instr;
 use std::alloc::{AllocError, Global};
 
@@ -29,7 +29,7 @@ fn unreachable_at(source: &SurveyedFilter, at: usize) -> Option<Warning>
         Some(Warning {
             instruction: at,
             byte,
-            cause: Cause::Unreachable(bounds),
+            cause: WarningCause::Unreachable(bounds),
         })
     } else {
         None

@@ -6,7 +6,7 @@ ghost use Rattle.filter_lint.specs.Overlaps as spec;
 
 use crate::finding::found_below;
 use crate::sets::Asked;
-use crate::warning::{Bounds, Cause, Warning};
+use crate::warning::{ValueBounds, Warning, WarningCause};
 use int_sets::IntRange;
 use std::alloc::{AllocError, Global};
 
@@ -18,10 +18,10 @@ fn overlaps(other: &IntRange, range: &IntRange) -> bool
 }
 
 /// The first and the last number of a range.
-fn bounds_of(range: IntRange) -> Bounds
+fn bounds_of(range: IntRange) -> ValueBounds
     ensures { result ≡ spec.bounds_of range }
 {
-    Bounds {
+    ValueBounds {
         low: range.low(),
         high: range.high(),
     }
@@ -53,7 +53,7 @@ fn overlap_at(ranges: &[IntRange], asked: &Asked, at: usize) -> Option<Warning>
             Some(Warning {
                 instruction: asked.instruction,
                 byte: asked.byte,
-                cause: Cause::Overlapping(bounds_of(*range), bounds_of(other)),
+                cause: WarningCause::Overlapping(bounds_of(*range), bounds_of(other)),
             })
         }
         None => None,

@@ -10,13 +10,13 @@ ghost use Rattle.filter_code.specs.Limits.{largest_size};
 ghost use Rattle.filter_diff.specs.Ordering.{IsOrderOf};
 ghost use Rattle.filter_diff.specs.Parts.{IsEnough};
 ghost use Rattle.filter_diff.specs.Reaching.{NeverFaults};
-ghost use Rattle.filter_lint.specs.Disorders.{is_told as is_told_of};
+ghost use Rattle.filter_lint.specs.Disorders.{is_decided_order as is_decided_of};
 ghost use Rattle.filter_lint.specs.Rules as spec;
 ghost use Rattle.filter_lint.specs.Truths.{IsTrueOf};
 
 use crate::commands::unreached_commands;
 use crate::conditions::constant_conditions;
-use crate::disorders::{disorder_of, is_told};
+use crate::disorders::{disorder_of, is_decided_order};
 use crate::finding::push_found;
 use crate::hints::push_hints;
 use crate::lowering::metrics_not_lowered;
@@ -95,7 +95,7 @@ fn order_of(
     requires { source.now.size ≤ largest_size }
     ensures asked { IfOk result (λ order. is_some order ≡ asks_order) }
     ensures found { IfOk result (λ order. IfSome order (IsOrderOf source.now.program source.now.size)) }
-    ensures decided { IsEnough source.now.size limit → IfOk result (λ order. is_told_of order ≡ true) }
+    ensures decided { IsEnough source.now.size limit → IfOk result (λ order. is_decided_of order ≡ true) }
 {
     if !asks_order {
         return Ok(None);
@@ -130,7 +130,7 @@ fn find_in(
     Ok(Warnings {
         found,
         is_complete: reached.is_complete,
-        is_ordered: is_told(&order),
+        is_ordered: is_decided_order(&order),
     })
 }
 

@@ -9,7 +9,7 @@ ghost use Rattle.filter_lint.specs.Sets as spec;
 use crate::finding::found_below;
 use crate::overlaps::overlaps_in;
 use crate::surveyed_filter::SurveyedFilter;
-use crate::warning::{Cause, Warning};
+use crate::warning::{Warning, WarningCause};
 use filter_code::{Code, Instr};
 use prefix_patterns::Pattern;
 use std::alloc::{AllocError, Global};
@@ -79,7 +79,7 @@ fn covered_at(patterns: &[Pattern], asked: &Asked, at: usize) -> Option<Warning>
             Some(Warning {
                 instruction: asked.instruction,
                 byte: asked.byte,
-                cause: Cause::Covered(asked.set, at, outer),
+                cause: WarningCause::Covered(asked.set, at, outer),
             })
         }
         None => None,

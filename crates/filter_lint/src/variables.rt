@@ -5,7 +5,7 @@ ghost use Rattle.filter_lint.specs.Variables as spec;
 
 use crate::finding::found_below;
 use crate::surveyed_filter::SurveyedFilter;
-use crate::warning::{Cause, Warning};
+use crate::warning::{Warning, WarningCause};
 use filter_code::Instr;
 use std::alloc::{AllocError, Global};
 
@@ -49,7 +49,7 @@ fn unread_at(source: &SurveyedFilter, at: usize) -> Option<Warning>
     Some(Warning {
         instruction: at,
         byte,
-        cause: Cause::Unread,
+        cause: WarningCause::Unread,
     })
 }
 

@@ -16,7 +16,7 @@ pub enum Operation {
 
 /// The least and the greatest value that an int may have.
 #[derive(Clone, Copy)]
-pub struct Bounds {
+pub struct ValueBounds {
     /// The least value.
     pub low: u32,
     /// The greatest value.
@@ -25,21 +25,21 @@ pub struct Bounds {
 
 /// Why a warning is said.
 #[derive(Clone, Copy)]
-pub enum Cause {
+pub enum WarningCause {
     /// What is asked there is true, or false, on every route that comes there.
     Constant(Site, bool),
     /// No route comes there.
     Unreached,
     /// The operation may wrap, by what is known of its two operands.
-    Wraps(Operation, Bounds, Bounds),
+    Wraps(Operation, ValueBounds, ValueBounds),
     /// In the set of this number the pattern of the first index is covered by that of the second.
     Covered(u8, usize, usize),
     /// In the set of ints that is asked for there the range of the first bounds shares a number with one before it, of the second bounds.
-    Overlapping(Bounds, Bounds),
+    Overlapping(ValueBounds, ValueBounds),
     /// The variable that is declared there is never read.
     Unread,
     /// The metric that is set there is unreachable, by what is known of it.
-    Unreachable(Bounds),
+    Unreachable(ValueBounds),
     /// On some route that comes there the metric is set to less than was received, which leaves it as it was received.
     NotLowered,
     /// Of two metrics of a route the lesser one comes to more than the other.
@@ -54,5 +54,5 @@ pub struct Warning {
     /// The byte of the text.
     pub byte: usize,
     /// Why it is said.
-    pub cause: Cause,
+    pub cause: WarningCause,
 }

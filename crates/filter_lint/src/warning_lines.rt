@@ -1,37 +1,37 @@
 //! The lines of warnings.
 ghost use Rattle.std.specs.Prelude.{◌≡◌, ◌++◌, IfOk, OnOk, codes, flat_map};
-ghost use Rattle.filter_reports.specs.Explanations.{message};
-ghost use Rattle.filter_reports.specs.Shown.{shown};
+ghost use Rattle.refusal_words.specs.Explanations.{message};
+ghost use Rattle.refusal_words.specs.Shown.{shown};
 ghost use Rattle.filter_lint.specs.WarningLines as spec;
 
 use crate::host_bits::{HostBits, bytes_of};
 use crate::site::Site;
-use crate::warning::{Bounds, Cause, Operation, Warning};
+use crate::warning::{Operation, ValueBounds, Warning, WarningCause};
 use crate::warning_reports::{
     push_found, push_found_host_bits, push_found_undecided, push_found_unordered,
 };
 use filter_code::Outcome;
 use filter_diff::Disorder;
-use filter_reports::{place_in, push_position, push_prefix, push_shown};
 use line_protocol::push_decimal;
 use prefix_patterns::{ADDRESS_LENGTH, Pattern, PatternSet};
+use refusal_words::{place_in, push_position, push_prefix, push_shown};
 use report_formats::Format;
 use std::alloc::{AllocError, Global};
 
-impl Cause {
+impl WarningCause {
     /// The code of the rule.
     pub fn code(self) -> &'static [u8]
         ensures { result.now ≡ spec.code_of self }
     {
         match self {
-            Cause::Constant(_, _) => b"W1",
-            Cause::Unreached => b"W2",
-            Cause::Wraps(_, _, _) => b"W3",
-            Cause::Covered(_, _, _) | Cause::Overlapping(_, _) => b"W4",
-            Cause::Unread => b"W6",
-            Cause::Unreachable(_) => b"W7",
-            Cause::NotLowered => b"W8",
-            Cause::Disordered(_) => b"W9",
+            WarningCause::Constant(_, _) => b"W1",
+            WarningCause::Unreached => b"W2",
+            WarningCause::Wraps(_, _, _) => b"W3",
+            WarningCause::Covered(_, _, _) | WarningCause::Overlapping(_, _) => b"W4",
+            WarningCause::Unread => b"W6",
+            WarningCause::Unreachable(_) => b"W7",
+            WarningCause::NotLowered => b"W8",
+            WarningCause::Disordered(_) => b"W9",
         }
     }
 }
@@ -104,7 +104,7 @@ fn push_constant(out: &mut Vec<u8>, site: Site, value: bool) -> Result<(), Alloc
 }
 
 /// Puts the bounds of an int at the end of `out`: one number where they are the same.
-fn push_bounds(out: &mut Vec<u8>, bounds: Bounds) -> Result<(), AllocError>
+fn push_bounds(out: &mut Vec<u8>, bounds: ValueBounds) -> Result<(), AllocError>
     ensures { OnOk result (out.new.items ≡ out.old.items ++ spec.bounds_text bounds) }
 {
     push_decimal(out, u64::from(bounds.low))?;
@@ -140,8 +140,8 @@ fn wrap_words(operation: Operation) -> &'static [u8]
 fn push_wraps(
     out: &mut Vec<u8>,
     operation: Operation,
-    left: Bounds,
-    right: Bounds,
+    left: ValueBounds,
+    right: ValueBounds,
 ) -> Result<(), AllocError>
     ensures { OnOk result (out.new.items ≡ out.old.items ++ spec.wraps_words operation left right) }
 {
@@ -274,7 +274,11 @@ fn push_covered(
 }
 
 /// Puts what is said of a range of ints that shares a number with another one of its set at the end of `out`.
-fn push_overlapping(out: &mut Vec<u8>, range: Bounds, other: Bounds) -> Result<(), AllocError>
+fn push_overlapping(
+    out: &mut Vec<u8>,
+    range: ValueBounds,
+    other: ValueBounds,
+) -> Result<(), AllocError>
     ensures { OnOk result (out.new.items ≡ out.old.items ++ spec.overlapping_words range other) }
 {
     push_bounds(out, range)?;
@@ -284,7 +288,7 @@ fn push_overlapping(out: &mut Vec<u8>, range: Bounds, other: Bounds) -> Result<(
 }
 
 /// Puts what is said of a metric that means unreachable at the end of `out`.
-fn push_unreachable(out: &mut Vec<u8>, bounds: Bounds) -> Result<(), AllocError>
+fn push_unreachable(out: &mut Vec<u8>, bounds: ValueBounds) -> Result<(), AllocError>
     ensures { OnOk result (out.new.items ≡ out.old.items ++ spec.unreachable_words bounds) }
 {
     out.extend_from_slice(b"the metric is set to ")?;
@@ -301,8 +305,8 @@ fn not_lowered_words() -> &'static [u8]
 }
 
 /// Puts what becomes of a metric at the end of `out`.
-fn push_fate(out: &mut Vec<u8>, metric: u64, outcome: Outcome) -> Result<(), AllocError>
-    ensures { OnOk result (out.new.items ≡ out.old.items ++ spec.fate_words metric outcome) }
+fn push_outcome(out: &mut Vec<u8>, metric: u64, outcome: Outcome) -> Result<(), AllocError>
+    ensures { OnOk result (out.new.items ≡ out.old.items ++ spec.outcome_words metric outcome) }
 {
     push_decimal(out, metric)?;
     match outcome {
@@ -316,12 +320,12 @@ fn push_fate(out: &mut Vec<u8>, metric: u64, outcome: Outcome) -> Result<(), All
 }
 
 /// Puts what becomes of two metrics at the end of `out`.
-fn push_fates(out: &mut Vec<u8>, shown: &Disorder) -> Result<(), AllocError>
-    ensures { OnOk result (out.new.items ≡ out.old.items ++ spec.fates_words shown.now) }
+fn push_outcomes(out: &mut Vec<u8>, shown: &Disorder) -> Result<(), AllocError>
+    ensures { OnOk result (out.new.items ≡ out.old.items ++ spec.outcomes_words shown.now) }
 {
-    push_fate(out, u64::from(shown.metric), shown.lesser)?;
+    push_outcome(out, u64::from(shown.metric), shown.lesser)?;
     out.extend_from_slice(b", and ")?;
-    push_fate(out, u64::from(shown.metric) + 1, shown.next)
+    push_outcome(out, u64::from(shown.metric) + 1, shown.next)
 }
 
 /// Puts what is said of two metrics of a route, of which the lesser one comes to more, at the end of `out`.
@@ -331,7 +335,7 @@ fn push_disordered(alloc: Global, out: &mut Vec<u8>, shown: &Disorder) -> Result
     out.extend_from_slice(b"the order of metrics is not kept: of ")?;
     push_prefix(alloc, out, shown.prefix)?;
     out.extend_from_slice(b" metric ")?;
-    push_fates(out, shown)
+    push_outcomes(out, shown)
 }
 
 /// Puts what is said of a cause at the end of `out`.
@@ -339,20 +343,22 @@ pub(crate) fn push_words(
     alloc: Global,
     out: &mut Vec<u8>,
     sets: &[PatternSet],
-    cause: Cause,
+    cause: WarningCause,
 ) -> Result<(), AllocError>
     ensures { OnOk result (out.new.items ≡ out.old.items ++ spec.words sets.now cause) }
 {
     match cause {
-        Cause::Constant(site, value) => push_constant(out, site, value),
-        Cause::Unreached => out.extend_from_slice(b"no route reaches this command"),
-        Cause::Wraps(operation, left, right) => push_wraps(out, operation, left, right),
-        Cause::Covered(set, inner, outer) => { push_covered(alloc, out, sets, set, inner, outer) }
-        Cause::Overlapping(range, other) => push_overlapping(out, range, other),
-        Cause::Unread => out.extend_from_slice(b"this variable is never read"),
-        Cause::Unreachable(bounds) => push_unreachable(out, bounds),
-        Cause::NotLowered => out.extend_from_slice(not_lowered_words()),
-        Cause::Disordered(shown) => push_disordered(alloc, out, &shown),
+        WarningCause::Constant(site, value) => push_constant(out, site, value),
+        WarningCause::Unreached => out.extend_from_slice(b"no route reaches this command"),
+        WarningCause::Wraps(operation, left, right) => push_wraps(out, operation, left, right),
+        WarningCause::Covered(set, inner, outer) => {
+            push_covered(alloc, out, sets, set, inner, outer)
+        }
+        WarningCause::Overlapping(range, other) => push_overlapping(out, range, other),
+        WarningCause::Unread => out.extend_from_slice(b"this variable is never read"),
+        WarningCause::Unreachable(bounds) => push_unreachable(out, bounds),
+        WarningCause::NotLowered => out.extend_from_slice(not_lowered_words()),
+        WarningCause::Disordered(shown) => push_disordered(alloc, out, &shown),
     }
 }
 
@@ -361,7 +367,7 @@ fn push_message(
     alloc: Global,
     out: &mut Vec<u8>,
     sets: &[PatternSet],
-    cause: &Cause,
+    cause: &WarningCause,
 ) -> Result<(), AllocError>
     ensures { OnOk result (out.new.items ≡ out.old.items ++ message (spec.words sets.now cause.now) (spec.code_of cause.now)) }
 {

@@ -4,17 +4,17 @@ ghost use Rattle.report_formats.specs.Reports.{report_line};
 ghost use Rattle.filter_lint.specs.WarningLines as spec;
 
 use crate::host_bits::HostBits;
-use crate::warning::{Cause, Warning};
+use crate::warning::{Warning, WarningCause};
 use crate::warning_lines::{
     push_host_bits, push_host_bits_words, push_undecided, push_unordered, push_warning, push_words,
 };
-use filter_reports::place_in;
 use prefix_patterns::PatternSet;
+use refusal_words::place_in;
 use report_formats::{Format, Report, Severity, push_report};
 use std::alloc::{AllocError, Global};
 
 /// What is said of a cause.
-fn words_of(alloc: Global, sets: &[PatternSet], cause: Cause) -> Result<Vec<u8>, AllocError>
+fn words_of(alloc: Global, sets: &[PatternSet], cause: WarningCause) -> Result<Vec<u8>, AllocError>
     ensures { IfOk result (λ words. words.items ≡ spec.words sets.now cause) }
 {
     let mut words = Vec::new(alloc);

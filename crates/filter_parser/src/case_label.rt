@@ -12,7 +12,7 @@ use filter_tokens::Symbol;
 use std::alloc::Global;
 
 /// Whether a part of a `case` begins here.
-pub fn begins_part(input: Input) -> bool
+pub(crate) fn begins_part(input: Input) -> bool
     ensures { result ≡ spec.part_begins (remaining input.entry) }
 {
     match input.eat_number() {
@@ -22,7 +22,7 @@ pub fn begins_part(input: Input) -> bool
 }
 
 /// Whether no part up to the one with this label is the `else` part, where `is_first` says so of the parts before it.
-pub fn stays_first(is_first: bool, label: &Label) -> bool
+pub(crate) fn stays_first(is_first: bool, label: &Label) -> bool
     ensures { result ≡ (is_first && has_ranges (view_label label.now)) }
 {
     match label {
@@ -65,7 +65,7 @@ fn parse_else_label<'a>(is_first: bool, input: Input<'a>) -> Result<(Label, Inpu
 }
 
 /// A label and its `:`. Whether no part before it is the `else` part.
-pub fn parse_label<'a>(
+pub(crate) fn parse_label<'a>(
     alloc: Global,
     is_first: bool,
     input: Input<'a>,

@@ -169,7 +169,7 @@ fn begins_command(input: Input) -> bool
 
 /// Commands as long as one begins.
 #[cycle(command)]
-pub fn parse_commands<'a>(
+pub(crate) fn parse_commands<'a>(
     alloc: Global,
     depth: usize,
     input: Input<'a>,
@@ -349,7 +349,7 @@ fn parse_command_by<'a>(
 /// A command, where this many more levels may nest.
 #[cycle(command)]
 #[tactic(auto, using(crate::proofs::Bodies::command_is))]
-pub fn parse_command<'a>(
+fn parse_command<'a>(
     alloc: Global,
     depth: usize,
     input: Input<'a>,

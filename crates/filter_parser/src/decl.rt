@@ -43,7 +43,7 @@ fn eat_kind<'a>(input: Input<'a>) -> Option<(Kind, Input<'a>)>
 }
 
 /// A name that has to come first, and its place.
-pub fn parse_name<'a>(
+pub(crate) fn parse_name<'a>(
     alloc: Global,
     input: Input<'a>,
 ) -> Result<(usize, Vec<u8>, Input<'a>), ParseFault>
@@ -75,7 +75,7 @@ fn parse_declaration<'a>(
 }
 
 /// Declarations, as many as there are, after others.
-pub fn parse_declarations<'a>(
+pub(crate) fn parse_declarations<'a>(
     alloc: Global,
     before: Vec<Decl>,
     input: Input<'a>,

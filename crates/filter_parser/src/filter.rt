@@ -53,7 +53,7 @@ fn parse_body<'a>(
 }
 
 /// A filter's name, its declarations and its commands, and nothing after it.
-pub fn parse_filter<'a>(alloc: Global, input: Input<'a>) -> Result<Parts, ParseFault>
+pub(crate) fn parse_filter<'a>(alloc: Global, input: Input<'a>) -> Result<Parts, ParseFault>
     ensures reads { ReadsAs spec.view_parts result (spec.filter_of (remaining input.entry)) }
     ensures placed { IfOk result (λ parts. ArePlaced input.entry.source.now.text.now input.entry.tokens.now parts.decls.items parts.body.items) }
     ensures within { (len : ℕ) → IsWithin len input.entry → IfErr result (LiesWithin len) }

@@ -19,6 +19,6 @@ pub use expression_parser::{
     SetPattern, SetRange, Suffix, TEXT_LIMIT,
 };
 pub use names::{Names, VARIABLE_LIMIT};
-pub use text::{parse, parse_told};
+pub use text::{parse, parse_explained};
 pub use tree::{Command, Decl, Filter, Kind, Label, Target};
 pub use unparsed::Unparsed;

@@ -70,7 +70,7 @@ fn filter_of_tokens(
 }
 
 /// The filter that a text spells, or its first fault and what stands round the place: what [`parse`] answers, with more to tell people.
-pub fn parse_told(alloc: Global, text: &[u8]) -> Result<Filter, Unparsed>
+pub fn parse_explained(alloc: Global, text: &[u8]) -> Result<Filter, Unparsed>
     // The text spells the filter that is answered.
     ensures found { IfOk result (λ f. IsText text.now (view_filter f)) }
     // It spells no other.
@@ -121,7 +121,7 @@ pub fn parse(alloc: Global, text: &[u8]) -> Result<Filter, ParseFault>
     ensures long { text_limit < length text.now → IsErrOf result TooLong }
     ensures short { length text.now ≤ text_limit → IfErr result (λ e. e ≢ TooLong) }
 {
-    match parse_told(alloc, text) {
+    match parse_explained(alloc, text) {
         Ok(filter) => Ok(filter),
         Err(unparsed) => Err(unparsed.fault),
     }

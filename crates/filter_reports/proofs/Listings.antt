@@ -81,18 +81,18 @@ ended program size origin front text last found why is lists whole line refused 
 )
 
 pub listing_ends : (program : CodeView) (size : ℕ) (origin : ℕ → List ℕ) (places : List ℕ) (verdict : Result RunBounds Unverified)
-    (front text : List ℕ) (told : Option Diagnosis) → IsVerdict program size verdict
+    (front text : List ℕ) (diagnosis : Option Diagnosis) → IsVerdict program size verdict
     → Lists program.instrs (known_before program size) origin (surveyed program size (the_fault program size)) front
-    → EndsListing places verdict front text told → IsListing (Some size) program origin text (refusal_in told)
-listing_ends program size origin places (Ok b) front text told says lists ends =
-    ended program size origin front text (bounds_line b.budget b.depth) None (refusal_in told) says.0 lists ends.0
+    → EndsListing places verdict front text diagnosis → IsListing (Some size) program origin text (refusal_in diagnosis)
+listing_ends program size origin places (Ok b) front text diagnosis says lists ends =
+    ended program size origin front text (bounds_line b.budget b.depth) None (refusal_in diagnosis) says.0 lists ends.0
     (ap (λ (n : ℕ). bounds_line n b.depth) says.1 ∙ ap (bounds_line (cost program.instrs 0)) says.2) (ap refusal_in ends.1)
-listing_ends program size origin places (Err e) front text told says lists ends =
-    ended program size origin front text _ (Some e.fault) (refusal_in told) says.0 lists ends.0 refl (ap refusal_in ends.1)
+listing_ends program size origin places (Err e) front text diagnosis says lists ends =
+    ended program size origin front text _ (Some e.fault) (refusal_in diagnosis) says.0 lists ends.0 refl (ap refusal_in ends.1)
 
 pub listing_told : (program : CodeView) (size : ℕ) (places : List ℕ) (verdict : Result RunBounds Unverified) (front text : List ℕ)
-    (told : Option Diagnosis) → IsVerdict program size verdict → EndsListing places verdict front text told
-    → IfSome told (λ told. IsUnsafe program size told.refusal × TellsOfCode program places size told)
-listing_told program size places (Ok b) front text told says ends = rw ends.1 tt
-listing_told program size places (Err e) front text told says ends =
+    (diagnosis : Option Diagnosis) → IsVerdict program size verdict → EndsListing places verdict front text diagnosis
+    → IfSome diagnosis (λ diagnosis. IsUnsafe program size diagnosis.refusal × TellsOfCode program places size diagnosis)
+listing_told program size places (Ok b) front text diagnosis says ends = rw ends.1 tt
+listing_told program size places (Err e) front text diagnosis says ends =
     rw ends.1 ((e.fault, refl, says.0), (e.fault, ap (λ (range : Option RangeView). of_code e.fault range places) says.1))

@@ -57,11 +57,11 @@ finished size is_code (Some input) (Some left) held holds read report n used end
       to_end = λ few. ap (λ (l : List ℕ). Some l) (end (omega (arith, all, few)));
     }
 
-pub ends_well : (size : ℕ) (is_code : Bool) (known left held holds : Option (List ℕ)) (shown read : List ℕ) (told : Option Diagnosis) (n : ℕ)
+pub ends_well : (size : ℕ) (is_code : Bool) (known left held holds : Option (List ℕ)) (shown read : List ℕ) (diagnosis : Option Diagnosis) (n : ℕ)
     → Consumes known left read → (length read ≤ source_limit → IsAtEnd left) → length read ≤ source_limit + 1 → shown ≡ read
-    → Reports size is_code shown held holds told → n ≡ refusals_of told → IfSome known (λ input. Checks size is_code input left held holds n)
-ends_well size is_code known left held holds shown read told n used end within same done count =
-    let all : Reports size is_code read held holds told = subst (λ (s : List ℕ). Reports size is_code s held holds told) same done in
+    → Reports size is_code shown held holds diagnosis → n ≡ refusals_of diagnosis → IfSome known (λ input. Checks size is_code input left held holds n)
+ends_well size is_code known left held holds shown read diagnosis n used end within same done count =
+    let all : Reports size is_code read held holds diagnosis = subst (λ (s : List ℕ). Reports size is_code s held holds diagnosis) same done in
     finished size is_code known left held holds read all.report n used end within all.is_report all.written (count ∙ all.counted)
 
 -- What a fault cut of the report on what was read is what it cut of the report on the input.

@@ -84,10 +84,10 @@ broken_off fault is_old (Some input) (Some left) held holds read used end within
 -- What refuses to write a code refuses its source, and so does what gives no code.
 pub code_is_unwritten : (is_old : Bool) (input : List ℕ) (program : CodeView) (e : Failure) → GivesCode true input program
     → OnRefusal (IsUnwritten is_old program) e → OnRefusal (IsUnspelled is_old input) e
-code_is_unwritten is_old input program (Refused told) gives h = inr (program, gives, h)
+code_is_unwritten is_old input program (Refused diagnosis) gives h = inr (program, gives, h)
 code_is_unwritten is_old input program failure.Memory gives h = tt
 
 pub no_code : (is_old : Bool) (input : List ℕ) (e : Failure) → OnRefusal (IsRefused true input) e
     → OnRefusal (IsUnspelled is_old input) e
-no_code is_old input (Refused told) h = inl h
+no_code is_old input (Refused diagnosis) h = inl h
 no_code is_old input failure.Memory h = tt

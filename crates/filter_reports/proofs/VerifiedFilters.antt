@@ -32,7 +32,7 @@ verified_of size text program v gives same safe = record {
 pub refused_code : (size : ℕ) (text places : List ℕ) (program : CodeView) (failure : Failure) → GivesCode false text program
     → ArePlaces false text places → OnRefusal (IsUnsafe program size) failure → OnDiagnosis (TellsOfCode program places size) failure
     → OnDiagnosis (IsDiagnosis size false text) failure
-refused_code size text places program (Refused told) gives are unsafe is = inr (program, gives, unsafe, (places, are, is))
+refused_code size text places program (Refused diagnosis) gives are unsafe is = inr (program, gives, unsafe, (places, are, is))
 refused_code size text places program Memory gives are unsafe is = tt
 
 -- verified code is that of its filter

@@ -19,13 +19,13 @@ use Rattle.filter_reports.specs.Check.{GivesCode, IsRefused, IsReport, ReportVie
 -- how many refusals there are
 abbrev pub refusals_of : Option Diagnosis → ℕ
 refusals_of None = 0
-refusals_of (Some told) = 1
+refusals_of (Some diagnosis) = 1
 
 -- the last line of what was written tells the refusal, where there is one
 abbrev pub EndsWith : Option Diagnosis → List ℕ → Type 0
 EndsWith None text = ⊤
-EndsWith (Some told) text =
-    (front : List ℕ) × (text ≡ front ++ refusal (refusal_code told.refusal) (place_in_line told.refusal 1))
+EndsWith (Some diagnosis) text =
+    (front : List ℕ) × (text ≡ front ++ refusal (refusal_code diagnosis.refusal) (place_in_line diagnosis.refusal 1))
 
 -- The places in a source that the instructions of its code come from: a code file has none.
 abbrev pub ArePlaces : Bool → List ℕ → List ℕ → Type 0
@@ -40,24 +40,24 @@ AreTokens false source tokens = IsTokenization tokens 0 source
 -- The same, where the source is not refused.
 abbrev pub AreTokensUnlessRefused : Option Diagnosis → Bool → List ℕ → List Token → Type 0
 AreTokensUnlessRefused None is_code source tokens = AreTokens is_code source tokens
-AreTokensUnlessRefused (Some told) is_code source tokens = ⊤
+AreTokensUnlessRefused (Some diagnosis) is_code source tokens = ⊤
 
 -- This is told of a source that is refused: what follows from the refusal where there is no code, and what stands round its place; otherwise the part of the text that
 -- gave the instruction which is refused, and the range that the verifier knows there.
 abbrev pub IsDiagnosis : ℕ → Bool → List ℕ → Diagnosis → Type 0
-IsDiagnosis size is_code source told =
-    (IsRefused is_code source told.refusal × TellsOfSource is_code source told)
-    ⊎ ((program : CodeView) × GivesCode is_code source program × IsUnsafe program size told.refusal
-    × ((places : List ℕ) × ArePlaces is_code source places × TellsOfCode program places size told))
+IsDiagnosis size is_code source diagnosis =
+    (IsRefused is_code source diagnosis.refusal × TellsOfSource is_code source diagnosis)
+    ⊎ ((program : CodeView) × GivesCode is_code source program × IsUnsafe program size diagnosis.refusal
+    × ((places : List ℕ) × ArePlaces is_code source places × TellsOfCode program places size diagnosis))
 
 -- The report on a source was written, and it ends with the refusal that is told, if there is one.
-pub record Reports (size : ℕ) (is_code : Bool) (source : List ℕ) (held holds : Option (List ℕ)) (told : Option Diagnosis) : Type 0 where
+pub record Reports (size : ℕ) (is_code : Bool) (source : List ℕ) (held holds : Option (List ℕ)) (diagnosis : Option Diagnosis) : Type 0 where
   pub report : ReportView
   pub is_report : IsReport size is_code source report
   pub written : Appends held holds report.text
-  pub counted : refusals_of told ≡ report.refusals
-  pub ends : EndsWith told report.text
-  pub diagnosed : IfSome told (IsDiagnosis size is_code source)
+  pub counted : refusals_of diagnosis ≡ report.refusals
+  pub ends : EndsWith diagnosis report.text
+  pub diagnosed : IfSome diagnosis (IsDiagnosis size is_code source)
 
 -- A run was answered to its end: the report on the input was written, and nothing else. `input` is all that the reader had,
 -- `left` what it has now; `held` and `holds` are what the writer held before and holds now; `refused` is the number that was

@@ -30,7 +30,7 @@ use Rattle.line_protocol.specs.declared.faults.StreamFault.TheVariants.{Read, Wr
 use Rattle.filter_reports.specs.Check.{GivesCode, IsRefused, verdict_on}
 use Rattle.filter_reports.specs.Checking.{ArePlaces}
 use Rattle.filter_reports.specs.VerifiedFilters.{refusal_line}
-use Rattle.filter_reports.specs.Places.{column_at, line_at}
+use Rattle.refusal_words.specs.Places.{column_at, line_at}
 
 -- the mark of an int that is at least the metric received
 abbrev pub mark : Bool → List ℕ
@@ -101,9 +101,9 @@ IsListing (Some size) program origin text why = (front : List ℕ)
 
 -- A listing ends so: with the bounds that are found, or with the first thing that is not known, and this is told of it.
 abbrev pub EndsListing : List ℕ → Result RunBounds Unverified → List ℕ → List ℕ → Option Diagnosis → Type 0
-EndsListing places (Ok bounds) front text told = (text ≡ front ++ bounds_line bounds.budget bounds.depth) × (told ≡ None)
-EndsListing places (Err found) front text told =
-    (text ≡ front ++ refusal (fault_code found.fault) (fault_place found.fault)) × (told ≡ Some (of_code found.fault found.range places))
+EndsListing places (Ok bounds) front text diagnosis = (text ≡ front ++ bounds_line bounds.budget bounds.depth) × (diagnosis ≡ None)
+EndsListing places (Err found) front text diagnosis =
+    (text ≡ front ++ refusal (fault_code found.fault) (fault_place found.fault)) × (diagnosis ≡ Some (of_code found.fault found.range places))
 
 -- the listing of a source, or the line that refuses it
 abbrev pub IsListed : Option ℕ → Bool → List ℕ → List ℕ → Option Refusal → Type 0
@@ -114,28 +114,28 @@ IsListed size is_code source text why =
 
 -- the refusal of what is told
 abbrev pub refusal_in : Option Diagnosis → Option Refusal
-refusal_in told = option_map (λ why. why.refusal) told
+refusal_in diagnosis = option_map (λ why. why.refusal) diagnosis
 
 -- This is told of code that is listed and refused: the part of the text that gave the instruction, and the range that the verifier
 -- knows there.
-abbrev pub IsToldOfCode : Option ℕ → CodeView → List ℕ → Diagnosis → Type 0
-IsToldOfCode None program places told = ⊥
-IsToldOfCode (Some size) program places told = IsUnsafe program size told.refusal × TellsOfCode program places size told
+abbrev pub IsDiagnosisOfCode : Option ℕ → CodeView → List ℕ → Diagnosis → Type 0
+IsDiagnosisOfCode None program places diagnosis = ⊥
+IsDiagnosisOfCode (Some size) program places diagnosis = IsUnsafe program size diagnosis.refusal × TellsOfCode program places size diagnosis
 
 -- This is told of a source that is listed and refused.
-abbrev pub IsToldOfListing : Option ℕ → Bool → List ℕ → Diagnosis → Type 0
-IsToldOfListing size is_code source told =
-    (IsRefused is_code source told.refusal × TellsOfSource is_code source told)
+abbrev pub IsDiagnosisOfListing : Option ℕ → Bool → List ℕ → Diagnosis → Type 0
+IsDiagnosisOfListing size is_code source diagnosis =
+    (IsRefused is_code source diagnosis.refusal × TellsOfSource is_code source diagnosis)
     ⊎ ((program : CodeView) × GivesCode is_code source program
-    × ((places : List ℕ) × ArePlaces is_code source places × IsToldOfCode size program places told))
+    × ((places : List ℕ) × ArePlaces is_code source places × IsDiagnosisOfCode size program places diagnosis))
 
 -- A listing was written to its end, and this is told of the refusal with which it ends, if there is one. `held` and `holds` are what
 -- the writer held before and holds now.
-pub record WritesListing (size : Option ℕ) (is_code : Bool) (source : List ℕ) (held holds : Option (List ℕ)) (told : Option Diagnosis) : Type 0 where
+pub record WritesListing (size : Option ℕ) (is_code : Bool) (source : List ℕ) (held holds : Option (List ℕ)) (diagnosis : Option Diagnosis) : Type 0 where
   pub text : List ℕ
-  pub is_listed : IsListed size is_code source text (refusal_in told)
+  pub is_listed : IsListed size is_code source text (refusal_in diagnosis)
   pub written : Appends held holds text
-  pub diagnosed : IfSome told (IsToldOfListing size is_code source)
+  pub diagnosed : IfSome diagnosis (IsDiagnosisOfListing size is_code source)
 
 -- what was written where a fault cut a listing
 abbrev pub IsCutListing : StreamFault → Option ℕ → Bool → List ℕ → Option (List ℕ) → Option (List ℕ) → Type 0

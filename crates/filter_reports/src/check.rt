@@ -40,7 +40,7 @@ pub fn code_of(alloc: Global, input: &[u8], is_code: bool) -> Result<CompiledSou
     ensures places { IfOk result (λ compiled. ArePlaces is_code input.now compiled.places.items) }
     ensures tokens { IfOk result (λ compiled. AreTokens is_code input.now compiled.tokens.items) }
     ensures refused { IfErr result (OnRefusal (IsRefused is_code input.now)) }
-    ensures told { IfErr result (OnDiagnosis (TellsOfSource is_code input.now)) }
+    ensures diagnosis { IfErr result (OnDiagnosis (TellsOfSource is_code input.now)) }
 {
     check_length(input)?;
     if is_code {
@@ -63,7 +63,7 @@ fn report_input(
 ) -> Result<(Report, Vec<Token>), AllocError>
     ensures lines { IfOk result (λ made. IsReport size is_code input.now (report_of made.0)) }
     ensures ends { IfOk result (λ made. EndsWith made.0.diagnosis made.0.text.items) }
-    ensures told { IfOk result (λ made. IfSome made.0.diagnosis (IsDiagnosis size is_code input.now)) }
+    ensures diagnosis { IfOk result (λ made. IfSome made.0.diagnosis (IsDiagnosis size is_code input.now)) }
     ensures tokens { IfOk result (λ made. AreTokensUnlessRefused made.0.diagnosis is_code input.now made.1.items) }
 {
     match code_of(alloc, input, is_code) {
@@ -77,8 +77,8 @@ fn report_input(
             let report = report_code(alloc, code, places.as_slice(), size)?;
             Ok((report, tokens))
         }
-        Err(Failure::Refused(told)) => {
-            let report = report_refusal(alloc, told)?;
+        Err(Failure::Refused(diagnosis)) => {
+            let report = report_refusal(alloc, diagnosis)?;
             Ok((report, Vec::new(alloc)))
         }
         Err(Failure::Memory) => Err(AllocError),

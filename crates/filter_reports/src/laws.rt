@@ -1,8 +1,8 @@
-//! Laws on what is shown and on the code that is printed, each the contract of a function with an empty body.
+//! Laws on the code that is printed, each the contract of a function with an empty body.
 //!
 //! **The law that verified code means what its filter means is in `filter_reports`**, `verified_code_says_the_same`: it is what `verified` in a
 //! report comes to, and `diff` and `test` rest on it without a route line.
-ghost use Rattle.std.specs.Prelude.{◌≡◌, ℕ, ◌+◌, ◌*◌, ◌≤◌, List, ◌++◌, All, false, true, length};
+ghost use Rattle.std.specs.Prelude.{◌≡◌, ℕ, ◌+◌, ◌*◌, ◌≤◌, List, false, true, length};
 ghost use Rattle.code_file.specs.Spelling.{IsCode, spelling_in};
 ghost use Rattle.code_file.specs.declared.version.Version.{Version};
 ghost use Rattle.filter_code.specs.CodeView.{CodeView};
@@ -11,21 +11,7 @@ ghost use Rattle.filter_parser.specs.SyntaxText.{FilterView};
 ghost use Rattle.filter_source.specs.Sources.{Translates};
 ghost use Rattle.filter_verifier.specs.Safe.{IsSafe};
 ghost use Rattle.filter_reports.specs.Check.{FitsLine, GivesCode, IsCodeReport, IsReport, ReportView, printed};
-ghost use Rattle.filter_reports.specs.Explanations.{dots_for, first_of, front_within, last_of};
 ghost use Rattle.filter_reports.specs.Saying.{SaysTheSame};
-ghost use Rattle.filter_reports.specs.Shown.{columns, is_hidden, shown_characters};
-
-/// Nothing that is shown of any bytes is a control character other than a tab, turns the direction of the text or ends a line.
-pub fn shown_is_harmless()
-    ensures { (bytes : List ℕ) → All (λ c. is_hidden c ≡ false) (shown_characters bytes) }
-{}
-
-/// What is shown of a line round a place takes at most 200 columns, the dots among them; and each front of some characters that takes at
-/// most so many columns is a front of the one that is kept.
-pub fn excerpt_is_narrow()
-    ensures narrow { (before behind : List ℕ) → length (dots_for before) + columns (last_of before ++ first_of behind) + length (dots_for behind) ≤ 200 }
-    ensures longest { (most : ℕ) (front rest : List ℕ) → columns front ≤ most → (more : List ℕ) × (front_within most (front ++ rest) ≡ front ++ more) }
-{}
 
 /// The code that `check` prints is read by `check --code` as the same code, with the same lines: code that is written and read
 /// again has the same verdicts. Its digits have to be within the limit of a source.

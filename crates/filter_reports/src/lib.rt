@@ -1,10 +1,10 @@
-//! What is told of a filter's source: the engines of `check`, `rewrite` and `list`, and a refusal in words, at its line and column.
+//! What is told of a filter's source: the engines of `check`, `rewrite` and `list`.
 //!
 //! **What is told of a filter's source and what answers routes are two crates**, the second above the first. Whoever compares, tests or lints
 //! filters, or tells of a script's line, stands on the first alone: how routes are answered may change, and none of them is proved again.
 //!
-//! **The engines of the commands are libraries.** The program above them reads the words of the command line and calls them. So other crates can
-//! test the engines, and an edit of one does not have the program's use of `clap` proved again.
+//! **The engines of the commands are libraries.** The program above them reads the words of the command line and calls them. So other programs can
+//! call `check_text`, other crates can test the engines, and an edit of one does not have the program's use of `clap` proved again.
 //!
 //! **`eval_lines` and `check_text` take the allocator and no runtime.** They neither wait nor read a clock, so they would not use its handle.
 //!
@@ -15,43 +15,25 @@
 //! it and runs its examples. No contract says what the texts say.
 #![tactic(auto)]
 
-mod around;
 mod check;
-mod explanation;
 mod fault;
 mod laws;
 mod listing;
 mod named;
 mod named_text;
-mod nearest;
-mod place;
 mod placed;
-mod position;
 mod refusal;
-mod remedies;
 mod report;
 mod rewrite;
-mod shown;
-mod spelling;
-mod told_words;
-mod words;
 
 pub use check::{Checked, check_text, code_of, write_report};
-pub use explanation::{explain, explain_line, push_position, refusal_words, tell_at};
 pub use fault::ProgramFault;
 pub use laws::{
-    excerpt_is_narrow, printed_code_is_checked_alike, shown_is_harmless, translations_fit_a_line,
-    verified_code_says_the_same,
+    printed_code_is_checked_alike, translations_fit_a_line, verified_code_says_the_same,
 };
 pub use listing::write_listing;
 pub use named::{check_named, list_named, tell, tell_refusal};
 pub use named_text::NamedText;
-pub use nearest::nearest_word;
-pub use place::{Place, place_in};
 pub use placed::{PlacedCode, placed_code, verified_filter};
-pub use position::{Position, Positions};
 pub use refusal::write_refusal;
-pub use remedies::IPV6;
 pub use rewrite::rewrite_text;
-pub use shown::{push_prefix, push_shown};
-pub use spelling::{byte_of_word, count_words, from_word, short_text, spelled, word_at};

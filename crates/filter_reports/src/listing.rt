@@ -17,17 +17,17 @@ ghost use Rattle.filter_verifier.specs.InStates.{in_state};
 ghost use Rattle.filter_verifier.specs.Sweep.{in_state_view, state_at};
 ghost use Rattle.filter_reports.specs.Listing.{EndsListing, IsCutListing, IsListed, IsListing, Lists};
 ghost use Rattle.filter_reports.specs.Listing.{fact_text, instruction_line, known_before, mark};
-ghost use Rattle.filter_reports.specs.Listing.{IsToldOfCode, IsToldOfListing, WritesListing, refusal_in};
+ghost use Rattle.filter_reports.specs.Listing.{IsDiagnosisOfCode, IsDiagnosisOfListing, WritesListing, refusal_in};
 ghost use Rattle.filter_reports.specs.Listing.{nothing_known, origin_in, place_text, places_text, state_text, target_text};
 
 use crate::check::code_of;
 use crate::fault::ProgramFault;
-use crate::position::Positions;
 use crate::refusal::refusal_line;
 use filter_code::{Code, Instr};
 use filter_source::{CompiledSource, Diagnosis, Failure, Refusal, place_at, push_bounds};
 use filter_verifier::{AbstractFrame, Fact, InState, Range, RunBounds, Unverified, survey_code};
 use line_protocol::{push_decimal, push_refusal, write_text};
+use refusal_words::Positions;
 use std::alloc::{AllocError, Global};
 use std::io::Write;
 
@@ -44,7 +44,7 @@ struct Listing {
     /// The lines.
     text: Vec<u8>,
     /// What is told of it where the source or its code is refused.
-    told: Option<Diagnosis>,
+    diagnosis: Option<Diagnosis>,
 }
 
 /// Puts the range of an int, and its mark, at the end of `out`.
@@ -200,19 +200,22 @@ fn end_listing(
     places: &[usize],
     verdict: Result<RunBounds, Unverified>,
 ) -> Result<Listing, AllocError>
-    ensures listing { IfOk result (λ listing. EndsListing places.now verdict text.items listing.text.items listing.told) }
+    ensures listing { IfOk result (λ listing. EndsListing places.now verdict text.items listing.text.items listing.diagnosis) }
 {
     let mut text = text;
     match verdict {
         Ok(bounds) => {
             push_bounds(&mut text, bounds)?;
-            Ok(Listing { text, told: None })
+            Ok(Listing {
+                text,
+                diagnosis: None,
+            })
         }
         Err(Unverified { fault, range }) => {
             push_refusal(&mut text, fault.code(), fault.at() as u64)?;
             Ok(Listing {
                 text,
-                told: Some(Diagnosis::of_code(fault, range, places)),
+                diagnosis: Some(Diagnosis::of_code(fault, range, places)),
             })
         }
     }
@@ -225,8 +228,8 @@ fn list_verified(
     origins: &Origins,
     size: u32,
 ) -> Result<Listing, AllocError>
-    ensures listing { IfOk result (λ listing. IsListing (Some size) code.now (origin_in origins.now.source origins.now.places.now) listing.text.items (refusal_in listing.told)) }
-    ensures told { IfOk result (λ listing. IfSome listing.told (λ told. IsUnsafe code.now size told.refusal × TellsOfCode code.now origins.now.places.now size told)) }
+    ensures listing { IfOk result (λ listing. IsListing (Some size) code.now (origin_in origins.now.source origins.now.places.now) listing.text.items (refusal_in listing.diagnosis)) }
+    ensures diagnosis { IfOk result (λ listing. IfSome listing.diagnosis (λ diagnosis. IsUnsafe code.now size diagnosis.refusal × TellsOfCode code.now origins.now.places.now size diagnosis)) }
 {
     let survey = survey_code(alloc, code, size)?;
     let text = list_visited(alloc, code, origins, size, survey.in_states.as_slice())?;
@@ -240,14 +243,14 @@ fn list(
     origins: &Origins,
     size: Option<u32>,
 ) -> Result<Listing, AllocError>
-    ensures listing { IfOk result (λ listing. IsListing size code.now (origin_in origins.now.source origins.now.places.now) listing.text.items (refusal_in listing.told)) }
-    ensures told { IfOk result (λ listing. IfSome listing.told (IsToldOfCode size code.now origins.now.places.now)) }
+    ensures listing { IfOk result (λ listing. IsListing size code.now (origin_in origins.now.source origins.now.places.now) listing.text.items (refusal_in listing.diagnosis)) }
+    ensures diagnosis { IfOk result (λ listing. IfSome listing.diagnosis (IsDiagnosisOfCode size code.now origins.now.places.now)) }
 {
     match size {
         Some(size) => list_verified(alloc, code, origins, size),
         None => Ok(Listing {
             text: list_instructions(alloc, code, origins)?,
-            told: None,
+            diagnosis: None,
         }),
     }
 }
@@ -259,8 +262,8 @@ fn list_source(
     size: Option<u32>,
     is_code: bool,
 ) -> Result<Listing, AllocError>
-    ensures listing { IfOk result (λ listing. IsListed size is_code source.now listing.text.items (refusal_in listing.told)) }
-    ensures told { IfOk result (λ listing. IfSome listing.told (IsToldOfListing size is_code source.now)) }
+    ensures listing { IfOk result (λ listing. IsListed size is_code source.now listing.text.items (refusal_in listing.diagnosis)) }
+    ensures diagnosis { IfOk result (λ listing. IfSome listing.diagnosis (IsDiagnosisOfListing size is_code source.now)) }
 {
     match code_of(alloc, source, is_code) {
         Ok(CompiledSource { code, places, .. }) => {
@@ -270,16 +273,16 @@ fn list_source(
             };
             list(alloc, &code, &origins, size)
         }
-        Err(Failure::Refused(told)) => Ok(Listing {
-            text: refusal_line(alloc, told.refusal)?,
-            told: Some(told),
+        Err(Failure::Refused(diagnosis)) => Ok(Listing {
+            text: refusal_line(alloc, diagnosis.refusal)?,
+            diagnosis: Some(diagnosis),
         }),
         Err(Failure::Memory) => Err(AllocError),
     }
 }
 
 /// Writes the listing of a source, as `write_listing` does. Returns what is told of a source or a code that is refused.
-pub(crate) fn write_told_listing<W: Write>(
+pub(crate) fn write_diagnosed_listing<W: Write>(
     alloc: Global,
     source: &[u8],
     writer: &mut W,
@@ -292,7 +295,7 @@ pub(crate) fn write_told_listing<W: Write>(
 {
     let listing = list_source(alloc, source, size, is_code)?;
     write_text(writer, listing.text.as_slice())?;
-    Ok(listing.told)
+    Ok(listing.diagnosis)
 }
 
 /// Writes the listing of a filter's code, with the line and the column that each instruction comes from, or of a code file in
@@ -311,8 +314,8 @@ pub fn write_listing<W: Write>(
     ensures broken_off { IfErr result (λ fault. IsCutListing (stream_fault fault) size is_code source.now
         (W.contents writer.old) (W.contents writer.new)) }
 {
-    match write_told_listing(alloc, source, writer, size, is_code)? {
-        Some(told) => Ok(Some(told.refusal)),
+    match write_diagnosed_listing(alloc, source, writer, size, is_code)? {
+        Some(diagnosis) => Ok(Some(diagnosis.refusal)),
         None => Ok(None),
     }
 }

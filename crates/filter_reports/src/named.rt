@@ -12,13 +12,12 @@ ghost use Rattle.filter_reports.specs.Naming.{ListsNamedOff, TellsInWords, Tells
 ghost use Rattle.filter_reports.specs.Telling.{Explains, IsCutExplanation};
 
 use crate::check::{Checked, write_report};
-use crate::explanation::explain;
 use crate::fault::ProgramFault;
-use crate::listing::write_told_listing;
+use crate::listing::write_diagnosed_listing;
 use crate::refusal::refusal_line;
-use crate::shown::push_shown;
 use filter_source::{Diagnosis, Refusal};
 use line_protocol::write_text;
+use refusal_words::{explain, push_shown};
 use std::alloc::{AllocError, Global};
 use std::io::Write;
 
@@ -28,13 +27,13 @@ pub fn tell<E: Write>(
     errors: &mut E,
     name: &[u8],
     text: &[u8],
-    told: &Diagnosis,
+    diagnosis: &Diagnosis,
 ) -> Result<(), ProgramFault>
-    ensures ok { OnOk result (Explains name.now text.now (Some told.now) (E.contents errors.old) (E.contents errors.new)) }
+    ensures ok { OnOk result (Explains name.now text.now (Some diagnosis.now) (E.contents errors.old) (E.contents errors.new)) }
     ensures err { IfErr result (λ fault.
-        IsCutExplanation (stream_fault fault) name.now text.now told.now (E.contents errors.old) (E.contents errors.new)) }
+        IsCutExplanation (stream_fault fault) name.now text.now diagnosis.now (E.contents errors.old) (E.contents errors.new)) }
 {
-    let words = explain(alloc, name, text, told)?;
+    let words = explain(alloc, name, text, diagnosis)?;
     write_text(errors, words.as_slice())?;
     Ok(())
 }
@@ -81,14 +80,14 @@ pub fn tell_refusal<E: Write>(
     errors: &mut E,
     name: &[u8],
     text: &[u8],
-    told: &Option<Diagnosis>,
+    diagnosis: &Option<Diagnosis>,
     is_explained: bool,
 ) -> Result<(), ProgramFault>
-    ensures ok { OnOk result (TellsOf is_explained name.now text.now told.now (E.contents errors.old) (E.contents errors.new)) }
-    ensures err { IfErr result (λ fault. (why : TheDiagnosis) × (told.now ≡ Some why)
+    ensures ok { OnOk result (TellsOf is_explained name.now text.now diagnosis.now (E.contents errors.old) (E.contents errors.new)) }
+    ensures err { IfErr result (λ fault. (why : TheDiagnosis) × (diagnosis.now ≡ Some why)
         × IsCutTelling (stream_fault fault) is_explained name.now text.now why (E.contents errors.old) (E.contents errors.new)) }
 {
-    match told {
+    match diagnosis {
         None => Ok(()),
         Some(why) => {
             if is_explained {
@@ -119,8 +118,8 @@ pub fn check_named<W: Write, E: Write>(
         (W.contents writer.old) (W.contents writer.new) (E.contents errors.old) (E.contents errors.new)) }
 {
     let checked = write_report(alloc, text, writer, size, is_code)?;
-    let told = &checked.diagnosis;
-    tell_refusal(alloc, errors, name, text, told, is_explained)?;
+    let diagnosis = &checked.diagnosis;
+    tell_refusal(alloc, errors, name, text, diagnosis, is_explained)?;
     Ok(checked)
 }
 
@@ -130,14 +129,14 @@ fn tell_in_words<E: Write>(
     errors: &mut E,
     name: &[u8],
     text: &[u8],
-    told: &Option<Diagnosis>,
+    diagnosis: &Option<Diagnosis>,
     is_explained: bool,
 ) -> Result<(), ProgramFault>
-    ensures ok { OnOk result (TellsInWords is_explained name.now text.now told.now (E.contents errors.old) (E.contents errors.new)) }
-    ensures err { IfErr result (λ fault. (why : TheDiagnosis) × (told.now ≡ Some why)
+    ensures ok { OnOk result (TellsInWords is_explained name.now text.now diagnosis.now (E.contents errors.old) (E.contents errors.new)) }
+    ensures err { IfErr result (λ fault. (why : TheDiagnosis) × (diagnosis.now ≡ Some why)
         × IsCutExplanation (stream_fault fault) name.now text.now why (E.contents errors.old) (E.contents errors.new)) }
 {
-    match told {
+    match diagnosis {
         Some(why) if is_explained => tell(alloc, errors, name, text, why),
         _ => Ok(()),
     }
@@ -160,7 +159,7 @@ pub fn list_named<W: Write, E: Write>(
     ensures broken_off { IfErr result (λ fault. ListsNamedOff (stream_fault fault) size is_code name.now text.now
         (W.contents writer.old) (W.contents writer.new) (E.contents errors.old) (E.contents errors.new)) }
 {
-    let told = write_told_listing(alloc, text, writer, size, is_code)?;
-    tell_in_words(alloc, errors, name, text, &told, is_explained)?;
-    Ok(told)
+    let diagnosis = write_diagnosed_listing(alloc, text, writer, size, is_code)?;
+    tell_in_words(alloc, errors, name, text, &diagnosis, is_explained)?;
+    Ok(diagnosis)
 }

@@ -27,29 +27,29 @@ pub struct Report {
 }
 
 /// The report that ends with a refusal, after these lines.
-fn refused(mut text: Vec<u8>, told: Diagnosis) -> Result<Report, AllocError>
+fn refused(mut text: Vec<u8>, diagnosis: Diagnosis) -> Result<Report, AllocError>
     ensures text { IfOk result (λ report. report.text.items
-        ≡ text.items ++ refusal (refusal_code told.refusal) (place_in_line told.refusal 1)) }
-    ensures diagnosis { IfOk result (λ report. report.diagnosis ≡ Some told) }
+        ≡ text.items ++ refusal (refusal_code diagnosis.refusal) (place_in_line diagnosis.refusal 1)) }
+    ensures diagnosis { IfOk result (λ report. report.diagnosis ≡ Some diagnosis) }
 {
     push_refusal(
         &mut text,
-        told.refusal.code(),
-        told.refusal.place_in_line(FIRST_LINE),
+        diagnosis.refusal.code(),
+        diagnosis.refusal.place_in_line(FIRST_LINE),
     )?;
     Ok(Report {
         text,
-        diagnosis: Some(told),
+        diagnosis: Some(diagnosis),
     })
 }
 
 /// The report on an input that is refused: one line.
-pub fn report_refusal(alloc: Global, told: Diagnosis) -> Result<Report, AllocError>
-    ensures text { IfOk result (λ report. report_of report ≡ refusal_report told.refusal) }
+pub(crate) fn report_refusal(alloc: Global, diagnosis: Diagnosis) -> Result<Report, AllocError>
+    ensures text { IfOk result (λ report. report_of report ≡ refusal_report diagnosis.refusal) }
     ensures ends { IfOk result (λ report. EndsWith report.diagnosis report.text.items) }
-    ensures diagnosis { IfOk result (λ report. report.diagnosis ≡ Some told) }
+    ensures diagnosis { IfOk result (λ report. report.diagnosis ≡ Some diagnosis) }
 {
-    refused(Vec::new(alloc), told)
+    refused(Vec::new(alloc), diagnosis)
 }
 
 /// The line of a code file's bytes.
@@ -77,7 +77,7 @@ fn line_of_code(alloc: Global, code: &Code) -> Result<Vec<u8>, AllocError>
 
 /// The report on code whose instructions come from these places, for domains of a size: the code's line, and then its bounds or why it is
 /// refused.
-pub fn report_code(
+pub(crate) fn report_code(
     alloc: Global,
     code: Code,
     places: &[usize],
@@ -85,8 +85,8 @@ pub fn report_code(
 ) -> Result<Report, AllocError>
     ensures lines { IfOk result (λ report. IsCodeReport size code (report_of report)) }
     ensures ends { IfOk result (λ report. EndsWith report.diagnosis report.text.items) }
-    ensures told { IfOk result (λ report. IfSome report.diagnosis (λ told.
-        TellsOfCode code places.now size told × IsUnsafe code size told.refusal)) }
+    ensures diagnosis { IfOk result (λ report. IfSome report.diagnosis (λ diagnosis.
+        TellsOfCode code places.now size diagnosis × IsUnsafe code size diagnosis.refusal)) }
 {
     let mut text = line_of_code(alloc, &code)?;
     match verify_mapped(alloc, code, places, size) {
@@ -97,7 +97,7 @@ pub fn report_code(
                 diagnosis: None,
             })
         }
-        Err(Failure::Refused(told)) => refused(text, told),
+        Err(Failure::Refused(diagnosis)) => refused(text, diagnosis),
         Err(Failure::Memory) => Err(AllocError),
     }
 }

@@ -42,7 +42,7 @@ fn rewritten(alloc: Global, input: &[u8], is_old: bool) -> Result<Report, AllocE
 {
     match file_of(alloc, input, is_old) {
         Ok(bytes) => line_of(alloc, bytes.as_slice()),
-        Err(Failure::Refused(told)) => report_refusal(alloc, told),
+        Err(Failure::Refused(diagnosis)) => report_refusal(alloc, diagnosis),
         Err(Failure::Memory) => Err(AllocError),
     }
 }

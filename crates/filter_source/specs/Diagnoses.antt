@@ -41,15 +41,15 @@ TellsRound text (Verify why) around = around ≡ parser.nothing
 
 -- This is told of a text that gives no code, and of a code file that gives none.
 abbrev pub TellsOfText : List ℕ → Diagnosis → Type 0
-TellsOfText text told = (told ≡ of_source told.refusal told.around) × TellsRound text told.refusal told.around
+TellsOfText text diagnosis = (diagnosis ≡ of_source diagnosis.refusal diagnosis.around) × TellsRound text diagnosis.refusal diagnosis.around
 
 abbrev pub TellsOfFile : Diagnosis → Type 0
-TellsOfFile told = told ≡ of_source told.refusal parser.nothing
+TellsOfFile diagnosis = diagnosis ≡ of_source diagnosis.refusal parser.nothing
 
 -- the same of a source that is the one or the other
 abbrev pub TellsOfSource : Bool → List ℕ → Diagnosis → Type 0
-TellsOfSource true source told = TellsOfFile told
-TellsOfSource false source told = TellsOfText source told
+TellsOfSource true source diagnosis = TellsOfFile diagnosis
+TellsOfSource false source diagnosis = TellsOfText source diagnosis
 
 -- the instruction that the verifier refuses; the size of a domain, and memory, are about none
 abbrev pub refused_instruction : VerifyFault → Option ℕ
@@ -70,4 +70,4 @@ of_code why range places =
 -- This is told of code that is refused for domains of a size: the part of the text that gave the instruction, and the range that the
 -- verifier knows there.
 abbrev pub TellsOfCode : CodeView → List ℕ → ℕ → Diagnosis → Type 0
-TellsOfCode program places size told = (why : VerifyFault) × (told ≡ of_code why (refused_range program size why) places)
+TellsOfCode program places size diagnosis = (why : VerifyFault) × (diagnosis ≡ of_code why (refused_range program size why) places)

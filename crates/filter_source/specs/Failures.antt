@@ -26,16 +26,16 @@ use Rattle.filter_source.specs.declared.refusal.Refusal.TheVariants.{Hexadecimal
 
 -- this holds of the refusal, or of what is told of it; of refused memory nothing is said
 abbrev pub OnRefusal : (Refusal → Type 0) → Failure → Type 0
-OnRefusal P (Refused told) = P told.refusal
+OnRefusal P (Refused diagnosis) = P diagnosis.refusal
 OnRefusal P Memory = ⊤
 
 abbrev pub OnDiagnosis : (Diagnosis → Type 0) → Failure → Type 0
-OnDiagnosis P (Refused told) = P told
+OnDiagnosis P (Refused diagnosis) = P diagnosis
 OnDiagnosis P Memory = ⊤
 
 -- the refusal, if it is one
 abbrev pub refusal_of : Failure → Option Refusal
-refusal_of (Refused told) = Some told.refusal
+refusal_of (Refused diagnosis) = Some diagnosis.refusal
 refusal_of Memory = None
 
 abbrev pub of_digits : FromHexError → Failure

@@ -21,9 +21,9 @@ use crate::refusal::Refusal;
 use code_file::{read_code, write_code, write_old};
 use filter_code::Code;
 use filter_compiler::{MappedCode, compile_mapped};
-use filter_parser::parse_told;
+use filter_parser::parse_explained;
 use filter_tokens::Token;
-use filter_types::check_told;
+use filter_types::check_explained;
 use filter_verifier::{Range, Unverified, Verified, VerifyFault, verify_or_tell};
 use std::alloc::Global;
 
@@ -59,10 +59,10 @@ pub fn compile_text_mapped(alloc: Global, text: &[u8]) -> Result<CompiledSource,
     ensures places { IfOk result (λ compiled. ArePlacesOf text.now compiled.places.items) }
     ensures tokens { IfOk result (λ compiled. IsTokenization compiled.tokens.items 0 text.now) }
     ensures refused { IfErr result (OnRefusal (spec.IsRefusedText text.now)) }
-    ensures told { IfErr result (OnDiagnosis (TellsOfText text.now)) }
+    ensures diagnosis { IfErr result (OnDiagnosis (TellsOfText text.now)) }
 {
-    let filter = parse_told(alloc, text)?;
-    let typed = check_told(alloc, filter)?;
+    let filter = parse_explained(alloc, text)?;
+    let typed = check_explained(alloc, filter)?;
     let MappedCode { code, places } = compile_mapped(alloc, &typed)?;
     let filter = typed.into_filter();
     Ok(CompiledSource {
@@ -76,7 +76,7 @@ pub fn compile_text_mapped(alloc: Global, text: &[u8]) -> Result<CompiledSource,
 pub fn compile_text(alloc: Global, text: &[u8]) -> Result<Code, Failure>
     ensures code { IfOk result (λ code. (filter : FilterView) × spec.Translates text.now filter code) }
     ensures refused { IfErr result (OnRefusal (spec.IsRefusedText text.now)) }
-    ensures told { IfErr result (OnDiagnosis (TellsOfText text.now)) }
+    ensures diagnosis { IfErr result (OnDiagnosis (TellsOfText text.now)) }
 {
     let compiled = compile_text_mapped(alloc, text)?;
     Ok(compiled.code)
@@ -86,7 +86,7 @@ pub fn compile_text(alloc: Global, text: &[u8]) -> Result<Code, Failure>
 pub fn read_file(alloc: Global, bytes: &[u8]) -> Result<Code, Failure>
     ensures code { MatchResult result (λ code. spec.code_in_file bytes.now ≡ Ok code)
         (OnRefusal (λ why. spec.code_in_file bytes.now ≡ Err why)) }
-    ensures told { IfErr result (OnDiagnosis TellsOfFile) }
+    ensures diagnosis { IfErr result (OnDiagnosis TellsOfFile) }
 {
     Ok(read_code(alloc, bytes)?)
 }
@@ -96,7 +96,7 @@ pub fn write_file(alloc: Global, code: &Code, is_old: bool) -> Result<Vec<u8>, F
     ensures written { IfOk result (λ bytes. IsCodeIn (spec.version_for is_old) code.now
         × (bytes.items ≡ spelling_in (spec.version_for is_old) code.now)) }
     ensures refused { IfErr result (OnRefusal (spec.IsUnwritten is_old code.now)) }
-    ensures told { IfErr result (OnDiagnosis TellsOfFile) }
+    ensures diagnosis { IfErr result (OnDiagnosis TellsOfFile) }
 {
     if is_old {
         Ok(write_old(alloc, code)?)
@@ -109,7 +109,7 @@ pub fn write_file(alloc: Global, code: &Code, is_old: bool) -> Result<Vec<u8>, F
 pub fn read_hexadecimal(alloc: Global, digits: &[u8]) -> Result<Code, Failure>
     ensures code { MatchResult result (λ code. spec.code_in_hexadecimal digits.now ≡ Ok code)
         (OnRefusal (λ why. spec.code_in_hexadecimal digits.now ≡ Err why)) }
-    ensures told { IfErr result (OnDiagnosis TellsOfFile) }
+    ensures diagnosis { IfErr result (OnDiagnosis TellsOfFile) }
 {
     let bytes = hex::decode(alloc, digits)?;
     read_file(alloc, bytes.as_slice())
@@ -136,7 +136,7 @@ pub fn verify_mapped(
     ensures verified { IfOk result (λ v. (v ≡ record { program = code; size = size }) × (the_fault code size ≡ None)) }
     ensures safe { OnOk result (IsSafe code size) }
     ensures refused { IfErr result (OnRefusal (spec.IsUnsafe code size)) }
-    ensures told { IfErr result (OnDiagnosis (TellsOfCode code places.now size)) }
+    ensures diagnosis { IfErr result (OnDiagnosis (TellsOfCode code places.now size)) }
     ensures bad_size { IfErr result (λ e. (refusal_of e ≡ Some (refusal.Verify fault.BadSize)) ↔ (is_size size ≡ false)) }
 {
     match verify_or_tell(alloc, code, size) {
@@ -151,7 +151,7 @@ pub fn verify_code(alloc: Global, code: Code, size: u32) -> Result<Verified, Fai
     ensures verified { IfOk result (λ v. (v ≡ record { program = code; size = size }) × (the_fault code size ≡ None)) }
     ensures safe { OnOk result (IsSafe code size) }
     ensures refused { IfErr result (OnRefusal (spec.IsUnsafe code size)) }
-    ensures told { IfErr result (OnDiagnosis (TellsOfCode code [] size)) }
+    ensures diagnosis { IfErr result (OnDiagnosis (TellsOfCode code [] size)) }
     ensures bad_size { IfErr result (λ e. (refusal_of e ≡ Some (refusal.Verify fault.BadSize)) ↔ (is_size size ≡ false)) }
 {
     verify_mapped(alloc, code, &[], size)

@@ -47,7 +47,7 @@ pub enum ByteClass {
 }
 
 /// The number of bytes of this kind at the front of a text.
-pub fn leading_len(class: ByteClass, text: &[u8]) -> usize
+pub(crate) fn leading_len(class: ByteClass, text: &[u8]) -> usize
     ensures len { result ≡ prefix_len (is_in class) text.now }
     ensures within { result ≤ length text.now }
 {
@@ -73,7 +73,7 @@ fn is_in(class: ByteClass, byte: u8) -> bool
 }
 
 /// Whether a word can begin with this byte.
-pub fn begins_word(byte: u8) -> bool
+pub(crate) fn begins_word(byte: u8) -> bool
     ensures { result ≡ begins_word byte }
 {
     FLAGS[byte as usize] & BEGINS_WORD != 0
@@ -87,7 +87,7 @@ pub fn continues_word(byte: u8) -> bool
 }
 
 /// Whether the byte is a punctuator whatever follows it: neither a longer one nor a comment begins with it.
-pub fn stands_alone(byte: u8) -> bool
+pub(crate) fn stands_alone(byte: u8) -> bool
     ensures { result ≡ stands_alone byte }
 {
     FLAGS[byte as usize] & STANDS_ALONE != 0

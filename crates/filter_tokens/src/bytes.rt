@@ -10,7 +10,7 @@ use crate::token_kind::TokenKind;
 
 /// The part at the front of a text, where the first byte tells it whatever follows, as it does of most parts.
 #[inline(always)]
-pub fn leading_byte(text: &[u8]) -> Option<Part>
+pub(crate) fn leading_byte(text: &[u8]) -> Option<Part>
     ensures part { IfSome result (λ part. spec.part_in text.now ≡ Some part) }
     ensures found { spec.leading_byte text.now ≡ result }
 {

@@ -10,7 +10,7 @@ use crate::byte_class::{ByteClass, continues_word, leading_len};
 /// The number of bytes of space or of a comment at the front of a text: 0 where neither begins there.
 /// None for a comment that does not end.
 #[tactic(auto, unfolding(crate::specs::Reading::gap_len))]
-pub fn gap_len(text: &[u8]) -> Option<usize>
+pub(crate) fn gap_len(text: &[u8]) -> Option<usize>
     ensures { spec.gap_len text.now ≡ result }
 {
     let Some((first, others)) = text.split_first() else {

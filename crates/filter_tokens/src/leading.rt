@@ -14,7 +14,7 @@ use prefix_patterns::{leading_number, leading_written};
 const USUAL_ROOM: usize = 20;
 
 /// The token at the front of a text that begins with a digit, where it is a prefix in the usual spelling or a decimal number.
-pub fn digits_token(text: &[u8]) -> Option<Part>
+pub(crate) fn digits_token(text: &[u8]) -> Option<Part>
     ensures token { IfSome result (λ part. token_in text.now ≡ Some part) }
     ensures usual { (rest : List ℕ) → BeginsWith IsUsualPrefix text.now rest → ¬ BeginsWithDigit rest → IsSome result }
     ensures number { IsSome (number_ahead text.now) → IsSome result }
@@ -66,7 +66,7 @@ fn usual_token(text: &[u8]) -> Option<Part>
 
 /// The token at the front of a text, where it is a prefix in the usual spelling: in no number of it more than three digits.
 #[inline(always)]
-pub fn prefix_token(text: &[u8]) -> Option<Part>
+fn prefix_token(text: &[u8]) -> Option<Part>
     ensures token { IfSome result (λ part. token_in text.now ≡ Some part) }
     // A prefix in the usual spelling is read in one pass.
     ensures usual { (rest : List ℕ) → BeginsWith IsUsualPrefix text.now rest → ¬ BeginsWithDigit rest → IsSome result }
@@ -87,7 +87,7 @@ pub fn prefix_token(text: &[u8]) -> Option<Part>
 
 /// The token at the front of a text, where it is a decimal number, and what follows its digits makes no longer token of them.
 #[inline(always)]
-pub fn number_token(text: &[u8]) -> Option<Part>
+fn number_token(text: &[u8]) -> Option<Part>
     ensures exact { result ≡ number_ahead text.now }
     ensures token { IfSome result (λ part. token_in text.now ≡ Some part) }
 {

@@ -18,7 +18,7 @@ use prefix_patterns::{read_ip, read_number, read_written};
 const NAME_LIMIT: usize = 64;
 
 /// The word that bytes of a shape mean. They begin at `at`.
-pub fn meaning(shape: Shape, bytes: &[u8], at: usize) -> Result<TokenKind, TokenFault>
+pub(crate) fn meaning(shape: Shape, bytes: &[u8], at: usize) -> Result<TokenKind, TokenFault>
     ensures is { spec.OkWhereSome result (spec.meaning_in shape bytes.now) }
     ensures placed { IfErr result (λ fault. fault_place fault ≡ at) }
 {

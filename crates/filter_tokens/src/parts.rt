@@ -14,7 +14,7 @@ use crate::part::Part;
 use crate::shapes::longest_shape;
 
 /// The part at the front of a text that has a byte at least. The text begins at `at`.
-pub fn next_part(text: &[u8], at: usize) -> Result<Part, TokenFault>
+pub(crate) fn next_part(text: &[u8], at: usize) -> Result<Part, TokenFault>
     ensures is { spec.OkWhereSome result (spec.part_in text.now) }
     ensures within { IfOk result (λ part. (0 < part_len part) × (part_len part ≤ length text.now)) }
     ensures placed { IfErr result (λ fault. fault_place fault ≡ at) }

@@ -12,7 +12,7 @@ use prefix_patterns::after_byte;
 
 /// The longest shape at the front of a text, and what follows it.
 #[tactic(auto, unfolding(crate::specs::Reading::longest_shape))]
-pub fn longest_shape(text: &[u8]) -> Option<(Shape, &[u8])>
+pub(crate) fn longest_shape(text: &[u8]) -> Option<(Shape, &[u8])>
     ensures { spec.longest_shape text.now ≡ option_map (λ found. (found.0, found.1.now)) result }
 {
     let (first, others) = text.split_first()?;

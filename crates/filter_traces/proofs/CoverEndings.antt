@@ -45,11 +45,11 @@ counts_tell t s input short h =
     (same_lines t false (slice_index s.counts.items) (hits t (numbered input)) all same)))
 
 -- what was written of the commands
-pub told : (t : TracedView) (s : Counter) (known left held mid holds : Option (List ℕ)) (n : ℕ)
+pub diagnosis : (t : TracedView) (s : Counter) (known left held mid holds : Option (List ℕ)) (n : ℕ)
     → IfSome known (λ input. AnswersEach (cover_answer t.size) input left held mid n × HasCounted t (numbered input) s × (length input ≤ routes_limit))
     → Appends mid holds (lines_among s.traced (slice_index s.counts.items) (length s.counts.items))
     → IfSome known (λ input. CoversEach t input left held holds n)
-told t s known left held mid holds n counted written =
+diagnosis t s known left held mid holds n counted written =
     if_known known (λ input f. record { mid = mid; answered = f.0; written = subst (Appends mid holds) (counts_tell t s input f.2 f.1) written }) counted
 
 -- and where that was cut

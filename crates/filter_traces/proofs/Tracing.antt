@@ -9,9 +9,9 @@ use Rattle.filter_verifier.specs.Safe.{IsSafe}
 use Rattle.filter_verifier.specs.VerifiedView.{VerifiedView}
 use Rattle.filter_traces.specs.TracedView.{TracedView}
 use Rattle.filter_traces.specs.Whys.{IsTraceOf, site_in}
-use Rattle.filter_traces.specs.declared.site.Site.{Site}
+use Rattle.filter_traces.specs.declared.site.InstructionSite.{InstructionSite}
 
-pub traced_of : (source : List ℕ) (nodes : ℕ) (places shown : List ℕ) (sites : List Site) (v : VerifiedView) (t : TracedView)
+pub traced_of : (source : List ℕ) (nodes : ℕ) (places shown : List ℕ) (sites : List InstructionSite) (v : VerifiedView) (t : TracedView)
     → IsVerifiedOf nodes source v → ArePlacesOf source places → shown ≡ places → sites ≡ map (site_in source) shown
     → t ≡ record { program = v.program; size = v.size; text = source; sites = sites }
     → (filter : FilterView) × IsTraceOf source nodes filter t

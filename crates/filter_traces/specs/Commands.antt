@@ -7,7 +7,7 @@ use Rattle.std.specs.Str.{bytes_eq}
 use Rattle.filter_code.specs.declared.instruction.Instr.{Instr}
 use Rattle.filter_code.specs.declared.instruction.Instr.TheVariants as instr
 use Rattle.filter_traces.specs.Sites.{site_text, word_of}
-use Rattle.filter_traces.specs.Told.{is_declaration}
+use Rattle.filter_traces.specs.Shown.{is_declaration}
 use Rattle.filter_traces.specs.TracedView.{TracedView}
 
 -- whether an instruction is that of a command: `accept`, `reject`, an assignment, or the condition of an `if`; its word is this one

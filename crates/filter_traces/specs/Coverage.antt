@@ -73,8 +73,8 @@ pub record CoversEach (t : TracedView) (input : List ℕ) (left held holds : Opt
 -- A run was answered to its end. A refused filter answers no route, and no line is read; otherwise the commands of the text are told, each
 -- with the number of the routes that came to it.
 abbrev pub Covers : ℕ → List ℕ → List ℕ → Option (List ℕ) → Option (List ℕ) → Option (List ℕ) → Filtered → Type 0
-Covers size text input left held holds (Refused told) =
-    IsDiagnosis size false text told × (left ≡ Some input) × Appends held holds (refusal_line told.refusal)
+Covers size text input left held holds (Refused diagnosis) =
+    IsDiagnosis size false text diagnosis × (left ≡ Some input) × Appends held holds (refusal_line diagnosis.refusal)
 Covers size text input left held holds (Answered refused) =
     (filter : FilterView) × (t : TracedView) × IsTraceOf text size filter t × CoversEach t input left held holds refused
 

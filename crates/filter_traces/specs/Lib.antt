@@ -7,4 +7,4 @@ pub mod Commands
 pub mod Hits
 pub mod Sites
 pub mod Steps
-pub mod Told
+pub mod Shown

@@ -1,7 +1,7 @@
 -- Where in a filter's text an instruction comes from, and the word that stands there. (This project's own choice.)
 use Rattle.std.specs.Prelude.{ℕ, ◌==◌, ◌&&◌, ◌||◌, Bool, nat_le, max, List, [], ◌∷◌, ◌++◌}
 use Rattle.std.specs.Prelude.{Option, Some, None, decimal, drop, length, take, take_while}
-use Rattle.filter_traces.specs.declared.site.Site.{Site}
+use Rattle.filter_traces.specs.declared.site.InstructionSite.{InstructionSite}
 
 -- a byte of a name, a keyword or a number
 abbrev pub is_word_byte : ℕ → Bool
@@ -20,11 +20,11 @@ abbrev pub word_at : List ℕ → ℕ → List ℕ
 word_at text byte = take (word_length (drop byte text)) (drop byte text)
 
 -- the word at a site, if there is one
-abbrev pub word_of : List ℕ → Option Site → List ℕ
+abbrev pub word_of : List ℕ → Option InstructionSite → List ℕ
 word_of text None = []
 word_of text (Some site) = word_at text site.byte
 
 -- the line and the column of a site
-abbrev pub site_text : Option Site → List ℕ
+abbrev pub site_text : Option InstructionSite → List ℕ
 site_text None = []
 site_text (Some site) = decimal site.line ++ 58 ∷ [] ++ decimal site.column

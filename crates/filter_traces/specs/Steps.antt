@@ -4,7 +4,7 @@ use Rattle.filter_code.specs.CodeView.{CodeView}
 use Rattle.filter_code.specs.Machine.{State, Going, Ended, after}
 use Rattle.filter_code.specs.RouteView.{RouteView}
 use Rattle.filter_code.specs.declared.instruction.Instr.{Instr}
-use Rattle.filter_traces.specs.Told.{seen, step_line}
+use Rattle.filter_traces.specs.Shown.{seen, step_line}
 use Rattle.filter_traces.specs.TracedView.{TracedView}
 use Rattle.filter_traces.specs.declared.seen.Seen.{Seen}
 

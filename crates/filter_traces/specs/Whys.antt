@@ -21,16 +21,16 @@ use Rattle.route_answers.specs.RouteLine.{line_code, route_in}
 use Rattle.route_answers.specs.declared.line_fault.LineFault.{LineFault}
 use Rattle.filter_reports.specs.VerifiedFilters.{refusal_line}
 use Rattle.route_answers.specs.Filtering.{AnswersEach, AnswersFirst, BreaksOff}
-use Rattle.filter_reports.specs.Places.{column_at, line_at}
+use Rattle.refusal_words.specs.Places.{column_at, line_at}
 use Rattle.route_answers.specs.declared.filter.Filtered.{Filtered}
 use Rattle.route_answers.specs.declared.filter.Filtered.TheVariants.{Refused, Answered}
 use Rattle.filter_traces.specs.Sites.{site_text}
 use Rattle.filter_traces.specs.Steps.{all_lines, deciding_place}
 use Rattle.filter_traces.specs.TracedView.{TracedView}
-use Rattle.filter_traces.specs.declared.site.Site.{Site}
+use Rattle.filter_traces.specs.declared.site.InstructionSite.{InstructionSite}
 
 -- the site of a byte of a text
-abbrev pub site_in : List ℕ → ℕ → Site
+abbrev pub site_in : List ℕ → ℕ → InstructionSite
 site_in text byte = record { byte = byte; line = line_at text byte; column = column_at text byte }
 
 -- A text spells this filter. Its code never goes wrong in domains of this size, and this is where in the text each instruction of it
@@ -89,8 +89,8 @@ code_why t line = why_run t line.0 (route_in (Some t.size) line.1)
 -- A run was answered to its end. A refused filter answers no route, and no line is read; otherwise it is told of each line what the
 -- text means for its route, and why.
 abbrev pub Whys : ℕ → List ℕ → List ℕ → Option (List ℕ) → Option (List ℕ) → Option (List ℕ) → Filtered → Type 0
-Whys size text input left held holds (Refused told) =
-    IsDiagnosis size false text told × (left ≡ Some input) × Appends held holds (refusal_line told.refusal)
+Whys size text input left held holds (Refused diagnosis) =
+    IsDiagnosis size false text diagnosis × (left ≡ Some input) × Appends held holds (refusal_line diagnosis.refusal)
 Whys size text input left held holds (Answered refused) =
     (filter : FilterView) × (t : TracedView) × IsTraceOf text size filter t × AnswersEach (why_answer filter t) input left held holds refused
 

@@ -150,9 +150,9 @@ pub fn cover_routes<R: Read, W: Write>(
             let refused = cover_lines(alloc, counter, reader, writer)?;
             Ok(Filtered::Answered(refused))
         }
-        Err(Failure::Refused(told)) => {
-            write_refusal(alloc, writer, told.refusal)?;
-            Ok(Filtered::Refused(told))
+        Err(Failure::Refused(diagnosis)) => {
+            write_refusal(alloc, writer, diagnosis.refusal)?;
+            Ok(Filtered::Refused(diagnosis))
         }
         Err(Failure::Memory) => Err(ProgramFault::MEMORY),
     }

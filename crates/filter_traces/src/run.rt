@@ -7,7 +7,7 @@
 ghost use Rattle.std.specs.Prelude.{◌≡◌, ◌++◌, IfOk, OnOk, MatchOption, slice_get};
 ghost use Rattle.filter_code.specs.Machine.{Ended, Going, outcome_of, step};
 ghost use Rattle.filter_traces.specs.Steps.{all_lines, deciding_place, line_between, line_by};
-ghost use Rattle.filter_traces.specs.Told.{seen};
+ghost use Rattle.filter_traces.specs.Shown.{seen};
 
 use crate::seen::Seen;
 use crate::traced::Traced;
@@ -16,7 +16,7 @@ use std::alloc::{AllocError, Global};
 
 /// A run that has come to its end.
 #[derive(Drop)]
-pub(crate) struct ToldRun {
+pub(crate) struct ShownRun {
     /// How it ended.
     pub(crate) outcome: Outcome,
     /// The place of the instruction that ended it.
@@ -53,7 +53,7 @@ impl<'a> Traced<'a> {
         ensures stepped { IfOk result (λ ended. MatchOption ended
             (step self.now.program route.now running.old ≡ Going running.new)
             (λ end. step self.now.program route.now running.old ≡ Ended end)) }
-        ensures told { IfOk result (λ ended. out.new.items
+        ensures shown_step { IfOk result (λ ended. out.new.items
             ≡ out.old.items ++ line_between self.now (Going running.old) (step self.now.program route.now running.old)) }
     {
         let place = running.place();
@@ -73,7 +73,7 @@ impl<'a> Traced<'a> {
     }
 
     /// The run on a route.
-    pub(crate) fn tell_run(&self, alloc: Global, route: &Route) -> Result<ToldRun, AllocError>
+    pub(crate) fn tell_run(&self, alloc: Global, route: &Route) -> Result<ShownRun, AllocError>
         ensures outcome { IfOk result (λ run. run.outcome ≡ outcome_of self.now.program route.now) }
         ensures place { IfOk result (λ run. run.place ≡ deciding_place self.now.program route.now) }
         ensures lines { IfOk result (λ run. run.lines.items ≡ all_lines self.now route.now) }
@@ -85,7 +85,7 @@ impl<'a> Traced<'a> {
             place = running.place();
             match self.tell_step(alloc, route, &mut running, &mut lines)? {
                 Some(outcome) => {
-                    return Ok(ToldRun {
+                    return Ok(ShownRun {
                         outcome,
                         place,
                         lines,
@@ -94,7 +94,7 @@ impl<'a> Traced<'a> {
                 None => {}
             }
         }
-        Ok(ToldRun {
+        Ok(ShownRun {
             outcome: Outcome::Fault(FaultKind::OutsideCode, running.place()),
             place,
             lines,

@@ -2,14 +2,14 @@
 ghost use Rattle.std.specs.Prelude.{◌≡◌, ◌≤◌, ◌++◌, ◌&&◌, not, OnOk, slice_get};
 ghost use Rattle.filter_code.specs.Limits.{instruction_limit};
 ghost use Rattle.filter_code.specs.Names.{truth_text};
-ghost use Rattle.filter_traces.specs.Told.{compared, is_declaration, is_negated, is_not, is_told, left_of, operand_text, right_text, same_byte};
-ghost use Rattle.filter_traces.specs.Told.{sign, step_line, told, told_line, truth_given, value_text};
+ghost use Rattle.filter_traces.specs.Shown.{compared, is_declaration, is_negated, is_not, is_shown, left_of, operand_text, right_text, same_byte};
+ghost use Rattle.filter_traces.specs.Shown.{sign, step_line, shown_step, shown_line, truth_given, value_text};
 
-use crate::site::{Site, push_site, word_of};
+use crate::site::{InstructionSite, push_site, word_of};
 use crate::traced::Traced;
 use filter_code::{Instr, Value};
-use filter_reports::push_prefix;
 use line_protocol::push_decimal;
+use refusal_words::push_prefix;
 use std::alloc::{AllocError, Global};
 
 /// What is seen of a step.
@@ -133,7 +133,7 @@ fn push_compared(
 }
 
 /// Puts what is told of an instruction at the end of `out`. A word stands where it comes from.
-fn push_told(
+fn push_instruction(
     alloc: Global,
     out: &mut Vec<u8>,
     word: &[u8],
@@ -141,7 +141,7 @@ fn push_told(
     instr: Instr,
     seen: Seen,
 ) -> Result<(), AllocError>
-    ensures { OnOk result (out.new.items ≡ out.old.items ++ told word.now negated instr seen) }
+    ensures { OnOk result (out.new.items ≡ out.old.items ++ shown_step word.now negated instr seen) }
 {
     match instr {
         Instr::Store(_) => {
@@ -166,8 +166,8 @@ fn push_told(
 }
 
 /// Whether something is told of an instruction.
-fn is_told(instr: &Instr) -> bool
-    ensures { result ≡ is_told instr.now }
+fn is_shown(instr: &Instr) -> bool
+    ensures { result ≡ is_shown instr.now }
 {
     matches!(
         instr,
@@ -191,7 +191,7 @@ fn is_not(instr: Option<Instr>) -> bool
 }
 
 /// Whether two instructions come from the same byte.
-fn same_byte(site: Option<Site>, other: Option<Site>) -> bool
+fn same_byte(site: Option<InstructionSite>, other: Option<InstructionSite>) -> bool
     ensures { result ≡ same_byte site other }
 {
     match (site, other) {
@@ -226,14 +226,14 @@ impl<'a> Traced<'a> {
         seen: Seen,
     ) -> Result<(), AllocError>
         requires { at ≤ instruction_limit }
-        ensures { OnOk result (out.new.items ≡ out.old.items ++ told_line self.now at instr seen) }
+        ensures { OnOk result (out.new.items ≡ out.old.items ++ shown_line self.now at instr seen) }
     {
         let site = self.site(at);
         let negated = self.is_negated(at);
         out.extend_from_slice(b"  ")?;
         push_site(out, site)?;
         out.push(b' ')?;
-        push_told(alloc, out, word_of(self.text(), site), negated, instr, seen)?;
+        push_instruction(alloc, out, word_of(self.text(), site), negated, instr, seen)?;
         out.push(b'\n')?;
         Ok(())
     }
@@ -250,7 +250,7 @@ impl<'a> Traced<'a> {
         requires { at ≤ instruction_limit }
         ensures { OnOk result (out.new.items ≡ out.old.items ++ step_line self.now at instr seen) }
     {
-        if is_told(&instr) && !self.is_declaration(at) {
+        if is_shown(&instr) && !self.is_declaration(at) {
             self.push_line(alloc, out, at, instr, seen)
         } else {
             Ok(())

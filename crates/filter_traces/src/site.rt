@@ -10,7 +10,7 @@ use std::alloc::AllocError;
 
 /// Where an instruction comes from.
 #[derive(Clone, Copy)]
-pub(crate) struct Site {
+pub(crate) struct InstructionSite {
     /// The byte of the text.
     pub(crate) byte: usize,
     /// The number of its line, counted from 1.
@@ -72,7 +72,7 @@ fn word_at(text: &[u8], byte: usize) -> &[u8]
 }
 
 /// The word at a site, if there is one.
-pub(crate) fn word_of(text: &[u8], site: Option<Site>) -> &[u8]
+pub(crate) fn word_of(text: &[u8], site: Option<InstructionSite>) -> &[u8]
     ensures { result.now ≡ word_of text.now site }
 {
     match site {
@@ -82,7 +82,7 @@ pub(crate) fn word_of(text: &[u8], site: Option<Site>) -> &[u8]
 }
 
 /// Puts the line and the column of a site at the end of `out`.
-pub(crate) fn push_site(out: &mut Vec<u8>, site: Option<Site>) -> Result<(), AllocError>
+pub(crate) fn push_site(out: &mut Vec<u8>, site: Option<InstructionSite>) -> Result<(), AllocError>
     ensures { OnOk result (out.new.items ≡ out.old.items ++ site_text site) }
 {
     match site {

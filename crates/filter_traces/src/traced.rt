@@ -6,11 +6,12 @@ ghost use Rattle.filter_parser.specs.SyntaxText.{FilterView};
 ghost use Rattle.filter_source.specs.Failures.{OnDiagnosis};
 ghost use Rattle.filter_traces.specs.Whys.{IsTraceOf, site_in};
 
-use crate::site::Site;
+use crate::site::InstructionSite;
 use filter_code::{Code, Instr};
-use filter_reports::{PlacedCode, Positions, placed_code};
+use filter_reports::{PlacedCode, placed_code};
 use filter_source::Failure;
 use filter_verifier::Verified;
+use refusal_words::Positions;
 use std::alloc::{AllocError, Global};
 use std::marker::Model;
 
@@ -21,7 +22,7 @@ use std::marker::Model;
 pub(crate) struct Traced<'a> {
     verified: Verified,
     text: &'a [u8],
-    sites: Vec<Site>,
+    sites: Vec<InstructionSite>,
 }
 
 impl<'a> Model for Traced<'a> {
@@ -46,7 +47,7 @@ fn instr_at(instrs: &[Instr], at: usize) -> Option<Instr>
 
 impl<'a> Traced<'a> {
     /// The filter of verified code, of a text and of where in it each instruction comes from.
-    pub(crate) fn new(verified: Verified, text: &'a [u8], sites: Vec<Site>) -> Traced<'a>
+    pub(crate) fn new(verified: Verified, text: &'a [u8], sites: Vec<InstructionSite>) -> Traced<'a>
         ensures { result ≡ record { program = verified.program; size = verified.size; text = text.now; sites = sites.items } }
     {
         Traced {
@@ -86,7 +87,7 @@ impl<'a> Traced<'a> {
     }
 
     /// Where the instruction at a place comes from.
-    pub(crate) fn site(&self, at: usize) -> Option<Site>
+    pub(crate) fn site(&self, at: usize) -> Option<InstructionSite>
         ensures { result ≡ slice_get self.now.sites at }
     {
         self.sites.get(at).copied()
@@ -94,14 +95,18 @@ impl<'a> Traced<'a> {
 }
 
 /// The sites of some bytes of a text.
-fn sites_in(alloc: Global, text: &[u8], places: &[usize]) -> Result<Vec<Site>, AllocError>
+fn sites_in(
+    alloc: Global,
+    text: &[u8],
+    places: &[usize],
+) -> Result<Vec<InstructionSite>, AllocError>
     ensures { IfOk result (λ sites. sites.items ≡ map (site_in text.now) places.now) }
 {
     let positions = Positions::new(alloc, text)?;
     let mut sites = Vec::with_capacity(alloc, places.len())?;
     for place in places {
         let position = positions.of(*place);
-        sites.push(Site {
+        sites.push(InstructionSite {
             byte: *place,
             line: position.line,
             column: position.column,

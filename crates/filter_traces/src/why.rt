@@ -7,13 +7,14 @@ ghost use Rattle.route_answers.specs.Filtering.{AnswersEach, AnswersFirst};
 ghost use Rattle.filter_traces.specs.Sites.{site_text};
 ghost use Rattle.filter_traces.specs.Whys.{Whys, WhysOff, code_why, outcome_words, route_text, why_text};
 
-use crate::run::ToldRun;
+use crate::run::ShownRun;
 use crate::site::push_site;
 use crate::traced::{Traced, trace_filter};
 use filter_code::{Outcome, Route};
-use filter_reports::{ProgramFault, push_prefix, write_refusal};
+use filter_reports::{ProgramFault, write_refusal};
 use filter_source::Failure;
 use line_protocol::{LineReply, Service, answer_lines_within, push_decimal, push_refusal};
+use refusal_words::push_prefix;
 use route_answers::{Filtered, ROUTES_LIMIT, read_route};
 use std::alloc::{AllocError, Global};
 use std::io::{Read, Write};
@@ -42,7 +43,12 @@ fn push_outcome(out: &mut Vec<u8>, outcome: Outcome) -> Result<(), AllocError>
 
 impl<'a> Traced<'a> {
     /// The line on a route, whose run is told.
-    fn route_line(&self, alloc: Global, route: &Route, run: &ToldRun) -> Result<Vec<u8>, AllocError>
+    fn route_line(
+        &self,
+        alloc: Global,
+        route: &Route,
+        run: &ShownRun,
+    ) -> Result<Vec<u8>, AllocError>
         ensures { IfOk result (λ line. line.items ≡ route_text route.now ++ 32 ∷ [] ++ outcome_words run.now.outcome ++ 32 ∷ []
             ++ site_text (slice_get self.now.sites run.now.place) ++ 10 ∷ []) }
     {
@@ -158,9 +164,9 @@ pub fn explain_routes<R: Read, W: Write>(
             let refused = answer_whys(alloc, traced, reader, writer)?;
             Ok(Filtered::Answered(refused))
         }
-        Err(Failure::Refused(told)) => {
-            write_refusal(alloc, writer, told.refusal)?;
-            Ok(Filtered::Refused(told))
+        Err(Failure::Refused(diagnosis)) => {
+            write_refusal(alloc, writer, diagnosis.refusal)?;
+            Ok(Filtered::Refused(diagnosis))
         }
         Err(Failure::Memory) => Err(ProgramFault::MEMORY),
     }

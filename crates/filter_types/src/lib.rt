@@ -14,4 +14,4 @@ mod typed;
 mod variables;
 
 pub use fault::{ExpectedKind, TypeFault};
-pub use typed::{Typed, Untyped, check, check_told};
+pub use typed::{Typed, Untyped, check, check_explained};

@@ -93,7 +93,7 @@ fn judge(alloc: Global, filter: &Filter) -> Result<(), TypeFault>
 }
 
 /// A filter, if its names and kinds fit, or its first fault and what stands round the place: what [`check`] answers, with more to tell people.
-pub fn check_told(alloc: Global, filter: Filter) -> Result<Typed, Untyped>
+pub fn check_explained(alloc: Global, filter: Filter) -> Result<Typed, Untyped>
     ensures same { IfOk result (λ typed. typed ≡ filter) }
     ensures typed { IfOk result (λ _. IsTyped (view_filter filter)) }
     ensures refused { IfErr result (λ why. why.fault ≢ fault.Memory → IsTyped (view_filter filter) → ⊥) }
@@ -123,7 +123,7 @@ pub fn check(alloc: Global, filter: Filter) -> Result<Typed, TypeFault>
     ensures fault { IfErr result (λ why. why ≢ fault.Memory → IsFaultOf filter why) }
     ensures placed { IfErr result (λ why. why ≢ fault.Memory → KeepsPlace filter (fault_place why)) }
 {
-    match check_told(alloc, filter) {
+    match check_explained(alloc, filter) {
         Ok(typed) => Ok(typed),
         Err(untyped) => Err(untyped.fault),
     }

@@ -37,7 +37,7 @@ impl Model for AbstractFrame {
 }
 
 /// Puts the facts of some places, the top first, on an empty stack. False if and only if one of them is not known.
-pub fn fill(stack: &mut Stack<Fact>, places: &[Option<Fact>]) -> bool
+pub(crate) fn fill(stack: &mut Stack<Fact>, places: &[Option<Fact>]) -> bool
     requires empty { stack.old ≡ [] }
     requires limit { length places.now ≤ stack_limit }
     ensures known { IsTrue result → all_known places.now ≡ Some stack.new }
@@ -53,7 +53,7 @@ pub fn fill(stack: &mut Stack<Fact>, places: &[Option<Fact>]) -> bool
 }
 
 /// The facts of a stack, the top first, in the memory of some places, which are dropped. The stack is then empty.
-pub fn refilled(
+pub(crate) fn refilled(
     places: Vec<Option<Fact>>,
     stack: &mut Stack<Fact>,
 ) -> Result<Vec<Option<Fact>>, AllocError>

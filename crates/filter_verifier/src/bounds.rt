@@ -34,7 +34,7 @@ fn greatest(costs: &[u32], successors: Successors) -> u32
 
 /// The most instructions on any path from the first one to ACCEPT or REJECT.
 #[tactic(auto, using(crate::proofs::Budgets::costs_at))]
-pub fn budget_of(alloc: Global, instrs: &[Instr]) -> Result<u32, AllocError>
+pub(crate) fn budget_of(alloc: Global, instrs: &[Instr]) -> Result<u32, AllocError>
     requires { length instrs.now ≤ instruction_limit }
     ensures { IfOk result (λ budget. budget ≡ cost instrs.now 0) }
 {

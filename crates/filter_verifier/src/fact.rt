@@ -53,7 +53,7 @@ impl Fact {
 }
 
 /// The join of what is known at a place on two paths. None if it is not known on one of them, or if the kinds differ.
-pub fn join_two_at(a: &Option<Fact>, b: &Option<Fact>) -> Option<Fact>
+pub(crate) fn join_two_at(a: &Option<Fact>, b: &Option<Fact>) -> Option<Fact>
     ensures { result ≡ join_two_at a.now b.now }
 {
     match (a, b) {

@@ -28,7 +28,7 @@ fn read_literal(instr: &Instr)
 }
 
 /// Reads the literal of each instruction.
-pub fn read_literals(instrs: &[Instr])
+pub(crate) fn read_literals(instrs: &[Instr])
     ensures { All HasLiteral instrs.now }
 {
     for instr in instrs {

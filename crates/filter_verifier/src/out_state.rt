@@ -91,7 +91,7 @@ fn out_state_of_frame(
 
 /// The out-state of the instruction at an index, from its in-state. The operands are on an empty stack meanwhile, which is empty again
 /// unless the instruction is refused: one stack serves a whole sweep, and what an in-state holds becomes what the out-state holds.
-pub fn out_state(
+pub(crate) fn out_state(
     code: &Code,
     size: u32,
     at: usize,

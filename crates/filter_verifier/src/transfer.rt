@@ -178,7 +178,7 @@ fn load(locals: &[Option<Fact>], local: u8) -> Result<Fact, FaultKind>
 
 /// Applies one instruction of a code to what is known, in a domain of a size.
 /// After a fault the stack and the local variables are unspecified.
-pub fn transfer(
+pub(crate) fn transfer(
     instr: Instr,
     size: u32,
     code: &Code,

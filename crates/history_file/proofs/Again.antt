@@ -32,8 +32,8 @@ use Rattle.history_file.specs.Reading.{first_event, first_filter, first_keyword,
 use Rattle.history_file.specs.Reading.{opening_parts, reply_of, unless_fault, verified_code, via_of}
 use Rattle.history_file.specs.Text.{event_words, filter_words, message_word, opening_words, reply_words, via_words}
 use Rattle.history_file.specs.Views.{EntryView, EventView, Up, Down, Receive, Take, SetImport, SetExport, Show}
-use Rattle.history_file.specs.declared.keyword.Keyword.{Keyword}
-use Rattle.history_file.specs.declared.keyword.Keyword.TheVariants as word
+use Rattle.history_file.specs.declared.keyword.HistoryKeyword.{HistoryKeyword}
+use Rattle.history_file.specs.declared.keyword.HistoryKeyword.TheVariants as word
 
 number_again : (most n : ℕ) (ws : List (List ℕ)) → n ≤ most → n < 2 ^ 64 → first_number most (decimal n ∷ ws) ≡ Some (n, ws)
 unfolding first_number
@@ -45,7 +45,7 @@ small_again n ws h = number_again largest_number n ws h (omega arith)
 session_again : (n : ℕ) (ws : List (List ℕ)) → n ≤ largest_session → first_number largest_session (decimal n ∷ ws) ≡ Some (n, ws)
 session_again n ws h = number_again largest_session n ws h (omega arith)
 
-keyword_text_again : (k : Keyword) → keyword_in (keyword_text k) ≡ Some k
+keyword_text_again : (k : HistoryKeyword) → keyword_in (keyword_text k) ≡ Some k
 unfolding keyword_in
 keyword_text_again word.Up = refl
 keyword_text_again word.Down = refl
@@ -63,7 +63,7 @@ keyword_text_again word.Local = refl
 keyword_text_again word.Via = refl
 keyword_text_again word.Nowhere = refl
 
-keyword_again : (k : Keyword) (ws : List (List ℕ)) → first_keyword (keyword_text k ∷ ws) ≡ Some (k, ws)
+keyword_again : (k : HistoryKeyword) (ws : List (List ℕ)) → first_keyword (keyword_text k ∷ ws) ≡ Some (k, ws)
 unfolding first_keyword
 keyword_again k ws = rw (keyword_text_again k) refl
 

@@ -25,8 +25,8 @@ use Rattle.history_file.specs.Fits.{FitsEntry, FitsEvent, FitsFilter, FitsMessag
 use Rattle.history_file.specs.Keywords.{keyword_text}
 use Rattle.history_file.specs.Text.{event_words, filter_words, message_word, opening_words, reply_words, via_words}
 use Rattle.history_file.specs.Views.{EntryView, EventView, Up, Down, Receive, Take, SetImport, SetExport, Show}
-use Rattle.history_file.specs.declared.keyword.Keyword.{Keyword}
-use Rattle.history_file.specs.declared.keyword.Keyword.TheVariants as word
+use Rattle.history_file.specs.declared.keyword.HistoryKeyword.{HistoryKeyword}
+use Rattle.history_file.specs.declared.keyword.HistoryKeyword.TheVariants as word
 
 -- a word that computes to plain bytes
 pub computed : (w : List ℕ) → 0 < length w → list_all (nat_lt 32) w ≡ true → IsPlain w
@@ -38,7 +38,7 @@ computed w some each = record {
 pub plain-mark : IsPlain (codes "NCH1")
 plain-mark = computed (codes "NCH1") (lit< tt) refl
 
-pub plain-keyword : (k : Keyword) → IsPlain (keyword_text k)
+pub plain-keyword : (k : HistoryKeyword) → IsPlain (keyword_text k)
 plain-keyword word.Up = computed (keyword_text word.Up) (lit< tt) refl
 plain-keyword word.Down = computed (keyword_text word.Down) (lit< tt) refl
 plain-keyword word.Receive = computed (keyword_text word.Receive) (lit< tt) refl

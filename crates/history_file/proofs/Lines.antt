@@ -14,8 +14,8 @@ use Rattle.history_file.specs.Fits.{FitsEntry, FitsOpening}
 use Rattle.history_file.specs.Reading.{IsRead, OpeningParts, entry_in, opening_parts}
 use Rattle.history_file.specs.Text.{entry_line, event_words, opening_line, opening_words, reply_words}
 use Rattle.history_file.specs.Views.{EntryView, entry_view}
-use Rattle.history_file.specs.declared.fault.LineFault.{LineFault}
-use Rattle.history_file.specs.declared.fault.LineFault.TheVariants as fault
+use Rattle.history_file.specs.declared.fault.HistoryLineFault.{HistoryLineFault}
+use Rattle.history_file.specs.declared.fault.HistoryLineFault.TheVariants as fault
 
 -- what an opening's line says
 abbrev pub parts_of : OpeningView → ℕ → OpeningParts
@@ -77,12 +77,12 @@ no_opening_other line p some other o limit h is =
     subst (λ q. (FitsOpening (opening_from q) q.limit → line ≡ opening_line (opening_from q) q.limit → ⊥)) (sym same) other h is
 
 -- what reading a line by its words says of a fault
-pub entry_unread : (at : ℕ) (line : List ℕ) (f : LineFault) → at < 2 ^ 64 → IsRead entry_view (entry_in (words line)) (Err f) →
+pub entry_unread : (at : ℕ) (line : List ℕ) (f : HistoryLineFault) → at < 2 ^ 64 → IsRead entry_view (entry_in (words line)) (Err f) →
     f ≡ fault.Form → IsNoEntry at line
 entry_unread at line fault.Form fits none is = no_entry_unread at line fits none
 entry_unread at line fault.Memory fits any is = absurd cc
 
-pub opening_unread : {X : Type 0} (view : X → OpeningParts) (line : List ℕ) (f : LineFault) →
+pub opening_unread : {X : Type 0} (view : X → OpeningParts) (line : List ℕ) (f : HistoryLineFault) →
     IsRead view (opening_parts (words line)) (Err f) → f ≡ fault.Form → IsNoOpening line
 opening_unread view line fault.Form none is = no_opening_unread line none
 opening_unread view line fault.Memory any is = absurd cc

@@ -10,7 +10,7 @@ use Rattle.history_file.specs.Segments.{AddsState, end_text, filters_text, mark_
 use Rattle.history_file.specs.Keywords.{keyword_text}
 use Rattle.history_file.specs.Segments.{link_words, node_line, use_words}
 use Rattle.history_file.specs.Text.{message_word, spaced}
-use Rattle.history_file.specs.declared.keyword.Keyword.TheVariants as word
+use Rattle.history_file.specs.declared.keyword.HistoryKeyword.TheVariants as word
 use Rattle.history_file.specs.declared.numbering.Uses.{Uses}
 
 -- one part before the others

@@ -24,7 +24,7 @@ use Rattle.history_file.specs.Reading.{OpeningParts, all_messages, first_filter,
 use Rattle.history_file.specs.Segments.{AreUses, IsOneState, IsStateText, IsTable, IsUse, end_text, filters_text, filter_line, link_words, mark_line, node_line, node_text}
 use Rattle.history_file.specs.Segments.{node_words, nodes_text, place_line, place_words, queue_line, queue_text, state_text, use_words, uses_at}
 use Rattle.history_file.specs.Text.{filter_words, message_word, opening_words, spaced}
-use Rattle.history_file.specs.declared.keyword.Keyword.TheVariants as word
+use Rattle.history_file.specs.declared.keyword.HistoryKeyword.TheVariants as word
 use Rattle.history_file.specs.declared.numbering.Uses.{Uses}
 
 some_is : {A : Type 0} (x y : A) → Some x ≡ Some y → x ≡ y

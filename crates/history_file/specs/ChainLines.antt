@@ -5,7 +5,7 @@ use Rattle.history_file.specs.Replays.{verdict_line}
 use Rattle.history_file.specs.declared.chain.Chain.{Chain}
 use Rattle.history_file.specs.declared.chain.ChainFault.{ChainFault}
 use Rattle.history_file.specs.declared.chain.ChainFault.TheVariants as fault
-use Rattle.history_file.specs.declared.verdict.Verdict.TheVariants as verdict
+use Rattle.history_file.specs.declared.verdict.ReplayVerdict.TheVariants as verdict
 
 -- where the first segment begins, if it does not begin at 0
 abbrev pub from_words : ℕ → List ℕ

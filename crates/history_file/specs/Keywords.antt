@@ -1,14 +1,15 @@
 -- The fixed words of a history's text. (This project's own choice.)
 use Rattle.std.specs.Prelude.{ℕ, Bool, List, [], ◌∷◌, Option, find, codes}
 use Rattle.std.specs.Str.{bytes_eq}
+use Rattle.line_protocol.specs.Words.{is_spelled}
 use Rattle.netchange_core.specs.Codes.{refusal_code}
 use Rattle.netchange_core.specs.declared.reply.EventRefusal.{EventRefusal}
 use Rattle.netchange_core.specs.declared.reply.EventRefusal.TheVariants as refusal
-use Rattle.history_file.specs.declared.keyword.Keyword.{Keyword}
-use Rattle.history_file.specs.declared.keyword.Keyword.TheVariants as word
+use Rattle.history_file.specs.declared.keyword.HistoryKeyword.{HistoryKeyword}
+use Rattle.history_file.specs.declared.keyword.HistoryKeyword.TheVariants as word
 
 -- how each is written
-abbrev pub keyword_text : Keyword → List ℕ
+abbrev pub keyword_text : HistoryKeyword → List ℕ
 keyword_text word.Up = codes "up"
 keyword_text word.Down = codes "down"
 keyword_text word.Receive = codes "recv"
@@ -26,17 +27,13 @@ keyword_text word.Via = codes "via"
 keyword_text word.Nowhere = codes "none"
 
 -- all of them
-abbrev pub keywords : List Keyword
+abbrev pub keywords : List HistoryKeyword
 keywords = word.Up ∷ word.Down ∷ word.Receive ∷ word.Take ∷ word.Import ∷ word.Export ∷ word.Show ∷ word.Opened ∷ word.Done
     ∷ word.Messages ∷ word.Route ∷ word.Refused ∷ word.Local ∷ word.Via ∷ word.Nowhere ∷ []
 
--- whether a keyword is written so
-abbrev pub is_spelled : List ℕ → Keyword → Bool
-is_spelled text keyword = bytes_eq (keyword_text keyword) text
-
 -- the keyword that is written so
-unfoldable pub keyword_in : List ℕ → Option Keyword
-keyword_in text = find (is_spelled text) keywords
+unfoldable pub keyword_in : List ℕ → Option HistoryKeyword
+keyword_in text = find (is_spelled keyword_text text) keywords
 
 -- all reasons of a refusal
 abbrev pub refusals : List EventRefusal

@@ -16,10 +16,10 @@ use Rattle.prefix_patterns.specs.Reading.{◌>>=◌, number_in, parts_at, prefix
 use Rattle.history_file.specs.Fits.{largest_number, largest_session, largest_limit}
 use Rattle.history_file.specs.Keywords.{keyword_in, refusal_in}
 use Rattle.history_file.specs.Views.{EventView, Up, Down, Receive, Take, SetImport, SetExport, Show, EntryView}
-use Rattle.history_file.specs.declared.fault.LineFault.{LineFault}
-use Rattle.history_file.specs.declared.fault.LineFault.TheVariants as fault
-use Rattle.history_file.specs.declared.keyword.Keyword.{Keyword}
-use Rattle.history_file.specs.declared.keyword.Keyword.TheVariants as word
+use Rattle.history_file.specs.declared.fault.HistoryLineFault.{HistoryLineFault}
+use Rattle.history_file.specs.declared.fault.HistoryLineFault.TheVariants as fault
+use Rattle.history_file.specs.declared.keyword.HistoryKeyword.{HistoryKeyword}
+use Rattle.history_file.specs.declared.keyword.HistoryKeyword.TheVariants as word
 
 -- what is read, and the words after it
 abbrev pub Read : Type 0 → Type 0
@@ -43,7 +43,7 @@ first_number most ws = do
   Some (n, w.1)
 
 -- a keyword
-unfoldable pub first_keyword : List (List ℕ) → Read Keyword
+unfoldable pub first_keyword : List (List ℕ) → Read HistoryKeyword
 first_keyword ws = do
   w ← first_word ws
   k ← keyword_in w.0
@@ -67,7 +67,7 @@ first_filter ws = do
   Some (f, digits.1)
 
 -- an event, by its keyword
-unfoldable pub event_of : Keyword → List (List ℕ) → Read EventView
+unfoldable pub event_of : HistoryKeyword → List (List ℕ) → Read EventView
 event_of word.Up ws = do
   node ← first_number largest_number ws
   Some (Up node.0, node.1)
@@ -102,7 +102,7 @@ first_event ws = do
   event_of k.0 k.1
 
 -- through whom a route goes, by its keyword, where nothing follows
-unfoldable pub via_of : Keyword → List (List ℕ) → Option Via
+unfoldable pub via_of : HistoryKeyword → List (List ℕ) → Option Via
 via_of word.Local ws = do
   end ← no_more ws
   Some via.Local
@@ -137,7 +137,7 @@ all_messages (w ∷ ws) = do
   Some (m ∷ ms)
 
 -- a reply, by its keyword, where nothing follows
-unfoldable pub reply_of : Keyword → List (List ℕ) → Option Reply
+unfoldable pub reply_of : HistoryKeyword → List (List ℕ) → Option Reply
 reply_of word.Opened ws = do
   session ← first_number largest_session ws
   end ← no_more session.1
@@ -199,7 +199,7 @@ opening_parts ws = do
 
 -- What a reader gave, seen by view, is what the words write; a fault of the form says that they write nothing, and refused
 -- memory says nothing of them.
-abbrev pub IsRead : {X A : Type 0} → (X → A) → Option A → Result X LineFault → Type 0
+abbrev pub IsRead : {X A : Type 0} → (X → A) → Option A → Result X HistoryLineFault → Type 0
 IsRead view found (Ok x) = found ≡ Some (view x)
 IsRead view found (Err fault.Form) = found ≡ None
 IsRead view found (Err fault.Memory) = ⊤

@@ -8,8 +8,8 @@ use Rattle.route_history.specs.declared.entry.Entry.{Entry}
 use Rattle.history_file.specs.Files.{IsRead, IsUnended, IsWrongAt, history_view}
 use Rattle.history_file.specs.Text.{reply_words, spaced}
 use Rattle.history_file.specs.declared.history.SavedHistory.{SavedHistory}
-use Rattle.history_file.specs.declared.verdict.Verdict.{Verdict}
-use Rattle.history_file.specs.declared.verdict.Verdict.TheVariants as verdict
+use Rattle.history_file.specs.declared.verdict.ReplayVerdict.{ReplayVerdict}
+use Rattle.history_file.specs.declared.verdict.ReplayVerdict.TheVariants as verdict
 
 -- each reply is right, of so many entries, and so many bytes follow the last whole line
 pub record IsRight (s : SavedHistory) (entries unfinished : ℕ) : Type 0 where
@@ -34,30 +34,30 @@ pub record IsCutAfter (s : SavedHistory) (line : ℕ) : Type 0 where
   pub line_is : line ≡ entries + 2
 
 -- the verdict on a history that was read
-abbrev pub IsVerdictOn : SavedHistory → Verdict → Type 0
+abbrev pub IsVerdictOn : SavedHistory → ReplayVerdict → Type 0
 IsVerdictOn s (verdict.Replays entries) = IsRight s entries 0
 IsVerdictOn s (verdict.Differs at saved right) = IsDifference s at saved right
 IsVerdictOn s (verdict.Cut line) = IsCutAfter s line
 IsVerdictOn s (verdict.Wrong line) = ⊥
 
 -- the verdict on the history that bytes tell
-abbrev pub IsVerdictOnRead : List ℕ → Verdict → Type 0
+abbrev pub IsVerdictOnRead : List ℕ → ReplayVerdict → Type 0
 IsVerdictOnRead bytes v = (s : SavedHistory) × IsRead bytes (history_view s) s.unfinished × IsVerdictOn s v
 
 -- the verdict on the bytes of a file
-abbrev pub IsVerdict : List ℕ → Verdict → Type 0
+abbrev pub IsVerdict : List ℕ → ReplayVerdict → Type 0
 IsVerdict bytes (verdict.Replays entries) = IsVerdictOnRead bytes (verdict.Replays entries)
 IsVerdict bytes (verdict.Differs at saved right) = IsVerdictOnRead bytes (verdict.Differs at saved right)
 IsVerdict bytes (verdict.Cut line) = ((line ≡ 1) × IsUnended bytes) ⊎ IsVerdictOnRead bytes (verdict.Cut line)
 IsVerdict bytes (verdict.Wrong line) = IsWrongAt bytes line
 
 -- whether it is the text of a right history, to its end
-abbrev pub is_right : Verdict → Bool
+abbrev pub is_right : ReplayVerdict → Bool
 is_right (verdict.Replays entries) = true
 is_right _ = false
 
 -- the line of a verdict
-abbrev pub verdict_line : Verdict → List ℕ
+abbrev pub verdict_line : ReplayVerdict → List ℕ
 verdict_line (verdict.Replays entries) = codes "replay ok " ++ decimal entries ++ 10 ∷ []
 verdict_line (verdict.Differs at saved right) =
     codes "differs " ++ decimal at ++ codes " saved" ++ spaced (reply_words saved) ++ codes " right" ++ spaced (reply_words right) ++ 10 ∷ []

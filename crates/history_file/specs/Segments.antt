@@ -9,7 +9,7 @@ use Rattle.netchange_core.specs.declared.message.Message.{Message}
 use Rattle.history_file.specs.Fits.{FitsFilter, FitsOpening}
 use Rattle.history_file.specs.Keywords.{keyword_text}
 use Rattle.history_file.specs.Text.{filter_words, message_word, opening_words, spaced}
-use Rattle.history_file.specs.declared.keyword.Keyword.TheVariants as word
+use Rattle.history_file.specs.declared.keyword.HistoryKeyword.TheVariants as word
 use Rattle.history_file.specs.declared.numbering.Uses.{Uses}
 
 -- the line of its opening: the form's mark, the size, the node, the room of the router, and each node's prefix

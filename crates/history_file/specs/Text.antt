@@ -13,7 +13,7 @@ use Rattle.netchange_core.specs.declared.reply.Via.TheVariants as via
 use Rattle.prefix_patterns.specs.Spelling.{prefix_text}
 use Rattle.history_file.specs.Keywords.{keyword_text}
 use Rattle.history_file.specs.Views.{EventView, Up, Down, Receive, Take, SetImport, SetExport, Show, EntryView, HistoryView}
-use Rattle.history_file.specs.declared.keyword.Keyword.TheVariants as word
+use Rattle.history_file.specs.declared.keyword.HistoryKeyword.TheVariants as word
 
 -- words, each after a space
 abbrev pub spaced : List (List ℕ) → List ℕ

@@ -4,7 +4,7 @@ ghost use Rattle.route_history.specs.declared.entry.Entry.{Entry as Pair};
 ghost use Rattle.history_file.specs.Chains as spec;
 ghost use Rattle.history_file.specs.Segments.{IsStateText};
 
-use crate::fault::LineFault;
+use crate::fault::HistoryLineFault;
 use crate::history::read_entry;
 use crate::state::write_state;
 use crate::state_lines::{StateParts, read_mark, read_parts};
@@ -37,12 +37,12 @@ pub enum ChainFault {
 }
 
 /// What is wrong with the line of this number.
-pub(crate) fn fault_at(number: u64, fault: LineFault) -> ChainFault
+pub(crate) fn fault_at(number: u64, fault: HistoryLineFault) -> ChainFault
     ensures { spec.IsStateFault result }
 {
     match fault {
-        LineFault::Form => ChainFault::Line(number),
-        LineFault::Memory => ChainFault::Memory,
+        HistoryLineFault::Form => ChainFault::Line(number),
+        HistoryLineFault::Memory => ChainFault::Memory,
     }
 }
 
@@ -157,8 +157,8 @@ impl Chain {
     {
         let entry = match read_entry(alloc, self.next, line) {
             Ok(entry) => entry,
-            Err(LineFault::Form) => return Err(ChainFault::Line(number)),
-            Err(LineFault::Memory) => return Err(ChainFault::Memory),
+            Err(HistoryLineFault::Form) => return Err(ChainFault::Line(number)),
+            Err(HistoryLineFault::Memory) => return Err(ChainFault::Memory),
         };
         let Ok(right) = self.tables.apply(&entry.event) else {
             return Err(ChainFault::Memory);

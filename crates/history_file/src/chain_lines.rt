@@ -4,7 +4,7 @@ ghost use Rattle.std.specs.Io.{StartsWith};
 ghost use Rattle.history_file.specs.ChainLines as spec;
 
 use crate::chain::{Chain, ChainFault};
-use crate::verdict::{Verdict, push_verdict};
+use crate::verdict::{ReplayVerdict, push_verdict};
 use line_protocol::{push_decimal, push_refusal};
 use std::alloc::AllocError;
 
@@ -53,10 +53,10 @@ fn push_fault(out: &mut Vec<u8>, fault: ChainFault) -> Result<(), AllocError>
 {
     match fault {
         ChainFault::Differs { at, saved, right } => {
-            push_verdict(out, &Verdict::Differs { at, saved, right })
+            push_verdict(out, &ReplayVerdict::Differs { at, saved, right })
         }
-        ChainFault::Cut(line) => push_verdict(out, &Verdict::Cut(line)),
-        ChainFault::Line(line) => push_verdict(out, &Verdict::Wrong(line)),
+        ChainFault::Cut(line) => push_verdict(out, &ReplayVerdict::Cut(line)),
+        ChainFault::Line(line) => push_verdict(out, &ReplayVerdict::Wrong(line)),
         ChainFault::Unreached => push_refusal(out, "H2", 2),
         ChainFault::Apart => push_refusal(out, "H3", 2),
         ChainFault::Memory => Err(AllocError),

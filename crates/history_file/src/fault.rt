@@ -1,6 +1,6 @@
 //! What is wrong with a line, and what ends the reading of a file.
 ghost use Rattle.std.specs.Prelude.{◌≡◌};
-ghost use Rattle.history_file.specs.declared.fault.LineFault.TheVariants as line;
+ghost use Rattle.history_file.specs.declared.fault.HistoryLineFault.TheVariants as line;
 ghost use Rattle.history_file.specs.declared.fault.HistoryFault.TheVariants as history;
 
 use std::alloc::{AllocError, AllocFailed};
@@ -8,26 +8,26 @@ use thiserror::Error;
 
 /// Why a line gives nothing.
 #[derive(Clone, Copy, PartialEq, Eq)]
-pub(crate) enum LineFault {
+pub(crate) enum HistoryLineFault {
     /// It is not the line that a history has here.
     Form,
     /// Memory was refused, and nothing is known of the line.
     Memory,
 }
 
-impl From<AllocError> for LineFault {
+impl From<AllocError> for HistoryLineFault {
     ghost from_gives = { λ _ e. e ≡ line.Memory };
 
-    fn from(_error: AllocError) -> LineFault {
-        LineFault::Memory
+    fn from(_error: AllocError) -> HistoryLineFault {
+        HistoryLineFault::Memory
     }
 }
 
-impl<T: Drop> From<AllocFailed<T>> for LineFault {
+impl<T: Drop> From<AllocFailed<T>> for HistoryLineFault {
     ghost from_gives = { λ _ e. e ≡ line.Memory };
 
-    fn from(_error: AllocFailed<T>) -> LineFault {
-        LineFault::Memory
+    fn from(_error: AllocFailed<T>) -> HistoryLineFault {
+        HistoryLineFault::Memory
     }
 }
 

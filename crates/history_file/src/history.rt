@@ -5,7 +5,7 @@ ghost use Rattle.history_file.specs.Fits.{FitsEntry, FitsOpening, largest_limit}
 ghost use Rattle.history_file.specs.Text.{entry_line, opening_line};
 ghost use Rattle.history_file.specs.Views.{entry_view};
 
-use crate::fault::{HistoryFault, LineFault};
+use crate::fault::{HistoryFault, HistoryLineFault};
 use crate::reading::{entry_in, opening_parts};
 use crate::writing::{push_entry, push_opening};
 use netchange_core::Opening;
@@ -27,10 +27,10 @@ pub struct SavedHistory {
 }
 
 /// The opening and the limit that a line tells.
-fn read_opening(alloc: Global, line: &[u8]) -> Result<(Opening, u32), LineFault>
+fn read_opening(alloc: Global, line: &[u8]) -> Result<(Opening, u32), HistoryLineFault>
     ensures { MatchResult result
         (λ r. FitsOpening r.0 r.1 × (line.now ≡ opening_line r.0 r.1))
-        (λ fault. fault ≡ LineFault.Form → spec.IsNoOpening line.now) }
+        (λ fault. fault ≡ HistoryLineFault.Form → spec.IsNoOpening line.now) }
 {
     let parts = match opening_parts(alloc, line) {
         Ok(parts) => parts,
@@ -38,24 +38,24 @@ fn read_opening(alloc: Global, line: &[u8]) -> Result<(Opening, u32), LineFault>
     };
     let limit = parts.limit;
     let Some(opening) = Opening::new(parts.size, parts.me, parts.prefixes) else {
-        return Err(LineFault::Form);
+        return Err(HistoryLineFault::Form);
     };
     if limit == 0 {
-        return Err(LineFault::Form);
+        return Err(HistoryLineFault::Form);
     }
     let mut again = Vec::with_capacity(alloc, line.len())?;
     push_opening(alloc, &mut again, &opening, limit)?;
     if again.as_slice() != line {
-        return Err(LineFault::Form);
+        return Err(HistoryLineFault::Form);
     }
     Ok((opening, limit))
 }
 
 /// The entry that a line tells at a position.
-pub(crate) fn read_entry(alloc: Global, at: u64, line: &[u8]) -> Result<Entry, LineFault>
+pub(crate) fn read_entry(alloc: Global, at: u64, line: &[u8]) -> Result<Entry, HistoryLineFault>
     ensures { MatchResult result
         (λ e. FitsEntry (entry_view e) × (line.now ≡ entry_line at (entry_view e)))
-        (λ fault. fault ≡ LineFault.Form → spec.IsNoEntry at line.now) }
+        (λ fault. fault ≡ HistoryLineFault.Form → spec.IsNoEntry at line.now) }
 {
     let entry = match entry_in(alloc, line) {
         Ok(entry) => entry,
@@ -64,7 +64,7 @@ pub(crate) fn read_entry(alloc: Global, at: u64, line: &[u8]) -> Result<Entry, L
     let mut again = Vec::with_capacity(alloc, line.len())?;
     push_entry(alloc, &mut again, at, entry.as_ref())?;
     if again.as_slice() != line {
-        return Err(LineFault::Form);
+        return Err(HistoryLineFault::Form);
     }
     Ok(entry)
 }
@@ -84,8 +84,8 @@ pub fn read_history(alloc: Global, bytes: &[u8]) -> Result<SavedHistory, History
     };
     match read_opening(alloc, first) {
         Ok((opening, limit)) => read_rest(alloc, opening, limit, rest),
-        Err(LineFault::Form) => Err(HistoryFault::Line(1)),
-        Err(LineFault::Memory) => Err(HistoryFault::Memory),
+        Err(HistoryLineFault::Form) => Err(HistoryFault::Line(1)),
+        Err(HistoryLineFault::Memory) => Err(HistoryFault::Memory),
     }
 }
 
@@ -128,8 +128,8 @@ fn read_entries(
         };
         match read_entry(alloc, u64::from(at), line) {
             Ok(entry) => entries.push(entry)?,
-            Err(LineFault::Form) => return Err(HistoryFault::Line(at + 2)),
-            Err(LineFault::Memory) => return Err(HistoryFault::Memory),
+            Err(HistoryLineFault::Form) => return Err(HistoryFault::Line(at + 2)),
+            Err(HistoryLineFault::Memory) => return Err(HistoryFault::Memory),
         }
         rest = later;
     }

@@ -2,11 +2,12 @@
 ghost use Rattle.std.specs.Prelude.{◌≡◌, find};
 ghost use Rattle.history_file.specs.Keywords as spec;
 
+use line_protocol::{Spelled, first_spelled};
 use netchange_core::EventRefusal;
 
 /// A word that says what follows it.
 #[derive(Clone, Copy, PartialEq, Eq)]
-pub(crate) enum Keyword {
+pub(crate) enum HistoryKeyword {
     /// `up`
     Up,
     /// `down`
@@ -40,22 +41,22 @@ pub(crate) enum Keyword {
 }
 
 /// All of them.
-static KEYWORDS: [Keyword; 15] = [
-    Keyword::Up,
-    Keyword::Down,
-    Keyword::Receive,
-    Keyword::Take,
-    Keyword::Import,
-    Keyword::Export,
-    Keyword::Show,
-    Keyword::Opened,
-    Keyword::Done,
-    Keyword::Messages,
-    Keyword::Route,
-    Keyword::Refused,
-    Keyword::Local,
-    Keyword::Via,
-    Keyword::Nowhere,
+static KEYWORDS: [HistoryKeyword; 15] = [
+    HistoryKeyword::Up,
+    HistoryKeyword::Down,
+    HistoryKeyword::Receive,
+    HistoryKeyword::Take,
+    HistoryKeyword::Import,
+    HistoryKeyword::Export,
+    HistoryKeyword::Show,
+    HistoryKeyword::Opened,
+    HistoryKeyword::Done,
+    HistoryKeyword::Messages,
+    HistoryKeyword::Route,
+    HistoryKeyword::Refused,
+    HistoryKeyword::Local,
+    HistoryKeyword::Via,
+    HistoryKeyword::Nowhere,
 ];
 
 /// All reasons of a refusal.
@@ -69,51 +70,38 @@ static REFUSALS: [EventRefusal; 7] = [
     EventRefusal::NoSession,
 ];
 
-impl Keyword {
+impl Spelled for HistoryKeyword {
     ghost use Rattle.history_file.specs.Keywords.{keyword_text};
 
-    /// How it is written.
-    pub(crate) fn text(&self) -> &'static str
-        ensures { result.now ≡ keyword_text self.now }
-    {
+    ghost spelling = { keyword_text };
+
+    fn text(&self) -> &'static str {
         match self {
-            Keyword::Up => "up",
-            Keyword::Down => "down",
-            Keyword::Receive => "recv",
-            Keyword::Take => "take",
-            Keyword::Import => "import",
-            Keyword::Export => "export",
-            Keyword::Show => "show",
-            Keyword::Opened => "opened",
-            Keyword::Done => "done",
-            Keyword::Messages => "messages",
-            Keyword::Route => "route",
-            Keyword::Refused => "refused",
-            Keyword::Local => "local",
-            Keyword::Via => "via",
-            Keyword::Nowhere => "none",
+            HistoryKeyword::Up => "up",
+            HistoryKeyword::Down => "down",
+            HistoryKeyword::Receive => "recv",
+            HistoryKeyword::Take => "take",
+            HistoryKeyword::Import => "import",
+            HistoryKeyword::Export => "export",
+            HistoryKeyword::Show => "show",
+            HistoryKeyword::Opened => "opened",
+            HistoryKeyword::Done => "done",
+            HistoryKeyword::Messages => "messages",
+            HistoryKeyword::Route => "route",
+            HistoryKeyword::Refused => "refused",
+            HistoryKeyword::Local => "local",
+            HistoryKeyword::Via => "via",
+            HistoryKeyword::Nowhere => "none",
         }
     }
 }
 
 /// The keyword that is written so.
 #[tactic(auto, unfolding(crate::specs::Keywords::keyword_in))]
-pub(crate) fn find_keyword(word: &[u8]) -> Option<Keyword>
+pub(crate) fn find_keyword(word: &[u8]) -> Option<HistoryKeyword>
     ensures { spec.keyword_in word.now ≡ result }
 {
     first_spelled(&KEYWORDS, word)
-}
-
-/// The first of the keywords that is written so.
-fn first_spelled(keywords: &[Keyword], word: &[u8]) -> Option<Keyword>
-    ensures { find (spec.is_spelled word.now) keywords.now ≡ result }
-{
-    for keyword in keywords {
-        if keyword.text().as_bytes() == word {
-            return Some(*keyword);
-        }
-    }
-    None
 }
 
 /// The refusal that has this code.

@@ -27,5 +27,5 @@ pub use fault::HistoryFault;
 pub use history::{SavedHistory, read_history};
 pub use laws::{chains_are_legal, one_history, one_state, segments_are_one_history};
 pub use state::write_state;
-pub use verdict::{Verdict, judge, push_verdict};
+pub use verdict::{ReplayVerdict, judge, push_verdict};
 pub use writing::{push_entry, write_entry, write_opening};

@@ -13,8 +13,8 @@ ghost use Rattle.history_file.specs.Fits.{largest_limit, largest_number, largest
 ghost use Rattle.history_file.specs.Reading as spec;
 ghost use Rattle.history_file.specs.Views.{entry_view, event_view};
 
-use crate::fault::LineFault;
-use crate::keyword::{Keyword, find_keyword, find_refusal};
+use crate::fault::HistoryLineFault;
+use crate::keyword::{HistoryKeyword, find_keyword, find_refusal};
 use filter_source::{Failure, read_hexadecimal, verify_code};
 use filter_verifier::Verified;
 use line_protocol::next_word;
@@ -25,47 +25,47 @@ use std::alloc::Global;
 use std::sync::Arc;
 
 /// The first word of a line, and the bytes after it.
-pub(crate) fn first_word(line: &[u8]) -> Result<(&[u8], &[u8]), LineFault>
+pub(crate) fn first_word(line: &[u8]) -> Result<(&[u8], &[u8]), HistoryLineFault>
     ensures { spec.IsRead (λ p. (p.0.now, words p.1.now)) (spec.first_word (words line.now)) result }
 {
     match next_word(line) {
         Some(cut) => Ok(cut),
-        None => Err(LineFault::Form),
+        None => Err(HistoryLineFault::Form),
     }
 }
 
 /// There are no more words.
-pub(crate) fn no_more(line: &[u8]) -> Result<(), LineFault>
+pub(crate) fn no_more(line: &[u8]) -> Result<(), HistoryLineFault>
     ensures { spec.IsRead (λ _. tt) (spec.no_more (words line.now)) result }
 {
     match next_word(line) {
-        Some(_) => Err(LineFault::Form),
+        Some(_) => Err(HistoryLineFault::Form),
         None => Ok(()),
     }
 }
 
 /// A number of at most `most`, and the bytes after it.
 #[tactic(auto, unfolding(crate::specs::Reading::first_number))]
-fn first_number(line: &[u8], most: u32) -> Result<(u32, &[u8]), LineFault>
+fn first_number(line: &[u8], most: u32) -> Result<(u32, &[u8]), HistoryLineFault>
     ensures value { spec.IsRead (λ p. (p.0, words p.1.now)) (spec.first_number most (words line.now)) result }
     ensures limit { MatchResult result (λ p. p.0 ≤ most) (λ _. ⊤) }
 {
     let (word, rest) = first_word(line)?;
     match read_number(word, most) {
         Some(number) => Ok((number, rest)),
-        None => Err(LineFault::Form),
+        None => Err(HistoryLineFault::Form),
     }
 }
 
 /// The number of a session, and the bytes after it.
-pub(crate) fn first_session(line: &[u8]) -> Result<(u32, &[u8]), LineFault>
+pub(crate) fn first_session(line: &[u8]) -> Result<(u32, &[u8]), HistoryLineFault>
     ensures { spec.IsRead (λ p. (p.0, words p.1.now)) (spec.first_number largest_session (words line.now)) result }
 {
     first_number(line, u32::MAX)
 }
 
 /// The number of a node, a distance or a count, and the bytes after it.
-pub(crate) fn first_small(line: &[u8]) -> Result<(u16, &[u8]), LineFault>
+pub(crate) fn first_small(line: &[u8]) -> Result<(u16, &[u8]), HistoryLineFault>
     ensures { spec.IsRead (λ p. (p.0, words p.1.now)) (spec.first_number largest_number (words line.now)) result }
 {
     let (number, rest) = first_number(line, u32::from(u16::MAX))?;
@@ -74,35 +74,38 @@ pub(crate) fn first_small(line: &[u8]) -> Result<(u16, &[u8]), LineFault>
 
 /// A keyword, and the bytes after it.
 #[tactic(auto, unfolding(crate::specs::Reading::first_keyword))]
-fn first_keyword(line: &[u8]) -> Result<(Keyword, &[u8]), LineFault>
+fn first_keyword(line: &[u8]) -> Result<(HistoryKeyword, &[u8]), HistoryLineFault>
     ensures { spec.IsRead (λ p. (p.0, words p.1.now)) (spec.first_keyword (words line.now)) result }
 {
     let (word, rest) = first_word(line)?;
     match find_keyword(word) {
         Some(keyword) => Ok((keyword, rest)),
-        None => Err(LineFault::Form),
+        None => Err(HistoryLineFault::Form),
     }
 }
 
 /// The code of a file in hexadecimal, verified for domains of a size.
-fn read_filter(alloc: Global, size: u16, digits: &[u8]) -> Result<Arc<Verified>, LineFault>
+fn read_filter(alloc: Global, size: u16, digits: &[u8]) -> Result<Arc<Verified>, HistoryLineFault>
     ensures { spec.IsRead (λ f. f.value) (spec.verified_code size (code_in_hexadecimal digits.now)) result }
 {
     let code = match read_hexadecimal(alloc, digits) {
         Ok(code) => code,
-        Err(Failure::Refused(_)) => return Err(LineFault::Form),
-        Err(Failure::Memory) => return Err(LineFault::Memory),
+        Err(Failure::Refused(_)) => return Err(HistoryLineFault::Form),
+        Err(Failure::Memory) => return Err(HistoryLineFault::Memory),
     };
     match verify_code(alloc, code, u32::from(size)) {
         Ok(filter) => Ok(Arc::new(alloc, filter)?),
-        Err(Failure::Refused(_)) => Err(LineFault::Form),
-        Err(Failure::Memory) => Err(LineFault::Memory),
+        Err(Failure::Refused(_)) => Err(HistoryLineFault::Form),
+        Err(Failure::Memory) => Err(HistoryLineFault::Memory),
     }
 }
 
 /// A filter, and the bytes after it.
 #[tactic(auto, unfolding(crate::specs::Reading::first_filter))]
-pub(crate) fn first_filter(alloc: Global, line: &[u8]) -> Result<(Arc<Verified>, &[u8]), LineFault>
+pub(crate) fn first_filter(
+    alloc: Global,
+    line: &[u8],
+) -> Result<(Arc<Verified>, &[u8]), HistoryLineFault>
     ensures { spec.IsRead (λ p. (p.0.value, words p.1.now)) (spec.first_filter (words line.now)) result }
 {
     let (size, rest) = first_small(line)?;
@@ -112,50 +115,54 @@ pub(crate) fn first_filter(alloc: Global, line: &[u8]) -> Result<(Arc<Verified>,
 
 /// An event by its keyword, and the bytes after it.
 #[tactic(auto, unfolding(crate::specs::Reading::event_of))]
-fn event_of(alloc: Global, keyword: Keyword, line: &[u8]) -> Result<(Event, &[u8]), LineFault>
+fn event_of(
+    alloc: Global,
+    keyword: HistoryKeyword,
+    line: &[u8],
+) -> Result<(Event, &[u8]), HistoryLineFault>
     ensures { spec.IsRead (λ p. (event_view p.0, words p.1.now)) (spec.event_of keyword (words line.now)) result }
 {
     match keyword {
-        Keyword::Up => {
+        HistoryKeyword::Up => {
             let (node, rest) = first_small(line)?;
             Ok((Event::Up(node), rest))
         }
-        Keyword::Down => {
+        HistoryKeyword::Down => {
             let (session, rest) = first_session(line)?;
             Ok((Event::Down(session), rest))
         }
-        Keyword::Receive => {
+        HistoryKeyword::Receive => {
             let (session, rest) = first_session(line)?;
             let (dest, rest) = first_small(rest)?;
             let (dist, rest) = first_small(rest)?;
             Ok((Event::Receive(session, dest, dist), rest))
         }
-        Keyword::Take => {
+        HistoryKeyword::Take => {
             let (session, rest) = first_session(line)?;
             let (max, rest) = first_small(rest)?;
             Ok((Event::Take(session, max), rest))
         }
-        Keyword::Import => {
+        HistoryKeyword::Import => {
             let (node, rest) = first_small(line)?;
             let (filter, rest) = first_filter(alloc, rest)?;
             Ok((Event::SetImport(node, filter), rest))
         }
-        Keyword::Export => {
+        HistoryKeyword::Export => {
             let (node, rest) = first_small(line)?;
             let (filter, rest) = first_filter(alloc, rest)?;
             Ok((Event::SetExport(node, filter), rest))
         }
-        Keyword::Show => {
+        HistoryKeyword::Show => {
             let (node, rest) = first_small(line)?;
             Ok((Event::Show(node), rest))
         }
-        _ => Err(LineFault::Form),
+        _ => Err(HistoryLineFault::Form),
     }
 }
 
 /// An event, and the bytes after it.
 #[tactic(auto, unfolding(crate::specs::Reading::first_event))]
-fn first_event(alloc: Global, line: &[u8]) -> Result<(Event, &[u8]), LineFault>
+fn first_event(alloc: Global, line: &[u8]) -> Result<(Event, &[u8]), HistoryLineFault>
     ensures { spec.IsRead (λ p. (event_view p.0, words p.1.now)) (spec.first_event (words line.now)) result }
 {
     let (keyword, rest) = first_keyword(line)?;
@@ -164,30 +171,30 @@ fn first_event(alloc: Global, line: &[u8]) -> Result<(Event, &[u8]), LineFault>
 
 /// Through whom a route goes, by its keyword, where nothing follows.
 #[tactic(auto, unfolding(crate::specs::Reading::via_of))]
-fn via_of(keyword: Keyword, line: &[u8]) -> Result<Via, LineFault>
+fn via_of(keyword: HistoryKeyword, line: &[u8]) -> Result<Via, HistoryLineFault>
     ensures { spec.IsRead (λ v. v) (spec.via_of keyword (words line.now)) result }
 {
     match keyword {
-        Keyword::Local => {
+        HistoryKeyword::Local => {
             no_more(line)?;
             Ok(Via::Local)
         }
-        Keyword::Via => {
+        HistoryKeyword::Via => {
             let (node, rest) = first_small(line)?;
             no_more(rest)?;
             Ok(Via::Node(node))
         }
-        Keyword::Nowhere => {
+        HistoryKeyword::Nowhere => {
             no_more(line)?;
             Ok(Via::Nowhere)
         }
-        _ => Err(LineFault::Form),
+        _ => Err(HistoryLineFault::Form),
     }
 }
 
 /// Through whom a route goes, where nothing follows.
 #[tactic(auto, unfolding(crate::specs::Reading::all_via))]
-fn all_via(line: &[u8]) -> Result<Via, LineFault>
+fn all_via(line: &[u8]) -> Result<Via, HistoryLineFault>
     ensures { spec.IsRead (λ v. v) (spec.all_via (words line.now)) result }
 {
     let (keyword, rest) = first_keyword(line)?;
@@ -214,14 +221,14 @@ fn read_message(word: &[u8]) -> Option<Message>
 }
 
 /// All words, each a message.
-pub(crate) fn all_messages(alloc: Global, line: &[u8]) -> Result<Vec<Message>, LineFault>
+pub(crate) fn all_messages(alloc: Global, line: &[u8]) -> Result<Vec<Message>, HistoryLineFault>
     ensures { spec.IsRead (λ v. v.items) (spec.all_messages (words line.now)) result }
 {
     let mut messages = Vec::new(alloc);
     let mut rest = line;
     while let Some((word, later)) = next_word(rest) {
         let Some(message) = read_message(word) else {
-            return Err(LineFault::Form);
+            return Err(HistoryLineFault::Form);
         };
         messages.push(message)?;
         rest = later;
@@ -231,44 +238,44 @@ pub(crate) fn all_messages(alloc: Global, line: &[u8]) -> Result<Vec<Message>, L
 
 /// A reply by its keyword, where nothing follows.
 #[tactic(auto, unfolding(crate::specs::Reading::reply_of))]
-fn reply_of(alloc: Global, keyword: Keyword, line: &[u8]) -> Result<Reply, LineFault>
+fn reply_of(alloc: Global, keyword: HistoryKeyword, line: &[u8]) -> Result<Reply, HistoryLineFault>
     ensures { spec.IsRead (λ r. r) (spec.reply_of keyword (words line.now)) result }
 {
     match keyword {
-        Keyword::Opened => {
+        HistoryKeyword::Opened => {
             let (session, rest) = first_session(line)?;
             no_more(rest)?;
             Ok(Reply::Opened(session))
         }
-        Keyword::Done => {
+        HistoryKeyword::Done => {
             let (changed, rest) = first_small(line)?;
             no_more(rest)?;
             Ok(Reply::Done { changed })
         }
-        Keyword::Messages => {
+        HistoryKeyword::Messages => {
             let messages = all_messages(alloc, line)?;
             Ok(Reply::Messages(Messages::from_vec(messages)))
         }
-        Keyword::Route => {
+        HistoryKeyword::Route => {
             let (dist, rest) = first_small(line)?;
             let via = all_via(rest)?;
             Ok(Reply::Route { dist, via })
         }
-        Keyword::Refused => {
+        HistoryKeyword::Refused => {
             let (code, rest) = first_word(line)?;
             let Some(why) = find_refusal(code) else {
-                return Err(LineFault::Form);
+                return Err(HistoryLineFault::Form);
             };
             no_more(rest)?;
             Ok(Reply::Refused(why))
         }
-        _ => Err(LineFault::Form),
+        _ => Err(HistoryLineFault::Form),
     }
 }
 
 /// A reply, where nothing follows.
 #[tactic(auto, unfolding(crate::specs::Reading::all_reply))]
-fn all_reply(alloc: Global, line: &[u8]) -> Result<Reply, LineFault>
+fn all_reply(alloc: Global, line: &[u8]) -> Result<Reply, HistoryLineFault>
     ensures { spec.IsRead (λ r. r) (spec.all_reply (words line.now)) result }
 {
     let (keyword, rest) = first_keyword(line)?;
@@ -277,7 +284,7 @@ fn all_reply(alloc: Global, line: &[u8]) -> Result<Reply, LineFault>
 
 /// An entry, after a word for its position.
 #[tactic(auto, unfolding(crate::specs::Reading::entry_in))]
-pub(crate) fn entry_in(alloc: Global, line: &[u8]) -> Result<Entry, LineFault>
+pub(crate) fn entry_in(alloc: Global, line: &[u8]) -> Result<Entry, HistoryLineFault>
     ensures { spec.IsRead entry_view (spec.entry_in (words line.now)) result }
 {
     let (_position, rest) = first_word(line)?;
@@ -287,14 +294,14 @@ pub(crate) fn entry_in(alloc: Global, line: &[u8]) -> Result<Entry, LineFault>
 }
 
 /// All words, each a prefix.
-fn all_prefixes(alloc: Global, line: &[u8]) -> Result<Vec<Prefix>, LineFault>
+fn all_prefixes(alloc: Global, line: &[u8]) -> Result<Vec<Prefix>, HistoryLineFault>
     ensures { spec.IsRead (λ v. v.items) (spec.all_prefixes (words line.now)) result }
 {
     let mut prefixes = Vec::new(alloc);
     let mut rest = line;
     while let Some((word, later)) = next_word(rest) {
         let Some(prefix) = read_prefix(word) else {
-            return Err(LineFault::Form);
+            return Err(HistoryLineFault::Form);
         };
         prefixes.push(prefix)?;
         rest = later;
@@ -317,7 +324,7 @@ pub(crate) struct OpeningParts {
 
 /// The parts of an opening's line, after a word for its mark.
 #[tactic(auto, unfolding(crate::specs::Reading::opening_parts))]
-pub(crate) fn opening_parts(alloc: Global, line: &[u8]) -> Result<OpeningParts, LineFault>
+pub(crate) fn opening_parts(alloc: Global, line: &[u8]) -> Result<OpeningParts, HistoryLineFault>
     ensures limit { MatchResult result (λ p. p.limit ≤ largest_limit) (λ _. ⊤) }
     ensures value { spec.IsRead (λ p. record { size = p.size; me = p.me; limit = p.limit; prefixes = p.prefixes.items })
         (spec.opening_parts (words line.now)) result }

@@ -8,7 +8,7 @@ ghost use Rattle.history_file.specs.Numbering.{row_line, rows_text, texts_of};
 ghost use Rattle.history_file.specs.Segments as spec;
 ghost use Rattle.history_file.specs.Text.{message_word, spaced};
 
-use crate::keyword::Keyword;
+use crate::keyword::HistoryKeyword;
 use crate::numbering::{Uses, number_filters};
 use crate::writing::{push_keyword, push_messages, push_number, push_opening_words, push_word};
 use line_protocol::push_decimal;
@@ -70,7 +70,11 @@ fn push_rows(out: &mut Vec<u8>, rows: &[Vec<u8>]) -> Result<(), AllocError>
 }
 
 /// Adds the words of the number of a filter, if there is one.
-fn push_use(out: &mut Vec<u8>, keyword: Keyword, number: Option<usize>) -> Result<(), AllocError>
+fn push_use(
+    out: &mut Vec<u8>,
+    keyword: HistoryKeyword,
+    number: Option<usize>,
+) -> Result<(), AllocError>
     ensures ok { OnOk result (out.new.items ≡ out.old.items ++ spaced (spec.use_words (keyword_text keyword) number)) }
     ensures err { OnErr result (StartsWith out.new.items out.old.items) }
 {
@@ -101,11 +105,11 @@ fn push_link(out: &mut Vec<u8>, session: Option<u32>, advertised: &[u16]) -> Res
 {
     match session {
         Some(session) => {
-            push_keyword(out, Keyword::Up)?;
+            push_keyword(out, HistoryKeyword::Up)?;
             push_number(out, u64::from(session))?;
             push_distances(out, advertised)
         }
-        None => push_keyword(out, Keyword::Down),
+        None => push_keyword(out, HistoryKeyword::Down),
     }
 }
 
@@ -121,8 +125,8 @@ pub(crate) fn push_node_line(
 {
     out.extend_from_slice(b"node")?;
     push_number(out, u64::from(node))?;
-    push_use(out, Keyword::Import, uses.imports)?;
-    push_use(out, Keyword::Export, uses.exports)?;
+    push_use(out, HistoryKeyword::Import, uses.imports)?;
+    push_use(out, HistoryKeyword::Export, uses.exports)?;
     push_link(out, neighbour.session, &neighbour.advertised)
 }
 

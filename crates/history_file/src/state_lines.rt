@@ -5,7 +5,7 @@ ghost use Rattle.history_file.specs.Chains.{IsStateFault};
 ghost use Rattle.history_file.specs.Fits.{largest_limit};
 
 use crate::chain::{ChainFault, fault_at, is_segment};
-use crate::fault::LineFault;
+use crate::fault::HistoryLineFault;
 use crate::reading::{
     all_messages, first_filter, first_session, first_small, first_word, no_more, opening_parts,
 };
@@ -35,11 +35,11 @@ pub(crate) struct StateParts {
 }
 
 /// The opening and the room that a first line tells.
-pub(crate) fn read_mark(alloc: Global, line: &[u8]) -> Result<(Opening, u32), LineFault>
+pub(crate) fn read_mark(alloc: Global, line: &[u8]) -> Result<(Opening, u32), HistoryLineFault>
     ensures { IfOk result (λ r. (1 ≤ r.1) × (r.1 ≤ largest_limit)) }
 {
     if !is_segment(line) {
-        return Err(LineFault::Form);
+        return Err(HistoryLineFault::Form);
     }
     let parts = match opening_parts(alloc, line) {
         Ok(parts) => parts,
@@ -47,11 +47,11 @@ pub(crate) fn read_mark(alloc: Global, line: &[u8]) -> Result<(Opening, u32), Li
     };
     let room = parts.limit;
     if room == 0 {
-        return Err(LineFault::Form);
+        return Err(HistoryLineFault::Form);
     }
     match Opening::new(parts.size, parts.me, parts.prefixes) {
         Some(opening) => Ok((opening, room)),
-        None => Err(LineFault::Form),
+        None => Err(HistoryLineFault::Form),
     }
 }
 
@@ -68,7 +68,7 @@ fn read_position(word: &[u8]) -> Option<u64> {
 }
 
 /// The position and the number of sessions that a second line tells.
-fn read_place(line: &[u8]) -> Result<(u64, u32), LineFault> {
+fn read_place(line: &[u8]) -> Result<(u64, u32), HistoryLineFault> {
     let (_at, rest) = first_word(line)?;
     let (position, rest) = first_word(rest)?;
     let (_word, rest) = first_word(rest)?;
@@ -76,22 +76,22 @@ fn read_place(line: &[u8]) -> Result<(u64, u32), LineFault> {
     no_more(rest)?;
     match read_position(position) {
         Some(at) => Ok((at, sessions)),
-        None => Err(LineFault::Form),
+        None => Err(HistoryLineFault::Form),
     }
 }
 
 /// The bytes after this number.
-fn after_number(number: usize, line: &[u8]) -> Result<&[u8], LineFault> {
+fn after_number(number: usize, line: &[u8]) -> Result<&[u8], HistoryLineFault> {
     let (found, rest) = first_small(line)?;
     if usize::from(found) == number {
         Ok(rest)
     } else {
-        Err(LineFault::Form)
+        Err(HistoryLineFault::Form)
     }
 }
 
 /// The number of a filter after this word, if the word is there, and the bytes after it.
-fn read_use<'a>(line: &'a [u8], name: &[u8]) -> Result<(Option<u16>, &'a [u8]), LineFault> {
+fn read_use<'a>(line: &'a [u8], name: &[u8]) -> Result<(Option<u16>, &'a [u8]), HistoryLineFault> {
     let (word, rest) = first_word(line)?;
     if word != name {
         return Ok((None, line));
@@ -104,25 +104,29 @@ fn read_use<'a>(line: &'a [u8], name: &[u8]) -> Result<(Option<u16>, &'a [u8]), 
 fn filter_at(
     filters: &[Arc<Verified>],
     number: Option<u16>,
-) -> Result<Option<Arc<Verified>>, LineFault> {
+) -> Result<Option<Arc<Verified>>, HistoryLineFault> {
     let Some(number) = number else {
         return Ok(None);
     };
     match filters.get(usize::from(number)) {
         Some(filter) => Ok(Some(Arc::try_clone(filter)?)),
-        None => Err(LineFault::Form),
+        None => Err(HistoryLineFault::Form),
     }
 }
 
 /// The session of a node, if it is up, and the distance to each node that it advertised.
-fn read_link(alloc: Global, size: u16, line: &[u8]) -> Result<(Option<u32>, Vec<u16>), LineFault> {
+fn read_link(
+    alloc: Global,
+    size: u16,
+    line: &[u8],
+) -> Result<(Option<u32>, Vec<u16>), HistoryLineFault> {
     let (word, rest) = first_word(line)?;
     if word == "down".as_bytes() {
         no_more(rest)?;
         return Ok((None, vec![in alloc; size; usize::from(size)]?));
     }
     if word != "up".as_bytes() {
-        return Err(LineFault::Form);
+        return Err(HistoryLineFault::Form);
     }
     let (session, mut rest) = first_session(rest)?;
     let mut advertised = Vec::with_capacity(alloc, usize::from(size))?;
@@ -137,7 +141,7 @@ fn read_link(alloc: Global, size: u16, line: &[u8]) -> Result<(Option<u32>, Vec<
 
 impl StateParts {
     /// Reads what follows `filter`.
-    fn read_filter(&mut self, alloc: Global, line: &[u8]) -> Result<(), LineFault> {
+    fn read_filter(&mut self, alloc: Global, line: &[u8]) -> Result<(), HistoryLineFault> {
         let rest = after_number(self.filters.len(), line)?;
         let (filter, rest) = first_filter(alloc, rest)?;
         no_more(rest)?;
@@ -145,7 +149,7 @@ impl StateParts {
     }
 
     /// Reads what follows `node`.
-    fn read_node(&mut self, alloc: Global, line: &[u8]) -> Result<(), LineFault> {
+    fn read_node(&mut self, alloc: Global, line: &[u8]) -> Result<(), HistoryLineFault> {
         let rest = after_number(self.neighbours.len(), line)?;
         let (imports, rest) = read_use(rest, "import".as_bytes())?;
         let (exports, rest) = read_use(rest, "export".as_bytes())?;
@@ -164,10 +168,10 @@ impl StateParts {
     }
 
     /// Reads what follows `queue`.
-    fn read_queue(&mut self, alloc: Global, line: &[u8]) -> Result<(), LineFault> {
+    fn read_queue(&mut self, alloc: Global, line: &[u8]) -> Result<(), HistoryLineFault> {
         let count = self.neighbours.len();
         if count == 0 {
-            return Err(LineFault::Form);
+            return Err(HistoryLineFault::Form);
         }
         let messages = all_messages(alloc, line)?;
         self.neighbours[count - 1].queue = VecDeque::from_vec(messages);
@@ -175,7 +179,7 @@ impl StateParts {
     }
 
     /// Reads a line of the state after its first two.
-    fn read_line(&mut self, alloc: Global, line: &[u8]) -> Result<(), LineFault> {
+    fn read_line(&mut self, alloc: Global, line: &[u8]) -> Result<(), HistoryLineFault> {
         let (word, rest) = first_word(line)?;
         if word == "filter".as_bytes() {
             self.read_filter(alloc, rest)
@@ -189,7 +193,7 @@ impl StateParts {
             self.is_ended = true;
             Ok(())
         } else {
-            Err(LineFault::Form)
+            Err(HistoryLineFault::Form)
         }
     }
 

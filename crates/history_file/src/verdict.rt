@@ -14,7 +14,7 @@ use std::alloc::{AllocError, Global};
 
 /// What a replay says of the text of a history.
 #[derive(Drop)]
-pub enum Verdict {
+pub enum ReplayVerdict {
     /// All entries are right: so many.
     Replays(u64),
     /// The recorded reply of an entry differs from the replayed one. It is the first such entry.
@@ -32,31 +32,31 @@ pub enum Verdict {
     Wrong(u64),
 }
 
-impl Verdict {
+impl ReplayVerdict {
     ghost use Rattle.history_file.specs.Replays.{is_right};
 
     /// Whether the text is that of a right history, to its end.
     pub fn is_right(&self) -> bool
         ensures { result ≡ is_right self.now }
     {
-        matches!(self, Verdict::Replays(_))
+        matches!(self, ReplayVerdict::Replays(_))
     }
 }
 
 /// Replays the text of a history.
-pub fn judge(alloc: Global, bytes: &[u8]) -> Result<Verdict, AllocError>
+pub fn judge(alloc: Global, bytes: &[u8]) -> Result<ReplayVerdict, AllocError>
     ensures { IfOk result (spec.IsVerdict bytes.now) }
 {
     match read_history(alloc, bytes) {
         Ok(saved) => judge_saved(alloc, saved),
-        Err(HistoryFault::Line(line)) => Ok(Verdict::Wrong(u64::from(line))),
-        Err(HistoryFault::Unopened) => Ok(Verdict::Cut(1)),
+        Err(HistoryFault::Line(line)) => Ok(ReplayVerdict::Wrong(u64::from(line))),
+        Err(HistoryFault::Unopened) => Ok(ReplayVerdict::Cut(1)),
         Err(HistoryFault::Memory) => Err(AllocError),
     }
 }
 
 /// Replays a history that was read.
-fn judge_saved(alloc: Global, saved: SavedHistory) -> Result<Verdict, AllocError>
+fn judge_saved(alloc: Global, saved: SavedHistory) -> Result<ReplayVerdict, AllocError>
     ensures { IfOk result (spec.IsVerdictOn saved) }
 {
     match replay_list(alloc, &saved.opening, saved.entries.as_slice()) {
@@ -67,20 +67,24 @@ fn judge_saved(alloc: Global, saved: SavedHistory) -> Result<Verdict, AllocError
 }
 
 /// The verdict on a history whose entries are right.
-fn judge_right(saved: &SavedHistory) -> Verdict
+fn judge_right(saved: &SavedHistory) -> ReplayVerdict
     requires { IsLegal saved.now.opening saved.now.entries.items }
     ensures { spec.IsVerdictOn saved.now result }
 {
     let entries = saved.entries.len() as u64;
     if saved.unfinished == 0 {
-        Verdict::Replays(entries)
+        ReplayVerdict::Replays(entries)
     } else {
-        Verdict::Cut(entries + 2)
+        ReplayVerdict::Cut(entries + 2)
     }
 }
 
 /// The verdict on a history whose entry at this index is the first wrong one.
-fn tell_difference(alloc: Global, saved: SavedHistory, at: usize) -> Result<Verdict, AllocError>
+fn tell_difference(
+    alloc: Global,
+    saved: SavedHistory,
+    at: usize,
+) -> Result<ReplayVerdict, AllocError>
     requires { IsFirstWrong saved.opening saved.entries.items at }
     ensures { IfOk result (spec.IsVerdictOn saved) }
 {
@@ -90,7 +94,7 @@ fn tell_difference(alloc: Global, saved: SavedHistory, at: usize) -> Result<Verd
     };
     let entry = entries.remove(at);
     let right = tables.apply(&entry.event)?;
-    Ok(Verdict::Differs {
+    Ok(ReplayVerdict::Differs {
         at: at as u64,
         saved: entry.reply,
         right,
@@ -98,16 +102,16 @@ fn tell_difference(alloc: Global, saved: SavedHistory, at: usize) -> Result<Verd
 }
 
 /// Adds the line of a verdict.
-pub fn push_verdict(out: &mut Vec<u8>, verdict: &Verdict) -> Result<(), AllocError>
+pub fn push_verdict(out: &mut Vec<u8>, verdict: &ReplayVerdict) -> Result<(), AllocError>
     ensures ok { OnOk result (out.new.items ≡ out.old.items ++ spec.verdict_line verdict.now) }
     ensures err { OnErr result (StartsWith out.new.items out.old.items) }
 {
     match verdict {
-        Verdict::Replays(entries) => {
+        ReplayVerdict::Replays(entries) => {
             out.extend_from_slice(b"replay ok ")?;
             push_decimal(out, *entries)?;
         }
-        Verdict::Differs { at, saved, right } => {
+        ReplayVerdict::Differs { at, saved, right } => {
             out.extend_from_slice(b"differs ")?;
             push_decimal(out, *at)?;
             out.extend_from_slice(b" saved")?;
@@ -115,11 +119,11 @@ pub fn push_verdict(out: &mut Vec<u8>, verdict: &Verdict) -> Result<(), AllocErr
             out.extend_from_slice(b" right")?;
             push_reply(out, right.as_ref())?;
         }
-        Verdict::Cut(line) => {
+        ReplayVerdict::Cut(line) => {
             out.extend_from_slice(b"cut ")?;
             push_decimal(out, *line)?;
         }
-        Verdict::Wrong(line) => return push_refusal(out, "H1", *line),
+        ReplayVerdict::Wrong(line) => return push_refusal(out, "H1", *line),
     }
     Ok(out.push(b'\n')?)
 }

@@ -13,10 +13,10 @@ ghost use Rattle.history_file.specs.Keywords.{keyword_text};
 ghost use Rattle.history_file.specs.Text as spec;
 ghost use Rattle.history_file.specs.Views.{entry_view, event_view};
 
-use crate::keyword::Keyword;
+use crate::keyword::HistoryKeyword;
 use code_file::write_code;
 use filter_verifier::Verified;
-use line_protocol::push_decimal;
+use line_protocol::{Spelled, push_decimal};
 use netchange_core::{Event, Message, Opening, ReplyRef, Via};
 use prefix_patterns::Prefix;
 use route_history::EntryRef;
@@ -44,7 +44,7 @@ pub(crate) fn push_number(out: &mut Vec<u8>, number: u64) -> Result<(), AllocErr
 }
 
 /// Adds a keyword after a space.
-pub(crate) fn push_keyword(out: &mut Vec<u8>, keyword: Keyword) -> Result<(), AllocError>
+pub(crate) fn push_keyword(out: &mut Vec<u8>, keyword: HistoryKeyword) -> Result<(), AllocError>
     ensures ok { OnOk result (out.new.items ≡ out.old.items ++ 32 ∷ keyword_text keyword) }
     ensures err { OnErr result (StartsWith out.new.items out.old.items) }
 {
@@ -88,36 +88,36 @@ fn push_event(alloc: Global, out: &mut Vec<u8>, event: &Event) -> Result<(), All
 {
     match event {
         Event::Up(node) => {
-            push_keyword(out, Keyword::Up)?;
+            push_keyword(out, HistoryKeyword::Up)?;
             push_number(out, u64::from(*node))
         }
         Event::Down(session) => {
-            push_keyword(out, Keyword::Down)?;
+            push_keyword(out, HistoryKeyword::Down)?;
             push_number(out, u64::from(*session))
         }
         Event::Receive(session, dest, dist) => {
-            push_keyword(out, Keyword::Receive)?;
+            push_keyword(out, HistoryKeyword::Receive)?;
             push_number(out, u64::from(*session))?;
             push_number(out, u64::from(*dest))?;
             push_number(out, u64::from(*dist))
         }
         Event::Take(session, max) => {
-            push_keyword(out, Keyword::Take)?;
+            push_keyword(out, HistoryKeyword::Take)?;
             push_number(out, u64::from(*session))?;
             push_number(out, u64::from(*max))
         }
         Event::SetImport(node, filter) => {
-            push_keyword(out, Keyword::Import)?;
+            push_keyword(out, HistoryKeyword::Import)?;
             push_number(out, u64::from(*node))?;
             push_filter(alloc, out, filter)
         }
         Event::SetExport(node, filter) => {
-            push_keyword(out, Keyword::Export)?;
+            push_keyword(out, HistoryKeyword::Export)?;
             push_number(out, u64::from(*node))?;
             push_filter(alloc, out, filter)
         }
         Event::Show(node) => {
-            push_keyword(out, Keyword::Show)?;
+            push_keyword(out, HistoryKeyword::Show)?;
             push_number(out, u64::from(*node))
         }
     }
@@ -130,12 +130,12 @@ fn push_via(out: &mut Vec<u8>, via: Via) -> Result<(), AllocError>
     ensures err { OnErr result (StartsWith out.new.items out.old.items) }
 {
     match via {
-        Via::Local => push_keyword(out, Keyword::Local),
+        Via::Local => push_keyword(out, HistoryKeyword::Local),
         Via::Node(node) => {
-            push_keyword(out, Keyword::Via)?;
+            push_keyword(out, HistoryKeyword::Via)?;
             push_number(out, u64::from(node))
         }
-        Via::Nowhere => push_keyword(out, Keyword::Nowhere),
+        Via::Nowhere => push_keyword(out, HistoryKeyword::Nowhere),
     }
 }
 
@@ -170,24 +170,24 @@ pub(crate) fn push_reply(out: &mut Vec<u8>, reply: ReplyRef<'_>) -> Result<(), A
 {
     match reply {
         ReplyRef::Opened(session) => {
-            push_keyword(out, Keyword::Opened)?;
+            push_keyword(out, HistoryKeyword::Opened)?;
             push_number(out, u64::from(session))
         }
         ReplyRef::Done { changed } => {
-            push_keyword(out, Keyword::Done)?;
+            push_keyword(out, HistoryKeyword::Done)?;
             push_number(out, u64::from(changed))
         }
         ReplyRef::Messages(messages) => {
-            push_keyword(out, Keyword::Messages)?;
+            push_keyword(out, HistoryKeyword::Messages)?;
             push_messages(out, messages)
         }
         ReplyRef::Route { dist, via } => {
-            push_keyword(out, Keyword::Route)?;
+            push_keyword(out, HistoryKeyword::Route)?;
             push_number(out, u64::from(dist))?;
             push_via(out, via)
         }
         ReplyRef::Refused(why) => {
-            push_keyword(out, Keyword::Refused)?;
+            push_keyword(out, HistoryKeyword::Refused)?;
             push_word(out, why.code().as_bytes())
         }
     }

@@ -238,26 +238,26 @@ module _ (s : SegmentsView) (j : JournalView) (none : s.rest ≡ []) (h : HasSeg
     has_named now is = has_all_in now s.read (holds_named s.folder now is holds_all) (begins_named s.read state s.folder now is)
 
 -- what has no name is another
-holds_unmade : (keep : Option ℕ) (j : JournalView) (to : ℕ) (cut bytes : List ℕ) (old new : Option FolderView) →
+holds_uncreated : (keep : Option ℕ) (j : JournalView) (to : ℕ) (cut bytes : List ℕ) (old new : Option FolderView) →
     new ≡ option_map (with_next bytes) old → IfSome old (Holds keep j to cut) → IfSome new (Holds keep j to cut)
-holds_unmade keep j to cut bytes None new is h = subst (λ (o : Option FolderView). IfSome o (Holds keep j to cut)) (sym is) tt
-holds_unmade keep j to cut bytes (Some v) new is h = subst (λ (o : Option FolderView). IfSome o (Holds keep j to cut)) (sym is) h
+holds_uncreated keep j to cut bytes None new is h = subst (λ (o : Option FolderView). IfSome o (Holds keep j to cut)) (sym is) tt
+holds_uncreated keep j to cut bytes (Some v) new is h = subst (λ (o : Option FolderView). IfSome o (Holds keep j to cut)) (sym is) h
 
-begins_unmade : (n : ℕ) (bytes : List ℕ) (old new : Option FolderView) → new ≡ option_map (with_next bytes) old → IfSome old (BeginsAt n) →
+begins_uncreated : (n : ℕ) (bytes : List ℕ) (old new : Option FolderView) → new ≡ option_map (with_next bytes) old → IfSome old (BeginsAt n) →
     IfSome new (BeginsAt n)
-begins_unmade n bytes None new is h = subst (λ (o : Option FolderView). IfSome o (BeginsAt n)) (sym is) tt
-begins_unmade n bytes (Some v) new is h = subst (λ (o : Option FolderView). IfSome o (BeginsAt n)) (sym is) h
+begins_uncreated n bytes None new is h = subst (λ (o : Option FolderView). IfSome o (BeginsAt n)) (sym is) tt
+begins_uncreated n bytes (Some v) new is h = subst (λ (o : Option FolderView). IfSome o (BeginsAt n)) (sym is) h
 
-pub has_unmade : (s : SegmentsView) (j : JournalView) (bytes : List ℕ) (now : Option FolderView) → now ≡ option_map (with_next bytes) s.folder →
+pub has_uncreated : (s : SegmentsView) (j : JournalView) (bytes : List ℕ) (now : Option FolderView) → now ≡ option_map (with_next bytes) s.folder →
     HasSegments s j → HasSegments (record s { folder = now }) j
-has_unmade s j bytes now is h = record {
+has_uncreated s j bytes now is h = record {
   cut = h.cut;
   lines = h.lines;
   rising = h.rising;
   within = h.within;
   each = h.each;
-  holds = holds_unmade s.keep j s.saved h.cut bytes s.folder now is h.holds;
-  begins = begins_unmade s.begun bytes s.folder now is h.begins;
+  holds = holds_uncreated s.keep j s.saved h.cut bytes s.folder now is h.holds;
+  begins = begins_uncreated s.begun bytes s.folder now is h.begins;
 }
 
 -- the oldest are removed

@@ -11,8 +11,8 @@ use Rattle.route_history.specs.JournalView.{JournalView}
 use Rattle.slot_lock.specs.Passes.{PassView, RouterView}
 
 -- at most what has the temporary name is another
-abbrev pub IsUnmade : Option FolderView → Option FolderView → Type 0
-IsUnmade old new = (bytes : List ℕ) × (new ≡ option_map (with_next bytes) old)
+abbrev pub IsUncreated : Option FolderView → Option FolderView → Type 0
+IsUncreated old new = (bytes : List ℕ) × (new ≡ option_map (with_next bytes) old)
 
 -- the text of the state after the first so many entries
 abbrev pub IsStateAt : JournalView → ℕ → List ℕ → Type 0

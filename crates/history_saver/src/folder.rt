@@ -20,7 +20,7 @@ pub trait SegmentFolder {
     /// Makes a segment under the temporary name, with this text. What had this name is gone.
     fn make(&mut self, text: &[u8]) -> io::Result<()>
         ensures made { OnOk result (holds self.new ≡ option_map (with_next text.now) (holds self.old)) }
-        ensures unmade { OnErr result ((bytes : List ℕ) × (holds self.new ≡ option_map (with_next bytes) (holds self.old))) };
+        ensures uncreated { OnErr result ((bytes : List ℕ) × (holds self.new ≡ option_map (with_next bytes) (holds self.old))) };
 
     /// Makes durable what has the temporary name, and what has been written to the newest segment.
     fn sync(&mut self) -> io::Result<()>

@@ -88,7 +88,7 @@ fn first_state(alloc: Global, opening: &Opening, limit: u32) -> Result<Vec<u8>, 
 /// Makes a segment in a folder that begins with this state: it gets its name when it is durable, and so are those before it.
 fn make_segment<F: SegmentFolder>(folder: &mut F, at: u64, state: &[u8]) -> Result<(), SaveFault>
     ensures made { OnOk result (F.holds folder.new ≡ option_map (with_named at) (option_map (with_next state.now) (F.holds folder.old))) }
-    ensures unmade { OnErr result (spec.IsUnmade (F.holds folder.old) (F.holds folder.new)) }
+    ensures uncreated { OnErr result (spec.IsUncreated (F.holds folder.old) (F.holds folder.new)) }
 {
     if folder.make(state).is_err() {
         return Err(SaveFault::Write);

@@ -1,6 +1,7 @@
 -- How a line is cut into words. This project's own choice.
 use Rattle.std.specs.Prelude.{ℕ, ◌-◌, Bool, true, false, ◌||◌, ◌==◌, List, [], ◌∷◌, length, take, drop, filter}
 use Rattle.std.specs.List.{slice_split, prefix_len, suffix_len}
+use Rattle.std.specs.Str.{bytes_eq}
 
 -- the bytes between words: a space or a tab
 abbrev pub is_blank : ℕ → Bool
@@ -26,3 +27,7 @@ without_end_blanks line = take (length line - suffix_len is_blank line) line
 -- a line without the blanks at either end
 abbrev pub trimmed : List ℕ → List ℕ
 trimmed line = without_end_blanks (without_front_blanks line)
+
+-- whether what has a spelling is written so
+abbrev pub is_spelled : {T : Type 0} → (T → List ℕ) → List ℕ → T → Bool
+is_spelled spelling word one = bytes_eq (spelling one) word

@@ -15,6 +15,7 @@ mod answers;
 mod engine;
 mod faults;
 mod input;
+mod spelled;
 mod streams;
 mod words;
 
@@ -22,6 +23,7 @@ pub use answers::{LineReply, Service, push_decimal, push_refusal};
 pub use engine::{answer_lines, answer_lines_within, is_skipped, strip_carriage_return};
 pub use faults::StreamFault;
 pub use input::read_input;
+pub use spelled::{Spelled, first_spelled};
 pub use streams::{read_some, write_text};
 pub use words::{next_word, trim_blanks, trim_front_blanks};
 

@@ -17,7 +17,7 @@ use Rattle.netchange_core.specs.declared.message.Message.{Message}
 use Rattle.prefix_patterns.proofs.Tokens.{parts_at-joined}
 use Rattle.prefix_patterns.specs.Reading.{◌>>=◌, parts_at}
 use Rattle.message_streams.proofs.Pairs.{bind_some, pair_in-found, pair_in-text, pair_text-open, pair_text-short, same_pair}
-use Rattle.message_streams.specs.Lines.{FitsMessage, line_of, lines_text, message_line, message_text, told_in}
+use Rattle.message_streams.specs.Lines.{FitsMessage, line_of, lines_text, message_line, message_text, messages_among}
 use Rattle.message_streams.specs.Reading.{message_in, messages_in, pair_in}
 
 -- ---- a line
@@ -86,16 +86,16 @@ nothing_said = refl
 skip_nothing : (parts : List (List ℕ)) → filter_map message_in ([] ∷ parts) ≡ filter_map message_in parts
 skip_nothing parts = rw nothing_said refl
 
-said : (lines : List (Option Message)) → All FitsMessage (told_in lines) →
-    filter_map message_in (slice_split is_line_feed (lines_text lines)) ≡ told_in lines
+said : (lines : List (Option Message)) → All FitsMessage (messages_among lines) →
+    filter_map message_in (slice_split is_line_feed (lines_text lines)) ≡ messages_among lines
 said [] fits = rw nothing_said refl
 said (None ∷ lines) fits =
     ap (filter_map message_in) (empty_part (lines_text lines)) ∙ skip_nothing (slice_split is_line_feed (lines_text lines)) ∙ said lines fits
 said (Some m ∷ lines) fits =
-    rw (first_part m (lines_text lines) (All-head FitsMessage m (told_in lines) fits), message_in-text m (All-head FitsMessage m (told_in lines) fits))
-    (ap (λ l. m ∷ l) (said lines (All-tail FitsMessage m (told_in lines) fits)))
+    rw (first_part m (lines_text lines) (All-head FitsMessage m (messages_among lines) fits), message_in-text m (All-head FitsMessage m (messages_among lines) fits))
+    (ap (λ l. m ∷ l) (said lines (All-tail FitsMessage m (messages_among lines) fits)))
 
-pub messages_in-lines : (lines : List (Option Message)) → All FitsMessage (told_in lines) → messages_in (lines_text lines) ≡ told_in lines
+pub messages_in-lines : (lines : List (Option Message)) → All FitsMessage (messages_among lines) → messages_in (lines_text lines) ≡ messages_among lines
 messages_in-lines lines fits = rw (whole_text lines) (said lines fits)
 
 -- ---- lengths

@@ -28,10 +28,10 @@ abbrev pub lines_text : List (Option Message) → List ℕ
 lines_text lines = flat_map line_of lines
 
 -- the messages among them
-abbrev pub told_in : List (Option Message) → List Message
-told_in [] = []
-told_in (None ∷ lines) = told_in lines
-told_in (Some m ∷ lines) = m ∷ told_in lines
+abbrev pub messages_among : List (Option Message) → List Message
+messages_among [] = []
+messages_among (None ∷ lines) = messages_among lines
+messages_among (Some m ∷ lines) = m ∷ messages_among lines
 
 -- the numbers of a message have 16 bits
 pub record FitsMessage (m : Message) : Type 0 where

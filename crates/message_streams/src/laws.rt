@@ -1,7 +1,7 @@
 //! What holds of all lines of links.
 ghost use Rattle.std.specs.Prelude.{◌≡◌, ◌≤◌, ◌∷◌, ◌++◌, ◌↔◌, All, ℕ, List, Option, Some, length};
 ghost use Rattle.netchange_core.specs.declared.message.Message.{Message};
-ghost use Rattle.message_streams.specs.Lines.{FitsMessage, line_limit, lines_text, message_line, message_text, told_in};
+ghost use Rattle.message_streams.specs.Lines.{FitsMessage, line_limit, lines_text, message_line, message_text, messages_among};
 ghost use Rattle.message_streams.specs.Reading.{message_in, messages_in};
 
 /// A line says a message if and only if it is that message's text. So one line says one message, and the other way round. No line begins
@@ -14,7 +14,7 @@ pub fn one_message()
 
 /// Messages that are written, a line each, are read as the same, in order. Empty lines between them change nothing.
 pub fn written_is_read()
-    ensures { (lines : List (Option Message)) → All FitsMessage (told_in lines) → messages_in (lines_text lines) ≡ told_in lines }
+    ensures { (lines : List (Option Message)) → All FitsMessage (messages_among lines) → messages_in (lines_text lines) ≡ messages_among lines }
 {}
 
 /// The line of a message is within the limit.

@@ -7,8 +7,8 @@ use Rattle.history_file.specs.declared.chain.Chain.{Chain}
 use Rattle.line_protocol.specs.declared.faults.StreamFault.{StreamFault}
 use Rattle.ncroute.specs.Segments.{BailsOut, JoinsAll, JoinsFirst, JoinsSource, StopsAmong, StopsJoiningSource}
 use Rattle.ncroute.specs.Streaming.{Streams}
-use Rattle.ncroute.specs.declared.segments.Replayed.{Replayed}
-use Rattle.ncroute.specs.declared.segments.Replayed.TheVariants as replayed
+use Rattle.ncroute.specs.declared.segments.ReplayedSegments.{ReplayedSegments}
+use Rattle.ncroute.specs.declared.segments.ReplayedSegments.TheVariants as replayed
 
 module _ (opens : List ℕ → Result (Option (List ℕ)) Error → Type 0) (sources : List Source) where
   pub none_joined : (before : Streams) → JoinsFirst opens sources 0 before before None
@@ -24,7 +24,7 @@ module _ (opens : List ℕ → Result (Option (List ℕ)) Error → Type 0) (sou
       rw add-one (source, mid, earlier, now, refl, slice_get_read sources _ n source refl inside is, first, joined)
 
   -- a source is refused or not read behind others
-  pub bails : (n : ℕ) (source : Source) (before mid after : Streams) (chain : Option Chain) (found : Replayed) → n < length sources
+  pub bails : (n : ℕ) (source : Source) (before mid after : Streams) (chain : Option Chain) (found : ReplayedSegments) → n < length sources
       → source ≡ get_or sources n source → JoinsFirst opens sources n before mid chain
       → JoinsSource opens chain (Some (n + 1)) source mid after found → BailsOut opens sources before after found
   bails n source before mid after chain found inside is first refused = record {
@@ -38,7 +38,7 @@ module _ (opens : List ℕ → Result (Option (List ℕ)) Error → Type 0) (sou
   }
 
   -- then not all are joined
-  pub left_off : (before after : Streams) (found : Replayed) → ((now : Chain) → found ≡ replayed.Right now → ⊥)
+  pub left_off : (before after : Streams) (found : ReplayedSegments) → ((now : Chain) → found ≡ replayed.Right now → ⊥)
       → BailsOut opens sources before after found → JoinsAll opens sources before after found
   left_off before after (replayed.Right now) wrong h = absurd (wrong now refl)
   left_off before after (replayed.Refused file fault) wrong h = h

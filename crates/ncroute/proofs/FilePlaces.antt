@@ -4,17 +4,17 @@ use Rattle.std.proofs.lemmas.Option.{slice_get-map, slice_get_past, slice_get_re
 use Rattle.std.specs.Option.{option_map}
 use Rattle.std.specs.Prelude.{decimal, slice_get}
 use Rattle.std.specs.Slice.{IsItemAt}
-use Rattle.filter_reports.specs.Explanations.{position}
-use Rattle.filter_reports.specs.Places.{column_at, line_at}
-use Rattle.filter_reports.specs.Shown.{shown}
+use Rattle.refusal_words.specs.Explanations.{position}
+use Rattle.refusal_words.specs.Places.{column_at, line_at}
+use Rattle.refusal_words.specs.Shown.{shown}
 use Rattle.ncroute.specs.Places.{FileView, file_of, place_in, texts_of}
-use Rattle.ncroute.specs.declared.including.File.{File}
+use Rattle.ncroute.specs.declared.including.ConfigFile.{ConfigFile}
 
 item : {X : Type 0} (xs : List X) (i : ℕ) (x : Bor X) → IsItemAt xs i (Some x) → slice_get xs i ≡ Some x.now
 item xs i x h = slice_get_read xs (length xs) i x.now refl h.3.0 h.1
 
 -- the file of an index, and that its positions are those of its text
-pub file_there : (files : List File) (texts : List (List ℕ)) (i : ℕ) (file : Bor File) (text : Bor (List ℕ)) →
+pub file_there : (files : List ConfigFile) (texts : List (List ℕ)) (i : ℕ) (file : Bor ConfigFile) (text : Bor (List ℕ)) →
     texts ≡ texts_of (map file_of files) → IsItemAt files i (Some file) → IsItemAt texts i (Some text) →
     (slice_get (map file_of files) i ≡ Some (file_of file.now)) × (text.now ≡ file.now.text.items)
 file_there files texts i file text all there here =
@@ -26,7 +26,7 @@ file_there files texts i file text all there here =
     (found, cc)
 
 -- and there is none of an index behind the last one
-pub file_missing : (files : List File) (i : ℕ) → IsItemAt files i None → slice_get (map file_of files) i ≡ None
+pub file_missing : (files : List ConfigFile) (i : ℕ) → IsItemAt files i None → slice_get (map file_of files) i ≡ None
 file_missing files i none = slice_get-map file_of files i ∙ ap (option_map file_of) (slice_get_past files i none.3)
 
 -- what is added when the name and the position are

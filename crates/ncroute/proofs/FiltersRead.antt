@@ -4,7 +4,7 @@ use Rattle.std.proofs.Common.{Result, Ok, Err, IfErr, refl, inl, add-one}
 use Rattle.std.proofs.lemmas.Option.{slice_get_read}
 use Rattle.std.specs.Prelude.{OnOk}
 use Rattle.std.specs.declared.io.Error.{Error}
-use Rattle.script_runs.specs.declared.naming.NamedFilter.{NamedFilter}
+use Rattle.router_script.specs.declared.filter_naming.NamedFilter.{NamedFilter}
 use Rattle.command_line.specs.declared.requests.Source.{Source}
 use Rattle.command_line.specs.declared.filter_words.NamedFile.{NamedFile}
 use Rattle.ncroute.specs.Filters.{LeavesFilter, ReadsFilter, ReadsFirst, StopsAtFilter}

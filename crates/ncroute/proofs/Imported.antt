@@ -1,23 +1,23 @@
--- What comes of a filter that was made of a draft.
+-- What comes of a filter that was made of a conversion.
 use Rattle.std.proofs.Common.{◌≡◌, subst, ℕ, Bool, List, Option, Result, Ok, Err, IfOk}
 use Rattle.std.specs.declared.io.Error.{Error}
 use Rattle.bird_import.specs.Cutting.{IsCutInto}
 use Rattle.bird_import.specs.declared.cut.Cut.{Cut}
-use Rattle.bird_import.specs.declared.drafts.Draft.{Draft}
+use Rattle.bird_import.specs.declared.conversions.Conversion.{Conversion}
 use Rattle.command_line.specs.declared.requests.Importing.{Importing}
-use Rattle.ncroute.specs.Importing.{ImportsConfig, ImportsCut, ImportsDraft, ImportsMade, IsMade, IsNoted, text_in}
+use Rattle.ncroute.specs.Importing.{ImportsConfig, ImportsCut, ImportsConversion, ImportsResult, IsFilterResult, IsNoted, text_in}
 use Rattle.ncroute.specs.Places.{ConfigView}
 use Rattle.ncroute.specs.Streaming.{Streams}
-use Rattle.ncroute.specs.declared.importing.Made.{Made}
+use Rattle.ncroute.specs.declared.importing.FilterResult.{FilterResult}
 
-pub of_made : {E : Type 0} (creates : List ℕ → Result (Option (List ℕ)) Error → Type 0)
-    (leaves : List ℕ → Option (List ℕ) → Type 0) (how : Importing) (config : ConfigView) (draft : Draft)
-    (made : Made) (before after : Streams) (r : Result Bool E) → IsMade config how.size draft made → IsNoted config how.size draft made
-    → IfOk r (ImportsMade creates leaves how.folder (text_in made) config draft.name.now made before after)
-    → IfOk r (ImportsDraft creates leaves how config draft before after)
-of_made creates leaves how config draft made before after (Ok left) is noted imported =
-    record { made = made; is_made = is; is_noted = noted; imported = imported }
-of_made creates leaves how config draft made before after (Err fault) is noted imported = tt
+pub of_filter_result : {E : Type 0} (creates : List ℕ → Result (Option (List ℕ)) Error → Type 0)
+    (leaves : List ℕ → Option (List ℕ) → Type 0) (how : Importing) (config : ConfigView) (conversion : Conversion)
+    (filter_result : FilterResult) (before after : Streams) (r : Result Bool E) → IsFilterResult config how.size conversion filter_result → IsNoted config how.size conversion filter_result
+    → IfOk r (ImportsResult creates leaves how.folder (text_in filter_result) config conversion.name.now filter_result before after)
+    → IfOk r (ImportsConversion creates leaves how config conversion before after)
+of_filter_result creates leaves how config conversion filter_result before after (Ok left) is noted imported =
+    record { filter_result = filter_result; is_filter_result = is; is_noted = noted; imported = imported }
+of_filter_result creates leaves how config conversion filter_result before after (Err fault) is noted imported = tt
 
 -- the text of a configuration was cut, and what it was cut into was imported
 pub of_cut : {E : Type 0} (creates : List ℕ → Result (Option (List ℕ)) Error → Type 0)

@@ -1,8 +1,9 @@
 pub mod Sources
 pub mod Tested
-pub mod Untold
+pub mod Unreported
 mod Beside
 mod Chained
+mod ComparedOff
 mod FileNames
 mod FilePlaces
 mod FiltersRead
@@ -12,7 +13,7 @@ mod Imported
 mod JoinedRead
 mod Linted
 mod Loaded
-mod MadeTexts
+mod ResultTexts
 mod NotedTexts
 mod PlanAdded
 mod Routed

@@ -8,15 +8,15 @@ use Rattle.command_line.specs.declared.requests.Source.{Source}
 use Rattle.line_protocol.specs.declared.faults.StreamFault.{StreamFault}
 use Rattle.ncroute.specs.Linting.{CutsLint, LintsFirst, LintsOne, StopsLinting, both_said}
 use Rattle.ncroute.specs.Streaming.{Streams}
-use Rattle.ncroute.specs.declared.linting.Said.{Said}
-use Rattle.ncroute.specs.declared.linting.Said.TheVariants as said
+use Rattle.ncroute.specs.declared.linting.LintSummary.{LintSummary}
+use Rattle.ncroute.specs.declared.linting.LintSummary.TheVariants as said
 
 module _ (opens : List ℕ → Result (Option (List ℕ)) Error → Type 0) (how : Linting) (sources : List Source) where
   pub none_linted : (before : Streams) → LintsFirst opens how sources 0 before before said.Nothing
   unfolding LintsFirst
   none_linted before = (refl, refl)
 
-  pub one_more_linted : (n : ℕ) (source : Source) (before mid after : Streams) (earlier one now : Said) → n < length sources
+  pub one_more_linted : (n : ℕ) (source : Source) (before mid after : Streams) (earlier one now : LintSummary) → n < length sources
       → source ≡ get_or sources n source → LintsFirst opens how sources n before mid earlier
       → LintsOne opens how source mid after one → now ≡ both_said earlier one
       → LintsFirst opens how sources (n + 1) before after now
@@ -25,7 +25,7 @@ module _ (opens : List ℕ → Result (Option (List ℕ)) Error → Type 0) (how
       rw add-one (source, mid, earlier, one, slice_get_read sources _ n source refl inside is, first, done, both)
 
   -- a fault cuts it with a source behind others
-  pub some_linted : (fault : StreamFault) (n : ℕ) (source : Source) (before mid after : Streams) (found : Said) → n < length sources
+  pub some_linted : (fault : StreamFault) (n : ℕ) (source : Source) (before mid after : Streams) (found : LintSummary) → n < length sources
       → source ≡ get_or sources n source → LintsFirst opens how sources n before mid found → CutsLint opens fault how source mid after
       → StopsLinting opens fault how sources before after
   some_linted fault n source before mid after found inside is first cut = record {

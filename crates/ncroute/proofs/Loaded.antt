@@ -4,10 +4,10 @@ use Rattle.filter_verifier.specs.VerifiedView.{VerifiedView}
 use Rattle.operator_cmds.specs.Script.{ScriptView, fresh}
 use Rattle.operator_cmds.specs.Stages.{Empty, StageView}
 use Rattle.router_operator.specs.OperatorView.{Names, filter_of}
-use Rattle.script_runs.proofs.Named.{naming_keeps}
-use Rattle.script_runs.specs.Naming.{AreNamed}
-use Rattle.script_runs.specs.declared.naming.NamedFilter.{NamedFilter}
-use Rattle.script_runs.specs.declared.naming.Unfit.{Unfit}
+use Rattle.router_script.proofs.Named.{naming_keeps}
+use Rattle.router_script.specs.Naming.{AreNamed}
+use Rattle.router_script.specs.declared.filter_naming.NamedFilter.{NamedFilter}
+use Rattle.router_script.specs.declared.filter_naming.Unfit.{Unfit}
 use Rattle.ncroute.specs.Loading.{AreLoaded, AreUnfit, script_with}
 
 module _ (size : ℕ) (given : List NamedFilter) (found : Option Unfit) (first script : ScriptView) (begins : first ≡ fresh)

@@ -18,7 +18,7 @@ use Rattle.ncroute.specs.Routing.{CutsPlan, Operated, RunsPlan, ServesRouter, St
 use Rattle.router_words.specs.Stated.{OriginView}
 use Rattle.ncroute.specs.Streaming.{Streams}
 use Rattle.ncroute.specs.declared.routing.SetupFault.{SetupFault}
-use Rattle.ncroute.specs.declared.routing.Untold.{Untold}
+use Rattle.ncroute.specs.declared.routing.Unreported.{Unreported}
 
 -- it was not set up, and the result says what was told of that
 module _ (opens : List ℕ → Result (Option (List ℕ)) Error → Type 0) (makes : List ℕ → Result (Option FolderView) Error → Type 0)
@@ -45,14 +45,14 @@ untouched operated P Q follows fault.Memory fails = follows fails
 -- a fault ended it, and standard error was told of that: the whole line, or a front of it
 module _ (plan : PlanView) (names : Names) (before after : Streams) (why : DaemonFault)
     (fails : Fails (Operated plan names before after) ((after.reads ≡ before.reads) × (after.holds ≡ before.holds)) why) where
-  pub faulted : (keeps : List ℕ → Option FolderView → Type 0) (save : Option (String Global)) (kept : Option (Option FolderView)) (result : Result ℕ Untold)
+  pub faulted : (keeps : List ℕ → Option FolderView → Type 0) (save : Option (String Global)) (kept : Option (Option FolderView)) (result : Result ℕ Unreported)
       → IfOk result (λ status. (status ≡ fault_status why) × Appends before.tells after.tells (router_line why))
       → IfOk result (RunsPlan keeps save plan names kept before after)
   faulted keeps save kept (Ok status) told = inr (record { why = why; ended = told.0; fails = fails; told = told.1 })
-  faulted keeps save kept (Err untold) told = tt
+  faulted keeps save kept (Err unreported) told = tt
 
-  pub cut_short : (result : Result ℕ Untold)
-      → IfErr result (λ untold. (untold.status ≡ fault_status why) × IsCut (stream_fault untold.why) before.tells after.tells (router_line why))
-      → IfErr result (λ untold. CutsPlan (stream_fault untold.why) plan names before after untold.status)
+  pub cut_short : (result : Result ℕ Unreported)
+      → IfErr result (λ unreported. (unreported.status ≡ fault_status why) × IsCut (stream_fault unreported.why) before.tells after.tells (router_line why))
+      → IfErr result (λ unreported. CutsPlan (stream_fault unreported.why) plan names before after unreported.status)
   cut_short (Ok status) cut = tt
-  cut_short (Err untold) cut = record { why = why; ended = cut.0; fails = fails; told = cut.1 }
+  cut_short (Err unreported) cut = record { why = why; ended = cut.0; fails = fails; told = cut.1 }

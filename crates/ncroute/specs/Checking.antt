@@ -18,13 +18,13 @@ use Rattle.ncroute.specs.Streaming.{Streams}
 -- The report on a text was written and told, under a name, and it is said whether it refuses the text.
 pub record ChecksWhole (how : Checking) (name text : List ℕ) (before after : Streams) (is_refused : Bool) : Type 0 where
   pub why : Option Diagnosis
-  pub reported : ReportsOn how.is_told how name text before.holds after.holds before.tells after.tells why
+  pub reported : ReportsOn how.tells_people how name text before.holds after.holds before.tells after.tells why
   pub judged : is_refused ≡ is_some why
   pub reads : after.reads ≡ before.reads
 
 -- A fault cut it.
 pub record CutsWhole (fault : StreamFault) (how : Checking) (name text : List ℕ) (before after : Streams) : Type 0 where
-  pub reported : CutsReport how.is_told fault how name text before.holds after.holds before.tells after.tells
+  pub reported : CutsReport how.tells_people fault how name text before.holds after.holds before.tells after.tells
   pub reads : after.reads ≡ before.reads
 
 -- The same, where the lines may begin with the source's name, or only refusals be written.

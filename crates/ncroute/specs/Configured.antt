@@ -31,17 +31,17 @@ Telling = Option (List ℕ) → Option (List ℕ) → List ℕ → Type 0
 
 -- memory was refused
 abbrev pub EndsByMemory : Telling → Option (List ℕ) → Option (List ℕ) → ℕ → Type 0
-EndsByMemory TellsLine told tells status = TellsLine told tells (fault_line (Stream Memory)) × (status ≡ 1)
+EndsByMemory TellsLine stderr_before stderr_after status = TellsLine stderr_before stderr_after (fault_line (Stream Memory)) × (status ≡ 1)
 
 -- a line of the file is refused by itself, or memory was refused before that was known
 abbrev pub EndsByWrong : Telling → List ℕ → WrongLine → Option (List ℕ) → Option (List ℕ) → ℕ → Type 0
-EndsByWrong TellsLine name wrong told tells status =
-    ((wrong.why ≡ line.Memory) × EndsByMemory TellsLine told tells status)
-    ⊎ ((wrong.why ≢ line.Memory) × TellsLine told tells (refused_line name (wrong_of wrong)) × (status ≡ 2))
+EndsByWrong TellsLine name wrong stderr_before stderr_after status =
+    ((wrong.why ≡ line.Memory) × EndsByMemory TellsLine stderr_before stderr_after status)
+    ⊎ ((wrong.why ≢ line.Memory) × TellsLine stderr_before stderr_after (refused_line name (wrong_of wrong)) × (status ≡ 2))
 
 -- a line of the file does not go together with others
 abbrev pub EndsByClash : Telling → List ℕ → Clash → Option (List ℕ) → Option (List ℕ) → ℕ → Type 0
-EndsByClash TellsLine name clash told tells status = TellsLine told tells (clash_line name clash) × (status ≡ 2)
+EndsByClash TellsLine name clash stderr_before stderr_after status = TellsLine stderr_before stderr_after (clash_line name clash) × (status ≡ 2)
 
 -- It ended by a line, and else nothing was done.
 abbrev pub EndsBy : (Option (List ℕ) → Option (List ℕ) → ℕ → Type 0) → Streams → Streams → ℕ → Type 0
@@ -93,7 +93,7 @@ module _ (opens : List ℕ → Result (Option (List ℕ)) Error → Type 0) wher
         ((source : Source) × (path_of source ≡ Some name)
         × (((text : List ℕ) × (mid : Streams) × IsText opens source (Some text) before mid × Does text words mid after status)
         ⊎ ((fault : ProgramFault) × (mid : Streams) × StopsText opens (stream_fault fault) source before mid
-        × EndsBy (λ told tells ended. TellsLine told tells (fault_line fault) × (ended ≡ 1)) mid after status)))
+        × EndsBy (λ stderr_before stderr_after ended. TellsLine stderr_before stderr_after (fault_line fault) × (ended ≡ 1)) mid after status)))
         ⊎ EndsBy (EndsByMemory TellsLine) before after status
 
     -- ... or it was not read, with status 1.

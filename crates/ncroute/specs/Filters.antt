@@ -6,8 +6,8 @@ use Rattle.filter_source.specs.Limits.{source_limit}
 use Rattle.filter_source.specs.declared.diagnosis.Diagnosis.{Diagnosis}
 use Rattle.filter_reports.specs.Telling.{Explains, IsCutExplanation}
 use Rattle.line_protocol.specs.declared.faults.StreamFault.{StreamFault}
-use Rattle.script_runs.specs.declared.naming.NamedFilter.{NamedFilter}
-use Rattle.script_runs.specs.declared.naming.Unfit.{Unfit}
+use Rattle.router_script.specs.declared.filter_naming.NamedFilter.{NamedFilter}
+use Rattle.router_script.specs.declared.filter_naming.Unfit.{Unfit}
 use Rattle.command_line.specs.declared.requests.Source.{Source}
 use Rattle.command_line.specs.declared.filter_words.NamedFile.{NamedFile}
 use Rattle.ncroute.specs.Reading.{IsRead, IsUnread, StopsTelling, TellsUnread, name_of}
@@ -82,21 +82,21 @@ module _ (opens : List ℕ → Result (Option (List ℕ)) Error → Type 0) wher
   AreLoaded files loaded.Skipped before after = SkipsFilter files before after
   AreLoaded files (loaded.Stopped fault) before after = StopsAtFault (stream_fault fault) files before after
 
--- Standard error was told why a filter is refused, at its place in its source. `told` is what it held before, `tells` what it holds now.
+-- Standard error was told why a filter is refused, at its place in its source. `stderr_before` is what it held before, `stderr_after` what it holds now.
 abbrev pub TellsOfFilter : Option NamedFilter → Diagnosis → Option (List ℕ) → Option (List ℕ) → Type 0
-TellsOfFilter None why told tells = tells ≡ told
-TellsOfFilter (Some filter) why told tells = Explains filter.origin.items filter.text.items (Some why) told tells
+TellsOfFilter None why stderr_before stderr_after = stderr_after ≡ stderr_before
+TellsOfFilter (Some filter) why stderr_before stderr_after = Explains filter.origin.items filter.text.items (Some why) stderr_before stderr_after
 
 -- so it was where one of these filters is
 abbrev pub TellsUnfit : List NamedFilter → Option Unfit → Option (List ℕ) → Option (List ℕ) → Type 0
-TellsUnfit filters None told tells = tells ≡ told
-TellsUnfit filters (Some unfit) told tells = TellsOfFilter (slice_get filters unfit.index) unfit.told told tells
+TellsUnfit filters None stderr_before stderr_after = stderr_after ≡ stderr_before
+TellsUnfit filters (Some unfit) stderr_before stderr_after = TellsOfFilter (slice_get filters unfit.index) unfit.diagnosis stderr_before stderr_after
 
 -- A fault cut what was told of a filter.
 abbrev pub IsCutFilter : StreamFault → Option NamedFilter → Diagnosis → Option (List ℕ) → Option (List ℕ) → Type 0
-IsCutFilter fault None why told tells = ⊥
-IsCutFilter fault (Some filter) why told tells = IsCutExplanation fault filter.origin.items filter.text.items why told tells
+IsCutFilter fault None why stderr_before stderr_after = ⊥
+IsCutFilter fault (Some filter) why stderr_before stderr_after = IsCutExplanation fault filter.origin.items filter.text.items why stderr_before stderr_after
 
 abbrev pub IsCutUnfit : StreamFault → List NamedFilter → Option Unfit → Option (List ℕ) → Option (List ℕ) → Type 0
-IsCutUnfit fault filters None told tells = ⊥
-IsCutUnfit fault filters (Some unfit) told tells = IsCutFilter fault (slice_get filters unfit.index) unfit.told told tells
+IsCutUnfit fault filters None stderr_before stderr_after = ⊥
+IsCutUnfit fault filters (Some unfit) stderr_before stderr_after = IsCutFilter fault (slice_get filters unfit.index) unfit.diagnosis stderr_before stderr_after

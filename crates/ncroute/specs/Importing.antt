@@ -12,19 +12,19 @@ use Rattle.std.specs.declared.io.ErrorKind.TheVariants.{NotFound}
 use Rattle.std.specs.declared.string.String.{String}
 use Rattle.bird_import.specs.Cutting.{IsCutInto}
 use Rattle.bird_import.specs.Items.{definitions_in, items_in, view_of_item}
-use Rattle.bird_import.specs.Judged.{HaveDrafts}
+use Rattle.bird_import.specs.Judged.{HaveConversions}
 use Rattle.bird_import.specs.Laying.{origins_of, text_of}
 use Rattle.bird_import.specs.Reasons.{AreReasonWords}
-use Rattle.bird_import.specs.Texts.{Fated, IsTaken}
+use Rattle.bird_import.specs.Texts.{HasOutcome, IsTaken}
 use Rattle.bird_import.specs.declared.config.Config.{Config}
 use Rattle.bird_import.specs.declared.cut.Cut.{Cut}
-use Rattle.bird_import.specs.declared.drafts.Draft.{Draft}
-use Rattle.bird_import.specs.declared.drafts.Outcome.{Outcome}
-use Rattle.bird_import.specs.declared.drafts.Outcome.TheVariants.{Drafted, LeftOut}
+use Rattle.bird_import.specs.declared.conversions.Conversion.{Conversion}
+use Rattle.bird_import.specs.declared.conversions.ConversionOutcome.{ConversionOutcome}
+use Rattle.bird_import.specs.declared.conversions.ConversionOutcome.TheVariants.{Converted, LeftOut}
 use Rattle.bird_import.specs.declared.reason.Why.{Why}
 use Rattle.bird_import.specs.declared.reason.Why.TheVariants as why
-use Rattle.bird_import.specs.declared.text.Fate.{Fate}
-use Rattle.bird_import.specs.declared.text.Fate.TheVariants as fate
+use Rattle.bird_import.specs.declared.text.TextOutcome.{TextOutcome}
+use Rattle.bird_import.specs.declared.text.TextOutcome.TheVariants as text_outcome
 use Rattle.bird_import.specs.declared.text.Origin.{Origin}
 use Rattle.bird_import.specs.declared.word.Word.{Word}
 use Rattle.bird_import.specs.declared.word.WordKind.{WordKind}
@@ -36,9 +36,9 @@ use Rattle.filter_source.specs.VerifiedLine.{verified_line}
 use Rattle.filter_source.specs.declared.diagnosis.Diagnosis.{Diagnosis}
 use Rattle.filter_tokens.specs.Codes.{fault_place}
 use Rattle.filter_tokens.specs.declared.fault.TokenFault.{TokenFault}
-use Rattle.filter_reports.specs.Explanations.{AreRefusalWords}
+use Rattle.refusal_words.specs.Explanations.{AreRefusalWords}
 use Rattle.filter_reports.specs.VerifiedFilters.{IsVerifiedOf}
-use Rattle.filter_reports.specs.Shown.{shown}
+use Rattle.refusal_words.specs.Shown.{shown}
 use Rattle.filter_verifier.specs.VerifiedView.{VerifiedView}
 use Rattle.line_protocol.specs.Runs.{AppendsFront}
 use Rattle.ncroute.specs.Ending.{status_of_found}
@@ -46,13 +46,13 @@ use Rattle.ncroute.specs.Following.{DoesFirst}
 use Rattle.ncroute.specs.Including.{ReadsConfig, SkipsText}
 use Rattle.ncroute.specs.Noting.{HasNotes, place_from}
 use Rattle.ncroute.specs.Places.{ConfigView, place_of}
-use Rattle.ncroute.specs.Reading.{unmade_line, unwritten_line}
+use Rattle.ncroute.specs.Reading.{uncreated_line, unwritten_line}
 use Rattle.ncroute.specs.Streaming.{Streams, Tells, Writes}
-use Rattle.ncroute.specs.declared.importing.Made.{Made}
+use Rattle.ncroute.specs.declared.importing.FilterResult.{FilterResult}
 
 -- the text that is written of a filter, if one is
-abbrev pub text_in : Made → Option (List ℕ)
-text_in made = option_map (λ text. text.items) made.text
+abbrev pub text_in : FilterResult → Option (List ℕ)
+text_in filter_result = option_map (λ text. text.items) filter_result.text
 
 -- a comment that tells a place of a configuration
 abbrev pub origin_line : List ℕ → ConfigView → ℕ → List ℕ
@@ -88,61 +88,61 @@ pub record IsVerifiedText (size : ℕ) (text line : List ℕ) : Type 0 where
   pub bounds : line ≡ verified_line verified.program
 
 -- A text is refused for domains of a size, and so it is told, at the place from which the byte comes that is told of it.
-pub record IsRefusedText (size at : ℕ) (text : List ℕ) (origins : List Origin) (made : Made) : Type 0 where
+pub record IsRefusedText (size at : ℕ) (text : List ℕ) (origins : List Origin) (filter_result : FilterResult) : Type 0 where
   pub told : Diagnosis
   pub is : IsDiagnosis size false text told
-  pub told_so : AreRefusalWords told made.words.items
-  pub place : made.at ≡ place_from origins at told.byte
+  pub told_so : AreRefusalWords told filter_result.words.items
+  pub place : filter_result.at ≡ place_from origins at told.byte
 
 -- What comes of the text of a filter that begins at a place: it is verified, and kept; or it is refused.
-abbrev pub KeepsText : ℕ → ℕ → List ℕ → List Origin → Made → Option (List ℕ) → Type 0
-KeepsText size at text origins made None = IsRefusedText size at text origins made
-KeepsText size at text origins made (Some kept) = (kept ≡ text) × IsVerifiedText size text made.words.items × (made.at ≡ at)
+abbrev pub KeepsText : ℕ → ℕ → List ℕ → List Origin → FilterResult → Option (List ℕ) → Type 0
+KeepsText size at text origins filter_result None = IsRefusedText size at text origins filter_result
+KeepsText size at text origins filter_result (Some kept) = (kept ≡ text) × IsVerifiedText size text filter_result.words.items × (filter_result.at ≡ at)
 
-abbrev pub IsMadeOfText : ℕ → ℕ → List ℕ → List Origin → Made → Type 0
-IsMadeOfText size at text origins made = KeepsText size at text origins made (text_in made)
+abbrev pub IsResultOfText : ℕ → ℕ → List ℕ → List Origin → FilterResult → Type 0
+IsResultOfText size at text origins filter_result = KeepsText size at text origins filter_result (text_in filter_result)
 
--- What is kept of a draft is the text that was written for its words, which reads no variable before it assigns it, and it is verified for
--- domains of a size; the place is that of the draft.
-pub record IsOfWords (size at : ℕ) (words : List Word) (text : List ℕ) (made : Made) (kept : List ℕ) : Type 0 where
+-- What is kept of a conversion is the text that was written for its words, which reads no variable before it assigns it, and it is verified for
+-- domains of a size; the place is that of the conversion.
+pub record IsOfWords (size at : ℕ) (words : List Word) (text : List ℕ) (filter_result : FilterResult) (kept : List ℕ) : Type 0 where
   pub same : kept ≡ text
   pub taken : IsTaken words text
-  pub verified : IsVerifiedText size text made.words.items
-  pub place : made.at ≡ at
+  pub verified : IsVerifiedText size text filter_result.words.items
+  pub place : filter_result.at ≡ at
 
 -- The words of a reason, as they are shown: no character of them steers a terminal or ends a line, whatever the name in them is.
 abbrev pub AreWordsFor : Why → List ℕ → Type 0
 AreWordsFor why words = (plain : List ℕ) × AreReasonWords why plain × (words ≡ shown plain)
 
 -- a filter is left out for a reason, and so it is told, at a place
-abbrev pub IsToldFor : ℕ → Why → Made → Type 0
-IsToldFor at why made = (made.at ≡ at) × AreWordsFor why made.words.items
+abbrev pub IsLeftOutFor : ℕ → Why → FilterResult → Type 0
+IsLeftOutFor at why filter_result = (filter_result.at ≡ at) × AreWordsFor why filter_result.words.items
 
 -- one of some words is a variable, and it is told that this one may be read before it is assigned
-abbrev pub IsToldUnset : Option Word → Made → Type 0
-IsToldUnset None made = ⊥
-IsToldUnset (Some word) made = IsToldFor word.at (why.Unset word.bytes) made
+abbrev pub IsLeftOutUnset : Option Word → FilterResult → Type 0
+IsLeftOutUnset None filter_result = ⊥
+IsLeftOutUnset (Some word) filter_result = IsLeftOutFor word.at (why.Unset word.bytes) filter_result
 
--- Why none is kept of a draft: the text for its words is refused, and so it is told; or the words could not be written, or one of them is a
+-- Why none is kept of a conversion: the text for its words is refused, and so it is told; or the words could not be written, or one of them is a
 -- variable that may be read before it is assigned, and its place is told.
-abbrev pub IsLeftFor : ℕ → ℕ → List Word → List ℕ → List Origin → Made → Fate → Type 0
-IsLeftFor size at words text origins made fate.Taken = IsRefusedText size at text origins made
-IsLeftFor size at words text origins made (fate.Refused fault) = IsRefusedText size at text origins made
-IsLeftFor size at words text origins made fate.Garbled = IsToldFor at why.Unwritten made
-IsLeftFor size at words text origins made (fate.Unset k) = IsToldUnset (slice_get words k) made
+abbrev pub IsLeftFor : ℕ → ℕ → List Word → List ℕ → List Origin → FilterResult → TextOutcome → Type 0
+IsLeftFor size at words text origins filter_result text_outcome.Taken = IsRefusedText size at text origins filter_result
+IsLeftFor size at words text origins filter_result (text_outcome.Refused fault) = IsRefusedText size at text origins filter_result
+IsLeftFor size at words text origins filter_result text_outcome.Garbled = IsLeftOutFor at why.Unwritten filter_result
+IsLeftFor size at words text origins filter_result (text_outcome.Unset k) = IsLeftOutUnset (slice_get words k) filter_result
 
-pub record IsLeftOut (size at : ℕ) (words : List Word) (text : List ℕ) (origins : List Origin) (made : Made) : Type 0 where
-  pub fate : Fate
-  pub fated : Fated words text fate
-  pub left : IsLeftFor size at words text origins made fate
+pub record IsLeftOut (size at : ℕ) (words : List Word) (text : List ℕ) (origins : List Origin) (filter_result : FilterResult) : Type 0 where
+  pub text_outcome : TextOutcome
+  pub has_outcome : HasOutcome words text text_outcome
+  pub left : IsLeftFor size at words text origins filter_result text_outcome
 
-abbrev pub KeepsWords : ℕ → ℕ → List Word → List ℕ → List Origin → Made → Option (List ℕ) → Type 0
-KeepsWords size at words text origins made None = IsLeftOut size at words text origins made
-KeepsWords size at words text origins made (Some kept) = IsOfWords size at words text made kept
+abbrev pub KeepsWords : ℕ → ℕ → List Word → List ℕ → List Origin → FilterResult → Option (List ℕ) → Type 0
+KeepsWords size at words text origins filter_result None = IsLeftOut size at words text origins filter_result
+KeepsWords size at words text origins filter_result (Some kept) = IsOfWords size at words text filter_result kept
 
--- what came of a draft's words, for which a text was written whose words come from these places
-abbrev pub IsMadeOfWords : ℕ → ℕ → List Word → List ℕ → List Origin → Made → Type 0
-IsMadeOfWords size at words text origins made = KeepsWords size at words text origins made (text_in made)
+-- what came of a conversion's words, for which a text was written whose words come from these places
+abbrev pub IsResultOfWords : ℕ → ℕ → List Word → List ℕ → List Origin → FilterResult → Type 0
+IsResultOfWords size at words text origins filter_result = KeepsWords size at words text origins filter_result (text_in filter_result)
 
 -- the text that is written for the words of a filter that begins at one place and ends at another, and the places from which its words come
 abbrev pub text_for : ConfigView → ℕ → ℕ → List Word → List ℕ
@@ -151,31 +151,31 @@ text_for config from to words = text_of (head_for config from to words) words
 abbrev pub origins_for : ConfigView → ℕ → ℕ → List Word → List Origin
 origins_for config from to words = origins_of (head_for config from to words) words
 
--- What came of a draft: none is written of one that is left out, and what is told is its reason, at the place of that.
-abbrev pub IsMadeBy : ConfigView → ℕ → ℕ → ℕ → Outcome → Made → Type 0
-IsMadeBy config size from to (LeftOut reason) made = (text_in made ≡ None) × IsToldFor reason.at reason.why made
-IsMadeBy config size from to (Drafted words) made =
-    IsMadeOfWords size from words.items (text_for config from to words.items) (origins_for config from to words.items) made
+-- What came of a conversion: none is written of one that is left out, and what is told is its reason, at the place of that.
+abbrev pub IsResultOf : ConfigView → ℕ → ℕ → ℕ → ConversionOutcome → FilterResult → Type 0
+IsResultOf config size from to (LeftOut reason) filter_result = (text_in filter_result ≡ None) × IsLeftOutFor reason.at reason.why filter_result
+IsResultOf config size from to (Converted words) filter_result =
+    IsResultOfWords size from words.items (text_for config from to words.items) (origins_for config from to words.items) filter_result
 
-abbrev pub IsMade : ConfigView → ℕ → Draft → Made → Type 0
-IsMade config size draft made = IsMadeBy config size draft.at draft.end draft.outcome made
+abbrev pub IsFilterResult : ConfigView → ℕ → Conversion → FilterResult → Type 0
+IsFilterResult config size conversion filter_result = IsResultOf config size conversion.at conversion.end conversion.outcome filter_result
 
 -- Beside its text, if one is kept, what else is said of it is made: nothing where none is kept.
-abbrev pub KeepsNotes : ConfigView → List ℕ → ℕ → ℕ → List ℕ → List Origin → Made → Option (List ℕ) → Type 0
-KeepsNotes config name size at text origins made None = made.notes.items ≡ []
-KeepsNotes config name size at text origins made (Some kept) = HasNotes config name size at text origins made.notes.items
+abbrev pub KeepsNotes : ConfigView → List ℕ → ℕ → ℕ → List ℕ → List Origin → FilterResult → Option (List ℕ) → Type 0
+KeepsNotes config name size at text origins filter_result None = filter_result.notes.items ≡ []
+KeepsNotes config name size at text origins filter_result (Some kept) = HasNotes config name size at text origins filter_result.notes.items
 
-abbrev pub IsNotedText : ConfigView → List ℕ → ℕ → ℕ → List ℕ → List Origin → Made → Type 0
-IsNotedText config name size at text origins made = KeepsNotes config name size at text origins made (text_in made)
+abbrev pub IsNotedText : ConfigView → List ℕ → ℕ → ℕ → List ℕ → List Origin → FilterResult → Type 0
+IsNotedText config name size at text origins filter_result = KeepsNotes config name size at text origins filter_result (text_in filter_result)
 
--- So it is of a draft.
-abbrev pub IsNotedBy : ConfigView → List ℕ → ℕ → ℕ → ℕ → Outcome → Made → Type 0
-IsNotedBy config name size from to (LeftOut reason) made = made.notes.items ≡ []
-IsNotedBy config name size from to (Drafted words) made =
-    IsNotedText config name size from (text_for config from to words.items) (origins_for config from to words.items) made
+-- So it is of a conversion.
+abbrev pub IsNotedBy : ConfigView → List ℕ → ℕ → ℕ → ℕ → ConversionOutcome → FilterResult → Type 0
+IsNotedBy config name size from to (LeftOut reason) filter_result = filter_result.notes.items ≡ []
+IsNotedBy config name size from to (Converted words) filter_result =
+    IsNotedText config name size from (text_for config from to words.items) (origins_for config from to words.items) filter_result
 
-abbrev pub IsNoted : ConfigView → ℕ → Draft → Made → Type 0
-IsNoted config size draft made = IsNotedBy config draft.name.now size draft.at draft.end draft.outcome made
+abbrev pub IsNoted : ConfigView → ℕ → Conversion → FilterResult → Type 0
+IsNoted config size conversion filter_result = IsNotedBy config conversion.name.now size conversion.at conversion.end conversion.outcome filter_result
 
 -- the parts of a configuration are all definitions, filters and functions that its words have
 pub record HasParts (words : List Word) (parts : Config) : Type 0 where
@@ -213,14 +213,14 @@ path_words None = []
 path_words (Some path) = codes " -> " ++ shown path
 
 -- what is told of what comes of a filter, to the end of the line
-abbrev pub fate_words : Bool → List ℕ → List ℕ
-fate_words true words = codes " " ++ words
-fate_words false words = codes ": " ++ words ++ codes ": this filter was left out" ++ 10 ∷ []
+abbrev pub result_words : Bool → List ℕ → List ℕ
+result_words true words = codes " " ++ words
+result_words false words = codes ": " ++ words ++ codes ": this filter was left out" ++ 10 ∷ []
 
 -- the line of a filter: its place, its name as it is shown, the name of its file, and what comes of it; and the lines of what else is said of it
-abbrev pub made_line : ConfigView → List ℕ → Made → Option (List ℕ) → List ℕ
-made_line config name made path = place_of config made.at ++ codes " filter " ++ shown name ++ path_words path
-    ++ fate_words (is_some (text_in made)) made.words.items ++ made.notes.items
+abbrev pub result_line : ConfigView → List ℕ → FilterResult → Option (List ℕ) → List ℕ
+result_line config name filter_result path = place_of config filter_result.at ++ codes " filter " ++ shown name ++ path_words path
+    ++ result_words (is_some (text_in filter_result)) filter_result.words.items ++ filter_result.notes.items
 
 -- the line that tells something of a byte of a configuration
 abbrev pub byte_line : ConfigView → ℕ → List ℕ → List ℕ
@@ -267,7 +267,7 @@ module _ (opens : List ℕ → Result (Option (List ℕ)) Error → Type 0) wher
   LacksFolder (Some folder) before after false = (after ≡ before) × IsThere (inner_path (string_bytes folder))
   LacksFolder None before after true = ⊥
   LacksFolder (Some folder) before after true = (error : Error) × (words : List ℕ)
-      × IsMissing (inner_path (string_bytes folder)) error × Tells (unmade_line (string_bytes folder) words) before after
+      × IsMissing (inner_path (string_bytes folder)) error × Tells (uncreated_line (string_bytes folder) words) before after
 
 -- `creates name` says what may come of making a file of this name: what it holds at first, or why there is none. `leaves name` says what a
 -- new file of this name held when it was closed.
@@ -278,8 +278,8 @@ module _ (creates : List ℕ → Result (Option (List ℕ)) Error → Type 0) (l
       × leaves path holds
 
   -- There is no new file of this path, which standard error was told.
-  abbrev pub IsUnmade : List ℕ → Streams → Streams → Type 0
-  IsUnmade path before after = (error : Error) × (words : List ℕ) × creates path (Err error) × Tells (unmade_line path words) before after
+  abbrev pub IsUncreated : List ℕ → Streams → Streams → Type 0
+  IsUncreated path before after = (error : Error) × (words : List ℕ) × creates path (Err error) × Tells (uncreated_line path words) before after
 
   -- A new file of this path got no more than a front of a text, which standard error was told.
   abbrev pub IsUnwritten : List ℕ → List ℕ → Streams → Streams → Type 0
@@ -287,7 +287,7 @@ module _ (creates : List ℕ → Result (Option (List ℕ)) Error → Type 0) (l
       × Tells (unwritten_line path) before after
 
   abbrev pub IsUnsaved : List ℕ → List ℕ → Streams → Streams → Type 0
-  IsUnsaved path text before after = IsUnmade path before after ⊎ IsUnwritten path text before after
+  IsUnsaved path text before after = IsUncreated path before after ⊎ IsUnwritten path text before after
 
   -- it is said whether it was saved
   abbrev pub SavesText : List ℕ → List ℕ → Streams → Streams → Bool → Type 0
@@ -295,32 +295,32 @@ module _ (creates : List ℕ → Result (Option (List ℕ)) Error → Type 0) (l
   SavesText path text before after false = IsUnsaved path text before after
 
   -- The text of a filter was written into a new file, and the filter's line was written; or it was not, and the filter is left out.
-  abbrev pub SavesFilter : ConfigView → List ℕ → Made → List ℕ → List ℕ → Streams → Streams → Bool → Type 0
-  SavesFilter config name made text path before after is_left =
-      (IsSaved path text × Writes (made_line config name made (Some path)) before after × (is_left ≡ false))
+  abbrev pub SavesFilter : ConfigView → List ℕ → FilterResult → List ℕ → List ℕ → Streams → Streams → Bool → Type 0
+  SavesFilter config name filter_result text path before after is_left =
+      (IsSaved path text × Writes (result_line config name filter_result (Some path)) before after × (is_left ≡ false))
       ⊎ (IsUnsaved path text before after × (is_left ≡ true))
 
   -- What came of a filter: it was saved, where there is a folder and it is verified; and otherwise its line was written. It is said whether the
   -- filter is left out.
-  abbrev pub ImportsMade : Option (String Global) → Option (List ℕ) → ConfigView → List ℕ → Made → Streams → Streams → Bool → Type 0
-  ImportsMade None text config name made before after is_left =
-      Writes (made_line config name made None) before after × (is_left ≡ not (is_some text))
-  ImportsMade (Some folder) None config name made before after is_left = Writes (made_line config name made None) before after × (is_left ≡ true)
-  ImportsMade (Some folder) (Some text) config name made before after is_left =
-      SavesFilter config name made text (file_path (string_bytes folder) name) before after is_left
+  abbrev pub ImportsResult : Option (String Global) → Option (List ℕ) → ConfigView → List ℕ → FilterResult → Streams → Streams → Bool → Type 0
+  ImportsResult None text config name filter_result before after is_left =
+      Writes (result_line config name filter_result None) before after × (is_left ≡ not (is_some text))
+  ImportsResult (Some folder) None config name filter_result before after is_left = Writes (result_line config name filter_result None) before after × (is_left ≡ true)
+  ImportsResult (Some folder) (Some text) config name filter_result before after is_left =
+      SavesFilter config name filter_result text (file_path (string_bytes folder) name) before after is_left
 
-  -- A filter was made of a draft, with what else is said of it, and imported.
-  pub record ImportsDraft (how : Importing) (config : ConfigView) (draft : Draft) (before after : Streams) (is_left : Bool) : Type 0 where
-    pub made : Made
-    pub is_made : IsMade config how.size draft made
-    pub is_noted : IsNoted config how.size draft made
-    pub imported : ImportsMade how.folder (text_in made) config draft.name.now made before after is_left
+  -- A filter was made of a conversion, with what else is said of it, and imported.
+  pub record ImportsConversion (how : Importing) (config : ConfigView) (conversion : Conversion) (before after : Streams) (is_left : Bool) : Type 0 where
+    pub filter_result : FilterResult
+    pub is_filter_result : IsFilterResult config how.size conversion filter_result
+    pub is_noted : IsNoted config how.size conversion filter_result
+    pub imported : ImportsResult how.folder (text_in filter_result) config conversion.name.now filter_result before after is_left
 
   -- The filters among the parts of a configuration were imported, in order, and it is said whether one of them is left out.
   pub record ImportsParts (how : Importing) (config : ConfigView) (parts : Config) (before after : Streams) (is_left : Bool) : Type 0 where
-    pub drafts : List Draft
-    pub drafted : HaveDrafts parts parts.items.now (length parts.items.now) drafts
-    pub imported : DoesFirst (ImportsDraft how config) drafts (length drafts) before after is_left
+    pub conversions : List Conversion
+    pub converted : HaveConversions parts parts.items.now (length parts.items.now) conversions
+    pub imported : DoesFirst (ImportsConversion how config) conversions (length conversions) before after is_left
 
   -- So were those among its words.
   pub record ImportsWords (how : Importing) (config : ConfigView) (words : List Word) (before after : Streams) (is_left : Bool) : Type 0 where

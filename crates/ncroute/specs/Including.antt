@@ -4,7 +4,7 @@ use Rattle.std.specs.Prelude.{◌≡◌, ◌⊎◌, ◌<◌, ◌≤◌, ◌-◌,
 use Rattle.std.specs.Prelude.{false, if◌then◌else◌, List, [], ◌∷◌, Option, Some, None, Result}
 use Rattle.std.specs.Prelude.{codes, drop, length, map, slice_get, take}
 use Rattle.std.specs.declared.io.Error.{Error}
-use Rattle.filter_reports.specs.Shown.{shown}
+use Rattle.refusal_words.specs.Shown.{shown}
 use Rattle.line_protocol.specs.Limits.{input_limit}
 use Rattle.line_protocol.specs.declared.faults.StreamFault.{StreamFault}
 use Rattle.bird_import.specs.Including.{Includes, view_of as view_of_include}
@@ -12,7 +12,7 @@ use Rattle.bird_import.specs.declared.includes.Include.{Include}
 use Rattle.command_line.specs.declared.requests.Source.{Source}
 use Rattle.ncroute.specs.Inclusions.{IsLeft, IsLookedFor, last_file}
 use Rattle.ncroute.specs.Places.{ConfigView, FileView, place_in, view_of}
-use Rattle.ncroute.specs.Reading.{Reads, SkipsUnread, StopsReading, name_of, told_line}
+use Rattle.ncroute.specs.Reading.{Reads, SkipsUnread, StopsReading, name_of, notice_line}
 use Rattle.ncroute.specs.Streaming.{CutsTelling, Streams, Tells, Writes}
 
 -- how deep files include files at most, as in BIRD
@@ -82,7 +82,7 @@ unfoldable pub long_config : List ℕ
 long_config = codes "longer than 16777216 bytes"
 
 abbrev pub long_config_line : Source → List ℕ
-long_config_line source = told_line (name_of source) long_config (codes " (E4)" ++ 10 ∷ [])
+long_config_line source = notice_line (name_of source) long_config (codes " (E4)" ++ 10 ∷ [])
 
 -- A text is taken, if it is within the limit; and otherwise standard error was told that it is not.
 abbrev pub TakesWithin : Source → List ℕ → Option (List ℕ) → Streams → Streams → Type 0

@@ -1,12 +1,13 @@
--- The script of a router that several sources are, one after another. (This project's own choice.)
-use Rattle.std.specs.Prelude.{◌≡◌, ◌⊎◌, ◌==◌, ◌-◌, ℕ, zero, suc, Bool, true, if◌then◌else◌, List, [], ◌∷◌}
+-- The script of a router that sources are, one after another. (This project's own choice.)
+use Rattle.std.specs.Prelude.{◌≡◌, ◌⊎◌, ◌==◌, ◌&&◌, ◌-◌, ℕ, zero, suc, Bool, true, false, MatchBool, if◌then◌else◌, List, [], ◌∷◌}
 use Rattle.std.specs.Prelude.{◌++◌, Option, Some, None, Result, count_by, length, min, slice_get}
 use Rattle.std.specs.declared.io.Error.{Error}
 use Rattle.line_protocol.specs.Limits.{input_limit}
 use Rattle.line_protocol.specs.Lines.{is_line_feed}
 use Rattle.line_protocol.specs.declared.faults.StreamFault.{StreamFault}
-use Rattle.script_runs.specs.declared.naming.NamedFilter.{NamedFilter}
-use Rattle.command_line.specs.declared.requests.Running.{Running}
+use Rattle.router_script.specs.declared.filter_naming.NamedFilter.{NamedFilter}
+use Rattle.command_line.specs.Readings.{is_input}
+use Rattle.command_line.specs.declared.requests.RunOptions.{RunOptions}
 use Rattle.command_line.specs.declared.requests.Source.{Source}
 use Rattle.ncroute.specs.Filters.{ReadsThem, SkipsFilter, StopsAtFault}
 use Rattle.ncroute.specs.Guiding.{GuidesScript, StopsGuided}
@@ -28,20 +29,31 @@ ends_line text = is_end (slice_get text (length text - 1))
 abbrev pub ended : List ℕ → List ℕ
 ended text = if ends_line text then text else text ++ 10 ∷ []
 
--- how many lines a script has of which each ends; there is no higher number of a line than the greatest of 32 bits
+-- how many lines of a script end; there is no higher number of a line than the greatest of 32 bits
 abbrev pub lines_of : List ℕ → ℕ
 lines_of script = min (count_by is_line_feed script) 4294967295
 
--- a source is the next part of a script: it has the source's name, and begins behind the lines that are there
+-- the first source is standard input
+abbrev pub begins_with_input : Option Source → Bool
+begins_with_input None = false
+begins_with_input (Some source) = is_input source
+
+-- these sources are standard input alone
+abbrev pub is_input_alone : List Source → Bool
+is_input_alone sources = begins_with_input (slice_get sources 0) && (length sources == 1)
+
+-- a source is the next part of a script: it has the source's name, and begins behind the lines that are there, of which the last then ends
 abbrev pub AddsPart : Source → List ℕ → List ScriptPart → List ScriptPart → Type 0
-AddsPart source script before after = (part : ScriptPart) × (part.name.now ≡ name_of source) × (part.before ≡ lines_of script) × (after ≡ before ++ part ∷ [])
+AddsPart source script before after =
+    (part : ScriptPart) × (part.name.now ≡ name_of source) × (part.before ≡ lines_of (ended script)) × (after ≡ before ++ part ∷ [])
 
 -- `opens name` says what may come of opening a file of this name.
 module _ (opens : List ℕ → Result (Option (List ℕ)) Error → Type 0) where
-  -- A source was read to its end, or to the limit, and its text added to a script. `known` is what standard input had before, `left` what it has now.
+  -- A source was read to its end, or to the limit, and its text added to a script, whose last line ends before it. `known` is what standard input had
+  -- before, `left` what it has now.
   abbrev pub JoinsNext : Source → List ℕ → List ℕ → Option (List ℕ) → Option (List ℕ) → Type 0
   JoinsNext source earlier script known left =
-      (text : List ℕ) × IsRead opens input_limit source text known left × (script ≡ earlier ++ ended text)
+      (text : List ℕ) × IsRead opens input_limit source text known left × (script ≡ ended earlier ++ text)
 
   -- It was not: it was not read, or memory was refused for what was read.
   abbrev pub LeavesNext : Source → Unread → Option (List ℕ) → Option (List ℕ) → Type 0
@@ -77,7 +89,7 @@ module _ (opens : List ℕ → Result (Option (List ℕ)) Error → Type 0) wher
 module _ (creates : List ℕ → Result (Option (List ℕ)) Error → Type 0) (leaves : List ℕ → Option (List ℕ) → Type 0)
     (opens : List ℕ → Result (Option (List ℕ)) Error → Type 0) where
   -- The sources were read, and the script that they are was carried out; or one of them was not read, and no line was answered.
-  unfoldable pub RunsTexts : Running → List NamedFilter → List Source → Streams → Streams → ℕ → Type 0
+  unfoldable pub RunsTexts : RunOptions → List NamedFilter → List Source → Streams → Streams → ℕ → Type 0
   RunsTexts how filters sources before after status =
       ((script : List ℕ) × (mid : Streams) × JoinsThem opens sources script before mid
       × GuidesScript creates leaves how filters (Some script) mid after status)
@@ -85,23 +97,34 @@ module _ (creates : List ℕ → Result (Option (List ℕ)) Error → Type 0) (l
       × TellsUnread source why before.tells after.tells × (after.holds ≡ before.holds) × (status ≡ 1))
 
   -- A fault ended it.
-  unfoldable pub StopsTexts : StreamFault → Running → List NamedFilter → List Source → Streams → Streams → Type 0
+  unfoldable pub StopsTexts : StreamFault → RunOptions → List NamedFilter → List Source → Streams → Streams → Type 0
   StopsTexts fault how filters sources before after =
       ((script : List ℕ) × (mid : Streams) × JoinsThem opens sources script before mid
       × StopsGuided creates leaves fault how filters (Some script) mid after)
       ⊎ ((source : Source) × (why : Unread) × StopsAtSource opens sources source why before.reads after.reads
       × StopsTelling fault source why before.tells after.tells × (after.holds ≡ before.holds))
 
-  -- The filters were read, in order, then the sources, and then the script was carried out; or one of them was not read, and no line was
-  -- answered.
-  unfoldable pub RunsJoined : Running → List Source → Streams → Streams → ℕ → Type 0
-  RunsJoined how sources before after status =
+  -- The script of standard input alone was carried out line by line, and that of other sources when they were read.
+  abbrev pub RunsNamed : RunOptions → List NamedFilter → List Source → Streams → Streams → ℕ → Type 0
+  RunsNamed how filters sources before after status =
+      MatchBool (is_input_alone sources) (GuidesScript creates leaves how filters None before after status)
+      (RunsTexts how filters sources before after status)
+
+  -- A fault ended it.
+  abbrev pub StopsNamed : StreamFault → RunOptions → List NamedFilter → List Source → Streams → Streams → Type 0
+  StopsNamed fault how filters sources before after =
+      MatchBool (is_input_alone sources) (StopsGuided creates leaves fault how filters None before after)
+      (StopsTexts fault how filters sources before after)
+
+  -- The filters were read, in order, and then the script was carried out; or one of them was not read, and no line was answered.
+  abbrev pub RunsGuided : RunOptions → List Source → Streams → Streams → ℕ → Type 0
+  RunsGuided how sources before after status =
       ((filters : List NamedFilter) × (mid : Streams) × ReadsThem opens how.filters.items filters before mid
-      × RunsTexts how filters sources mid after status)
+      × RunsNamed how filters sources mid after status)
       ⊎ (SkipsFilter opens how.filters.items before after × (status ≡ 1))
 
   -- A fault ended it.
-  unfoldable pub StopsJoined : StreamFault → Running → List Source → Streams → Streams → Type 0
-  StopsJoined fault how sources before after = StopsAtFault opens fault how.filters.items before after
+  abbrev pub StopsRun : StreamFault → RunOptions → List Source → Streams → Streams → Type 0
+  StopsRun fault how sources before after = StopsAtFault opens fault how.filters.items before after
       ⊎ ((filters : List NamedFilter) × (mid : Streams) × ReadsThem opens how.filters.items filters before mid
-      × StopsTexts fault how filters sources mid after)
+      × StopsNamed fault how filters sources mid after)

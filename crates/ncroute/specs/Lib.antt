@@ -4,6 +4,7 @@ pub mod Checked
 pub mod Checking
 pub mod Comparing
 pub mod Configured
+pub mod Domains
 pub mod Ending
 pub mod Filters
 pub mod Guiding
@@ -15,6 +16,7 @@ pub mod Loading
 pub mod Marking
 pub mod Networking
 pub mod Noting
+pub mod Paging
 pub mod Places
 pub mod Planning
 pub mod Reading

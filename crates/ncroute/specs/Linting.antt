@@ -14,35 +14,35 @@ use Rattle.command_line.specs.declared.requests.Source.{Source}
 use Rattle.command_line.specs.declared.lint_words.Linting.{Linting}
 use Rattle.ncroute.specs.Reading.{Reads, SkipsUnread, StopsReading, name_of}
 use Rattle.ncroute.specs.Streaming.{Streams}
-use Rattle.ncroute.specs.declared.linting.Said.{Said}
-use Rattle.ncroute.specs.declared.linting.Said.TheVariants as said
+use Rattle.ncroute.specs.declared.linting.LintSummary.{LintSummary}
+use Rattle.ncroute.specs.declared.linting.LintSummary.TheVariants as said
 use Rattle.ncroute.specs.declared.linting.Wanted.{Wanted}
 use Rattle.ncroute.specs.declared.linting.Wanted.TheVariants as wanted
 
 -- what is said of a filter: something, as why it is refused, or a warning; and where nothing is, whether all was looked for
-abbrev pub said_if : Bool → Said → Said
+abbrev pub said_if : Bool → LintSummary → LintSummary
 said_if is_any otherwise = if is_any then said.Something else otherwise
 
-abbrev pub said_of : Linted → Said
+abbrev pub said_of : Linted → LintSummary
 said_of Refused = said.Something
 said_of (Warned count) = said_if (nat_lt 0 count) said.Nothing
 said_of (Undecided count) = said_if (nat_lt 0 count) said.Unknown
 
 -- what is said of several: something where something is said of one
-abbrev pub both_said : Said → Said → Said
+abbrev pub both_said : LintSummary → LintSummary → LintSummary
 both_said said.Something later = said.Something
 both_said said.Nothing later = later
 both_said said.Unknown said.Something = said.Something
 both_said said.Unknown later = said.Unknown
 
 -- the exit status
-abbrev pub status_of_said : Said → ℕ
+abbrev pub status_of_said : LintSummary → ℕ
 status_of_said said.Nothing = 0
 status_of_said said.Something = 1
 status_of_said said.Unknown = 3
 
 -- The warnings of a text were written, or its refusal told.
-pub record LintsText (how : Linting) (source : Named) (before after : Streams) (found : Said) : Type 0 where
+pub record LintsText (how : Linting) (source : Named) (before after : Streams) (found : LintSummary) : Type 0 where
   pub linted : Linted
   pub named : LintsNamed how.format how.size how.limit how.allowed.items how.asks_order how.is_explained source before.holds after.holds before.tells
       after.tells linted
@@ -150,7 +150,7 @@ CutsWarning format (wanted.All limit) fault size source before after = CutsWarni
 -- `opens name` says what may come of opening a file of this name.
 module _ (opens : List ℕ → Result (Option (List ℕ)) Error → Type 0) where
   -- A source was read and linted; or it was not read, and nothing is known of it.
-  abbrev pub LintsOne : Linting → Source → Streams → Streams → Said → Type 0
+  abbrev pub LintsOne : Linting → Source → Streams → Streams → LintSummary → Type 0
   LintsOne how source before after found =
       ((text : List ℕ) × (mid : Streams) × Reads opens source_limit source text before mid
       × LintsText how (record { name = name_of source; text = text }) mid after found)
@@ -163,15 +163,15 @@ module _ (opens : List ℕ → Result (Option (List ℕ)) Error → Type 0) wher
       × CutsLintText fault how (record { name = name_of source; text = text }) mid after)
 
   -- The first n of the sources were linted, in order.
-  unfoldable pub LintsFirst : Linting → List Source → ℕ → Streams → Streams → Said → Type 0
+  unfoldable pub LintsFirst : Linting → List Source → ℕ → Streams → Streams → LintSummary → Type 0
   LintsFirst how sources zero before after found = (after ≡ before) × (found ≡ said.Nothing)
-  LintsFirst how sources (suc n) before after found = (source : Source) × (mid : Streams) × (earlier : Said) × (one : Said)
+  LintsFirst how sources (suc n) before after found = (source : Source) × (mid : Streams) × (earlier : LintSummary) × (one : LintSummary)
       × (slice_get sources n ≡ Some source) × LintsFirst how sources n before mid earlier × LintsOne how source mid after one
       × (found ≡ both_said earlier one)
 
   -- Each of them was, and the exit status says what is said of them.
   pub record LintsAll (how : Linting) (sources : List Source) (before after : Streams) (status : ℕ) : Type 0 where
-    pub found : Said
+    pub found : LintSummary
     pub done : LintsFirst how sources (length sources) before after found
     pub ends : status ≡ status_of_said found
 
@@ -181,6 +181,6 @@ module _ (opens : List ℕ → Result (Option (List ℕ)) Error → Type 0) wher
     pub source : Source
     pub is_source : slice_get sources n ≡ Some source
     pub mid : Streams
-    pub found : Said
+    pub found : LintSummary
     pub first : LintsFirst how sources n before mid found
     pub cut : CutsLint fault how source mid after

@@ -6,9 +6,9 @@ use Rattle.line_protocol.specs.declared.faults.StreamFault.TheVariants.{Memory}
 use Rattle.operator_cmds.specs.Script.{ScriptView, fresh}
 use Rattle.operator_cmds.specs.Stages.{Empty}
 use Rattle.router_operator.specs.OperatorView.{Names, filter_of}
-use Rattle.script_runs.specs.Naming.{AreNamed}
-use Rattle.script_runs.specs.declared.naming.NamedFilter.{NamedFilter}
-use Rattle.script_runs.specs.declared.naming.Unfit.{Unfit}
+use Rattle.router_script.specs.Naming.{AreNamed}
+use Rattle.router_script.specs.declared.filter_naming.NamedFilter.{NamedFilter}
+use Rattle.router_script.specs.declared.filter_naming.Unfit.{Unfit}
 use Rattle.command_line.specs.declared.requests.Source.{Source}
 use Rattle.command_line.specs.declared.filter_words.NamedFile.{NamedFile}
 use Rattle.ncroute.specs.Filters.{IsCutUnfit, ReadsFilters, StopsAtFilter, TellsUnfit}
@@ -27,14 +27,14 @@ AreLoaded size given names = AreNamed size given None fresh (script_with names)
 abbrev pub AreUnfit : ℕ → List NamedFilter → Unfit → Type 0
 AreUnfit size given unfit = (script : ScriptView) × AreNamed size given (Some unfit) fresh script
 
--- Standard error was told which one is refused, and why. `told` is what it held before, `tells` what it holds now.
+-- Standard error was told which one is refused, and why. `stderr_before` is what it held before, `stderr_after` what it holds now.
 abbrev pub TellsOfUnfit : ℕ → List NamedFilter → Option (List ℕ) → Option (List ℕ) → Type 0
-TellsOfUnfit size given told tells = (unfit : Unfit) × AreUnfit size given unfit × TellsUnfit given (Some unfit) told tells
+TellsOfUnfit size given stderr_before stderr_after = (unfit : Unfit) × AreUnfit size given unfit × TellsUnfit given (Some unfit) stderr_before stderr_after
 
 -- A fault kept the filters from being verified, or cut what was told of the one that is refused.
 abbrev pub StopsVerifying : StreamFault → ℕ → List NamedFilter → Option (List ℕ) → Option (List ℕ) → Type 0
-StopsVerifying fault size given told tells = ((fault ≡ Memory) × (tells ≡ told))
-    ⊎ ((unfit : Unfit) × AreUnfit size given unfit × IsCutUnfit fault given (Some unfit) told tells)
+StopsVerifying fault size given stderr_before stderr_after = ((fault ≡ Memory) × (stderr_after ≡ stderr_before))
+    ⊎ ((unfit : Unfit) × AreUnfit size given unfit × IsCutUnfit fault given (Some unfit) stderr_before stderr_after)
 
 -- `opens name` says what may come of opening a file of this name.
 module _ (opens : List ℕ → Result (Option (List ℕ)) Error → Type 0) where
@@ -46,12 +46,12 @@ module _ (opens : List ℕ → Result (Option (List ℕ)) Error → Type 0) wher
 
   -- One of them was not read, or is refused, which standard error was told.
   abbrev pub LacksFilters : List NamedFile → ℕ → Option (List ℕ) → Option (List ℕ) → Option (List ℕ) → Option (List ℕ) → Type 0
-  LacksFilters files size known left told tells =
-      ((source : Source) × (why : Unread) × StopsAtFilter opens files source why known left × TellsUnread source why told tells)
-      ⊎ ((given : List NamedFilter) × ReadsFilters opens files given known left × TellsOfUnfit size given told tells)
+  LacksFilters files size known left stderr_before stderr_after =
+      ((source : Source) × (why : Unread) × StopsAtFilter opens files source why known left × TellsUnread source why stderr_before stderr_after)
+      ⊎ ((given : List NamedFilter) × ReadsFilters opens files given known left × TellsOfUnfit size given stderr_before stderr_after)
 
   -- A fault ended it.
   abbrev pub StopsLoading : StreamFault → List NamedFile → ℕ → Option (List ℕ) → Option (List ℕ) → Option (List ℕ) → Option (List ℕ) → Type 0
-  StopsLoading fault files size known left told tells =
-      ((source : Source) × (why : Unread) × StopsAtFilter opens files source why known left × StopsTelling fault source why told tells)
-      ⊎ ((given : List NamedFilter) × ReadsFilters opens files given known left × StopsVerifying fault size given told tells)
+  StopsLoading fault files size known left stderr_before stderr_after =
+      ((source : Source) × (why : Unread) × StopsAtFilter opens files source why known left × StopsTelling fault source why stderr_before stderr_after)
+      ⊎ ((given : List NamedFilter) × ReadsFilters opens files given known left × StopsVerifying fault size given stderr_before stderr_after)

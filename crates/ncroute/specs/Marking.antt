@@ -6,7 +6,7 @@ use Rattle.filter_reports.specs.Cuts.{IsCut}
 use Rattle.filter_source.specs.declared.diagnosis.Diagnosis.{Diagnosis}
 use Rattle.filter_reports.specs.VerifiedFilters.{refusal_line}
 use Rattle.filter_reports.specs.Naming.{ChecksNamed, ChecksNamedOff}
-use Rattle.filter_reports.specs.Shown.{shown}
+use Rattle.refusal_words.specs.Shown.{shown}
 use Rattle.line_protocol.specs.declared.faults.StreamFault.{StreamFault}
 use Rattle.command_line.specs.declared.requests.Checking.{Checking}
 use Rattle.ncroute.specs.Streaming.{Streams}
@@ -46,22 +46,22 @@ written_of how name report why = marked (name_mark how.has_names name) (kept_lin
 -- The report on a text was written, and its refusal was told, by its name or in words; or it was not to be told.
 abbrev pub ReportsOn : Bool → Checking → List ℕ → List ℕ → Option (List ℕ) → Option (List ℕ) → Option (List ℕ) → Option (List ℕ)
     → Option Diagnosis → Type 0
-ReportsOn true how name text held holds told tells why =
-    ChecksNamed how.size how.is_code how.is_explained name text held holds told tells why
-ReportsOn false how name text held holds told tells why = Reports how.size how.is_code text held holds why × (tells ≡ told)
+ReportsOn true how name text held holds stderr_before stderr_after why =
+    ChecksNamed how.size how.is_code how.is_explained name text held holds stderr_before stderr_after why
+ReportsOn false how name text held holds stderr_before stderr_after why = Reports how.size how.is_code text held holds why × (stderr_after ≡ stderr_before)
 
 -- A fault cut it.
 abbrev pub CutsReport : Bool → StreamFault → Checking → List ℕ → List ℕ → Option (List ℕ) → Option (List ℕ) → Option (List ℕ) → Option (List ℕ)
     → Type 0
-CutsReport true fault how name text held holds told tells =
-    ChecksNamedOff fault how.size how.is_code how.is_explained name text held holds told tells
-CutsReport false fault how name text held holds told tells = IsCutOff fault how.size how.is_code text held holds × (tells ≡ told)
+CutsReport true fault how name text held holds stderr_before stderr_after =
+    ChecksNamedOff fault how.size how.is_code how.is_explained name text held holds stderr_before stderr_after
+CutsReport false fault how name text held holds stderr_before stderr_after = IsCutOff fault how.size how.is_code text held holds × (stderr_after ≡ stderr_before)
 
 -- The report on a text was made and told, and these lines of it were written, and it is said whether it refuses the text.
 pub record ChecksLines (how : Checking) (name text : List ℕ) (before after : Streams) (is_refused : Bool) : Type 0 where
   pub why : Option Diagnosis
   pub report : List ℕ
-  pub reported : ReportsOn how.is_told how name text (Some []) (Some report) before.tells after.tells why
+  pub reported : ReportsOn how.tells_people how name text (Some []) (Some report) before.tells after.tells why
   pub written : Appends before.holds after.holds (written_of how name report why)
   pub judged : is_refused ≡ is_some why
   pub reads : after.reads ≡ before.reads
@@ -70,14 +70,14 @@ pub record ChecksLines (how : Checking) (name text : List ℕ) (before after : S
 pub record CutsMarked (fault : StreamFault) (how : Checking) (name text : List ℕ) (before after : Streams) : Type 0 where
   pub why : Option Diagnosis
   pub report : List ℕ
-  pub reported : ReportsOn how.is_told how name text (Some []) (Some report) before.tells after.tells why
+  pub reported : ReportsOn how.tells_people how name text (Some []) (Some report) before.tells after.tells why
   pub written : IsCut fault before.holds after.holds (written_of how name report why)
   pub reads : after.reads ≡ before.reads
 
 -- It cut the report before that was made whole, or what is told of it, and nothing was written.
 pub record CutsMaking (fault : StreamFault) (how : Checking) (name text : List ℕ) (before after : Streams) : Type 0 where
   pub made : Option (List ℕ)
-  pub reported : CutsReport how.is_told fault how name text (Some []) made before.tells after.tells
+  pub reported : CutsReport how.tells_people fault how name text (Some []) made before.tells after.tells
   pub holds : after.holds ≡ before.holds
   pub reads : after.reads ≡ before.reads
 

@@ -5,8 +5,8 @@ use Rattle.bird_import.specs.declared.text.Origin.{Origin}
 use Rattle.filter_lint.specs.Sets.{overlapping_members}
 use Rattle.filter_lint.specs.WarningLines.{code_of, words}
 use Rattle.filter_lint.specs.declared.warning.Warning.{Warning}
-use Rattle.filter_reports.specs.Explanations.{coded}
-use Rattle.filter_reports.specs.Shown.{shown}
+use Rattle.refusal_words.specs.Explanations.{coded}
+use Rattle.refusal_words.specs.Shown.{shown}
 use Rattle.filter_reports.specs.VerifiedFilters.{IsVerifiedOf}
 use Rattle.filter_source.specs.TextPlaces.{ArePlacesOf}
 use Rattle.filter_verifier.specs.VerifiedView.{VerifiedView}

@@ -2,12 +2,12 @@
 use Rattle.std.specs.Prelude.{◌≡◌, ℕ, ◌+◌, ◌-◌, nat_le, List, [], ◌∷◌, ◌++◌, Bool, Option, Some}
 use Rattle.std.specs.Prelude.{None, decimal, map, min, reverse, slice_get, string_bytes}
 use Rattle.std.specs.List.{find}
-use Rattle.filter_reports.specs.Places.{column_at, line_at}
-use Rattle.filter_reports.specs.Shown.{shown}
+use Rattle.refusal_words.specs.Places.{column_at, line_at}
+use Rattle.refusal_words.specs.Shown.{shown}
 use Rattle.command_line.specs.declared.requests.Source.{Source}
 use Rattle.command_line.specs.declared.requests.Source.TheVariants.{Input, File}
 use Rattle.ncroute.specs.Reading.{name_of}
-use Rattle.ncroute.specs.declared.including.File.{File as OpenedFile}
+use Rattle.ncroute.specs.declared.including.ConfigFile.{ConfigFile as OpenedFile}
 use Rattle.ncroute.specs.declared.including.Stretch.{Stretch}
 use Rattle.ncroute.specs.declared.including.Whole.{Whole}
 

@@ -9,7 +9,7 @@ use Rattle.filter_reports.specs.Faults.{stream_fault}
 use Rattle.line_protocol.specs.Runs.{ConsumesAtMost}
 use Rattle.line_protocol.specs.declared.faults.StreamFault.{StreamFault}
 use Rattle.line_protocol.specs.declared.faults.StreamFault.TheVariants as fault
-use Rattle.filter_reports.specs.Shown.{shown}
+use Rattle.refusal_words.specs.Shown.{shown}
 use Rattle.command_line.specs.declared.requests.Source.{Source}
 use Rattle.command_line.specs.declared.requests.Source.TheVariants.{Input, File}
 use Rattle.ncroute.specs.Streaming.{Streams}
@@ -26,30 +26,30 @@ name_of Input = codes "<stdin>"
 name_of (File name) = string_bytes name
 
 -- a line that tells something of what has a name: the name as it is shown, what is said, shown in the same way, and a code
-abbrev pub told_line : List ℕ → List ℕ → List ℕ → List ℕ
-told_line name words code = shown name ++ codes ": " ++ shown words ++ code
+abbrev pub notice_line : List ℕ → List ℕ → List ℕ → List ℕ
+notice_line name words code = shown name ++ codes ": " ++ shown words ++ code
 
 -- the line that tells that a source was not read, with its name as it is shown and the words of the reason
 abbrev pub unread_line : Source → List ℕ → List ℕ
-unread_line source words = told_line (name_of source) words (codes " (E1)" ++ 10 ∷ [])
+unread_line source words = notice_line (name_of source) words (codes " (E1)" ++ 10 ∷ [])
 
 -- the line that tells that the text of a filter is longer than its limit
 unfoldable pub long_words : List ℕ
 long_words = codes "longer than 1048576 bytes"
 
 abbrev pub long_line : Source → List ℕ
-long_line source = told_line (name_of source) long_words (codes " (E4)" ++ 10 ∷ [])
+long_line source = notice_line (name_of source) long_words (codes " (E4)" ++ 10 ∷ [])
 
 -- the line that tells that a file was not made, with its name as it is shown and the words of the reason
-abbrev pub unmade_line : List ℕ → List ℕ → List ℕ
-unmade_line name words = told_line name words (codes " (E2)" ++ 10 ∷ [])
+abbrev pub uncreated_line : List ℕ → List ℕ → List ℕ
+uncreated_line name words = notice_line name words (codes " (E2)" ++ 10 ∷ [])
 
 -- the line that tells that a new file did not get the whole text
 unfoldable pub unwritten_words : List ℕ
 unwritten_words = codes "could not be written to its end"
 
 abbrev pub unwritten_line : List ℕ → List ℕ
-unwritten_line name = told_line name unwritten_words (codes " (E2)" ++ 10 ∷ [])
+unwritten_line name = notice_line name unwritten_words (codes " (E2)" ++ 10 ∷ [])
 
 -- A text is all that standard input had, or goes one byte beyond a limit. `known` is what it had, `left` what it has now.
 abbrev pub ReadsInput : ℕ → List ℕ → Option (List ℕ) → Option (List ℕ) → Type 0
@@ -94,17 +94,17 @@ LacksLine unread.Input ended = ended ≡ fault.Read
 LacksLine unread.Memory ended = ended ≡ fault.Memory
 LacksLine unread.TooLong ended = ended ≡ fault.Memory
 
--- Standard error was told in this line that a source was not read. `told` is what it held, `tells` what it holds now.
+-- Standard error was told in this line that a source was not read. `stderr_before` is what it held, `stderr_after` what it holds now.
 abbrev pub TellsLine : Source → Unread → List ℕ → Option (List ℕ) → Option (List ℕ) → Type 0
-TellsLine source why line told tells = IsUnreadLine source why line × Appends told tells line
+TellsLine source why line stderr_before stderr_after = IsUnreadLine source why line × Appends stderr_before stderr_after line
 
 abbrev pub TellsUnread : Source → Unread → Option (List ℕ) → Option (List ℕ) → Type 0
-TellsUnread source why told tells = (line : List ℕ) × TellsLine source why line told tells
+TellsUnread source why stderr_before stderr_after = (line : List ℕ) × TellsLine source why line stderr_before stderr_after
 
 -- It was not told, or not whole, and this is the fault that comes of it.
 abbrev pub StopsTelling : StreamFault → Source → Unread → Option (List ℕ) → Option (List ℕ) → Type 0
-StopsTelling ended source why told tells = (LacksLine why ended × (tells ≡ told))
-    ⊎ ((line : List ℕ) × IsUnreadLine source why line × IsCut ended told tells line)
+StopsTelling ended source why stderr_before stderr_after = (LacksLine why ended × (stderr_after ≡ stderr_before))
+    ⊎ ((line : List ℕ) × IsUnreadLine source why line × IsCut ended stderr_before stderr_after line)
 
 -- a text that was read goes at most one byte beyond its limit
 abbrev pub IsWithin : ℕ → Loaded → Type 0

@@ -9,37 +9,38 @@ use Rattle.filter_reports.specs.Faults.{stream_fault}
 use Rattle.filter_reports.specs.Rewriting.{Rewrites, RewritesOff}
 use Rattle.filter_reports.specs.declared.fault.ProgramFault.{ProgramFault}
 use Rattle.filter_reports.specs.Naming.{ListsNamed, ListsNamedOff}
-use Rattle.route_answers.specs.ToldRoutes.{IsQuiet}
+use Rattle.route_answers.specs.WatchedRoutes.{IsQuiet}
 use Rattle.line_protocol.specs.declared.faults.StreamFault.{StreamFault}
 use Rattle.command_line.specs.declared.requests.Request.{Request}
 use Rattle.command_line.specs.declared.requests.Request.TheVariants as request
 use Rattle.command_line.specs.declared.requests.Source.{Source}
 use Rattle.ncroute.specs.Checking.{ChecksAll, ChecksSome}
 use Rattle.ncroute.specs.Comparing.{ComparesSources, StopsComparing}
+use Rattle.ncroute.specs.Domains.{ComparesDomains, StopsDomains}
 use Rattle.ncroute.specs.Ending.{fault_line, status_of, status_of_found}
-use Rattle.ncroute.specs.Guiding.{RunsGuided, StopsRun}
 use Rattle.ncroute.specs.Importing.{ImportsSource}
-use Rattle.ncroute.specs.Joining.{RunsJoined, StopsJoined}
+use Rattle.ncroute.specs.Joining.{RunsGuided, StopsRun}
 use Rattle.ncroute.specs.Linting.{LintsAll, StopsLinting}
+use Rattle.ncroute.specs.Paging.{PagesSource}
 use Rattle.ncroute.specs.Reading.{Reads, SkipsUnread, StopsReading, name_of}
 use Rattle.ncroute.specs.Segments.{ReplaysSources, StopsReplay}
-use Rattle.ncroute.specs.Scripts.{RunsSource, StopsSource, script_fault}
+use Rattle.ncroute.specs.Scripts.{RunsSource, StopsSource}
 use Rattle.ncroute.specs.Streaming.{CutsWriting, Streams, Tells, TellsFront, Writes}
 use Rattle.ncroute.specs.Testing.{StopsSources, TestsSources}
 use Rattle.ncroute.specs.Trying.{StopsFilter, TriesFilter}
 
 -- Code and routes were answered to the end of the input. Standard error got nothing, but where words about lines are wanted: what it got
 -- of these is left open.
-pub record EvaluatesTold (is_told : Bool) (before after : Streams) (status : ℕ) : Type 0 where
+pub record EvaluatesLines (tells_people : Bool) (before after : Streams) (status : ℕ) : Type 0 where
   pub refused : ℕ
   pub evaluated : IfSome before.reads (λ input. Evaluates input after.reads before.holds after.holds refused)
-  pub quiet : IsQuiet is_told before.tells after.tells
+  pub quiet : IsQuiet tells_people before.tells after.tells
   pub ends : status ≡ status_of refused
 
 -- A fault ended that.
-pub record StopsEvaluating (fault : StreamFault) (is_told : Bool) (before after : Streams) : Type 0 where
+pub record StopsEvaluating (fault : StreamFault) (tells_people : Bool) (before after : Streams) : Type 0 where
   pub broken_off : IfSome before.reads (λ input. Breaks fault input after.reads before.holds after.holds)
-  pub quiet : IsQuiet is_told before.tells after.tells
+  pub quiet : IsQuiet tells_people before.tells after.tells
 
 -- A code file was written in its other form, or refused.
 pub record RewritesInput (is_old : Bool) (before after : Streams) (status : ℕ) : Type 0 where
@@ -69,18 +70,19 @@ pub record StopsList (fault : StreamFault) (size : Option ℕ) (is_code : Bool) 
 -- that it differs from a refusal.
 abbrev pub fault_status : Request → ℕ
 fault_status (request.Check how sources) = 1
+fault_status (request.Compare format old new is_explained) = 3
 fault_status (request.Diff how old new) = 3
-fault_status (request.Eval is_told) = 1
+fault_status (request.Domain source is_explained) = 3
+fault_status (request.Eval tells_people) = 1
 fault_status (request.Explain page) = 1
 fault_status (request.Import how source) = 1
 fault_status (request.List size is_code source is_explained) = 3
 fault_status (request.Filter how source) = 3
 fault_status (request.Lint how sources) = 3
+fault_status (request.Page source is_explained page) = 3
 fault_status (request.Replay sources) = 3
 fault_status (request.Rewrite is_old) = 1
-fault_status (request.Run how source) = 1
-fault_status (request.RunJoined how sources) = 1
-fault_status (request.Script engine source is_explained) = script_fault engine
+fault_status (request.Run how sources) = 1
 fault_status (request.Test how sources) = 3
 
 -- `opens name` says what may come of opening a file of this name.
@@ -104,36 +106,40 @@ module _ (opens : List ℕ → Result (Option (List ℕ)) Error → Type 0) wher
     -- What was asked for was done to its end, with this exit status.
     abbrev pub Answers : Request → Streams → Streams → ℕ → Type 0
     Answers (request.Check how sources) before after status = ChecksAll opens how sources.items before after status
+    Answers (request.Compare format old new is_explained) before after status =
+        ComparesDomains opens format old new is_explained before after status
     Answers (request.Diff how old new) before after status = ComparesSources opens how old new before after status
-    Answers (request.Eval is_told) before after status = EvaluatesTold is_told before after status
+    Answers (request.Domain source is_explained) before after status = RunsSource opens source is_explained before after status
+    Answers (request.Eval tells_people) before after status = EvaluatesLines tells_people before after status
     Answers (request.Explain page) before after status = Writes (string_bytes page) before after × (status ≡ 0)
     Answers (request.Import how source) before after status = ImportsSource creates leaves opens how source before after status
     Answers (request.List size is_code source is_explained) before after status =
         ListsSource size is_code is_explained source before after status
     Answers (request.Filter how source) before after status = TriesFilter opens how source before after status
     Answers (request.Lint how sources) before after status = LintsAll opens how sources.items before after status
+    Answers (request.Page source is_explained page) before after status =
+        PagesSource opens creates leaves source is_explained (string_bytes page) before after status
     Answers (request.Replay sources) before after status = ReplaysSources opens sources.items before after status
     Answers (request.Rewrite is_old) before after status = RewritesInput is_old before after status
-    Answers (request.Run how source) before after status = RunsGuided creates leaves opens how source before after status
-    Answers (request.RunJoined how sources) before after status = RunsJoined creates leaves opens how sources.items before after status
-    Answers (request.Script engine source is_explained) before after status = RunsSource opens engine source is_explained before after status
+    Answers (request.Run how sources) before after status = RunsGuided creates leaves opens how sources.items before after status
     Answers (request.Test how sources) before after status = TestsSources opens how sources.items before after status
 
-    -- A fault ended it. Of an import nothing more is said.
+    -- A fault ended it. Of an import nothing more is said, nor of a page.
     abbrev pub StopsAnswer : StreamFault → Request → Streams → Streams → Type 0
     StopsAnswer fault (request.Check how sources) before after = ChecksSome opens fault how sources.items before after
+    StopsAnswer fault (request.Compare format old new is_explained) before after = StopsDomains format before.holds after.holds
     StopsAnswer fault (request.Diff how old new) before after = StopsComparing opens fault how old new before after
-    StopsAnswer fault (request.Eval is_told) before after = StopsEvaluating fault is_told before after
+    StopsAnswer fault (request.Domain source is_explained) before after = StopsSource opens fault source is_explained before after
+    StopsAnswer fault (request.Eval tells_people) before after = StopsEvaluating fault tells_people before after
     StopsAnswer fault (request.Explain page) before after = CutsWriting fault (string_bytes page) before after
     StopsAnswer fault (request.Import how source) before after = ⊤
     StopsAnswer fault (request.List size is_code source is_explained) before after = StopsListing fault size is_code source before after
     StopsAnswer fault (request.Filter how source) before after = StopsFilter opens fault how source before after
     StopsAnswer fault (request.Lint how sources) before after = StopsLinting opens fault how sources.items before after
+    StopsAnswer fault (request.Page source is_explained page) before after = ⊤
     StopsAnswer fault (request.Replay sources) before after = StopsReplay opens fault sources.items before after
     StopsAnswer fault (request.Rewrite is_old) before after = StopsRewriting fault is_old before after
-    StopsAnswer fault (request.Run how source) before after = StopsRun creates leaves opens fault how source before after
-    StopsAnswer fault (request.RunJoined how sources) before after = StopsJoined creates leaves opens fault how sources.items before after
-    StopsAnswer fault (request.Script engine source is_explained) before after = StopsSource opens fault engine source is_explained before after
+    StopsAnswer fault (request.Run how sources) before after = StopsRun creates leaves opens fault how sources.items before after
     StopsAnswer fault (request.Test how sources) before after = StopsSources opens fault how sources.items before after
 
     -- A fault ended it, and `TellsLine line mid after` says what standard error was then told of the line of the fault.

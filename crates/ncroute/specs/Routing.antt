@@ -20,10 +20,10 @@ use Rattle.router_daemon.specs.declared.fault.DaemonFault.TheVariants as fault
 use Rattle.router_operator.specs.OperatorView.{Names}
 use Rattle.router_options.specs.PlanView.{PlanView}
 use Rattle.command_line.specs.declared.router_words.RouterWords.{RouterWords}
-use Rattle.ncroute.specs.Guiding.{IsUnmade}
+use Rattle.ncroute.specs.Guiding.{IsUncreated}
 use Rattle.ncroute.specs.Loading.{LacksFilters, LoadsFilters, StopsLoading}
 use Rattle.ncroute.specs.Planning.{IsPlanOf, LacksPlan, is_memory}
-use Rattle.ncroute.specs.Reading.{unmade_line}
+use Rattle.ncroute.specs.Reading.{uncreated_line}
 use Rattle.ncroute.specs.Ending.{fault_line}
 use Rattle.router_words.specs.Stated.{OriginView}
 use Rattle.ncroute.specs.Streaming.{Streams}
@@ -76,12 +76,12 @@ module _ (makes : List ℕ → Result (Option FolderView) Error → Type 0) wher
 
   -- It was not made, which standard error was told.
   abbrev pub LacksSave : Option (String Global) → Option (List ℕ) → Option (List ℕ) → Type 0
-  LacksSave save told tells = (name : List ℕ) × (words : List ℕ) × IsUnmade makes save name words × Appends told tells (unmade_line name words)
+  LacksSave save stderr_before stderr_after = (name : List ℕ) × (words : List ℕ) × IsUncreated makes save name words × Appends stderr_before stderr_after (uncreated_line name words)
 
   -- A fault cut what was told of it.
   abbrev pub CutsSave : StreamFault → Option (String Global) → Option (List ℕ) → Option (List ℕ) → Type 0
-  CutsSave fault save told tells =
-      (name : List ℕ) × (words : List ℕ) × IsUnmade makes save name words × IsCut fault told tells (unmade_line name words)
+  CutsSave fault save stderr_before stderr_after =
+      (name : List ℕ) × (words : List ℕ) × IsUncreated makes save name words × IsCut fault stderr_before stderr_after (uncreated_line name words)
 
   -- `opens name` says what may come of opening a file of this name.
   module _ (opens : List ℕ → Result (Option (List ℕ)) Error → Type 0) where
@@ -151,7 +151,7 @@ pub record RunsToEnd (keeps : List ℕ → Option FolderView → Type 0) (save :
   pub left : LeavesSave keeps save saver
   pub quiet : after.tells ≡ before.tells
 
--- A fault ended it, and `TellsLine told tells line` says what standard error was told of the line of the fault. The exit status tells which.
+-- A fault ended it, and `TellsLine told stderr_after line` says what standard error was told of the line of the fault. The exit status tells which.
 pub record EndsInFault (TellsLine : Option (List ℕ) → Option (List ℕ) → List ℕ → Type 0) (plan : PlanView) (names : Names)
     (before after : Streams) (status : ℕ) : Type 0 where
   pub why : DaemonFault

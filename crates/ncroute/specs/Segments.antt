@@ -11,11 +11,11 @@ use Rattle.line_protocol.specs.declared.faults.StreamFault.TheVariants.{Memory, 
 use Rattle.ncroute.specs.Reading.{Reads, SkipsUnread, StopsReading}
 use Rattle.ncroute.specs.Replaying.{CutsReplay, ReplaysText, replay_limit}
 use Rattle.ncroute.specs.Streaming.{CutsWriting, Streams, Writes}
-use Rattle.ncroute.specs.declared.segments.Replayed.{Replayed}
-use Rattle.ncroute.specs.declared.segments.Replayed.TheVariants as replayed
+use Rattle.ncroute.specs.declared.segments.ReplayedSegments.{ReplayedSegments}
+use Rattle.ncroute.specs.declared.segments.ReplayedSegments.TheVariants as replayed
 
 -- A text is the next segment of a chain, or its first where there is none; or it is not, of the file of this number.
-abbrev pub JoinsText : Option Chain → Option ℕ → List ℕ → Replayed → Type 0
+abbrev pub JoinsText : Option Chain → Option ℕ → List ℕ → ReplayedSegments → Type 0
 JoinsText chain file text (replayed.Right now) = (length text ≤ replay_limit) × Joins text chain now
 JoinsText chain file text (replayed.Refused number fault) =
     (length text ≤ replay_limit) × (number ≡ file) × IsJoinFault text chain fault
@@ -29,26 +29,26 @@ StopsJoining _ text = ⊥
 
 -- The line that says what came of it was written, and the exit status says whether all replies are right. Where a file was not read, that
 -- has been told.
-abbrev pub EndsReplay : Replayed → Streams → Streams → ℕ → Type 0
+abbrev pub EndsReplay : ReplayedSegments → Streams → Streams → ℕ → Type 0
 EndsReplay (replayed.Right chain) before after status = Writes (chain_line chain) before after × (status ≡ 0)
 EndsReplay (replayed.Refused file fault) before after status = Writes (file_words file ++ fault_line fault) before after × (status ≡ 1)
 EndsReplay replayed.Skipped before after status = (after ≡ before) × (status ≡ 3)
 
 -- A fault cut it, or memory was refused before it.
-abbrev pub CutsEnd : StreamFault → Replayed → Streams → Streams → Type 0
+abbrev pub CutsEnd : StreamFault → ReplayedSegments → Streams → Streams → Type 0
 CutsEnd fault (replayed.Right chain) before after = CutsWriting fault (chain_line chain) before after
 CutsEnd fault (replayed.Refused file found) before after = CutsWriting fault (file_words file ++ fault_line found) before after
 CutsEnd fault replayed.Skipped before after = ⊥
 
 -- The text of one segment was replayed, and what came of it was written.
 pub record ReplaysSegment (text : List ℕ) (before after : Streams) (status : ℕ) : Type 0 where
-  pub found : Replayed
+  pub found : ReplayedSegments
   pub joins : JoinsText None None text found
   pub ends : EndsReplay found before after status
 
 unfoldable pub CutsSegment : StreamFault → List ℕ → Streams → Streams → Type 0
 CutsSegment fault text before after = (StopsJoining fault text × (after ≡ before))
-    ⊎ ((found : Replayed) × JoinsText None None text found × CutsEnd fault found before after)
+    ⊎ ((found : ReplayedSegments) × JoinsText None None text found × CutsEnd fault found before after)
 
 -- One text is a segment's, or else it is taken for that of a whole history.
 unfoldable pub ReplaysOne : List ℕ → Streams → Streams → ℕ → Type 0
@@ -72,7 +72,7 @@ module _ (opens : List ℕ → Result (Option (List ℕ)) Error → Type 0) wher
       ⊎ ((text : List ℕ) × (mid : Streams) × Reads opens replay_limit source text before mid × CutsOne fault text mid after)
 
   -- A source was read and joined to a chain; or it was not read.
-  unfoldable pub JoinsSource : Option Chain → Option ℕ → Source → Streams → Streams → Replayed → Type 0
+  unfoldable pub JoinsSource : Option Chain → Option ℕ → Source → Streams → Streams → ReplayedSegments → Type 0
   JoinsSource chain file source before after found =
       ((text : List ℕ) × Reads opens replay_limit source text before after × JoinsText chain file text found)
       ⊎ (SkipsUnread opens replay_limit source before after × (found ≡ replayed.Skipped))
@@ -89,7 +89,7 @@ module _ (opens : List ℕ → Result (Option (List ℕ)) Error → Type 0) wher
       × JoinsSource earlier (Some (n + 1)) source mid after (replayed.Right now)
 
   -- The one after them was refused or not read.
-  pub record BailsOut (sources : List Source) (before after : Streams) (found : Replayed) : Type 0 where
+  pub record BailsOut (sources : List Source) (before after : Streams) (found : ReplayedSegments) : Type 0 where
     pub n : ℕ
     pub source : Source
     pub is_source : slice_get sources n ≡ Some source
@@ -99,7 +99,7 @@ module _ (opens : List ℕ → Result (Option (List ℕ)) Error → Type 0) wher
     pub refused : JoinsSource chain (Some (n + 1)) source mid after found
 
   -- All were joined, or those before one that was refused or not read; where there is none there is nothing to replay.
-  abbrev pub JoinsAll : List Source → Streams → Streams → Replayed → Type 0
+  abbrev pub JoinsAll : List Source → Streams → Streams → ReplayedSegments → Type 0
   JoinsAll sources before after (replayed.Right chain) = JoinsFirst sources (length sources) before after (Some chain)
   JoinsAll sources before after (replayed.Refused file fault) = BailsOut sources before after (replayed.Refused file fault)
   JoinsAll sources before after replayed.Skipped = BailsOut sources before after replayed.Skipped
@@ -117,14 +117,14 @@ module _ (opens : List ℕ → Result (Option (List ℕ)) Error → Type 0) wher
 
   -- Several sources were replayed as the segments of one history, and what came of it was written.
   pub record ReplaysSegments (sources : List Source) (before after : Streams) (status : ℕ) : Type 0 where
-    pub found : Replayed
+    pub found : ReplayedSegments
     pub mid : Streams
     pub joins : JoinsAll sources before mid found
     pub ends : EndsReplay found mid after status
 
   unfoldable pub StopsSegments : StreamFault → List Source → Streams → Streams → Type 0
   StopsSegments fault sources before after = StopsAmong fault sources before after
-      ⊎ ((found : Replayed) × (mid : Streams) × JoinsAll sources before mid found × CutsEnd fault found mid after)
+      ⊎ ((found : ReplayedSegments) × (mid : Streams) × JoinsAll sources before mid found × CutsEnd fault found mid after)
 
   -- One source is a history or a segment, and several are the segments of a history in order.
   unfoldable pub ReplaysSources : List Source → Streams → Streams → ℕ → Type 0

@@ -5,7 +5,7 @@ use Rattle.filter_source.specs.Limits.{source_limit}
 use Rattle.filter_source.specs.declared.diagnosis.Diagnosis.{Diagnosis}
 use Rattle.route_answers.specs.Filtering.{Filters}
 use Rattle.filter_reports.specs.Telling.{Explains, IsCutExplanation}
-use Rattle.route_answers.specs.ToldRoutes.{FiltersNamedOff, TellsFiltered}
+use Rattle.route_answers.specs.WatchedRoutes.{FiltersNamedOff, TellsFiltered}
 use Rattle.route_answers.specs.declared.filter.Filtered.{Filtered}
 use Rattle.route_answers.specs.declared.filter.Filtered.TheVariants.{Refused, Answered}
 use Rattle.filter_traces.specs.Coverage.{Covers, CoversOff}
@@ -20,10 +20,10 @@ use Rattle.ncroute.specs.Reading.{Reads, SkipsUnread, StopsReading, name_of}
 use Rattle.ncroute.specs.Streaming.{Streams}
 
 -- the refusal of a filter that is told in words
-abbrev pub told_refusal : Bool → Filtered → Option Diagnosis
-told_refusal true (Refused why) = Some why
-told_refusal true (Answered refused) = None
-told_refusal false filtered = None
+abbrev pub explained_refusal : Bool → Filtered → Option Diagnosis
+explained_refusal true (Refused why) = Some why
+explained_refusal true (Answered refused) = None
+explained_refusal false filtered = None
 
 -- the exit status of a filter that was tried
 abbrev pub status_of_filter : Filtered → ℕ
@@ -45,7 +45,7 @@ pub record ReportsText (is_counted : Bool) (size : ℕ) (name : List ℕ) (is_ex
     : Type 0 where
   pub filtered : Filtered
   pub answered : IfSome before.reads (λ input. Reports is_counted size text input after.reads before.holds after.holds filtered)
-  pub told : Explains name text (told_refusal is_explained filtered) before.tells after.tells
+  pub told : Explains name text (explained_refusal is_explained filtered) before.tells after.tells
   pub ends : status ≡ status_of_filter filtered
 
 -- A fault ended that: the answers broke off, or the words of a refusal were cut.

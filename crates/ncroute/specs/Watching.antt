@@ -2,13 +2,9 @@
 -- own choice.)
 use Rattle.std.specs.Prelude.{◌≡◌, ◌⊎◌, ℕ, ◌-◌, ◌++◌, nat_lt, List, [], ◌∷◌, Option, Some, None, codes, decimal}
 use Rattle.line_protocol.specs.Runs.{AppendsFront}
-use Rattle.command_line.specs.declared.requests.Engine.{Engine}
-use Rattle.command_line.specs.declared.requests.Engine.TheVariants as engine
-use Rattle.filter_reports.specs.Shown.{shown}
+use Rattle.refusal_words.specs.Shown.{shown}
 use Rattle.operator_cmds.specs.declared.watch.RefusedLine.{RefusedLine}
 use Rattle.script_words.specs.Telling.{Tells}
-use Rattle.script_words.specs.declared.forms.ScriptKind.{ScriptKind}
-use Rattle.script_words.specs.declared.forms.ScriptKind.TheVariants as kind
 use Rattle.ncroute.specs.Places.{last_such}
 use Rattle.ncroute.specs.declared.watcher.ScriptPart.{ScriptPart}
 
@@ -29,12 +25,7 @@ number_in number (Some part) = number - part.before
 abbrev pub stopped_line : List ℕ → ℕ → List ℕ
 stopped_line name number = shown name ++ 58 ∷ decimal number ++ codes ": stopped: this line is refused, and none after it is answered" ++ 10 ∷ []
 
--- the kind of the scripts that a router or a domain carries out
-abbrev pub kind_of : Engine → ScriptKind
-kind_of engine.Router = kind.Router
-kind_of engine.Domain = kind.Domain
-
 -- Nothing more is told; or the words for a refused line of a script that people know by a name are, or a front of them.
-abbrev pub IsToldOf : List ℕ → RefusedLine → Option (List ℕ) → Option (List ℕ) → Type 0
-IsToldOf name refused before after = (after ≡ before)
-    ⊎ ((words : List ℕ) × Tells name refused.number refused.line.now refused.answer.now refused.told (Some words) × AppendsFront before after words)
+abbrev pub IsReported : List ℕ → RefusedLine → Option (List ℕ) → Option (List ℕ) → Type 0
+IsReported name refused before after = (after ≡ before)
+    ⊎ ((words : List ℕ) × Tells name refused.number refused.line.now refused.answer.now refused.diagnosis (Some words) × AppendsFront before after words)

@@ -1,8 +1,8 @@
 -- What people are told of wrong words of `router`: which option has which value, and why it is refused. (This project's own choice.)
 use Rattle.std.specs.Prelude.{ℕ, List, [], ◌∷◌, ◌++◌, Option, Some, None, codes, decimal}
-use Rattle.filter_reports.specs.Explanations.{position}
-use Rattle.filter_reports.specs.Places.{column_at}
-use Rattle.filter_reports.specs.Shown.{shown}
+use Rattle.refusal_words.specs.Explanations.{position}
+use Rattle.refusal_words.specs.Places.{column_at}
+use Rattle.refusal_words.specs.Shown.{shown}
 use Rattle.router_files.specs.Files.{StatementView}
 use Rattle.router_files.specs.Options.{form_of}
 use Rattle.router_files.specs.Places.{second_byte, third_byte}

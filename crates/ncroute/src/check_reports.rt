@@ -84,7 +84,7 @@ fn write_checked<R: Read, W: Write, E: Write>(
 
 /// Checks the text of a source, and writes the report on it in a line of JSON. Returns what came of it.
 #[tactic(auto, unfolding(crate::specs::CheckReports::CutsJson))]
-pub fn check_json<R: Read, W: Write, E: Write>(
+pub(crate) fn check_json<R: Read, W: Write, E: Write>(
     alloc: Global,
     how: Checking,
     name: &[u8],

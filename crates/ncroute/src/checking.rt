@@ -140,14 +140,14 @@ fn check_one<F: Folder, R: Read, W: Write, E: Write>(
 }
 
 /// Whether something is found of a source, or was of one before it.
-pub fn is_any(earlier: bool, one: bool) -> bool
+pub(crate) fn is_any(earlier: bool, one: bool) -> bool
     ensures { result ≡ (earlier || one) }
 {
     earlier || one
 }
 
 /// Checks each of some sources, in order, and returns the exit status: 1 where one of them is refused.
-pub fn check_sources<F: Folder, R: Read, W: Write, E: Write>(
+pub(crate) fn check_sources<F: Folder, R: Read, W: Write, E: Write>(
     files: &F,
     alloc: Global,
     how: Checking,

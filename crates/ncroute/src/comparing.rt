@@ -82,7 +82,7 @@ fn compare_with<F: Folder, R: Read, W: Write, E: Write>(
 
 /// Compares the filters of two sources, and returns the exit status.
 #[tactic(auto, unfolding(crate::specs::Comparing::ComparesSources, crate::specs::Comparing::StopsComparing))]
-pub fn compare_sources<F: Folder, R: Read, W: Write, E: Write>(
+pub(crate) fn compare_sources<F: Folder, R: Read, W: Write, E: Write>(
     files: &F,
     alloc: Global,
     how: Comparing,

@@ -15,7 +15,7 @@ use crate::console::Console;
 use crate::ending::{FAILED, fault_line};
 use crate::folders::HistoryFolders;
 use crate::including::{path_beside, read_config};
-use crate::routing::{Untold, end_by_line, serve_words};
+use crate::routing::{Unreported, end_by_line, serve_words};
 use crate::texts::Folder;
 use crate::wrong_lines::{clash_line, refused_line};
 use command_line::{RouterWords, Source};
@@ -34,10 +34,10 @@ use std::thread::Threads;
 const WRONG_WORDS: u8 = 2;
 
 /// Ends where memory was refused: the exit status.
-fn end_by_memory<E: Write>(errors: &mut E) -> Result<u8, Untold>
+fn end_by_memory<E: Write>(errors: &mut E) -> Result<u8, Unreported>
     ensures told { IfOk result (λ ended. spec.EndsByMemory Appends (E.contents errors.old) (E.contents errors.new) ended) }
-    ensures cut { IfErr result (λ untold. spec.EndsByMemory (IsCut (stream_fault untold.why)) (E.contents errors.old) (E.contents errors.new)
-        untold.status) }
+    ensures cut { IfErr result (λ unreported. spec.EndsByMemory (IsCut (stream_fault unreported.why)) (E.contents errors.old) (E.contents errors.new)
+        unreported.status) }
 {
     end_by_line(errors, FAILED, fault_line(ProgramFault::MEMORY).as_bytes())
 }
@@ -48,17 +48,17 @@ fn end_by_wrong<E: Write>(
     errors: &mut E,
     name: &str,
     wrong: &WrongLine,
-) -> Result<u8, Untold>
+) -> Result<u8, Unreported>
     ensures told { IfOk result (λ ended. spec.EndsByWrong Appends name.now wrong.now (E.contents errors.old) (E.contents errors.new) ended) }
-    ensures cut { IfErr result (λ untold. spec.EndsByWrong (IsCut (stream_fault untold.why)) name.now wrong.now
-        (E.contents errors.old) (E.contents errors.new) untold.status) }
+    ensures cut { IfErr result (λ unreported. spec.EndsByWrong (IsCut (stream_fault unreported.why)) name.now wrong.now
+        (E.contents errors.old) (E.contents errors.new) unreported.status) }
 {
     if matches!(wrong.why, LineFault::Memory) {
         return end_by_memory(errors);
     }
     match refused_line(alloc, name, wrong) {
         Ok(line) => end_by_line(errors, WRONG_WORDS, line.as_slice()),
-        Err(_) => Err(Untold {
+        Err(_) => Err(Unreported {
             status: WRONG_WORDS,
             why: ProgramFault::MEMORY,
         }),
@@ -71,14 +71,14 @@ fn end_by_clash<E: Write>(
     errors: &mut E,
     name: &str,
     clash: Clash<'_>,
-) -> Result<u8, Untold>
+) -> Result<u8, Unreported>
     ensures told { IfOk result (λ ended. spec.EndsByClash Appends name.now clash.entry (E.contents errors.old) (E.contents errors.new) ended) }
-    ensures cut { IfErr result (λ untold. spec.EndsByClash (IsCut (stream_fault untold.why)) name.now clash.entry
-        (E.contents errors.old) (E.contents errors.new) untold.status) }
+    ensures cut { IfErr result (λ unreported. spec.EndsByClash (IsCut (stream_fault unreported.why)) name.now clash.entry
+        (E.contents errors.old) (E.contents errors.new) unreported.status) }
 {
     match clash_line(alloc, name, clash) {
         Ok(line) => end_by_line(errors, WRONG_WORDS, line.as_slice()),
-        Err(_) => Err(Untold {
+        Err(_) => Err(Unreported {
             status: WRONG_WORDS,
             why: ProgramFault::MEMORY,
         }),
@@ -112,13 +112,13 @@ fn serve_statements<
     origin: Origin<'_>,
     console: &mut Console<I, W, E>,
     voice: T,
-) -> Result<u8, Untold>
+) -> Result<u8, Unreported>
 where
     R::Segments: Send + 'static,
     ensures served { IfOk result (spec.ServesStatements (R.opens rt.now) (R.makes rt.now) (R.keeps rt.now) (origin_of origin.entry) words.now
         console.old console.new) }
-    ensures untold { IfErr result (λ untold. spec.CutsStatements (R.opens rt.now) (R.makes rt.now) (R.keeps rt.now) (stream_fault untold.why)
-        (origin_of origin.entry) words.now console.old console.new untold.status) }
+    ensures unreported { IfErr result (λ unreported. spec.CutsStatements (R.opens rt.now) (R.makes rt.now) (R.keeps rt.now) (stream_fault unreported.why)
+        (origin_of origin.entry) words.now console.old console.new unreported.status) }
 {
     if let Some(clash) = find_clash(words, origin.statements) {
         return end_by_clash(alloc, &mut console.errors, origin.name, clash);
@@ -157,14 +157,14 @@ fn serve_text<
     text: &[u8],
     console: &mut Console<I, W, E>,
     voice: T,
-) -> Result<u8, Untold>
+) -> Result<u8, Unreported>
 where
     R::Segments: Send + 'static,
     requires { length text.now < 2 ^ 63 }
     ensures served { IfOk result (spec.ServesText (R.opens rt.now) (R.makes rt.now) (R.keeps rt.now) name.now text.now words.now
         console.old console.new) }
-    ensures untold { IfErr result (λ untold. spec.CutsText (R.opens rt.now) (R.makes rt.now) (R.keeps rt.now) (stream_fault untold.why) name.now
-        text.now words.now console.old console.new untold.status) }
+    ensures unreported { IfErr result (λ unreported. spec.CutsText (R.opens rt.now) (R.makes rt.now) (R.keeps rt.now) (stream_fault unreported.why) name.now
+        text.now words.now console.old console.new unreported.status) }
 {
     // A file without a name in that folder: what stands before the names of others.
     let Ok(folder) = path_beside(alloc, name, "") else {
@@ -207,13 +207,13 @@ fn serve_file<
     name: &str,
     console: &mut Console<I, W, E>,
     voice: T,
-) -> Result<u8, Untold>
+) -> Result<u8, Unreported>
 where
     R::Segments: Send + 'static,
     ensures served { IfOk result (spec.ServesFile (R.opens rt.now) (R.makes rt.now) (R.keeps rt.now) name.now words.now
         console.old console.new) }
-    ensures untold { IfErr result (λ untold. spec.CutsFile (R.opens rt.now) (R.makes rt.now) (R.keeps rt.now) (stream_fault untold.why) name.now
-        words.now console.old console.new untold.status) }
+    ensures unreported { IfErr result (λ unreported. spec.CutsFile (R.opens rt.now) (R.makes rt.now) (R.keeps rt.now) (stream_fault unreported.why) name.now
+        words.now console.old console.new unreported.status) }
 {
     let source = match String::from_str(alloc, name) {
         Ok(name) => Source::File(name),
@@ -236,7 +236,7 @@ where
 
 /// Does what the words of `router` ask for, with those of the file that they name, if they name one: the exit status. `voice` is where people are
 /// told of links.
-pub fn serve_router<
+pub(crate) fn serve_router<
     R: Threads
         + Wait
         + Clock
@@ -261,12 +261,12 @@ pub fn serve_router<
     words: &RouterWords,
     console: &mut Console<I, W, E>,
     voice: T,
-) -> Result<u8, Untold>
+) -> Result<u8, Unreported>
 where
     R::Segments: Send + 'static,
     ensures served { IfOk result (spec.ServesConfigured (R.opens rt.now) (R.makes rt.now) (R.keeps rt.now) words.now console.old console.new) }
-    ensures untold { IfErr result (λ untold. spec.CutsConfigured (R.opens rt.now) (R.makes rt.now) (R.keeps rt.now) (stream_fault untold.why)
-        words.now console.old console.new untold.status) }
+    ensures unreported { IfErr result (λ unreported. spec.CutsConfigured (R.opens rt.now) (R.makes rt.now) (R.keeps rt.now) (stream_fault unreported.why)
+        words.now console.old console.new unreported.status) }
 {
     match &words.config {
         Some(name) => {

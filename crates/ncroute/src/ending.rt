@@ -18,21 +18,21 @@ pub const FAILED: u8 = 1;
 pub const FAULT: u8 = 3;
 
 /// The exit status of a run with that many refused lines.
-pub fn status_of(refused: u32) -> u8
+pub(crate) fn status_of(refused: u32) -> u8
     ensures { result ≡ status_of refused }
 {
     if refused == 0 { 0 } else { FAILED }
 }
 
 /// The exit status of a run over several sources, where something was found of one of them or of none.
-pub fn status_of_found(found: bool) -> u8
+pub(crate) fn status_of_found(found: bool) -> u8
     ensures { result ≡ status_of_found found }
 {
     if found { FAILED } else { 0 }
 }
 
 /// The line that tells of a fault. It is one text, so that one write takes it whole.
-pub fn fault_line(fault: ProgramFault) -> &'static str
+pub(crate) fn fault_line(fault: ProgramFault) -> &'static str
     ensures { result.now ≡ fault_line fault }
 {
     match fault {
@@ -44,7 +44,7 @@ pub fn fault_line(fault: ProgramFault) -> &'static str
 }
 
 /// Writes the line that tells of a fault.
-pub fn report_fault<E: Write>(errors: &mut E, fault: ProgramFault) -> Result<(), StreamFault>
+pub(crate) fn report_fault<E: Write>(errors: &mut E, fault: ProgramFault) -> Result<(), StreamFault>
     ensures ok { OnOk result (Appends (E.contents errors.old) (E.contents errors.new) (fault_line fault)) }
     ensures err { IfErr result (λ cut. (cut ≡ StreamFault.Write)
         × AppendsFront (E.contents errors.old) (E.contents errors.new) (fault_line fault)) }
@@ -53,7 +53,7 @@ pub fn report_fault<E: Write>(errors: &mut E, fault: ProgramFault) -> Result<(),
 }
 
 /// Ends a run by a fault, of which people are told as far as standard error takes the line: the exit status.
-pub fn end_by_fault<E: Write>(errors: &mut E, fault: ProgramFault) -> u8
+pub(crate) fn end_by_fault<E: Write>(errors: &mut E, fault: ProgramFault) -> u8
     ensures status { result ≡ FAILED }
     ensures told { AppendsFront (E.contents errors.old) (E.contents errors.new) (fault_line fault) }
 {

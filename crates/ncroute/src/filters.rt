@@ -2,7 +2,7 @@
 ghost use Rattle.std.specs.Option.{option_map};
 ghost use Rattle.std.specs.Prelude.{◌≡◌, [], ◌∷◌, ◌++◌, IfErr, IfOk, OnOk, slice_get};
 ghost use Rattle.filter_reports.specs.Faults.{stream_fault};
-ghost use Rattle.script_runs.specs.declared.naming.NamedFilter.{NamedFilter as TheFilter};
+ghost use Rattle.router_script.specs.declared.filter_naming.NamedFilter.{NamedFilter as TheFilter};
 ghost use Rattle.ncroute.specs.Filters.{AreLoaded, IsCutFilter, IsCutUnfit, LeavesFilter, ReadsFilter};
 ghost use Rattle.ncroute.specs.Filters.{ReadsFilters, StopsAtFilter, TellsOfFilter, TellsUnfit};
 
@@ -11,7 +11,7 @@ use crate::texts::{Folder, Unread, name_of, read_source, tell_unread};
 use command_line::{NamedFile, Source};
 use filter_reports::{ProgramFault, tell};
 use filter_source::{Diagnosis, SOURCE_LIMIT};
-use script_runs::{NamedFilter, Unfit};
+use router_script::{NamedFilter, Unfit};
 use std::alloc::Global;
 use std::io::{Read, Write};
 
@@ -94,7 +94,7 @@ fn read_next<F: Folder, R: Read>(
 }
 
 /// Reads the filters of these files, in order, up to the first that is not read.
-pub fn read_filters<'a, F: Folder, R: Read>(
+pub(crate) fn read_filters<'a, F: Folder, R: Read>(
     files: &F,
     alloc: Global,
     named: &'a [NamedFile],
@@ -121,7 +121,7 @@ pub fn read_filters<'a, F: Folder, R: Read>(
 }
 
 /// Reads the filters of these files, in order. One that cannot be read is told of.
-pub fn read_given<F: Folder, R: Read, W: Write, E: Write>(
+pub(crate) fn read_given<F: Folder, R: Read, W: Write, E: Write>(
     files: &F,
     alloc: Global,
     named: &[NamedFile],
@@ -155,24 +155,24 @@ fn tell_filter<E: Write>(
     alloc: Global,
     errors: &mut E,
     filter: Option<&NamedFilter>,
-    told: &Diagnosis,
+    diagnosis: &Diagnosis,
 ) -> Result<(), ProgramFault>
-    ensures ok { OnOk result (TellsOfFilter (option_map (λ filter. filter.now) filter.entry) told.now
+    ensures ok { OnOk result (TellsOfFilter (option_map (λ filter. filter.now) filter.entry) diagnosis.now
         (E.contents errors.old) (E.contents errors.new)) }
-    ensures err { IfErr result (λ fault. IsCutFilter (stream_fault fault) (option_map (λ filter. filter.now) filter.entry) told.now
+    ensures err { IfErr result (λ fault. IsCutFilter (stream_fault fault) (option_map (λ filter. filter.now) filter.entry) diagnosis.now
         (E.contents errors.old) (E.contents errors.new)) }
 {
     match filter {
         Some(filter) => {
             let (origin, text) = (filter.origin.as_slice(), filter.text.as_slice());
-            tell(alloc, errors, origin, text, told)
+            tell(alloc, errors, origin, text, diagnosis)
         }
         None => Ok(()),
     }
 }
 
 /// Tells why a filter is refused, if one of these is.
-pub fn tell_unfit<E: Write>(
+pub(crate) fn tell_unfit<E: Write>(
     alloc: Global,
     errors: &mut E,
     filters: &[NamedFilter],
@@ -185,7 +185,7 @@ pub fn tell_unfit<E: Write>(
         None => Ok(()),
         Some(unfit) => {
             let filter = filter_at(filters, unfit.index);
-            tell_filter(alloc, errors, filter, &unfit.told)
+            tell_filter(alloc, errors, filter, &unfit.diagnosis)
         }
     }
 }

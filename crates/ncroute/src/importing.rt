@@ -2,12 +2,12 @@
 ghost use Rattle.std.specs.Option.{option_map};
 ghost use Rattle.std.specs.Prelude.{◌≡◌, ◌≤◌, ℕ, false, [], ◌∷◌, ◌++◌, IfOk, IfSome, Ok, OnOk, Some, is_some, length, string_bytes};
 ghost use Rattle.ncroute.specs.Following.{DoesFirst};
-ghost use Rattle.ncroute.specs.Importing.{AreWordsFor, ImportsConfig, ImportsCut, ImportsDraft, ImportsMade};
-ghost use Rattle.ncroute.specs.Importing.{ImportsParts, ImportsRead, ImportsSource, ImportsText, ImportsWords, IsMade};
-ghost use Rattle.ncroute.specs.Importing.{IsMadeOfText, IsMadeOfWords, IsNoted, IsNotedText, IsRefusedText, IsToldFor};
+ghost use Rattle.ncroute.specs.Importing.{AreWordsFor, ImportsConfig, ImportsCut, ImportsConversion, ImportsResult};
+ghost use Rattle.ncroute.specs.Importing.{ImportsParts, ImportsRead, ImportsSource, ImportsText, ImportsWords, IsFilterResult};
+ghost use Rattle.ncroute.specs.Importing.{IsResultOfText, IsResultOfWords, IsNoted, IsNotedText, IsRefusedText, IsLeftOutFor};
 ghost use Rattle.ncroute.specs.Importing.{LacksFolder, SavesFilter, SavesText, TellsEnd, TellsStrange, TellsWord, byte_line};
-ghost use Rattle.ncroute.specs.Importing.{end_words, ends_in_slash, fate_words, file_name, file_path, head_for, head_of, inner_path};
-ghost use Rattle.ncroute.specs.Importing.{is_outside, made_line, origin_line, origins_for, outside_line, path_words};
+ghost use Rattle.ncroute.specs.Importing.{end_words, ends_in_slash, result_words, file_name, file_path, head_for, head_of, inner_path};
+ghost use Rattle.ncroute.specs.Importing.{is_outside, result_line, origin_line, origins_for, outside_line, path_words};
 ghost use Rattle.ncroute.specs.Importing.{slash_behind, strange_words, text_for, text_in};
 ghost use Rattle.ncroute.specs.Noting.{place_from};
 ghost use Rattle.ncroute.specs.Places.{config_of, place_of};
@@ -17,25 +17,26 @@ ghost use Rattle.filter_parser.specs.Surroundings.{TellsRound};
 ghost use Rattle.filter_parser.specs.Unspelled.{IsUnspelled};
 ghost use Rattle.filter_source.specs.Diagnoses.{TellsOfText};
 ghost use Rattle.filter_source.specs.VerifiedLine.{verified_line};
-ghost use Rattle.filter_reports.specs.Explanations.{AreRefusalWords};
+ghost use Rattle.refusal_words.specs.Explanations.{AreRefusalWords};
 
 use crate::checking::is_any;
 use crate::console::Console;
 use crate::ending::{FAILED, status_of_found};
 use crate::including::{Whole, push_texts, read_whole};
 use crate::placed::{PlacedConfig, notes_of, place_from};
-use crate::texts::{Folder, tell_unmade, tell_unwritten};
+use crate::texts::{Folder, tell_uncreated, tell_unwritten};
 use bird_import::{
-    Config, Cut, Draft, Fate, FilterText, Outcome, Why, Word, WordKind, cut_words,
-    find_definitions, find_items, make_drafts, reason_words, write_filter,
+    Config, Conversion, ConversionOutcome, Cut, FilterText, TextOutcome, Why, Word, WordKind,
+    cut_words, find_definitions, find_items, make_conversions, reason_words, write_filter,
 };
 use command_line::{Importing, Source};
 use filter_parser::{Around, Unparsed};
-use filter_reports::{ProgramFault, placed_code, push_shown, refusal_words};
+use filter_reports::{ProgramFault, placed_code};
 use filter_source::{Diagnosis, Failure, Refusal, SOURCE_LIMIT, push_verified};
 use filter_tokens::TokenFault;
 use filter_verifier::Verified;
 use line_protocol::write_text;
+use refusal_words::{push_shown, refusal_words};
 use std::alloc::{AllocError, Global};
 use std::io::{ErrorKind, Read, Write};
 
@@ -44,7 +45,7 @@ const HEAD_LIMIT: usize = 8_192;
 
 /// What is written of a filter, and what is told of it.
 #[derive(Drop)]
-struct Made {
+struct FilterResult {
     /// Its text, where it is verified.
     text: Option<Vec<u8>>,
     /// What is told: the place, and what comes of the filter.
@@ -66,12 +67,12 @@ fn shown_reason(alloc: Global, why: Why<'_>) -> Result<Vec<u8>, AllocError>
 }
 
 /// What is told of a filter that is left out.
-fn left_out(alloc: Global, at: usize, why: Why<'_>) -> Result<Made, AllocError>
-    ensures text { IfOk result (λ made. text_in made ≡ None) }
-    ensures told { IfOk result (IsToldFor at why.entry) }
-    ensures notes { IfOk result (λ made. made.notes.items ≡ []) }
+fn left_out(alloc: Global, at: usize, why: Why<'_>) -> Result<FilterResult, AllocError>
+    ensures text { IfOk result (λ filter_result. text_in filter_result ≡ None) }
+    ensures told { IfOk result (IsLeftOutFor at why.entry) }
+    ensures notes { IfOk result (λ filter_result. filter_result.notes.items ≡ []) }
 {
-    Ok(Made {
+    Ok(FilterResult {
         text: None,
         at,
         words: shown_reason(alloc, why)?,
@@ -100,14 +101,16 @@ fn push_outside(
     alloc: Global,
     head: &mut Vec<u8>,
     placed: &PlacedConfig<'_>,
-    draft: &Draft<'_>,
+    conversion: &Conversion<'_>,
     last: usize,
     at: usize,
 ) -> Result<(), AllocError>
     ensures { OnOk result (head.new.items
-        ≡ head.old.items ++ outside_line placed.now draft.now.at draft.now.end last at) }
+        ≡ head.old.items ++ outside_line placed.now conversion.now.at conversion.now.end last at) }
 {
-    if is_outside(draft.at, draft.end, at) && !is_outside(draft.at, draft.end, last) {
+    if is_outside(conversion.at, conversion.end, at)
+        && !is_outside(conversion.at, conversion.end, last)
+    {
         push_origin(alloc, head, placed, b"# and ", at)
     } else {
         Ok(())
@@ -118,16 +121,16 @@ fn push_outside(
 fn head_of(
     alloc: Global,
     placed: &PlacedConfig<'_>,
-    draft: &Draft<'_>,
+    conversion: &Conversion<'_>,
     words: &[Word<'_>],
 ) -> Result<Vec<u8>, AllocError>
-    ensures { IfOk result (λ head. head.items ≡ head_of placed.now draft.now.at draft.now.end words.now) }
+    ensures { IfOk result (λ head. head.items ≡ head_of placed.now conversion.now.at conversion.now.end words.now) }
 {
     let mut head = Vec::new(alloc);
-    push_origin(alloc, &mut head, placed, b"# From ", draft.at)?;
-    let mut last = draft.at;
+    push_origin(alloc, &mut head, placed, b"# From ", conversion.at)?;
+    let mut last = conversion.at;
     for word in words {
-        push_outside(alloc, &mut head, placed, draft, last, word.at)?;
+        push_outside(alloc, &mut head, placed, conversion, last, word.at)?;
         last = word.at;
     }
     Ok(head)
@@ -137,17 +140,17 @@ fn head_of(
 fn head_for(
     alloc: Global,
     placed: &PlacedConfig<'_>,
-    draft: &Draft<'_>,
+    conversion: &Conversion<'_>,
     words: &[Word<'_>],
 ) -> Result<Vec<u8>, AllocError>
-    ensures { IfOk result (λ head. head.items ≡ head_for placed.now draft.now.at draft.now.end words.now) }
+    ensures { IfOk result (λ head. head.items ≡ head_for placed.now conversion.now.at conversion.now.end words.now) }
 {
-    let whole = head_of(alloc, placed, draft, words)?;
+    let whole = head_of(alloc, placed, conversion, words)?;
     if whole.len() <= HEAD_LIMIT {
         return Ok(whole);
     }
     let mut head = Vec::new(alloc);
-    push_origin(alloc, &mut head, placed, b"# From ", draft.at)?;
+    push_origin(alloc, &mut head, placed, b"# From ", conversion.at)?;
     Ok(head)
 }
 
@@ -172,22 +175,22 @@ fn make_filter(
     alloc: Global,
     placed: &PlacedConfig<'_>,
     size: u32,
-    draft: &Draft<'_>,
+    conversion: &Conversion<'_>,
     words: &[Word<'_>],
-) -> Result<Made, AllocError>
-    ensures made { IfOk result (IsMadeOfWords size draft.now.at words.now (text_for placed.now draft.now.at draft.now.end words.now)
-        (origins_for placed.now draft.now.at draft.now.end words.now)) }
-    ensures noted { IfOk result (IsNotedText placed.now draft.now.name.now size draft.now.at
-        (text_for placed.now draft.now.at draft.now.end words.now) (origins_for placed.now draft.now.at draft.now.end words.now)) }
+) -> Result<FilterResult, AllocError>
+    ensures filter_result { IfOk result (IsResultOfWords size conversion.now.at words.now (text_for placed.now conversion.now.at conversion.now.end words.now)
+        (origins_for placed.now conversion.now.at conversion.now.end words.now)) }
+    ensures noted { IfOk result (IsNotedText placed.now conversion.now.name.now size conversion.now.at
+        (text_for placed.now conversion.now.at conversion.now.end words.now) (origins_for placed.now conversion.now.at conversion.now.end words.now)) }
 {
-    let head = head_for(alloc, placed, draft, words)?;
+    let head = head_for(alloc, placed, conversion, words)?;
     let written = write_filter(alloc, head.as_slice(), words)?;
-    let fate = written.fate;
-    match fate {
-        Fate::Taken => verify_filter(alloc, placed, size, draft, written),
-        Fate::Refused(why) => refuse_text(alloc, draft.at, &written, why),
-        Fate::Garbled => left_out(alloc, draft.at, Why::Unwritten),
-        Fate::Unset(index) => {
+    let text_outcome = written.text_outcome;
+    match text_outcome {
+        TextOutcome::Taken => verify_filter(alloc, placed, size, conversion, written),
+        TextOutcome::Refused(why) => refuse_text(alloc, conversion.at, &written, why),
+        TextOutcome::Garbled => left_out(alloc, conversion.at, Why::Unwritten),
+        TextOutcome::Unset(index) => {
             let word = words[index];
             left_out(alloc, word.at, Why::Unset(word.bytes))
         }
@@ -199,17 +202,17 @@ fn refused(
     alloc: Global,
     at: usize,
     written: &FilterText,
-    told: &Diagnosis,
-) -> Result<Made, AllocError>
-    ensures text { IfOk result (λ made. text_in made ≡ None) }
-    ensures words { IfOk result (λ made. AreRefusalWords told.now made.words.items) }
-    ensures place { IfOk result (λ made. made.at ≡ place_from written.now.origins.items at told.now.byte) }
-    ensures notes { IfOk result (λ made. made.notes.items ≡ []) }
+    diagnosis: &Diagnosis,
+) -> Result<FilterResult, AllocError>
+    ensures text { IfOk result (λ filter_result. text_in filter_result ≡ None) }
+    ensures words { IfOk result (λ filter_result. AreRefusalWords diagnosis.now filter_result.words.items) }
+    ensures place { IfOk result (λ filter_result. filter_result.at ≡ place_from written.now.origins.items at diagnosis.now.byte) }
+    ensures notes { IfOk result (λ filter_result. filter_result.notes.items ≡ []) }
 {
-    Ok(Made {
+    Ok(FilterResult {
         text: None,
-        at: place_from(written.origins.as_slice(), told.byte, at),
-        words: refusal_words(alloc, written.text.as_slice(), told)?,
+        at: place_from(written.origins.as_slice(), diagnosis.byte, at),
+        words: refusal_words(alloc, written.text.as_slice(), diagnosis)?,
         notes: Vec::new(alloc),
     })
 }
@@ -232,15 +235,15 @@ fn refuse_text(
     at: usize,
     written: &FilterText,
     why: Unparsed,
-) -> Result<Made, AllocError>
+) -> Result<FilterResult, AllocError>
     requires unspelled { IsUnspelled written.now.text.items why.fault }
     requires round { TellsRound written.now.text.items why.fault why.around }
-    ensures text { IfOk result (λ made. text_in made ≡ None) }
-    ensures told { IfOk result (λ made. (size : ℕ) → IsRefusedText size at written.now.text.items written.now.origins.items made) }
-    ensures notes { IfOk result (λ made. made.notes.items ≡ []) }
+    ensures text { IfOk result (λ filter_result. text_in filter_result ≡ None) }
+    ensures told { IfOk result (λ filter_result. (size : ℕ) → IsRefusedText size at written.now.text.items written.now.origins.items filter_result) }
+    ensures notes { IfOk result (λ filter_result. filter_result.notes.items ≡ []) }
 {
-    let told = source_diagnosis(written.text.as_slice(), why);
-    refused(alloc, at, written, &told)
+    let diagnosis = source_diagnosis(written.text.as_slice(), why);
+    refused(alloc, at, written, &diagnosis)
 }
 
 /// Verifies the text of a filter for domains of a size.
@@ -248,25 +251,25 @@ fn verify_filter(
     alloc: Global,
     placed: &PlacedConfig<'_>,
     size: u32,
-    draft: &Draft<'_>,
+    conversion: &Conversion<'_>,
     written: FilterText,
-) -> Result<Made, AllocError>
-    ensures made { IfOk result (IsMadeOfText size draft.now.at written.text.items written.origins.items) }
-    ensures noted { IfOk result (IsNotedText placed.now draft.now.name.now size draft.now.at written.text.items written.origins.items) }
+) -> Result<FilterResult, AllocError>
+    ensures filter_result { IfOk result (IsResultOfText size conversion.now.at written.text.items written.origins.items) }
+    ensures noted { IfOk result (IsNotedText placed.now conversion.now.name.now size conversion.now.at written.text.items written.origins.items) }
 {
     match placed_code(alloc, written.text.as_slice(), size) {
         Ok(code) => {
             let words = verified_line(alloc, &code.verified)?;
             let (text, origins) = (written.text.as_slice(), written.origins.as_slice());
-            let notes = notes_of(alloc, placed, draft, text, origins, &code)?;
-            Ok(Made {
+            let notes = notes_of(alloc, placed, conversion, text, origins, &code)?;
+            Ok(FilterResult {
                 text: Some(written.text),
-                at: draft.at,
+                at: conversion.at,
                 words,
                 notes,
             })
         }
-        Err(Failure::Refused(told)) => refused(alloc, draft.at, &written, &told),
+        Err(Failure::Refused(diagnosis)) => refused(alloc, conversion.at, &written, &diagnosis),
         Err(Failure::Memory) => Err(AllocError),
     }
 }
@@ -276,14 +279,20 @@ fn make(
     alloc: Global,
     placed: &PlacedConfig<'_>,
     size: u32,
-    draft: &Draft<'_>,
-) -> Result<Made, AllocError>
-    ensures made { IfOk result (IsMade placed.now size draft.now) }
-    ensures noted { IfOk result (IsNoted placed.now size draft.now) }
+    conversion: &Conversion<'_>,
+) -> Result<FilterResult, AllocError>
+    ensures filter_result { IfOk result (IsFilterResult placed.now size conversion.now) }
+    ensures noted { IfOk result (IsNoted placed.now size conversion.now) }
 {
-    match &draft.outcome {
-        Outcome::LeftOut(reason) => left_out(alloc, reason.at, reason.why),
-        Outcome::Drafted(words) => make_filter(alloc, placed, size, draft, words.as_slice()),
+    match &conversion.outcome {
+        ConversionOutcome::LeftOut(reason) => left_out(alloc, reason.at, reason.why),
+        ConversionOutcome::Converted(words) => make_filter(
+            alloc,
+            placed,
+            size,
+            conversion,
+            words.as_slice(),
+        ),
     }
 }
 
@@ -364,29 +373,29 @@ fn save<F: Folder, R: Read, W: Write, E: Write>(
     match files.create(path) {
         Ok(file) => save_in(files, alloc, path, file, text, console),
         Err(error) => {
-            tell_unmade(alloc, &mut console.errors, path, &error)?;
+            tell_uncreated(alloc, &mut console.errors, path, &error)?;
             Ok(false)
         }
     }
 }
 
 /// The line that tells what comes of a filter, and those of what else is said of it. `path` is the name of its file, where it has one.
-fn made_line(
+fn result_line(
     alloc: Global,
     placed: &PlacedConfig<'_>,
     name: &[u8],
-    made: &Made,
+    filter_result: &FilterResult,
     path: Option<&str>,
 ) -> Result<Vec<u8>, AllocError>
-    ensures { IfOk result (λ line. line.items ≡ made_line placed.now name.now made.now (option_map (λ path. path.now) path.entry)) }
+    ensures { IfOk result (λ line. line.items ≡ result_line placed.now name.now filter_result.now (option_map (λ path. path.now) path.entry)) }
 {
     let mut line = Vec::new(alloc);
-    placed.push_place(alloc, &mut line, made.at)?;
+    placed.push_place(alloc, &mut line, filter_result.at)?;
     line.extend_from_slice(b" filter ")?;
     push_shown(alloc, &mut line, name)?;
     push_path(alloc, &mut line, path)?;
-    push_fate(&mut line, made)?;
-    line.extend_from_slice(made.notes.as_slice())?;
+    push_result(&mut line, filter_result)?;
+    line.extend_from_slice(filter_result.notes.as_slice())?;
     Ok(line)
 }
 
@@ -404,91 +413,108 @@ fn push_path(alloc: Global, line: &mut Vec<u8>, path: Option<&str>) -> Result<()
 }
 
 /// Adds what comes of a filter, to the end of the line.
-fn push_fate(line: &mut Vec<u8>, made: &Made) -> Result<(), AllocError>
-    ensures { OnOk result (line.new.items ≡ line.old.items ++ fate_words (is_some (text_in made.now)) made.now.words.items) }
+fn push_result(line: &mut Vec<u8>, filter_result: &FilterResult) -> Result<(), AllocError>
+    ensures { OnOk result (line.new.items ≡ line.old.items ++ result_words (is_some (text_in filter_result.now)) filter_result.now.words.items) }
 {
-    let words = made.words.as_slice();
-    match made.text {
+    let words = filter_result.words.as_slice();
+    match filter_result.text {
         Some(_) => push_texts(line, &[b" ", words]),
         None => push_texts(line, &[b": ", words, b": this filter was left out\n"]),
     }
 }
 
 /// Tells what comes of a filter. `path` is the name of its file, where it has one.
-fn tell_made<R: Read, W: Write, E: Write>(
+fn tell_result<R: Read, W: Write, E: Write>(
     alloc: Global,
     placed: &PlacedConfig<'_>,
     name: &[u8],
-    made: &Made,
+    filter_result: &FilterResult,
     path: Option<&str>,
     console: &mut Console<R, W, E>,
 ) -> Result<(), ProgramFault>
-    ensures { OnOk result (Writes (made_line placed.now name.now made.now (option_map (λ path. path.now) path.entry))
+    ensures { OnOk result (Writes (result_line placed.now name.now filter_result.now (option_map (λ path. path.now) path.entry))
         console.old console.new) }
 {
-    let line = made_line(alloc, placed, name, made, path)?;
+    let line = result_line(alloc, placed, name, filter_result, path)?;
     console.write(line.as_slice())
 }
 
 /// Writes the text of a filter into a new file, and tells what came of it. Returns whether the filter is left out.
-fn save_made<F: Folder, R: Read, W: Write, E: Write>(
+fn save_result<F: Folder, R: Read, W: Write, E: Write>(
     files: &F,
     alloc: Global,
     placed: &PlacedConfig<'_>,
     name: &[u8],
-    made: &Made,
+    filter_result: &FilterResult,
     text: &[u8],
     path: &str,
     console: &mut Console<R, W, E>,
 ) -> Result<bool, ProgramFault>
-    ensures { IfOk result (SavesFilter (F.creates files.now) (F.leaves files.now) placed.now name.now made.now text.now path.now console.old console.new) }
+    ensures { IfOk result (SavesFilter (F.creates files.now) (F.leaves files.now) placed.now name.now filter_result.now text.now path.now console.old console.new) }
 {
     if !save(files, alloc, path, text, console)? {
         return Ok(true);
     }
-    tell_made(alloc, placed, name, made, Some(path), console)?;
+    tell_result(alloc, placed, name, filter_result, Some(path), console)?;
     Ok(false)
 }
 
 /// Writes a filter into its file, if there is a folder for it and it is verified, and tells what came of it. Returns whether it is left out.
-fn import_made<F: Folder, R: Read, W: Write, E: Write>(
+fn import_result<F: Folder, R: Read, W: Write, E: Write>(
     files: &F,
     alloc: Global,
     how: &Importing,
     placed: &PlacedConfig<'_>,
     name: &[u8],
-    made: &Made,
+    filter_result: &FilterResult,
     console: &mut Console<R, W, E>,
 ) -> Result<bool, ProgramFault>
-    ensures { IfOk result (ImportsMade (F.creates files.now) (F.leaves files.now) how.now.folder (text_in made.now) placed.now name.now made.now
+    ensures { IfOk result (ImportsResult (F.creates files.now) (F.leaves files.now) how.now.folder (text_in filter_result.now) placed.now name.now filter_result.now
         console.old console.new) }
 {
-    match (&how.folder, &made.text) {
+    match (&how.folder, &filter_result.text) {
         (Some(folder), Some(text)) => {
             let path = file_path(alloc, folder.as_str(), name)?;
             let (text, path) = (text.as_slice(), path.as_str());
-            save_made(files, alloc, placed, name, made, text, path, console)
+            save_result(
+                files,
+                alloc,
+                placed,
+                name,
+                filter_result,
+                text,
+                path,
+                console,
+            )
         }
         (_, text) => {
-            tell_made(alloc, placed, name, made, None, console)?;
+            tell_result(alloc, placed, name, filter_result, None, console)?;
             Ok(text.is_none())
         }
     }
 }
 
-/// Makes a filter of a draft, and imports it. Returns whether it is left out.
+/// Makes a filter of a conversion, and imports it. Returns whether it is left out.
 fn import_one<F: Folder, R: Read, W: Write, E: Write>(
     files: &F,
     alloc: Global,
     how: &Importing,
     placed: &PlacedConfig<'_>,
-    draft: &Draft<'_>,
+    conversion: &Conversion<'_>,
     console: &mut Console<R, W, E>,
 ) -> Result<bool, ProgramFault>
-    ensures { IfOk result (ImportsDraft (F.creates files.now) (F.leaves files.now) how.now placed.now draft.now console.old console.new) }
+    ensures { IfOk result (ImportsConversion (F.creates files.now) (F.leaves files.now) how.now placed.now conversion.now console.old console.new) }
 {
-    let made = make(alloc, placed, how.size, draft)?;
-    import_made(files, alloc, how, placed, draft.name, &made, console)
+    let filter_result = make(alloc, placed, how.size, conversion)?;
+    import_result(
+        files,
+        alloc,
+        how,
+        placed,
+        conversion.name,
+        &filter_result,
+        console,
+    )
 }
 
 /// The line that tells of a byte of a configuration.
@@ -520,21 +546,21 @@ fn tell_byte<R: Read, W: Write, E: Write>(
     console.write(line.as_slice())
 }
 
-/// Imports the filters that drafts are of. Returns whether one of them is left out.
-fn import_drafts<F: Folder, R: Read, W: Write, E: Write>(
+/// Imports the filters that conversions are of. Returns whether one of them is left out.
+fn import_conversions<F: Folder, R: Read, W: Write, E: Write>(
     files: &F,
     alloc: Global,
     how: &Importing,
     placed: &PlacedConfig<'_>,
-    drafts: &[Draft<'_>],
+    conversions: &[Conversion<'_>],
     console: &mut Console<R, W, E>,
 ) -> Result<bool, ProgramFault>
-    ensures { IfOk result (DoesFirst (ImportsDraft (F.creates files.now) (F.leaves files.now) how.now placed.now) drafts.now (length drafts.now)
+    ensures { IfOk result (DoesFirst (ImportsConversion (F.creates files.now) (F.leaves files.now) how.now placed.now) conversions.now (length conversions.now)
         console.old console.new) }
 {
     let mut is_left = false;
-    for draft in drafts {
-        let one = import_one(files, alloc, how, placed, draft, console)?;
+    for conversion in conversions {
+        let one = import_one(files, alloc, how, placed, conversion, console)?;
         is_left = is_any(is_left, one);
     }
     Ok(is_left)
@@ -551,8 +577,8 @@ fn import_parts<F: Folder, R: Read, W: Write, E: Write>(
 ) -> Result<bool, ProgramFault>
     ensures { IfOk result (ImportsParts (F.creates files.now) (F.leaves files.now) how.now placed.now config.now console.old console.new) }
 {
-    let drafts = make_drafts(alloc, config)?;
-    import_drafts(files, alloc, how, placed, drafts.as_slice(), console)
+    let conversions = make_conversions(alloc, config)?;
+    import_conversions(files, alloc, how, placed, conversions.as_slice(), console)
 }
 
 /// Imports the filters among words. Returns whether one of them is left out.
@@ -717,7 +743,7 @@ fn lacks_path<F: Folder, R: Read, W: Write, E: Write>(
     if !matches!(error.kind(), ErrorKind::NotFound) {
         return Ok(false);
     }
-    tell_unmade(alloc, &mut console.errors, folder.as_str(), &error)?;
+    tell_uncreated(alloc, &mut console.errors, folder.as_str(), &error)?;
     Ok(true)
 }
 
@@ -758,7 +784,7 @@ fn import_text<F: Folder, R: Read, W: Write, E: Write>(
 /// Imports the filters of the configuration that a source is, and returns the exit status: 0, or 1 where something was left out, or the folder
 /// for the filters is not there.
 #[tactic(auto, unfolding(crate::specs::Importing::ImportsSource))]
-pub fn import_source<F: Folder, R: Read, W: Write, E: Write>(
+pub(crate) fn import_source<F: Folder, R: Read, W: Write, E: Write>(
     files: &F,
     alloc: Global,
     how: &Importing,

@@ -16,8 +16,9 @@ use crate::console::{Console, Loaded};
 use crate::texts::{Folder, name_of, tell_of};
 use bird_import::{Include, cut_words, find_includes};
 use command_line::Source;
-use filter_reports::{ProgramFault, place_in, push_position, push_shown};
+use filter_reports::ProgramFault;
 use line_protocol::INPUT_LIMIT;
+use refusal_words::{place_in, push_position, push_shown};
 use std::alloc::{AllocError, Global};
 use std::io::{Read, Write};
 
@@ -26,7 +27,7 @@ const INCLUDE_DEPTH: u8 = 8;
 
 /// A file of a configuration.
 #[derive(Drop)]
-pub struct File {
+pub struct ConfigFile {
     /// Where it is.
     pub source: Source,
     /// Its text.
@@ -52,7 +53,7 @@ pub struct Whole {
     /// Where the text comes from, in order.
     pub stretches: Vec<Stretch>,
     /// The files.
-    pub files: Vec<File>,
+    pub files: Vec<ConfigFile>,
     /// The indexes of the files that are being read, each of which includes the next one.
     open: Vec<usize>,
     /// Something of it was not read.
@@ -60,7 +61,7 @@ pub struct Whole {
 }
 
 /// Puts texts at the end of `out`, one behind another.
-pub fn push_texts(out: &mut Vec<u8>, texts: &[&[u8]]) -> Result<(), AllocError>
+pub(crate) fn push_texts(out: &mut Vec<u8>, texts: &[&[u8]]) -> Result<(), AllocError>
     ensures { OnOk result (out.new.items ≡ out.old.items ++ flat_map (λ text. text.now) texts.now) }
 {
     for text in texts {
@@ -70,7 +71,7 @@ pub fn push_texts(out: &mut Vec<u8>, texts: &[&[u8]]) -> Result<(), AllocError>
 }
 
 /// The stretch that a byte of a configuration is in.
-pub fn stretch_of(whole: &Whole, byte: usize) -> Option<Stretch>
+pub(crate) fn stretch_of(whole: &Whole, byte: usize) -> Option<Stretch>
     ensures { result ≡ stretch_of whole.now.stretches.items byte }
 {
     let mut found = None;
@@ -86,7 +87,7 @@ pub fn stretch_of(whole: &Whole, byte: usize) -> Option<Stretch>
 fn push_file_place(
     alloc: Global,
     out: &mut Vec<u8>,
-    file: Option<&File>,
+    file: Option<&ConfigFile>,
     at: usize,
 ) -> Result<(), AllocError>
     ensures { OnOk result (out.new.items ≡ out.old.items ++ place_in (option_map (λ file. file_of file.now) file.entry) at) }
@@ -156,7 +157,7 @@ fn is_absolute(name: &[u8]) -> bool
 }
 
 /// The path of a file of this name in the folder of another one.
-pub fn path_beside(alloc: Global, by: &str, name: &str) -> Result<String, AllocError>
+pub(crate) fn path_beside(alloc: Global, by: &str, name: &str) -> Result<String, AllocError>
     ensures { IfOk result (λ path. IsBeside by.now name.now (string_bytes path)) }
 {
     match by.rsplit_once('/') {
@@ -181,7 +182,7 @@ fn included_path(alloc: Global, by: &Source, name: &str) -> Result<String, Alloc
 }
 
 /// Whether the file of an index was opened by this path.
-fn has_path(files: &[File], index: usize, path: &str) -> bool
+fn has_path(files: &[ConfigFile], index: usize, path: &str) -> bool
     ensures { result ≡ has_path path.now (slice_get (map file_of files.now) index) }
 {
     match files.get(index) {
@@ -249,7 +250,7 @@ fn inclusion_of(alloc: Global, whole: &Whole, name: &[u8]) -> Result<Inclusion, 
 }
 
 /// The last of the files that are being read.
-fn last_file(whole: &Whole) -> Option<&File>
+fn last_file(whole: &Whole) -> Option<&ConfigFile>
     ensures { option_map (λ file. file_of file.now) result ≡ last_file (config_of whole.now) }
 {
     match whole.open.last() {
@@ -358,7 +359,7 @@ fn take_within<R: Read, W: Write, E: Write>(
 }
 
 /// Reads a file of a configuration. One that cannot be read is told of.
-pub fn read_config<F: Folder, R: Read, W: Write, E: Write>(
+pub(crate) fn read_config<F: Folder, R: Read, W: Write, E: Write>(
     files: &F,
     alloc: Global,
     source: &Source,
@@ -386,7 +387,7 @@ fn open_file(
 {
     let index = whole.files.len();
     let text = Vec::from_slice(alloc, text)?;
-    whole.files.push(File { source, text })?;
+    whole.files.push(ConfigFile { source, text })?;
     whole.open.push(index)?;
     Ok(index)
 }
@@ -501,7 +502,7 @@ fn read_includes<F: Folder, R: Read, W: Write, E: Write>(
 
 /// Reads the configuration that a source is, with the files that it includes. What is not read is told of; None if the source itself is
 /// not.
-pub fn read_whole<F: Folder, R: Read, W: Write, E: Write>(
+pub(crate) fn read_whole<F: Folder, R: Read, W: Write, E: Write>(
     files: &F,
     alloc: Global,
     source: &Source,

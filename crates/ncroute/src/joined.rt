@@ -1,46 +1,37 @@
-//! The script of a router that several sources are, one after another.
+//! The text of the sources that a router's script is, one after another.
 //!
-//! **Several scripts of `run` are read before the first line is answered**, standard input too, so that a file which is missing is told while
-//! nothing has happened. The script is then bytes in memory, and its contract is that of one script. What is told of a line names its file; the
-//! numbers in answers count the lines of the whole script, as a program that reads answers sent it.
-ghost use Rattle.std.specs.Option.{option_map};
+//! **The scripts of `run` are read before the first line is answered**, standard input too where it is not alone, so that a file which is missing is
+//! told while nothing has happened. The script is then bytes in memory, and its contract is that of one script. What is told of a line names its
+//! file; the numbers in answers count the lines of the whole script, as a program that reads answers sent it.
 ghost use Rattle.std.specs.Prelude.{◌≡◌, ◌++◌, [], ◌∷◌, IfErr, IfOk, OnErr, OnOk};
-ghost use Rattle.filter_reports.specs.Faults.{stream_fault};
-ghost use Rattle.ncroute.specs.Joining.{AddsPart, JoinsAll, JoinsNext, LeavesNext, RunsJoined, RunsTexts, StopsAtSource};
-ghost use Rattle.ncroute.specs.Joining.{StopsJoined, StopsTexts, ended, ends_line, lines_of};
+ghost use Rattle.ncroute.specs.Joining.{AddsPart, JoinsAll, JoinsNext, LeavesNext, StopsAtSource, ended, ends_line, lines_of};
 
-use crate::console::Console;
-use crate::ending::FAILED;
-use crate::filters::{LoadedFilters, read_given};
-use crate::guided::guide_script;
-use crate::script::Lines;
-use crate::texts::{Folder, Unread, name_of, read_source, tell_unread};
+use crate::texts::{Folder, Unread, name_of, read_source};
 use crate::watcher::ScriptPart;
-use command_line::{Running, Source};
-use filter_reports::{ProgramFault, place_in};
+use command_line::Source;
 use line_protocol::INPUT_LIMIT;
-use script_runs::NamedFilter;
+use refusal_words::place_in;
 use std::alloc::{AllocError, Global};
-use std::io::{Read, Write};
+use std::io::Read;
 
-/// The text of several sources, and where each begins.
+/// The text of sources, and where each begins.
 #[derive(Drop)]
-struct Joined<'a> {
+pub struct Joined<'a> {
     /// The text.
-    text: Vec<u8>,
-    /// The number of its lines, each of which ends, so that they are not counted again for each source.
+    pub text: Vec<u8>,
+    /// The number of its lines that end, so that they are not counted again for each source.
     lines: u32,
     /// The parts that the sources are, in order.
-    parts: Vec<ScriptPart<'a>>,
+    pub parts: Vec<ScriptPart<'a>>,
 }
 
 /// A source that was not read, and why.
 #[derive(Drop)]
-struct UnreadSource<'a> {
+pub struct UnreadSource<'a> {
     /// The source.
-    source: &'a Source,
+    pub source: &'a Source,
     /// Why it was not read.
-    why: Unread,
+    pub why: Unread,
 }
 
 /// Whether a text has no line that no line feed ends.
@@ -53,18 +44,7 @@ fn ends_line(text: &[u8]) -> bool
     }
 }
 
-/// Adds a text to a script, and a line feed where its last line has none.
-fn add_text(script: &mut Vec<u8>, text: &[u8]) -> Result<(), AllocError>
-    ensures { OnOk result (script.new.items ≡ script.old.items ++ ended text.now) }
-{
-    script.extend_from_slice(text)?;
-    if ends_line(text) {
-        return Ok(());
-    }
-    script.extend_from_slice(b"\n")
-}
-
-/// The number of lines of a script of which each ends: of those before the line that would come next.
+/// The number of lines of a script that end.
 fn count_lines(script: &[u8]) -> u32
     ensures { result ≡ lines_of script.now }
 {
@@ -95,25 +75,40 @@ fn read_next<'a, F: Folder, R: Read>(
 }
 
 impl<'a> Joined<'a> {
-    /// Adds the text of the part of this name.
+    /// Ends the last line where no line feed does.
+    fn end_line(&mut self) -> Result<(), AllocError>
+        requires counted { self.old.lines ≡ lines_of self.old.text.items }
+        ensures text { OnOk result (self.new.text.items ≡ ended self.old.text.items) }
+        ensures counted { OnOk result (self.new.lines ≡ lines_of self.new.text.items) }
+        ensures parts { self.new.parts ≡ self.old.parts }
+    {
+        if ends_line(self.text.as_slice()) {
+            return Ok(());
+        }
+        self.text.push(b'\n')?;
+        self.lines = self.lines.saturating_add(1);
+        Ok(())
+    }
+
+    /// Adds the text of the part of this name behind a last line that ends.
     fn add(&mut self, name: &'a [u8], text: &[u8]) -> Result<(), AllocError>
         requires counted { self.old.lines ≡ lines_of self.old.text.items }
-        ensures text { OnOk result (self.new.text.items ≡ self.old.text.items ++ ended text.now) }
+        ensures text { OnOk result (self.new.text.items ≡ ended self.old.text.items ++ text.now) }
         ensures counted { OnOk result (self.new.lines ≡ lines_of self.new.text.items) }
-        ensures part { OnOk result (self.new.parts.items ≡ self.old.parts.items ++ (record { name = name.entry; before = self.old.lines }) ∷ []) }
+        ensures part { OnOk result (self.new.parts.items
+            ≡ self.old.parts.items ++ (record { name = name.entry; before = lines_of (ended self.old.text.items) }) ∷ []) }
     {
+        self.end_line()?;
         let before = self.lines;
         self.parts.push(ScriptPart { name, before })?;
-        let from = self.text.len();
-        add_text(&mut self.text, text)?;
-        let more = count_lines(&self.text.as_slice()[from..]);
-        self.lines = before.saturating_add(more);
+        self.text.extend_from_slice(text)?;
+        self.lines = before.saturating_add(count_lines(text));
         Ok(())
     }
 }
 
 /// Reads these sources, in order, up to the first that is not read, and joins their texts.
-fn read_texts<'a, F: Folder, R: Read>(
+pub(crate) fn read_texts<'a, F: Folder, R: Read>(
     files: &F,
     alloc: Global,
     sources: &'a [Source],
@@ -138,62 +133,4 @@ fn read_texts<'a, F: Folder, R: Read>(
         }
     }
     Ok(joined)
-}
-
-/// Reads the sources of a script, carries it out, and returns the exit status.
-#[tactic(auto, unfolding(crate::specs::Joining::RunsTexts, crate::specs::Joining::StopsTexts))]
-fn guide_texts<F: Folder, R: Read, W: Write, E: Write>(
-    files: &F,
-    alloc: Global,
-    how: &Running,
-    filters: &[NamedFilter],
-    sources: &[Source],
-    console: &mut Console<R, W, E>,
-) -> Result<u8, ProgramFault>
-    ensures finished { IfOk result (RunsTexts (F.creates files.now) (F.leaves files.now) (F.opens files.now) how.now filters.now sources.now
-        console.old console.new) }
-    ensures stopped { IfErr result (λ fault. StopsTexts (F.creates files.now) (F.leaves files.now) (F.opens files.now) (stream_fault fault) how.now filters.now
-        sources.now console.old console.new) }
-{
-    match read_texts(files, alloc, sources, &mut console.reader) {
-        Ok(joined) => {
-            let (script, parts) = (joined.text.as_slice(), joined.parts.as_slice());
-            guide_script(
-                files,
-                alloc,
-                how,
-                parts,
-                filters,
-                Lines::Text(script),
-                console,
-            )
-        }
-        Err(unread) => {
-            tell_unread(alloc, &mut console.errors, unread.source, unread.why)?;
-            Ok(FAILED)
-        }
-    }
-}
-
-/// Reads the filters that a script is started with, then the sources that it is made of, carries the script out, and returns the exit
-/// status. What is told of a line is told at its number in its source.
-#[tactic(auto, unfolding(crate::specs::Joining::RunsJoined, crate::specs::Joining::StopsJoined))]
-pub fn guide_sources<F: Folder, R: Read, W: Write, E: Write>(
-    files: &F,
-    alloc: Global,
-    how: &Running,
-    sources: &[Source],
-    console: &mut Console<R, W, E>,
-) -> Result<u8, ProgramFault>
-    ensures finished { IfOk result (RunsJoined (F.creates files.now) (F.leaves files.now) (F.opens files.now) how.now sources.now console.old console.new) }
-    ensures stopped { IfErr result (λ fault. StopsJoined (F.creates files.now) (F.leaves files.now) (F.opens files.now) (stream_fault fault) how.now sources.now
-        console.old console.new) }
-{
-    match read_given(files, alloc, how.filters.as_slice(), console) {
-        LoadedFilters::All(filters) => {
-            guide_texts(files, alloc, how, filters.as_slice(), sources, console)
-        }
-        LoadedFilters::Skipped => Ok(FAILED),
-        LoadedFilters::Stopped(fault) => Err(fault),
-    }
 }

@@ -11,9 +11,10 @@ ghost use Rattle.ncroute.specs.Marking.{mark_behind, marked, name_mark, refusals
 
 use crate::console::Console;
 use command_line::Checking;
-use filter_reports::{Checked, ProgramFault, check_named, push_shown, write_report};
+use filter_reports::{Checked, ProgramFault, check_named, write_report};
 use filter_source::Diagnosis;
 use line_protocol::{push_refusal, write_text};
+use refusal_words::push_shown;
 use std::alloc::{AllocError, Global};
 use std::io::{Read, Write};
 
@@ -118,7 +119,7 @@ fn write_lines<W: Write>(
 
 /// Writes the report on the text of a source, and tells why it is refused where `how` says so. Returns what is told of the refusal, and
 /// the tokens of the text.
-pub fn report_on<W: Write, E: Write>(
+pub(crate) fn report_on<W: Write, E: Write>(
     alloc: Global,
     how: Checking,
     name: &[u8],
@@ -126,13 +127,13 @@ pub fn report_on<W: Write, E: Write>(
     writer: &mut W,
     errors: &mut E,
 ) -> Result<Checked, ProgramFault>
-    ensures finished { IfOk result (λ checked. ReportsOn how.is_told how name.now text.now
+    ensures finished { IfOk result (λ checked. ReportsOn how.tells_people how name.now text.now
         (W.contents writer.old) (W.contents writer.new) (E.contents errors.old) (E.contents errors.new) checked.diagnosis) }
     ensures tokens { IfOk result (λ checked. AreTokensUnlessRefused checked.diagnosis how.is_code text.now checked.tokens.items) }
-    ensures cut { IfErr result (λ fault. CutsReport how.is_told (stream_fault fault) how name.now text.now
+    ensures cut { IfErr result (λ fault. CutsReport how.tells_people (stream_fault fault) how name.now text.now
         (W.contents writer.old) (W.contents writer.new) (E.contents errors.old) (E.contents errors.new)) }
 {
-    if how.is_told {
+    if how.tells_people {
         return check_named(
             alloc,
             text,
@@ -151,7 +152,7 @@ pub fn report_on<W: Write, E: Write>(
 }
 
 /// Makes the report on the text of a source, and writes the lines of it that are asked for. Returns what came of it, as `report_on`.
-pub fn check_lines<R: Read, W: Write, E: Write>(
+pub(crate) fn check_lines<R: Read, W: Write, E: Write>(
     alloc: Global,
     how: Checking,
     name: &[u8],

@@ -38,7 +38,7 @@ pub enum Wanted {
 
 /// What is said of filters.
 #[derive(Clone, Copy)]
-pub enum Said {
+pub enum LintSummary {
     /// Nothing, and all was looked for.
     Nothing,
     /// Something: why one is refused, or a warning.
@@ -48,37 +48,37 @@ pub enum Said {
 }
 
 /// What is said of a filter.
-fn said_of(linted: Linted) -> Said
+fn said_of(linted: Linted) -> LintSummary
     ensures { result ≡ said_of linted }
 {
     match linted {
-        Linted::Refused => Said::Something,
-        Linted::Warned(0) => Said::Nothing,
-        Linted::Undecided(0) => Said::Unknown,
-        Linted::Warned(_) | Linted::Undecided(_) => Said::Something,
+        Linted::Refused => LintSummary::Something,
+        Linted::Warned(0) => LintSummary::Nothing,
+        Linted::Undecided(0) => LintSummary::Unknown,
+        Linted::Warned(_) | Linted::Undecided(_) => LintSummary::Something,
     }
 }
 
 /// What is said of some filters and of those after them.
-fn both_said(earlier: Said, later: Said) -> Said
+fn both_said(earlier: LintSummary, later: LintSummary) -> LintSummary
     ensures { result ≡ both_said earlier later }
 {
     match (earlier, later) {
-        (Said::Something, _) => Said::Something,
-        (Said::Nothing, _) => later,
-        (Said::Unknown, Said::Something) => Said::Something,
-        (Said::Unknown, _) => Said::Unknown,
+        (LintSummary::Something, _) => LintSummary::Something,
+        (LintSummary::Nothing, _) => later,
+        (LintSummary::Unknown, LintSummary::Something) => LintSummary::Something,
+        (LintSummary::Unknown, _) => LintSummary::Unknown,
     }
 }
 
 /// The exit status.
-fn status_of_said(found: Said) -> u8
+fn status_of_said(found: LintSummary) -> u8
     ensures { result ≡ status_of_said found }
 {
     match found {
-        Said::Nothing => 0,
-        Said::Something => FAILED,
-        Said::Unknown => FAULT,
+        LintSummary::Nothing => 0,
+        LintSummary::Something => FAILED,
+        LintSummary::Unknown => FAULT,
     }
 }
 
@@ -88,7 +88,7 @@ fn lint_text<R: Read, W: Write, E: Write>(
     how: &Linting,
     source: &NamedText<'_>,
     console: &mut Console<R, W, E>,
-) -> Result<Said, ProgramFault>
+) -> Result<LintSummary, ProgramFault>
     ensures finished { IfOk result (LintsText how.now (named source.now) console.old console.new) }
     ensures cut { IfErr result (λ fault. CutsLintText (stream_fault fault) how.now (named source.now) console.old console.new) }
 {
@@ -241,7 +241,7 @@ fn say_host_bits<R: Read, W: Write, E: Write>(
 }
 
 /// Tells those warnings of a text that was checked that are wanted, or writes them in lines of JSON.
-pub fn warn<R: Read, W: Write, E: Write>(
+pub(crate) fn warn<R: Read, W: Write, E: Write>(
     alloc: Global,
     how: Checking,
     name: &[u8],
@@ -276,7 +276,7 @@ fn lint_one<F: Folder, R: Read, W: Write, E: Write>(
     how: &Linting,
     source: &Source,
     console: &mut Console<R, W, E>,
-) -> Result<Said, ProgramFault>
+) -> Result<LintSummary, ProgramFault>
     ensures finished { IfOk result (LintsOne (F.opens files.now) how.now source.now console.old console.new) }
     ensures cut { IfErr result (λ fault. CutsLint (F.opens files.now) (stream_fault fault) how.now source.now console.old console.new) }
 {
@@ -285,14 +285,14 @@ fn lint_one<F: Folder, R: Read, W: Write, E: Write>(
             let (name, text) = (name_of(source), text.as_slice());
             lint_text(alloc, how, &NamedText { name, text }, console)
         }
-        Loaded::Skipped => Ok(Said::Unknown),
+        Loaded::Skipped => Ok(LintSummary::Unknown),
         Loaded::Stopped(fault) => Err(fault),
     }
 }
 
 /// Writes the warnings of each of some sources, in order, and returns the exit status: 1 where something is said of one of them, and
 /// otherwise 3 where not all was looked for in one.
-pub fn lint_sources<F: Folder, R: Read, W: Write, E: Write>(
+pub(crate) fn lint_sources<F: Folder, R: Read, W: Write, E: Write>(
     files: &F,
     alloc: Global,
     how: &Linting,
@@ -302,7 +302,7 @@ pub fn lint_sources<F: Folder, R: Read, W: Write, E: Write>(
     ensures finished { IfOk result (LintsAll (F.opens files.now) how.now sources.now console.old console.new) }
     ensures cut { IfErr result (λ fault. StopsLinting (F.opens files.now) (stream_fault fault) how.now sources.now console.old console.new) }
 {
-    let mut found = Said::Nothing;
+    let mut found = LintSummary::Nothing;
     for source in sources {
         let one = lint_one(files, alloc, how, source, console)?;
         found = both_said(found, one);

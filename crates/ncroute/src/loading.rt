@@ -12,9 +12,8 @@ use crate::filters::{read_filters, tell_unfit};
 use crate::texts::{Folder, tell_unread};
 use command_line::NamedFile;
 use filter_reports::ProgramFault;
-use router_daemon::Filters;
-use router_script::Script;
-use script_runs::{NamedFilter, Unfit, name_filters};
+use router_daemon::VerifiedFilters;
+use router_script::{NamedFilter, Script, Unfit, name_filters};
 use std::alloc::{AllocError, Global};
 use std::io::{Read, Write};
 
@@ -23,7 +22,7 @@ fn verify_filters(
     alloc: Global,
     given: &[NamedFilter],
     size: u16,
-) -> Result<Result<Filters, Unfit>, AllocError>
+) -> Result<Result<VerifiedFilters, Unfit>, AllocError>
     ensures { IfOk result (λ verified. MatchResult verified (λ filters. spec.AreLoaded size given.now filters.entries)
         (spec.AreUnfit size given.now)) }
 {
@@ -40,7 +39,7 @@ fn verify_given<E: Write>(
     given: &[NamedFilter],
     size: u16,
     errors: &mut E,
-) -> Result<Option<Filters>, ProgramFault>
+) -> Result<Option<VerifiedFilters>, ProgramFault>
     ensures finished { IfOk result (λ filters. MatchOption filters
         (spec.TellsOfUnfit size given.now (E.contents errors.old) (E.contents errors.new))
         (λ filters. spec.AreLoaded size given.now filters.entries × (E.contents errors.new ≡ E.contents errors.old))) }
@@ -59,14 +58,14 @@ fn verify_given<E: Write>(
 
 /// Reads the filters of these files, and verifies them for domains of a size. There are none where one of them is not read or is
 /// refused, which people are told.
-pub fn load_filters<F: Folder, R: Read, E: Write>(
+pub(crate) fn load_filters<F: Folder, R: Read, E: Write>(
     files: &F,
     alloc: Global,
     named: &[NamedFile],
     size: u16,
     reader: &mut R,
     errors: &mut E,
-) -> Result<Option<Filters>, ProgramFault>
+) -> Result<Option<VerifiedFilters>, ProgramFault>
     ensures finished { IfOk result (λ filters. MatchOption filters
         (spec.LacksFilters (F.opens files.now) named.now size (R.remaining reader.old) (R.remaining reader.new)
         (E.contents errors.old) (E.contents errors.new))

@@ -33,7 +33,7 @@ fn network_line(fault: NetworkFault) -> &'static str
 
 /// Runs the network, and returns the exit status: 0, or 1 where a fault ended it, which is told. The error is that of standard error, which
 /// did not take the whole line.
-pub fn serve_network<R: Threads + Wait + Clock + Sync, I: Read, W: Write, E: Write>(
+pub(crate) fn serve_network<R: Threads + Wait + Clock + Sync, I: Read, W: Write, E: Write>(
     rt: &R,
     alloc: Global,
     console: &mut Console<I, W, E>,

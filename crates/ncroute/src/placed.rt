@@ -7,11 +7,12 @@ ghost use Rattle.std.specs.Prelude.{◌≡◌, ◌++◌, IfOk, OnOk, flat_map, m
 ghost use Rattle.ncroute.specs.Noting.{note_line, notes_text, place_from};
 ghost use Rattle.ncroute.specs.Places.{config_of, file_of, place_in, texts_of};
 
-use crate::including::{File, Whole, stretch_of};
+use crate::including::{ConfigFile, Whole, stretch_of};
 use crate::texts::name_of;
-use bird_import::{Draft, Origin, origin_of};
+use bird_import::{Conversion, Origin, origin_of};
 use filter_lint::{Warning, overlap_warnings, push_warning_words};
-use filter_reports::{PlacedCode, Positions, push_position, push_shown};
+use filter_reports::PlacedCode;
+use refusal_words::{Positions, push_position, push_shown};
 use std::alloc::{AllocError, Global};
 use std::marker::Model;
 
@@ -36,7 +37,7 @@ impl<'a> Model for PlacedConfig<'a> {
 }
 
 /// The positions of files.
-fn positions_of(alloc: Global, files: &[File]) -> Result<Vec<Positions<'_>>, AllocError>
+fn positions_of(alloc: Global, files: &[ConfigFile]) -> Result<Vec<Positions<'_>>, AllocError>
     ensures { IfOk result (λ all. all.items ≡ texts_of (map file_of files.now)) }
 {
     let mut all = Vec::with_capacity(alloc, files.len())?;
@@ -97,7 +98,7 @@ impl<'a> PlacedConfig<'a> {
 }
 
 /// The place of a configuration from which a byte of a filter's text comes; that of the filter if there is none.
-pub fn place_from(origins: &[Origin], byte: Option<usize>, filter: usize) -> usize
+pub(crate) fn place_from(origins: &[Origin], byte: Option<usize>, filter: usize) -> usize
     ensures { result ≡ place_from origins.now filter byte }
 {
     match byte {
@@ -111,18 +112,18 @@ fn push_note(
     alloc: Global,
     out: &mut Vec<u8>,
     placed: &PlacedConfig<'_>,
-    draft: &Draft<'_>,
+    conversion: &Conversion<'_>,
     origins: &[Origin],
     code: &PlacedCode,
     warning: &Warning,
 ) -> Result<(), AllocError>
     ensures { OnOk result (out.new.items ≡ out.old.items
-        ++ note_line placed.now draft.now.name.now draft.now.at origins.now code.now.verified.program.sets warning.now) }
+        ++ note_line placed.now conversion.now.name.now conversion.now.at origins.now code.now.verified.program.sets warning.now) }
 {
-    let at = place_from(origins, Some(warning.byte), draft.at);
+    let at = place_from(origins, Some(warning.byte), conversion.at);
     placed.push_place(alloc, out, at)?;
     out.extend_from_slice(b" filter ")?;
-    push_shown(alloc, out, draft.name)?;
+    push_shown(alloc, out, conversion.name)?;
     out.extend_from_slice(b": ")?;
     push_warning_words(alloc, out, code.verified.code().sets(), &warning.cause)?;
     out.push(b'\n')?;
@@ -134,30 +135,30 @@ fn push_notes(
     alloc: Global,
     out: &mut Vec<u8>,
     placed: &PlacedConfig<'_>,
-    draft: &Draft<'_>,
+    conversion: &Conversion<'_>,
     origins: &[Origin],
     code: &PlacedCode,
     warnings: &[Warning],
 ) -> Result<(), AllocError>
     ensures { OnOk result (out.new.items ≡ out.old.items ++ flat_map
-        (note_line placed.now draft.now.name.now draft.now.at origins.now code.now.verified.program.sets) warnings.now) }
+        (note_line placed.now conversion.now.name.now conversion.now.at origins.now code.now.verified.program.sets) warnings.now) }
 {
     for warning in warnings {
-        push_note(alloc, out, placed, draft, origins, code, warning)?;
+        push_note(alloc, out, placed, conversion, origins, code, warning)?;
     }
     Ok(())
 }
 
 /// The lines of what is said of a filter whose text has this verified code.
-pub fn notes_of(
+pub(crate) fn notes_of(
     alloc: Global,
     placed: &PlacedConfig<'_>,
-    draft: &Draft<'_>,
+    conversion: &Conversion<'_>,
     text: &[u8],
     origins: &[Origin],
     code: &PlacedCode,
 ) -> Result<Vec<u8>, AllocError>
-    ensures { IfOk result (λ notes. notes.items ≡ notes_text placed.now draft.now.name.now draft.now.at text.now origins.now
+    ensures { IfOk result (λ notes. notes.items ≡ notes_text placed.now conversion.now.name.now conversion.now.at text.now origins.now
         code.now.verified code.now.places.items) }
 {
     let warnings = overlap_warnings(alloc, text, code)?;
@@ -166,7 +167,7 @@ pub fn notes_of(
         alloc,
         &mut notes,
         placed,
-        draft,
+        conversion,
         origins,
         code,
         warnings.as_slice(),

@@ -51,7 +51,7 @@ pub enum PlanFault<'a> {
 }
 
 /// Whether memory was refused.
-pub fn is_memory(fault: PlanFault<'_>) -> bool
+pub(crate) fn is_memory(fault: PlanFault<'_>) -> bool
     ensures { result ≡ spec.is_memory fault.entry }
 {
     match fault {
@@ -242,7 +242,10 @@ fn exporting_plan<'a>(alloc: Global, words: &'a RouterWords) -> Result<RouterPla
 }
 
 /// The plan that words tell; or the first that is wrong with them.
-pub fn plan_of<'a>(alloc: Global, words: &'a RouterWords) -> Result<RouterPlan, PlanFault<'a>>
+pub(crate) fn plan_of<'a>(
+    alloc: Global,
+    words: &'a RouterWords,
+) -> Result<RouterPlan, PlanFault<'a>>
     ensures made { IfOk result (spec.IsPlanOf words.now) }
     ensures refused { IfErr result (spec.LacksPlan words.now) }
 {

@@ -9,7 +9,7 @@ ghost use Rattle.ncroute.specs.Replaying.{CutsReplay, ReplaysText};
 use crate::console::Console;
 use crate::ending::FAILED;
 use filter_reports::ProgramFault;
-use history_file::{Verdict, judge, push_verdict};
+use history_file::{ReplayVerdict, judge, push_verdict};
 use line_protocol::{StreamFault, write_text};
 use std::alloc::Global;
 use std::io::{Read, Write};
@@ -21,7 +21,7 @@ pub const REPLAY_LIMIT: usize = 1_073_741_824;
 fn write_verdict<W: Write>(
     alloc: Global,
     writer: &mut W,
-    verdict: &Verdict,
+    verdict: &ReplayVerdict,
 ) -> Result<(), ProgramFault>
     ensures ok { OnOk result (Appends (W.contents writer.old) (W.contents writer.new) (verdict_line verdict.now)) }
     ensures err { IfErr result (λ fault. IsCut (stream_fault fault) (W.contents writer.old) (W.contents writer.new) (verdict_line verdict.now)) }
@@ -34,7 +34,7 @@ fn write_verdict<W: Write>(
 
 /// Replays the text of a history, and writes the line of the verdict. Returns the exit status: 0 where the text is that of a right
 /// history, to its end.
-pub fn replay_text<R: Read, W: Write, E: Write>(
+pub(crate) fn replay_text<R: Read, W: Write, E: Write>(
     alloc: Global,
     text: &[u8],
     console: &mut Console<R, W, E>,

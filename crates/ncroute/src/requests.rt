@@ -4,7 +4,7 @@
 //! words are, and 3 that this is undecided, or not known since something was not read. What is wrong counts before what is undecided.
 ghost use Rattle.std.specs.Prelude.{◌≡◌, IfErr, IfOk};
 ghost use Rattle.filter_reports.specs.Faults.{stream_fault};
-ghost use Rattle.ncroute.specs.Requests.{Answers, EvaluatesTold, FailsToReport, ListsSource, ListsText};
+ghost use Rattle.ncroute.specs.Requests.{Answers, EvaluatesLines, FailsToReport, ListsSource, ListsText};
 ghost use Rattle.ncroute.specs.Requests.{RewritesInput, Serves, StopsAnswer, StopsEvaluating};
 ghost use Rattle.ncroute.specs.Requests.{StopsList, StopsListing, StopsRewriting, fault_status};
 ghost use Rattle.ncroute.specs.Streaming.{CutsWriting, Writes};
@@ -12,12 +12,13 @@ ghost use Rattle.ncroute.specs.Streaming.{CutsWriting, Writes};
 use crate::checking::check_sources;
 use crate::comparing::compare_sources;
 use crate::console::{Console, Loaded};
+use crate::domains::compare_scripts;
 use crate::ending::{FAILED, FAULT, status_of, status_of_found};
-use crate::guided::guide_source;
 use crate::importing::import_source;
-use crate::joined::guide_sources;
 use crate::linting::lint_sources;
-use crate::script::{run_source, script_fault};
+use crate::paging::page_source;
+use crate::running::run_sources;
+use crate::script::run_source;
 use crate::segments::replay_sources;
 use crate::testing::test_sources;
 use crate::texts::{Folder, name_of};
@@ -31,18 +32,18 @@ use std::alloc::Global;
 use std::io::{Read, Write};
 
 /// Takes the routes of standard input through the code in its first line, and returns the exit status. Why a line is refused is told in
-/// words where `is_told` says so.
+/// words where `tells_people` says so.
 fn evaluate<R: Read, W: Write, E: Write>(
     alloc: Global,
-    is_told: bool,
+    tells_people: bool,
     console: &mut Console<R, W, E>,
 ) -> Result<u8, ProgramFault>
-    ensures finished { IfOk result (EvaluatesTold is_told console.old console.new) }
-    ensures stopped { IfErr result (λ fault. StopsEvaluating (stream_fault fault) is_told console.old console.new) }
+    ensures finished { IfOk result (EvaluatesLines tells_people console.old console.new) }
+    ensures stopped { IfErr result (λ fault. StopsEvaluating (stream_fault fault) tells_people console.old console.new) }
 {
     let routes = Routes {
         name: name_of(&Source::Input),
-        is_told,
+        tells_people,
     };
     match eval_named(
         alloc,
@@ -151,8 +152,18 @@ fn answer<F: Folder, R: Read, W: Write, E: Write>(
         Request::Check { how, sources } => {
             check_sources(files, alloc, *how, sources.as_slice(), console)
         }
+        Request::Compare {
+            format,
+            old,
+            new,
+            is_explained,
+        } => compare_scripts(files, alloc, *format, old, new, *is_explained, console),
         Request::Diff { how, old, new } => compare_sources(files, alloc, *how, old, new, console),
-        Request::Eval { is_told } => evaluate(alloc, *is_told, console),
+        Request::Domain {
+            source,
+            is_explained,
+        } => run_source(files, alloc, source, *is_explained, console),
+        Request::Eval { tells_people } => evaluate(alloc, *tells_people, console),
         Request::Explain { page } => show(page.as_str(), console),
         Request::Filter { how, source } => try_filter(files, alloc, *how, source, console),
         Request::Import { how, source } => import_source(files, alloc, how, source, console),
@@ -173,17 +184,16 @@ fn answer<F: Folder, R: Read, W: Write, E: Write>(
             source,
             console,
         ),
-        Request::Replay { sources } => replay_sources(files, alloc, sources.as_slice(), console),
-        Request::Rewrite { is_old } => rewrite(alloc, *is_old, console),
-        Request::Run { how, source } => guide_source(files, alloc, how, source, console),
-        Request::RunJoined { how, sources } => {
-            guide_sources(files, alloc, how, sources.as_slice(), console)
-        }
-        Request::Script {
-            engine,
+        Request::Page {
             source,
             is_explained,
-        } => run_source(files, alloc, *engine, source, *is_explained, console),
+            page,
+        } => page_source(files, alloc, source, *is_explained, page.as_str(), console),
+        Request::Replay { sources } => replay_sources(files, alloc, sources.as_slice(), console),
+        Request::Rewrite { is_old } => rewrite(alloc, *is_old, console),
+        Request::Run { how, sources } => {
+            run_sources(files, alloc, how, sources.as_slice(), console)
+        }
         Request::Test { how, sources } => {
             test_sources(files, alloc, *how, sources.as_slice(), console)
         }
@@ -191,7 +201,7 @@ fn answer<F: Folder, R: Read, W: Write, E: Write>(
 }
 
 /// The exit status where a fault of the machine ends what is asked for: 1 where a command has had it from the first.
-pub fn fault_status(request: &Request) -> u8
+pub(crate) fn fault_status(request: &Request) -> u8
     ensures { result ≡ fault_status request.now }
 {
     match request {
@@ -200,21 +210,22 @@ pub fn fault_status(request: &Request) -> u8
         | Request::Explain { .. }
         | Request::Import { .. }
         | Request::Rewrite { .. }
-        | Request::Run { .. }
-        | Request::RunJoined { .. } => FAILED,
-        Request::Diff { .. }
+        | Request::Run { .. } => FAILED,
+        Request::Compare { .. }
+        | Request::Diff { .. }
+        | Request::Domain { .. }
         | Request::Filter { .. }
         | Request::Lint { .. }
         | Request::List { .. }
+        | Request::Page { .. }
         | Request::Replay { .. }
         | Request::Test { .. } => FAULT,
-        Request::Script { engine, .. } => script_fault(*engine),
     }
 }
 
 /// Does what is asked for, and returns the exit status: 0, or 1 where something was refused, or that of a fault, which is told. The error is
 /// that of standard error, which did not take the whole line.
-pub fn serve<F: Folder, R: Read, W: Write, E: Write>(
+pub(crate) fn serve<F: Folder, R: Read, W: Write, E: Write>(
     files: &F,
     alloc: Global,
     request: &Request,

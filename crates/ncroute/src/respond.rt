@@ -84,7 +84,7 @@ where
 {
     match serve_router::<R, FI, FO, T, I, W, E>(rt, alloc, words, console, voice) {
         Ok(status) => status,
-        Err(untold) => untold.status,
+        Err(unreported) => unreported.status,
     }
 }
 
@@ -100,7 +100,7 @@ fn status_of_fault<R: Read, W: Write, E: Write>(
 }
 
 /// Does what the words of the command line ask for, and returns the exit status. `voice` is where people are told of a router's links.
-pub fn respond<
+pub(crate) fn respond<
     R: Threads
         + Wait
         + Clock

@@ -27,7 +27,7 @@ use crate::ending::{FAILED, fault_line};
 use crate::folders::HistoryFolders;
 use crate::loading::load_filters;
 use crate::planning::{PlanFault, is_memory, plan_of};
-use crate::texts::{Folder, tell_unmade, write_line};
+use crate::texts::{Folder, tell_uncreated, write_line};
 use crate::wrong_words::wrong_line;
 use command_line::RouterWords;
 use filter_reports::ProgramFault;
@@ -68,7 +68,7 @@ enum SetupFault<'a> {
 
 /// The exit status of a router that ended with a line which people were not told, or not whole.
 #[derive(Clone, Copy)]
-pub struct Untold {
+pub struct Unreported {
     /// The exit status.
     pub status: u8,
     /// Why the line was not told: memory was refused, or standard error did not take it.
@@ -76,14 +76,18 @@ pub struct Untold {
 }
 
 /// Tells people the line with which a router ends: the exit status.
-pub fn end_by_line<E: Write>(errors: &mut E, status: u8, line: &[u8]) -> Result<u8, Untold>
+pub(crate) fn end_by_line<E: Write>(
+    errors: &mut E,
+    status: u8,
+    line: &[u8],
+) -> Result<u8, Unreported>
     ensures told { IfOk result (λ ended. (ended ≡ status) × Appends (E.contents errors.old) (E.contents errors.new) line.now) }
-    ensures cut { IfErr result (λ untold. (untold.status ≡ status)
-        × IsCut (stream_fault untold.why) (E.contents errors.old) (E.contents errors.new) line.now) }
+    ensures cut { IfErr result (λ unreported. (unreported.status ≡ status)
+        × IsCut (stream_fault unreported.why) (E.contents errors.old) (E.contents errors.new) line.now) }
 {
     match write_line(errors, line) {
         Ok(()) => Ok(status),
-        Err(why) => Err(Untold { status, why }),
+        Err(why) => Err(Unreported { status, why }),
     }
 }
 
@@ -93,15 +97,15 @@ fn end_by_words<E: Write>(
     errors: &mut E,
     origin: Origin<'_>,
     fault: PlanFault<'_>,
-) -> Result<u8, Untold>
+) -> Result<u8, Unreported>
     ensures told { IfOk result (λ ended. (ended ≡ 2)
         × Appends (E.contents errors.old) (E.contents errors.new) (wrong_line (origin_of origin.entry) fault.entry)) }
-    ensures cut { IfErr result (λ untold. (untold.status ≡ 2)
-        × IsCut (stream_fault untold.why) (E.contents errors.old) (E.contents errors.new) (wrong_line (origin_of origin.entry) fault.entry)) }
+    ensures cut { IfErr result (λ unreported. (unreported.status ≡ 2)
+        × IsCut (stream_fault unreported.why) (E.contents errors.old) (E.contents errors.new) (wrong_line (origin_of origin.entry) fault.entry)) }
 {
     match wrong_line(alloc, origin, fault) {
         Ok(line) => end_by_line(errors, WRONG_WORDS, line.as_slice()),
-        Err(_) => Err(Untold {
+        Err(_) => Err(Unreported {
             status: WRONG_WORDS,
             why: ProgramFault::MEMORY,
         }),
@@ -114,11 +118,11 @@ fn end_unset<E: Write>(
     errors: &mut E,
     origin: Origin<'_>,
     fault: SetupFault<'_>,
-) -> Result<u8, Untold>
+) -> Result<u8, Unreported>
     ensures told { IfOk result (λ ended. (ended ≡ spec.setup_status fault.entry)
         × Appends (E.contents errors.old) (E.contents errors.new) (spec.setup_line (origin_of origin.entry) fault.entry)) }
-    ensures cut { IfErr result (λ untold. (untold.status ≡ spec.setup_status fault.entry)
-        × IsCut (stream_fault untold.why) (E.contents errors.old) (E.contents errors.new) (spec.setup_line (origin_of origin.entry) fault.entry)) }
+    ensures cut { IfErr result (λ unreported. (unreported.status ≡ spec.setup_status fault.entry)
+        × IsCut (stream_fault unreported.why) (E.contents errors.old) (E.contents errors.new) (spec.setup_line (origin_of origin.entry) fault.entry)) }
 {
     match fault {
         SetupFault::Words(fault) => end_by_words(alloc, errors, origin, fault),
@@ -168,10 +172,10 @@ fn fault_status(fault: DaemonFault) -> u8
 }
 
 /// Tells people of the fault that ended a router: the exit status.
-fn end_by_fault<E: Write>(errors: &mut E, fault: DaemonFault) -> Result<u8, Untold>
+fn end_by_fault<E: Write>(errors: &mut E, fault: DaemonFault) -> Result<u8, Unreported>
     ensures told { IfOk result (λ ended. (ended ≡ spec.fault_status fault) × Appends (E.contents errors.old) (E.contents errors.new) (spec.router_line fault)) }
-    ensures cut { IfErr result (λ untold. (untold.status ≡ spec.fault_status fault)
-        × IsCut (stream_fault untold.why) (E.contents errors.old) (E.contents errors.new) (spec.router_line fault)) }
+    ensures cut { IfErr result (λ unreported. (unreported.status ≡ spec.fault_status fault)
+        × IsCut (stream_fault unreported.why) (E.contents errors.old) (E.contents errors.new) (spec.router_line fault)) }
 {
     end_by_line(errors, fault_status(fault), router_line(fault).as_bytes())
 }
@@ -195,7 +199,7 @@ fn make_save<F: HistoryFolders, E: Write>(
         None => Ok(Some(None)),
         Some(name) => match files.make(alloc, name.as_str()) {
             Ok(folder) => Ok(Some(Some(folder))),
-            Err(why) => match tell_unmade(alloc, errors, name.as_str(), &why) {
+            Err(why) => match tell_uncreated(alloc, errors, name.as_str(), &why) {
                 Ok(()) => Ok(None),
                 Err(fault) => Err(fault),
             },
@@ -343,10 +347,10 @@ fn check_router<F: Folder, R: Read, W: Write, E: Write>(
     words: &RouterWords,
     origin: Origin<'_>,
     console: &mut Console<R, W, E>,
-) -> Result<u8, Untold>
+) -> Result<u8, Unreported>
     ensures checked { IfOk result (checked.ChecksRouter (F.opens files.now) (origin_of origin.entry) words.now console.old console.new) }
-    ensures untold { IfErr result (λ untold. checked.CutsCheck (F.opens files.now) (stream_fault untold.why) (origin_of origin.entry) words.now
-        console.old console.new untold.status) }
+    ensures unreported { IfErr result (λ unreported. checked.CutsCheck (F.opens files.now) (stream_fault unreported.why) (origin_of origin.entry) words.now
+        console.old console.new unreported.status) }
 {
     match check_words(files, alloc, words, console) {
         Ok(true) => Ok(0),
@@ -396,14 +400,14 @@ fn run_setting<
     feed: Option<FeedFile<'_>>,
     console: &mut Console<I, W, E>,
     voice: T,
-) -> Result<u8, Untold>
+) -> Result<u8, Unreported>
 where
     R::Segments: Send + 'static,
     requires { IfSome setting.save (λ segments. spec.IsEmpty (R.Segments.holds segments)) }
     ensures finished { IfOk result (spec.RunsPlan (R.keeps rt.now) save.now setting.plan setting.filters.entries
         (option_map (λ segments. R.Segments.holds segments) setting.save) console.old console.new) }
-    ensures untold { IfErr result (λ untold. spec.CutsPlan (stream_fault untold.why) setting.plan setting.filters.entries
-        console.old console.new untold.status) }
+    ensures unreported { IfErr result (λ unreported. spec.CutsPlan (stream_fault unreported.why) setting.plan setting.filters.entries
+        console.old console.new unreported.status) }
 {
     match run_router::<R, FI, FO, R, R::Segments, T, I, W>(
         rt,
@@ -452,13 +456,13 @@ fn run_words<
     origin: Origin<'_>,
     console: &mut Console<I, W, E>,
     voice: T,
-) -> Result<u8, Untold>
+) -> Result<u8, Unreported>
 where
     R::Segments: Send + 'static,
     ensures served { IfOk result (spec.ServesRouter (R.opens rt.now) (R.makes rt.now) (R.keeps rt.now) (origin_of origin.entry) words.now
         console.old console.new) }
-    ensures untold { IfErr result (λ untold. spec.CutsRouter (R.opens rt.now) (R.makes rt.now) (R.keeps rt.now) (stream_fault untold.why)
-        (origin_of origin.entry) words.now console.old console.new untold.status) }
+    ensures unreported { IfErr result (λ unreported. spec.CutsRouter (R.opens rt.now) (R.makes rt.now) (R.keeps rt.now) (stream_fault unreported.why)
+        (origin_of origin.entry) words.now console.old console.new unreported.status) }
 {
     match set_up(rt, alloc, words, console) {
         Ok(Some(setting)) => run_setting::<R, FI, FO, T, I, W, E>(
@@ -476,7 +480,7 @@ where
 }
 
 /// Does what words ask for, of which `origin` says some: runs the router, or looks at what they say alone. Returns the exit status.
-pub fn serve_words<
+pub(crate) fn serve_words<
     R: Threads
         + Wait
         + Clock
@@ -502,13 +506,13 @@ pub fn serve_words<
     origin: Origin<'_>,
     console: &mut Console<I, W, E>,
     voice: T,
-) -> Result<u8, Untold>
+) -> Result<u8, Unreported>
 where
     R::Segments: Send + 'static,
     ensures served { IfOk result (checked.ServesWords (R.opens rt.now) (R.makes rt.now) (R.keeps rt.now) (origin_of origin.entry) words.now
         console.old console.new) }
-    ensures untold { IfErr result (λ untold. checked.CutsWords (R.opens rt.now) (R.makes rt.now) (R.keeps rt.now) (stream_fault untold.why)
-        (origin_of origin.entry) words.now console.old console.new untold.status) }
+    ensures unreported { IfErr result (λ unreported. checked.CutsWords (R.opens rt.now) (R.makes rt.now) (R.keeps rt.now) (stream_fault unreported.why)
+        (origin_of origin.entry) words.now console.old console.new unreported.status) }
 {
     if words.checks {
         check_router(rt, alloc, words, origin, console)

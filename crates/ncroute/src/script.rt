@@ -1,18 +1,18 @@
-//! Scripts: a router or a whole domain carries one out, and its refusals are told.
+//! The script of a domain: it is carried out, and its refusals are told.
 ghost use Rattle.std.specs.Prelude.{◌≡◌, IfErr, IfOk, IfSome};
+ghost use Rattle.domain_cmds.specs.Running.{IsBrokenOff, IsCarriedOut};
 ghost use Rattle.filter_reports.specs.Faults.{stream_fault};
-ghost use Rattle.ncroute.specs.Scripts.{IsAnswered, IsLeftOff, IsQuiet, RunsFile, RunsScript, RunsSource, StopsFile, StopsScript, StopsSource};
-ghost use Rattle.ncroute.specs.Scripts.{TakesLines, script_fault, text_of};
+ghost use Rattle.ncroute.specs.Scripts.{IsQuiet, RunsFile, RunsScript, RunsSource, StopsFile, StopsScript, StopsSource};
+ghost use Rattle.ncroute.specs.Scripts.{TakesLines, text_of};
 
 use crate::console::{Console, Loaded};
-use crate::ending::{FAILED, FAULT, status_of};
+use crate::ending::{FAULT, status_of};
 use crate::texts::{Folder, name_of};
 use crate::watcher::Teller;
-use command_line::{Engine, Source};
+use command_line::Source;
 use domain_cmds::{run_domain, run_watched_domain};
 use filter_reports::ProgramFault;
 use line_protocol::{INPUT_LIMIT, StreamFault};
-use router_script::{run_script, run_watched_script};
 use std::alloc::Global;
 use std::io::{Read, Write};
 
@@ -25,21 +25,10 @@ pub enum Lines<'a> {
     Text(&'a [u8]),
 }
 
-/// The exit status where a fault of the machine ends a script. That of a router has had 1 from the first.
-pub fn script_fault(engine: Engine) -> u8
-    ensures { result ≡ script_fault engine }
-{
-    match engine {
-        Engine::Router => FAILED,
-        Engine::Domain => FAULT,
-    }
-}
-
 /// Answers the lines of a script that people know by a name. Where `is_explained` says so, it is told in words why a filter is
 /// refused. Returns the number of refused lines.
 fn answer<R: Read, W: Write, E: Write>(
     alloc: Global,
-    engine: Engine,
     name: &[u8],
     is_explained: bool,
     reader: &mut R,
@@ -47,56 +36,35 @@ fn answer<R: Read, W: Write, E: Write>(
     errors: &mut E,
 ) -> Result<u32, StreamFault>
     ensures finished { IfOk result (λ refused. IfSome (R.remaining reader.old) (λ input.
-        IsAnswered engine input (R.remaining reader.new) (W.contents writer.old) (W.contents writer.new) refused)) }
+        IsCarriedOut input (R.remaining reader.new) (W.contents writer.old) (W.contents writer.new) refused)) }
     ensures left_off { IfErr result (λ fault. IfSome (R.remaining reader.old) (λ input.
-        IsLeftOff engine fault input (R.remaining reader.new) (W.contents writer.old) (W.contents writer.new))) }
+        IsBrokenOff fault input (R.remaining reader.new) (W.contents writer.old) (W.contents writer.new))) }
     ensures quiet { IsQuiet is_explained (E.contents errors.old) (E.contents errors.new) }
 {
-    match (engine, is_explained) {
-        (Engine::Router, true) => run_watched_script(
-            alloc,
-            reader,
-            writer,
-            Teller {
-                engine,
-                name,
-                errors,
-            },
-        ),
-        (Engine::Router, false) => run_script(alloc, reader, writer),
-        (Engine::Domain, true) => run_watched_domain(
-            alloc,
-            reader,
-            writer,
-            Teller {
-                engine,
-                name,
-                errors,
-            },
-        ),
-        (Engine::Domain, false) => run_domain(alloc, reader, writer),
+    if is_explained {
+        run_watched_domain(alloc, reader, writer, Teller { name, errors })
+    } else {
+        run_domain(alloc, reader, writer)
     }
 }
 
 /// Answers lines as `answer` does, wherever they come from.
 fn answer_lines<R: Read, W: Write, E: Write>(
     alloc: Global,
-    engine: Engine,
     name: &[u8],
     is_explained: bool,
     lines: Lines<'_>,
     console: &mut Console<R, W, E>,
 ) -> Result<u32, StreamFault>
     ensures finished { IfOk result (λ refused. TakesLines (text_of lines.entry) (λ input left.
-        IsAnswered engine input left console.old.holds console.new.holds refused) console.old.reads console.new.reads) }
+        IsCarriedOut input left console.old.holds console.new.holds refused) console.old.reads console.new.reads) }
     ensures left_off { IfErr result (λ fault. TakesLines (text_of lines.entry) (λ input left.
-        IsLeftOff engine fault input left console.old.holds console.new.holds) console.old.reads console.new.reads) }
+        IsBrokenOff fault input left console.old.holds console.new.holds) console.old.reads console.new.reads) }
     ensures quiet { IsQuiet is_explained console.old.tells console.new.tells }
 {
     match lines {
         Lines::Input => answer(
             alloc,
-            engine,
             name,
             is_explained,
             &mut console.reader,
@@ -105,7 +73,6 @@ fn answer_lines<R: Read, W: Write, E: Write>(
         ),
         Lines::Text(mut text) => answer(
             alloc,
-            engine,
             name,
             is_explained,
             &mut text,
@@ -119,16 +86,15 @@ fn answer_lines<R: Read, W: Write, E: Write>(
 /// a filter is refused.
 fn carry_out<R: Read, W: Write, E: Write>(
     alloc: Global,
-    engine: Engine,
     name: &[u8],
     is_explained: bool,
     lines: Lines<'_>,
     console: &mut Console<R, W, E>,
 ) -> Result<u8, ProgramFault>
-    ensures finished { IfOk result (RunsScript engine is_explained (text_of lines.entry) console.old console.new) }
-    ensures stopped { IfErr result (λ fault. StopsScript (stream_fault fault) engine is_explained (text_of lines.entry) console.old console.new) }
+    ensures finished { IfOk result (RunsScript is_explained (text_of lines.entry) console.old console.new) }
+    ensures stopped { IfErr result (λ fault. StopsScript (stream_fault fault) is_explained (text_of lines.entry) console.old console.new) }
 {
-    let refused = answer_lines(alloc, engine, name, is_explained, lines, console)?;
+    let refused = answer_lines(alloc, name, is_explained, lines, console)?;
     Ok(status_of(refused))
 }
 
@@ -136,51 +102,41 @@ fn carry_out<R: Read, W: Write, E: Write>(
 fn run_file<F: Folder, R: Read, W: Write, E: Write>(
     files: &F,
     alloc: Global,
-    engine: Engine,
     source: &Source,
     is_explained: bool,
     console: &mut Console<R, W, E>,
 ) -> Result<u8, ProgramFault>
-    ensures finished { IfOk result (RunsFile (F.opens files.now) engine source.now is_explained console.old console.new) }
-    ensures stopped { IfErr result (λ fault. StopsFile (F.opens files.now) (stream_fault fault) engine source.now is_explained
+    ensures finished { IfOk result (RunsFile (F.opens files.now) source.now is_explained console.old console.new) }
+    ensures stopped { IfErr result (λ fault. StopsFile (F.opens files.now) (stream_fault fault) source.now is_explained
         console.old console.new) }
 {
     match console.read(files, alloc, source, INPUT_LIMIT) {
         Loaded::Text(text) => carry_out(
             alloc,
-            engine,
             name_of(source),
             is_explained,
             Lines::Text(text.as_slice()),
             console,
         ),
-        Loaded::Skipped => Ok(script_fault(engine)),
+        Loaded::Skipped => Ok(FAULT),
         Loaded::Stopped(fault) => Err(fault),
     }
 }
 
-/// Carries out a script, and returns the exit status. The lines of standard input are answered as they come.
-pub fn run_source<F: Folder, R: Read, W: Write, E: Write>(
+/// Carries out the script of a domain, and returns the exit status. The lines of standard input are answered as they come.
+pub(crate) fn run_source<F: Folder, R: Read, W: Write, E: Write>(
     files: &F,
     alloc: Global,
-    engine: Engine,
     source: &Source,
     is_explained: bool,
     console: &mut Console<R, W, E>,
 ) -> Result<u8, ProgramFault>
-    ensures finished { IfOk result (RunsSource (F.opens files.now) engine source.now is_explained console.old console.new) }
-    ensures stopped { IfErr result (λ fault. StopsSource (F.opens files.now) (stream_fault fault) engine source.now is_explained
+    ensures finished { IfOk result (RunsSource (F.opens files.now) source.now is_explained console.old console.new) }
+    ensures stopped { IfErr result (λ fault. StopsSource (F.opens files.now) (stream_fault fault) source.now is_explained
         console.old console.new) }
 {
     match source {
-        Source::Input => carry_out(
-            alloc,
-            engine,
-            name_of(source),
-            is_explained,
-            Lines::Input,
-            console,
-        ),
-        Source::File(_) => run_file(files, alloc, engine, source, is_explained, console),
+        Source::Input => carry_out(alloc, name_of(source), is_explained, Lines::Input, console),
+        Source::File(_) => run_file(files, alloc, source, is_explained, console),
     }
 }

@@ -17,7 +17,7 @@ use std::io::{Read, Write};
 
 /// What came of a replay of segments.
 #[derive(Drop)]
-pub enum Replayed {
+pub enum ReplayedSegments {
     /// All replies are right.
     Right(Chain),
     /// A file is not the next segment; this is its number, counted from 1, where there are several.
@@ -32,7 +32,7 @@ fn join_text(
     chain: Option<Chain>,
     file: Option<u64>,
     text: &[u8],
-) -> Result<Replayed, ProgramFault>
+) -> Result<ReplayedSegments, ProgramFault>
     ensures finished { IfOk result (spec.JoinsText chain file text.now) }
     ensures stopped { IfErr result (λ fault. spec.StopsJoining (stream_fault fault) text.now) }
 {
@@ -40,9 +40,9 @@ fn join_text(
         return Err(ProgramFault::Stream(StreamFault::TooLong));
     }
     match Chain::join(alloc, chain, text) {
-        Ok(chain) => Ok(Replayed::Right(chain)),
+        Ok(chain) => Ok(ReplayedSegments::Right(chain)),
         Err(ChainFault::Memory) => Err(ProgramFault::MEMORY),
-        Err(fault) => Ok(Replayed::Refused(file, fault)),
+        Err(fault) => Ok(ReplayedSegments::Refused(file, fault)),
     }
 }
 
@@ -67,28 +67,28 @@ fn fault_text(alloc: Global, file: Option<u64>, fault: ChainFault) -> Result<Vec
 /// Writes what came of a replay, and returns the exit status.
 fn write_replayed<R: Read, W: Write, E: Write>(
     alloc: Global,
-    found: Replayed,
+    found: ReplayedSegments,
     console: &mut Console<R, W, E>,
 ) -> Result<u8, ProgramFault>
     ensures finished { IfOk result (spec.EndsReplay found console.old console.new) }
     ensures stopped { IfErr result (λ fault. spec.CutsEnd (stream_fault fault) found console.old console.new) }
 {
     match found {
-        Replayed::Right(chain) => match chain_text(alloc, &chain) {
+        ReplayedSegments::Right(chain) => match chain_text(alloc, &chain) {
             Ok(line) => match console.write(line.as_slice()) {
                 Ok(()) => Ok(0),
                 Err(fault) => Err(fault),
             },
             Err(_) => Err(ProgramFault::MEMORY),
         },
-        Replayed::Refused(file, fault) => match fault_text(alloc, file, fault) {
+        ReplayedSegments::Refused(file, fault) => match fault_text(alloc, file, fault) {
             Ok(line) => match console.write(line.as_slice()) {
                 Ok(()) => Ok(FAILED),
                 Err(fault) => Err(fault),
             },
             Err(_) => Err(ProgramFault::MEMORY),
         },
-        Replayed::Skipped => Ok(FAULT),
+        ReplayedSegments::Skipped => Ok(FAULT),
     }
 }
 
@@ -153,13 +153,13 @@ fn join_source<F: Folder, R: Read, W: Write, E: Write>(
     file: Option<u64>,
     source: &Source,
     console: &mut Console<R, W, E>,
-) -> Result<Replayed, ProgramFault>
+) -> Result<ReplayedSegments, ProgramFault>
     ensures finished { IfOk result (spec.JoinsSource (F.opens files.now) chain file source.now console.old console.new) }
     ensures stopped { IfErr result (λ fault. spec.StopsJoiningSource (F.opens files.now) (stream_fault fault) source.now console.old console.new) }
 {
     match console.read(files, alloc, source, REPLAY_LIMIT) {
         Loaded::Text(text) => join_text(alloc, chain, file, text.as_slice()),
-        Loaded::Skipped => Ok(Replayed::Skipped),
+        Loaded::Skipped => Ok(ReplayedSegments::Skipped),
         Loaded::Stopped(fault) => Err(fault),
     }
 }
@@ -170,7 +170,7 @@ fn join_all<F: Folder, R: Read, W: Write, E: Write>(
     alloc: Global,
     sources: &[Source],
     console: &mut Console<R, W, E>,
-) -> Result<Replayed, ProgramFault>
+) -> Result<ReplayedSegments, ProgramFault>
     ensures finished { IfOk result (spec.JoinsAll (F.opens files.now) sources.now console.old console.new) }
     ensures stopped { IfErr result (λ fault. spec.StopsAmong (F.opens files.now) (stream_fault fault) sources.now console.old console.new) }
 {
@@ -178,13 +178,13 @@ fn join_all<F: Folder, R: Read, W: Write, E: Write>(
     for at in 0..sources.len() {
         let number = at as u64 + 1;
         match join_source(files, alloc, chain, Some(number), &sources[at], console)? {
-            Replayed::Right(now) => chain = Some(now),
+            ReplayedSegments::Right(now) => chain = Some(now),
             found => return Ok(found),
         }
     }
     match chain {
-        Some(chain) => Ok(Replayed::Right(chain)),
-        None => Ok(Replayed::Skipped),
+        Some(chain) => Ok(ReplayedSegments::Right(chain)),
+        None => Ok(ReplayedSegments::Skipped),
     }
 }
 
@@ -207,7 +207,7 @@ fn replay_segments<F: Folder, R: Read, W: Write, E: Write>(
 
 /// Replays the history that a source is the text of, or whose segments sources are the texts of, in order, and returns the exit status.
 #[tactic(auto, unfolding(crate::specs::Segments::ReplaysSources, crate::specs::Segments::StopsReplay))]
-pub fn replay_sources<F: Folder, R: Read, W: Write, E: Write>(
+pub(crate) fn replay_sources<F: Folder, R: Read, W: Write, E: Write>(
     files: &F,
     alloc: Global,
     sources: &[Source],

@@ -366,7 +366,7 @@ fn status_of(tally: Tally) -> u8
 
 /// Runs the tests of sources, between what stands before all tests and behind them, and returns the exit status.
 #[tactic(auto, unfolding(crate::specs::Testing::StopsSources))]
-pub fn test_sources<F: Folder, R: Read, W: Write, E: Write>(
+pub(crate) fn test_sources<F: Folder, R: Read, W: Write, E: Write>(
     files: &F,
     alloc: Global,
     how: Testing,

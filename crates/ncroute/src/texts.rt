@@ -6,12 +6,13 @@ ghost use Rattle.filter_reports.specs.Cuts.{IsCut};
 ghost use Rattle.filter_reports.specs.Faults.{stream_fault};
 ghost use Rattle.ncroute.specs.Reading.{IsCause, IsOfFile, IsRead, IsUnread, LeavesFile, LeavesInput, ReadsFile, ReadsInput, ReadsWhole};
 ghost use Rattle.ncroute.specs.Reading.{IsUnreadLine, LacksLine, StopsTelling, TellsLine, TellsUnread};
-ghost use Rattle.ncroute.specs.Reading.{long_line, long_words, name_of, told_line};
-ghost use Rattle.ncroute.specs.Reading.{unmade_line, unread_line, unwritten_line, unwritten_words};
+ghost use Rattle.ncroute.specs.Reading.{long_line, long_words, name_of, notice_line};
+ghost use Rattle.ncroute.specs.Reading.{uncreated_line, unread_line, unwritten_line, unwritten_words};
 
 use command_line::Source;
-use filter_reports::{ProgramFault, push_shown};
+use filter_reports::ProgramFault;
 use line_protocol::{StreamFault, read_input, write_text};
+use refusal_words::push_shown;
 use std::alloc::{AllocError, Global};
 use std::fs;
 use std::io::{self, Error, ErrorKind, Read, Write};
@@ -166,7 +167,7 @@ fn read_standard<R: Read>(alloc: Global, reader: &mut R, limit: usize) -> Result
 }
 
 /// Reads a source: all of it, or one byte more than the limit.
-pub fn read_source<F: Folder, R: Read>(
+pub(crate) fn read_source<F: Folder, R: Read>(
     files: &F,
     alloc: Global,
     source: &Source,
@@ -186,7 +187,7 @@ pub fn read_source<F: Folder, R: Read>(
 }
 
 /// The name by which people know a source.
-pub fn name_of(source: &Source) -> &[u8]
+pub(crate) fn name_of(source: &Source) -> &[u8]
     ensures { result.now ≡ name_of source.now }
 {
     match source {
@@ -204,8 +205,8 @@ fn reason_in(words: &str) -> &str {
 }
 
 /// The line that tells something of what has a name: what is said, with its code behind it.
-fn told_line(alloc: Global, name: &[u8], words: &str, code: &[u8]) -> Result<Vec<u8>, AllocError>
-    ensures { IfOk result (λ line. line.items ≡ told_line name.now words.now code.now) }
+fn notice_line(alloc: Global, name: &[u8], words: &str, code: &[u8]) -> Result<Vec<u8>, AllocError>
+    ensures { IfOk result (λ line. line.items ≡ notice_line name.now words.now code.now) }
 {
     let mut line = Vec::new(alloc);
     push_shown(alloc, &mut line, name)?;
@@ -216,7 +217,7 @@ fn told_line(alloc: Global, name: &[u8], words: &str, code: &[u8]) -> Result<Vec
 }
 
 /// Writes a line.
-pub fn write_line<W: Write>(writer: &mut W, line: &[u8]) -> Result<(), ProgramFault>
+pub(crate) fn write_line<W: Write>(writer: &mut W, line: &[u8]) -> Result<(), ProgramFault>
     ensures ok { OnOk result (Appends (W.contents writer.old) (W.contents writer.new) line.now) }
     ensures err { IfErr result (λ fault. IsCut (stream_fault fault) (W.contents writer.old) (W.contents writer.new) line.now) }
 {
@@ -225,18 +226,18 @@ pub fn write_line<W: Write>(writer: &mut W, line: &[u8]) -> Result<(), ProgramFa
 }
 
 /// Tells something of what has a name.
-pub fn tell_of<E: Write>(
+pub(crate) fn tell_of<E: Write>(
     alloc: Global,
     errors: &mut E,
     name: &[u8],
     words: &str,
     code: &[u8],
 ) -> Result<(), ProgramFault>
-    ensures ok { OnOk result (Appends (E.contents errors.old) (E.contents errors.new) (told_line name.now words.now code.now)) }
+    ensures ok { OnOk result (Appends (E.contents errors.old) (E.contents errors.new) (notice_line name.now words.now code.now)) }
     ensures err { IfErr result (λ fault.
-        IsCut (stream_fault fault) (E.contents errors.old) (E.contents errors.new) (told_line name.now words.now code.now)) }
+        IsCut (stream_fault fault) (E.contents errors.old) (E.contents errors.new) (notice_line name.now words.now code.now)) }
 {
-    let line = told_line(alloc, name, words, code)?;
+    let line = notice_line(alloc, name, words, code)?;
     write_line(errors, line.as_slice())
 }
 
@@ -249,25 +250,25 @@ fn tell_reason<E: Write>(
     code: &[u8],
 ) -> Result<(), ProgramFault>
     ensures ok { OnOk result ((words : List ℕ)
-        × Appends (E.contents errors.old) (E.contents errors.new) (told_line name.now words code.now)) }
+        × Appends (E.contents errors.old) (E.contents errors.new) (notice_line name.now words code.now)) }
     ensures err { IfErr result (λ fault. (words : List ℕ)
-        × IsCut (stream_fault fault) (E.contents errors.old) (E.contents errors.new) (told_line name.now words code.now)) }
+        × IsCut (stream_fault fault) (E.contents errors.old) (E.contents errors.new) (notice_line name.now words code.now)) }
 {
     let words = format!(in alloc; "{error}")?;
     tell_of(alloc, errors, name, reason_in(words.as_str()), code)
 }
 
 /// Tells on `errors` that a file was not made, and the reason in the error.
-pub fn tell_unmade<E: Write>(
+pub(crate) fn tell_uncreated<E: Write>(
     alloc: Global,
     errors: &mut E,
     name: &str,
     error: &Error,
 ) -> Result<(), ProgramFault>
     ensures ok { OnOk result ((words : List ℕ)
-        × Appends (E.contents errors.old) (E.contents errors.new) (unmade_line name.now words)) }
+        × Appends (E.contents errors.old) (E.contents errors.new) (uncreated_line name.now words)) }
     ensures err { IfErr result (λ fault. (words : List ℕ)
-        × IsCut (stream_fault fault) (E.contents errors.old) (E.contents errors.new) (unmade_line name.now words)) }
+        × IsCut (stream_fault fault) (E.contents errors.old) (E.contents errors.new) (uncreated_line name.now words)) }
 {
     tell_reason(alloc, errors, name.as_bytes(), error, b" (E2)\n")
 }
@@ -281,7 +282,7 @@ fn unwritten_words() -> &'static str
 }
 
 /// Tells on `errors` that a new file did not get the whole text.
-pub fn tell_unwritten<E: Write>(
+pub(crate) fn tell_unwritten<E: Write>(
     alloc: Global,
     errors: &mut E,
     name: &str,
@@ -304,7 +305,7 @@ fn broken_line(alloc: Global, source: &Source, error: &Error) -> Result<Vec<u8>,
     ensures { IfOk result (λ line. (words : List ℕ) × (line.items ≡ unread_line source.now words)) }
 {
     let words = format!(in alloc; "{error}")?;
-    told_line(
+    notice_line(
         alloc,
         name_of(source),
         reason_in(words.as_str()),
@@ -324,7 +325,7 @@ fn long_words() -> &'static str
 fn long_line(alloc: Global, source: &Source) -> Result<Vec<u8>, AllocError>
     ensures { IfOk result (λ line. line.items ≡ long_line source.now) }
 {
-    told_line(alloc, name_of(source), long_words(), b" (E4)\n")
+    notice_line(alloc, name_of(source), long_words(), b" (E4)\n")
 }
 
 /// The line that tells why a source was not read. Standard input has no name to tell: its fault is handed on.
@@ -347,7 +348,7 @@ fn unread_line(alloc: Global, source: &Source, why: Unread) -> Result<Vec<u8>, P
 }
 
 /// Tells on `errors` that a source was not read, and returns the line that says so.
-pub fn tell_unread_line<E: Write>(
+pub(crate) fn tell_unread_line<E: Write>(
     alloc: Global,
     errors: &mut E,
     source: &Source,
@@ -367,7 +368,7 @@ pub fn tell_unread_line<E: Write>(
 }
 
 /// Tells on `errors` that a source was not read.
-pub fn tell_unread<E: Write>(
+pub(crate) fn tell_unread<E: Write>(
     alloc: Global,
     errors: &mut E,
     source: &Source,

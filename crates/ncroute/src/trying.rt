@@ -4,7 +4,7 @@ ghost use Rattle.filter_reports.specs.Faults.{stream_fault};
 ghost use Rattle.filter_reports.specs.Telling.{Explains, IsCutExplanation};
 ghost use Rattle.route_answers.specs.declared.filter.Filtered.TheVariants.{Refused};
 ghost use Rattle.ncroute.specs.Trying.{JudgesText, Reports, ReportsOff, ReportsText, StopsFilter, StopsJudging, StopsReport, StopsTrying};
-ghost use Rattle.ncroute.specs.Trying.{TriesFilter, TriesText, status_of_filter, told_refusal};
+ghost use Rattle.ncroute.specs.Trying.{TriesFilter, TriesText, status_of_filter, explained_refusal};
 
 use crate::console::{Console, Loaded};
 use crate::ending::{FAILED, FAULT, status_of};
@@ -26,7 +26,7 @@ fn tell_filter<E: Write>(
     is_explained: bool,
     why: &Diagnosis,
 ) -> Result<(), ProgramFault>
-    ensures told { OnOk result (Explains name.now text.now (told_refusal is_explained (Refused why.now))
+    ensures told { OnOk result (Explains name.now text.now (explained_refusal is_explained (Refused why.now))
         (E.contents errors.old) (E.contents errors.new)) }
     ensures cut { IfErr result (λ fault. IsCutExplanation (stream_fault fault) name.now text.now why.now
         (E.contents errors.old) (E.contents errors.new)) }
@@ -119,7 +119,7 @@ fn judge_text<R: Read, W: Write, E: Write>(
 {
     let routes = Routes {
         name: name_of(&Source::Input),
-        is_told: how.tells_routes,
+        tells_people: how.tells_routes,
     };
     match filter_named(
         alloc,
@@ -156,7 +156,7 @@ fn try_text<R: Read, W: Write, E: Write>(
 }
 
 /// Takes the routes of standard input through the filter of a source, and returns the exit status.
-pub fn try_filter<F: Folder, R: Read, W: Write, E: Write>(
+pub(crate) fn try_filter<F: Folder, R: Read, W: Write, E: Write>(
     files: &F,
     alloc: Global,
     how: Trying,

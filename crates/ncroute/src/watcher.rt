@@ -1,22 +1,19 @@
 //! Who watches a script: people are told in words why a line is refused, and where a script ends.
 ghost use Rattle.std.specs.Prelude.{◌≡◌, ◌++◌, ◌∷◌, IfOk, codes, decimal};
-ghost use Rattle.filter_reports.specs.Shown.{shown};
-ghost use Rattle.ncroute.specs.Watching.{IsToldOf, kind_of, name_in, number_in, part_of, stopped_line};
+ghost use Rattle.refusal_words.specs.Shown.{shown};
+ghost use Rattle.ncroute.specs.Watching.{IsReported, name_in, number_in, part_of, stopped_line};
 
-use command_line::Engine;
-use filter_reports::push_shown;
 use line_protocol::{push_decimal, write_text};
 use operator_cmds::{RefusedLine, Watch};
+use refusal_words::push_shown;
 use script_words::{ScriptKind, explain_refused};
 use std::alloc::{AllocError, Global};
 use std::io::Write;
 
-/// Tells people on `errors` why a line is refused. Where these take no text, or memory is refused, people are not told: the answer on
-/// standard output stays.
+/// Tells people on `errors` why a line of a domain's script is refused. Where these take no text, or memory is refused, people are not told: the
+/// answer on standard output stays.
 #[derive(Drop)]
 pub struct Teller<'a, E: Write> {
-    /// Whose script it is.
-    pub engine: Engine,
     /// The name by which people know the script.
     pub name: &'a [u8],
     /// What people read.
@@ -25,8 +22,7 @@ pub struct Teller<'a, E: Write> {
 
 impl<'a, E: Write> Watch for Teller<'a, E> {
     fn see_refused(&mut self, alloc: Global, refused: &RefusedLine<'_>) {
-        let kind = kind_of(self.engine);
-        tell_refused(alloc, kind, self.name, refused, self.errors);
+        tell_refused(alloc, ScriptKind::Domain, self.name, refused, self.errors);
     }
 }
 
@@ -38,20 +34,10 @@ fn tell_refused<E: Write>(
     refused: &RefusedLine<'_>,
     errors: &mut E,
 )
-    ensures { IsToldOf name.now refused.now (E.contents errors.old) (E.contents errors.new) }
+    ensures { IsReported name.now refused.now (E.contents errors.old) (E.contents errors.new) }
 {
     if let Ok(Some(words)) = explain_refused(alloc, kind, name, refused) {
         let _ = write_text(errors, words.as_slice());
-    }
-}
-
-/// The kind of the scripts that a router or a domain carries out.
-fn kind_of(engine: Engine) -> ScriptKind
-    ensures { result ≡ kind_of engine }
-{
-    match engine {
-        Engine::Router => ScriptKind::Router,
-        Engine::Domain => ScriptKind::Domain,
     }
 }
 
@@ -65,7 +51,7 @@ pub struct ScriptPart<'a> {
 }
 
 /// A script that people know by one name.
-pub fn whole(name: &[u8]) -> ScriptPart<'_>
+pub(crate) fn whole(name: &[u8]) -> ScriptPart<'_>
     ensures name { result.name.now ≡ name.now }
     ensures before { result.before ≡ 0 }
 {

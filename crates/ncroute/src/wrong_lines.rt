@@ -50,7 +50,11 @@ fn push_why(out: &mut Vec<u8>, why: LineFault) -> Result<(), AllocError>
 }
 
 /// The line that tells of a line that is refused by itself.
-pub fn refused_line(alloc: Global, name: &str, wrong: &WrongLine) -> Result<Vec<u8>, AllocError>
+pub(crate) fn refused_line(
+    alloc: Global,
+    name: &str,
+    wrong: &WrongLine,
+) -> Result<Vec<u8>, AllocError>
     ensures { IfOk result (λ line. line.items ≡ spec.refused_line name.now (spec.wrong_of wrong.now)) }
 {
     let said = wrong.line.as_slice();
@@ -121,7 +125,7 @@ fn statement_line(
 }
 
 /// The line that tells of a line that does not go together with others.
-pub fn clash_line(alloc: Global, name: &str, clash: Clash<'_>) -> Result<Vec<u8>, AllocError>
+pub(crate) fn clash_line(alloc: Global, name: &str, clash: Clash<'_>) -> Result<Vec<u8>, AllocError>
     ensures { IfOk result (λ line. line.items ≡ spec.clash_line name.now clash.entry) }
 {
     match clash {

@@ -8,8 +8,8 @@ ghost use Rattle.router_words.specs.Stated.{origin_of};
 ghost use Rattle.ncroute.specs.WrongWords as spec;
 
 use crate::planning::{OptionKind, PlanFault};
-use filter_reports::{place_in, push_position, push_shown};
 use line_protocol::push_decimal;
+use refusal_words::{place_in, push_position, push_shown};
 use router_files::{RouterOption, Statement, second_byte, third_byte};
 use router_options::{NodeFault, NumberFault, OptionFault};
 use router_words::{Origin, nth_stated};
@@ -240,7 +240,7 @@ fn unplaced_line(alloc: Global, fault: PlanFault<'_>) -> Result<Vec<u8>, AllocEr
 }
 
 /// Adds the place of a byte of a line of a file.
-pub fn push_place(
+pub(crate) fn push_place(
     alloc: Global,
     out: &mut Vec<u8>,
     name: &str,
@@ -337,7 +337,7 @@ fn placed_line(
 }
 
 /// The line that tells what is wrong with the words, some of which a file may say.
-pub fn wrong_line(
+pub(crate) fn wrong_line(
     alloc: Global,
     origin: Origin<'_>,
     fault: PlanFault<'_>,

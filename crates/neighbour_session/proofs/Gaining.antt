@@ -12,7 +12,7 @@ use Rattle.route_history.specs.Beginning.{Begins}
 use Rattle.route_session.specs.declared.ends.Cause.{Cause}
 use Rattle.route_session.specs.declared.ends.Cause.TheVariants as cause
 use Rattle.route_session.specs.Calls.{Gained, IsCauseAt, IsCauseIn, IsFresh, StandsAt, StaysSound}
-use Rattle.route_session.specs.Told.{Rose, Told, ended_now, grown}
+use Rattle.route_session.specs.LinkTrace.{Rose, LinkTrace, ended_now, grown}
 use Rattle.slot_lock.specs.Passes.{Fragment, IsPassOf, PassView, RouterView}
 
 begins_further : (xs ys zs : List Entry) → Begins xs ys → Begins ys zs → Begins xs zs
@@ -114,7 +114,7 @@ cause_after cause.Stale r xs ys new fresh h = record {
 cause_after cause.Full r xs ys new fresh h = (All-append IsFresh xs ys fresh h.0, h.1, h.2)
 cause_after cause.Memory r xs ys new fresh h = All-append IsFresh xs ys fresh h
 
-pub told_after : (c : Cause) (t m u : Told) → m.ended ≡ t.ended → m.failures ≡ t.failures → IsCauseAt c m u → IsCauseAt c t u
+pub told_after : (c : Cause) (t m u : LinkTrace) → m.ended ≡ t.ended → m.failures ≡ t.failures → IsCauseAt c m u → IsCauseAt c t u
 told_after cause.Turns t m u ended failures h = (h.0 ∙ ended, h.1 ∙ failures)
 told_after cause.LinkEnded t m u ended failures h = (h.0 ∙ ap ended_now ended, h.1 ∙ failures)
 told_after cause.LinkFault t m u ended failures h = (h.0 ∙ ended, subst (λ n. Rose n u.failures) failures h.1)

@@ -15,7 +15,7 @@ use Rattle.route_session.specs.declared.ends.Cause.TheVariants as cause
 use Rattle.route_session.specs.declared.ends.ReadEnd.{ReadEnd}
 use Rattle.route_session.specs.Calls.{Gained, IsFresh, StandsAt, receive}
 use Rattle.route_session.specs.Reads.{IsReadBy, LosesBy, LosesOne, Reads, Receives}
-use Rattle.route_session.specs.Told.{Told, grown}
+use Rattle.route_session.specs.LinkTrace.{LinkTrace, grown}
 use Rattle.slot_lock.specs.Calls.{Answered, Refused}
 use Rattle.slot_lock.specs.Passes.{Fragment, PassView, RouterView}
 use Rattle.slot_lock.specs.declared.answer.Answer.{Answer}
@@ -98,7 +98,7 @@ or_this m (Some x) = x
 lost_is : (m : Message) (lost : List Message) → LosesOne (Some m) lost → lost ≡ m ∷ []
 lost_is m lost h = h.alone ∙ ap (λ (x : Message). x ∷ []) (ap (or_this m) (sym h.is_told))
 
-reads_one : (session : ℕ) (old : Fragment) (t : Told) (calls : List Entry) (lost : List Message) (mid : Fragment) (u : Told) (m : Message)
+reads_one : (session : ℕ) (old : Fragment) (t : LinkTrace) (calls : List Entry) (lost : List Message) (mid : Fragment) (u : LinkTrace) (m : Message)
     (e : Entry) (new : Fragment) → Reads session old t calls lost mid u → lost ≡ m ∷ [] → EntersOne session m mid e new →
     Reads session old t (calls ++ e ∷ []) [] new u
 reads_one session old t calls lost mid u m e new reads is one = record {
@@ -111,7 +111,7 @@ reads_one session old t calls lost mid u m e new reads is one = record {
   is_closed = reads.is_closed;
 }
 
-reads_none : (session : ℕ) (old : Fragment) (t : Told) (calls : List Entry) (lost : List Message) (mid : Fragment) (u : Told) (new : Fragment) →
+reads_none : (session : ℕ) (old : Fragment) (t : LinkTrace) (calls : List Entry) (lost : List Message) (mid : Fragment) (u : LinkTrace) (new : Fragment) →
     Reads session old t calls lost mid u → Gained mid [] new → Reads session old t calls lost new u
 reads_none session old t calls lost mid u new reads more = record {
   gained = subst (λ (es : List Entry). Gained old es new) (append-nil calls) (gained_both old calls mid [] new reads.gained more);
@@ -126,7 +126,7 @@ reads_none session old t calls lost mid u new reads more = record {
 abbrev lost_end : ℕ → Message → ReadEnd
 lost_end n m = record { cause = cause.Full; entered = n; lost = Some m }
 
-later : (may : Bool → Type 0) (r : RouterView) (session : ℕ) (old : Fragment) (t : Told) (n : ℕ) (mid : Fragment) (u : Told) (m : Message)
+later : (may : Bool → Type 0) (r : RouterView) (session : ℕ) (old : Fragment) (t : LinkTrace) (n : ℕ) (mid : Fragment) (u : LinkTrace) (m : Message)
     (c : Cause) (new : Fragment) → IsReadBy r session old t (lost_end n m) mid u → EntersLater may r session m mid c new →
     ReadsFor c r session old t new u
 later may r session old t n mid u m cause.Turns new k h = (
@@ -185,20 +185,20 @@ later may r session old t n mid u m cause.LinkEnded new k h = absurd h
 later may r session old t n mid u m cause.LinkFault new k h = absurd h
 
 -- the end of a reader that lost this message to a full history
-as_lost : (r : RouterView) (session : ℕ) (old : Fragment) (t : Told) (last : ReadEnd) (mid : Fragment) (u : Told) (m : Message) →
+as_lost : (r : RouterView) (session : ℕ) (old : Fragment) (t : LinkTrace) (last : ReadEnd) (mid : Fragment) (u : LinkTrace) (m : Message) →
     last.cause ≡ cause.Full → last.lost ≡ Some m → IsReadBy r session old t last mid u → IsReadBy r session old t (lost_end last.entered m) mid u
 as_lost r session old t last mid u m full kept k =
     subst (λ (o : Option Message). IsReadBy r session old t (record { cause = cause.Full; entered = last.entered; lost = o }) mid u) kept
     (subst (λ (c : Cause). IsReadBy r session old t (record { cause = c; entered = last.entered; lost = last.lost }) mid u) full k)
 
-pub reads_later : (may : Bool → Type 0) (r : RouterView) (session : ℕ) (old : Fragment) (t : Told) (last : ReadEnd) (mid : Fragment) (u : Told)
+pub reads_later : (may : Bool → Type 0) (r : RouterView) (session : ℕ) (old : Fragment) (t : LinkTrace) (last : ReadEnd) (mid : Fragment) (u : LinkTrace)
     (m : Message) (c : Cause) (new : Fragment) → last.cause ≡ cause.Full → last.lost ≡ Some m → IsReadBy r session old t last mid u →
     EntersLater may r session m mid c new → ReadsFor c r session old t new u
 reads_later may r session old t last mid u m c new full kept k h =
     later may r session old t last.entered mid u m c new (as_lost r session old t last mid u m full kept k) h
 
 -- the history was full when the message was lost
-pub full_at_loss : (r : RouterView) (session : ℕ) (old : Fragment) (t : Told) (last : ReadEnd) (mid : Fragment) (u : Told) (m : Message) →
+pub full_at_loss : (r : RouterView) (session : ℕ) (old : Fragment) (t : LinkTrace) (last : ReadEnd) (mid : Fragment) (u : LinkTrace) (m : Message) →
     last.cause ≡ cause.Full → last.lost ≡ Some m → IsReadBy r session old t last mid u → IsFull r mid
 full_at_loss r session old t last mid u m full kept k =
     let at = (as_lost r session old t last mid u m full kept k).in_history in record { full = at.1; whole = at.2 }
@@ -223,7 +223,7 @@ not_some m is = absurd cc
 none_lost : (told : Option Message) (lost : List Message) → LosesOne told lost → told ≡ None → ⊥
 none_lost told lost h none = not_some h.message (sym none ∙ h.is_told)
 
-pub never_unkept : (r : RouterView) (session : ℕ) (old : Fragment) (t : Told) (last : ReadEnd) (mid : Fragment) (u : Told) →
+pub never_unkept : (r : RouterView) (session : ℕ) (old : Fragment) (t : LinkTrace) (last : ReadEnd) (mid : Fragment) (u : LinkTrace) →
     IsReadBy r session old t last mid u → last.cause ≡ cause.Full → last.lost ≡ None → ⊥
 never_unkept r session old t last mid u k full none = none_lost last.lost k.lost (lost_one last.cause last.lost k.lost k.loses full) none
 

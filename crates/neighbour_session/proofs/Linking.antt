@@ -18,7 +18,7 @@ use Rattle.message_streams.specs.Views.{IsUnwritten, ReaderView, WriterView}
 use Rattle.netchange_core.specs.declared.message.Message.{Message}
 use Rattle.route_session.specs.Links.{Received, Sent}
 use Rattle.route_session.specs.Telling.{known}
-use Rattle.route_session.specs.Told.{Rose, Told}
+use Rattle.route_session.specs.LinkTrace.{Rose, LinkTrace}
 use Rattle.route_session.specs.declared.link.Got.{Got}
 use Rattle.route_session.specs.declared.link.Got.TheVariants as got
 use Rattle.route_session.specs.declared.link.LinkFault.{LinkFault}
@@ -101,7 +101,7 @@ input_read first last now new over told h none readable read = record {
 }
 
 -- what a link tells that has handed out these messages
-abbrev telling : Bool → ℕ → Option (List Message) → Told
+abbrev telling : Bool → ℕ → Option (List Message) → LinkTrace
 telling ended failures handed = record {
   handed = handed;
   given = Some [];
@@ -124,7 +124,7 @@ input_told first last now new over told ended failures h none read =
     got_told first.left last.left new.left told ended failures h.gave
     (subst (λ (r : ReaderView). ReadsTold told r.left new.left) (h.unended none) read)
 
-abbrev input_told_as : ReaderView → ReaderView → ReaderView → Option SessionEnd → Bool → ℕ → Told
+abbrev input_told_as : ReaderView → ReaderView → ReaderView → Option SessionEnd → Bool → ℕ → LinkTrace
 input_told_as first last now over ended failures = (input_view first last now over ended failures false).told
 
 -- what a link answers whose session is over

@@ -10,7 +10,7 @@ use Rattle.route_session.specs.declared.ends.Cause.TheVariants as cause
 use Rattle.route_session.specs.declared.ends.ReadEnd.{ReadEnd}
 use Rattle.route_session.specs.Calls.{Gained, IsCauseAt, IsCauseIn, IsFresh}
 use Rattle.route_session.specs.Reads.{IsReadBy, LosesBy, Receives}
-use Rattle.route_session.specs.Told.{Told, grown}
+use Rattle.route_session.specs.LinkTrace.{LinkTrace, grown}
 use Rattle.message_streams.specs.Views.{ReaderView}
 use Rattle.slot_lock.specs.Passes.{Fragment, PassView, RouterView}
 use Rattle.neighbour_session.specs.Links.{ReadsLines}
@@ -21,7 +21,7 @@ use Rattle.neighbour_session.specs.declared.ends.SessionEnd.TheVariants as end
 use Rattle.neighbour_session.proofs.Gaining.{cause_after, gained_both, gained_none, grown_both, grown_none, told_after, zip_both}
 
 -- each message that the link handed out was entered, and the reader has not ended
-pub record HasRead (session : ℕ) (old : Fragment) (t : Told) (new : Fragment) (u : Told) : Type 0 where
+pub record HasRead (session : ℕ) (old : Fragment) (t : LinkTrace) (new : Fragment) (u : LinkTrace) : Type 0 where
   pub calls : List Entry
   pub messages : List Message
   pub gained : Gained old calls new
@@ -33,7 +33,7 @@ pub record HasRead (session : ℕ) (old : Fragment) (t : Told) (new : Fragment) 
   pub ended : u.ended ≡ t.ended
   pub failures : u.failures ≡ t.failures
 
-pub read_none : (session : ℕ) (p : Fragment) (t : Told) → HasRead session p t p t
+pub read_none : (session : ℕ) (p : Fragment) (t : LinkTrace) → HasRead session p t p t
 read_none session p t = record {
   calls = [];
   messages = [];
@@ -48,7 +48,7 @@ read_none session p t = record {
 }
 
 -- and what comes last: the whole of it is as one reader's
-pub read_last : (r : RouterView) (session : ℕ) (old : Fragment) (t : Told) (mid : Fragment) (m : Told) (last : ReadEnd) (new : Fragment) (u : Told)
+pub read_last : (r : RouterView) (session : ℕ) (old : Fragment) (t : LinkTrace) (mid : Fragment) (m : LinkTrace) (last : ReadEnd) (new : Fragment) (u : LinkTrace)
     (h : HasRead session old t mid m) (k : IsReadBy r session mid m last new u) →
     IsReadBy r session old t (record { cause = last.cause; entered = length (h.calls ++ k.calls); lost = last.lost }) new u
 read_last r session old t mid m last new u h k = record {
@@ -71,7 +71,7 @@ read_last r session old t mid m last new u h k = record {
 }
 
 -- one that used up its turns has lost nothing
-pub read_on : (r : RouterView) (session : ℕ) (old : Fragment) (t : Told) (last : ReadEnd) (new : Fragment) (u : Told) → last.cause ≡ cause.Turns →
+pub read_on : (r : RouterView) (session : ℕ) (old : Fragment) (t : LinkTrace) (last : ReadEnd) (new : Fragment) (u : LinkTrace) → last.cause ≡ cause.Turns →
     IsReadBy r session old t last new u → HasRead session old t new u
 read_on r session old t last new u turns k =
     let none : k.lost ≡ [] = (subst (λ c. LosesBy c last.lost k.lost) turns k.loses).none in
@@ -90,7 +90,7 @@ read_on r session old t last new u turns k =
       failures = same.1;
     }
 
-pub reads_on : (r : RouterView) (session : ℕ) (old : Fragment) (t : Told) (mid : Fragment) (m : Told) (last : ReadEnd) (new : Fragment) (u : Told) →
+pub reads_on : (r : RouterView) (session : ℕ) (old : Fragment) (t : LinkTrace) (mid : Fragment) (m : LinkTrace) (last : ReadEnd) (new : Fragment) (u : LinkTrace) →
     HasRead session old t mid m → last.cause ≡ cause.Turns → IsReadBy r session mid m last new u → HasRead session old t new u
 reads_on r session old t mid m last new u h turns k =
     read_on r session old t (record { cause = last.cause; entered = length (h.calls ++ k.calls); lost = last.lost }) new u turns
@@ -106,8 +106,8 @@ stopped_over waits may cause.Stale over why h absent = h
 stopped_over waits may cause.Full over why h absent = (h, λ w. absent w refl)
 stopped_over waits may cause.Memory over why h absent = h
 
-stopped : (waits : Bool) (may : Bool → Type 0) (r : RouterView) (session : ℕ) (old : PassView) (input : ReaderView) (mid : PassView) (m : Told)
-    (last : ReadEnd) (why : SessionEnd) (new : PassView) (u : Told) (over : Option SessionEnd) (left : ReaderView) →
+stopped : (waits : Bool) (may : Bool → Type 0) (r : RouterView) (session : ℕ) (old : PassView) (input : ReaderView) (mid : PassView) (m : LinkTrace)
+    (last : ReadEnd) (why : SessionEnd) (new : PassView) (u : LinkTrace) (over : Option SessionEnd) (left : ReaderView) →
     HasRead session old.fragment (told_by input) mid.fragment m →
     IsReadBy r session mid.fragment m last new.fragment u → ReadsLines input u.handed over left → IsReaderStopped waits last.cause over why →
     (waits ≡ true → last.cause ≡ cause.Full → may false) → ReadsOut waits may r session old input why new left
@@ -121,7 +121,7 @@ stopped waits may r session old input mid m last why new u over left h k lines s
 }
 
 pub reads_stopped : (waits : Bool) (may : Bool → Type 0) (r : RouterView) (session : ℕ) (old : PassView) (input : ReaderView) (mid : PassView)
-    (m : Told) (c : Cause) (why : SessionEnd) (new : PassView) (u : Told) (over : Option SessionEnd) (left : ReaderView) →
+    (m : LinkTrace) (c : Cause) (why : SessionEnd) (new : PassView) (u : LinkTrace) (over : Option SessionEnd) (left : ReaderView) →
     HasRead session old.fragment (told_by input) mid.fragment m → ReadsFor c r session mid.fragment m new.fragment u →
     ReadsLines input u.handed over left → IsReaderStopped waits c over why → (waits ≡ true → c ≡ cause.Full → may false) →
     ReadsOut waits may r session old input why new left
@@ -129,7 +129,7 @@ reads_stopped waits may r session old input mid m c why new u over left h k line
     stopped waits may r session old input mid m (record { cause = c; entered = k.0; lost = k.1 }) why new u over left h k.2 lines stops absent
 
 pub reads_absent : (waits : Bool) (may : Bool → Type 0) (r : RouterView) (session : ℕ) (old : PassView) (input : ReaderView) (mid : PassView)
-    (m : Told) (c : Cause) (new : PassView) (u : Told) (over : Option SessionEnd) (left : ReaderView) → HasRead session old.fragment (told_by input) mid.fragment m →
+    (m : LinkTrace) (c : Cause) (new : PassView) (u : LinkTrace) (over : Option SessionEnd) (left : ReaderView) → HasRead session old.fragment (told_by input) mid.fragment m →
     ReadsFor c r session mid.fragment m new.fragment u → ReadsLines input u.handed over left → c ≡ cause.Turns → may false →
     ReadsOut waits may r session old input end.Closed new left
 reads_absent waits may r session old input mid m c new u over left h k lines turns absent = record {

@@ -7,16 +7,16 @@ use Rattle.std.proofs.lemmas.List.Concat.{flat_map-append}
 use Rattle.std.proofs.lemmas.List.Elements.{All-append, All-cons}
 use Rattle.std.specs.Io.KnownBytes.{Appends, Consumes}
 use Rattle.message_streams.proofs.Exact.{messages_in-lines}
-use Rattle.message_streams.specs.Lines.{FitsMessage, line_of, lines_text, message_line, told_in}
+use Rattle.message_streams.specs.Lines.{FitsMessage, line_of, lines_text, message_line, messages_among}
 use Rattle.message_streams.specs.Reading.{messages_in}
 use Rattle.netchange_core.specs.declared.message.Message.{Message}
-use Rattle.route_session.specs.Told.{grown}
+use Rattle.route_session.specs.LinkTrace.{grown}
 use Rattle.neighbour_session.specs.Said.{AreLines, AreThese, GaveLines, GotLines, said_by, said_to}
 
 no_messages : All FitsMessage []
 no_messages k d h = absurd (omega (arith, h))
 
-told_more : (xs ys : List (Option Message)) → told_in (xs ++ ys) ≡ told_in xs ++ told_in ys
+told_more : (xs ys : List (Option Message)) → messages_among (xs ++ ys) ≡ messages_among xs ++ messages_among ys
 told_more [] ys = refl
 told_more (None ∷ xs) ys = told_more xs ys
 told_more (Some m ∷ xs) ys = ap (λ l. m ∷ l) (told_more xs ys)
@@ -31,7 +31,7 @@ abbrev told_one : Option Message → List Message
 told_one None = []
 told_one (Some m) = m ∷ []
 
-one_told : (line : Option Message) → told_in (line ∷ []) ≡ told_one line
+one_told : (line : Option Message) → messages_among (line ∷ []) ≡ told_one line
 one_told None = refl
 one_told (Some m) = refl
 
@@ -39,14 +39,14 @@ one_fits : (line : Option Message) → Fits line → All FitsMessage (told_one l
 one_fits None fits = no_messages
 one_fits (Some m) fits = All-cons FitsMessage m [] fits no_messages
 
-told_with : (lines : List (Option Message)) (line : Option Message) → told_in (lines ++ line ∷ []) ≡ told_in lines ++ told_one line
-told_with lines line = told_more lines (line ∷ []) ∙ ap (λ l. told_in lines ++ l) (one_told line)
+told_with : (lines : List (Option Message)) (line : Option Message) → messages_among (lines ++ line ∷ []) ≡ messages_among lines ++ told_one line
+told_with lines line = told_more lines (line ∷ []) ∙ ap (λ l. messages_among lines ++ l) (one_told line)
 
-fits_more : (lines : List (Option Message)) (line : Option Message) → All FitsMessage (told_in lines) → Fits line →
-    All FitsMessage (told_in (lines ++ line ∷ []))
+fits_more : (lines : List (Option Message)) (line : Option Message) → All FitsMessage (messages_among lines) → Fits line →
+    All FitsMessage (messages_among (lines ++ line ∷ []))
 fits_more lines line all one =
     subst (λ ms. All FitsMessage ms) (sym (told_with lines line))
-    (All-append FitsMessage (told_in lines) (told_one line) all (one_fits line one))
+    (All-append FitsMessage (messages_among lines) (told_one line) all (one_fits line one))
 
 text_more : (lines : List (Option Message)) (line : Option Message) → lines_text (lines ++ line ∷ []) ≡ lines_text lines ++ line_of line
 text_more lines line = flat_map-append line_of lines (line ∷ []) ∙ ap (λ l. lines_text lines ++ l) (append-nil (line_of line))
@@ -75,7 +75,7 @@ front_taken : (all front back : List ℕ) → all ≡ front ++ back → take (le
 front_taken all front back e =
     ap (λ l. take (length l - length back) l) e ∙ take_at front back (length (front ++ back) - length back) (omega (arith, length-append front back))
 
-said_is : (xs ys : List ℕ) (gave : GaveLines (Some xs) (Some ys)) → messages_in (take (length xs - length ys) xs) ≡ told_in gave.lines
+said_is : (xs ys : List ℕ) (gave : GaveLines (Some xs) (Some ys)) → messages_in (take (length xs - length ys) xs) ≡ messages_among gave.lines
 said_is xs ys gave = ap messages_in (front_taken xs (lines_text gave.lines) ys gave.moved) ∙ messages_in-lines gave.lines gave.fits
 
 said_line : (first a b : Option (List ℕ)) (line : Option Message) → GaveLines first a → Fits line → Consumes a b (line_of line) →
@@ -129,7 +129,7 @@ got_more first a b m got fits moved = got_line first a b (Some m) got fits moved
 pub got_empty : (first a b : Option (List ℕ)) → GotLines first a → Appends a b (10 ∷ []) → GotLines first b
 got_empty first a b got moved = got_line first a b None got tt moved
 
-written_is : (xs ys : List ℕ) (got : GotLines (Some xs) (Some ys)) → messages_in (drop (length xs) ys) ≡ told_in got.lines
+written_is : (xs ys : List ℕ) (got : GotLines (Some xs) (Some ys)) → messages_in (drop (length xs) ys) ≡ messages_among got.lines
 written_is xs ys got =
     ap (λ l. messages_in (drop (length xs) l)) got.moved ∙ ap messages_in (drop_at xs (lines_text got.lines) (length xs) refl)
     ∙ messages_in-lines got.lines got.fits

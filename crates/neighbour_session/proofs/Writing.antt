@@ -10,7 +10,7 @@ use Rattle.route_session.specs.declared.ends.Cause.TheVariants as cause
 use Rattle.route_session.specs.declared.ends.WriteEnd.{WriteEnd}
 use Rattle.route_session.specs.Calls.{Gained, IsCauseAt, IsCauseIn, IsFresh}
 use Rattle.route_session.specs.Writes.{LeavesBy, LeavesOut, Takes, carried_by, told_by}
-use Rattle.route_session.specs.Told.{Told, grown, refuse_first}
+use Rattle.route_session.specs.LinkTrace.{LinkTrace, grown, refuse_first}
 use Rattle.message_streams.specs.Views.{WriterView}
 use Rattle.slot_lock.specs.Passes.{Fragment, PassView, RouterView}
 use Rattle.neighbour_session.specs.Waiting.{full_end}
@@ -21,7 +21,7 @@ use Rattle.neighbour_session.specs.declared.ends.SessionEnd.TheVariants as end
 use Rattle.neighbour_session.proofs.Gaining.{cause_after, gained_both, gained_none, grown_both, grown_none, told_after}
 
 -- what was taken was accepted by the link, but for so many messages that were left out, and the writer has not ended
-pub record HasWritten (left_out : ℕ) (session : ℕ) (old : Fragment) (t : Told) (new : Fragment) (u : Told) : Type 0 where
+pub record HasWritten (left_out : ℕ) (session : ℕ) (old : Fragment) (t : LinkTrace) (new : Fragment) (u : LinkTrace) : Type 0 where
   pub calls : List Entry
   pub accepted : List Message
   pub gained : Gained old calls new
@@ -36,7 +36,7 @@ pub record HasWritten (left_out : ℕ) (session : ℕ) (old : Fragment) (t : Tol
   pub ended : u.ended ≡ t.ended
   pub failures : u.failures ≡ t.failures
 
-pub written_none : (session : ℕ) (p : Fragment) (t : Told) → HasWritten 0 session p t p t
+pub written_none : (session : ℕ) (p : Fragment) (t : LinkTrace) → HasWritten 0 session p t p t
 written_none session p t = record {
   calls = [];
   accepted = [];
@@ -64,8 +64,8 @@ counts_both n more calls later accepted further unsent h k =
     omega (arith, h, k, all, length-append accepted further)
 
 -- and what comes last: the whole of it is as one writer's
-pub written_last : (r : RouterView) (n more : ℕ) (session : ℕ) (old : Fragment) (t : Told) (mid : Fragment) (m : Told) (last : WriteEnd)
-    (new : Fragment) (u : Told) (h : HasWritten n session old t mid m) (k : LeavesOut true r session mid m last more new u) →
+pub written_last : (r : RouterView) (n more : ℕ) (session : ℕ) (old : Fragment) (t : LinkTrace) (mid : Fragment) (m : LinkTrace) (last : WriteEnd)
+    (new : Fragment) (u : LinkTrace) (h : HasWritten n session old t mid m) (k : LeavesOut true r session mid m last more new u) →
     LeavesOut true r session old t (record { cause = last.cause; sent = length (h.accepted ++ k.written.accepted); unsent = last.unsent }) (n + more)
     new u
 written_last r n more session old t mid m last new u h k =
@@ -103,7 +103,7 @@ leaves_none waits cause.LinkFault unsent on h = absurd on
 leaves_none waits cause.Stale unsent on h = absurd on
 leaves_none waits cause.Memory unsent on h = absurd on
 
-same_link : (waits : Bool) (c : Cause) (t u : Told) → WriterGoesOn waits c → IsCauseAt c t u → IsCauseAt cause.Turns t u
+same_link : (waits : Bool) (c : Cause) (t u : LinkTrace) → WriterGoesOn waits c → IsCauseAt c t u → IsCauseAt cause.Turns t u
 same_link waits cause.Turns t u on h = h
 same_link waits cause.Full t u on h = h
 same_link waits cause.LinkEnded t u on h = absurd on
@@ -120,7 +120,7 @@ fresh_on waits cause.LinkFault r calls new on h = absurd on
 fresh_on waits cause.Stale r calls new on h = absurd on
 fresh_on waits cause.Memory r calls new on h = absurd on
 
-written_on : (waits : Bool) (r : RouterView) (n : ℕ) (session : ℕ) (old : Fragment) (t : Told) (last : WriteEnd) (new : Fragment) (u : Told) →
+written_on : (waits : Bool) (r : RouterView) (n : ℕ) (session : ℕ) (old : Fragment) (t : LinkTrace) (last : WriteEnd) (new : Fragment) (u : LinkTrace) →
     WriterGoesOn waits last.cause → LeavesOut true r session old t last n new u → HasWritten n session old t new u
 written_on waits r n session old t last new u on k =
     let w = k.written in
@@ -143,8 +143,8 @@ written_on waits r n session old t last new u on k =
       failures = same.1;
     }
 
-pub writes_on : (waits : Bool) (r : RouterView) (n more : ℕ) (session : ℕ) (old : Fragment) (t : Told) (mid : Fragment) (m : Told)
-    (last : WriteEnd) (new : Fragment) (u : Told) → HasWritten n session old t mid m → WriterGoesOn waits last.cause →
+pub writes_on : (waits : Bool) (r : RouterView) (n more : ℕ) (session : ℕ) (old : Fragment) (t : LinkTrace) (mid : Fragment) (m : LinkTrace)
+    (last : WriteEnd) (new : Fragment) (u : LinkTrace) → HasWritten n session old t mid m → WriterGoesOn waits last.cause →
     LeavesOut true r session mid m last more new u → HasWritten (n + more) session old t new u
 writes_on waits r n more session old t mid m last new u h on k =
     written_on waits r (n + more) session old t
@@ -188,7 +188,7 @@ first_unsent : (unsent : List Message) → refuse_first (Some None) unsent ≡ S
 first_unsent [] = refl
 first_unsent (m ∷ more) = refl
 
-got_after : (output : WriterView) (u : Told) (unsent : List Message) (later : WriterView) (g : GotLinesOf output u later) →
+got_after : (output : WriterView) (u : LinkTrace) (unsent : List Message) (later : WriterView) (g : GotLinesOf output u later) →
     u.first_refused ≡ refuse_first (told_to output).first_refused unsent → TearsLine (slice_get unsent 0) g.held later.held
 got_after output u unsent later g h = g.torn (slice_get unsent 0) (h ∙ first_unsent unsent)
 
@@ -198,7 +198,7 @@ min_more told n more h = omega (arith, h)
 
 -- a writer that ended, for a reason
 writes_over : (waits : Bool) (may : Bool → Type 0) (r : RouterView) (n more left_out : ℕ) (session : ℕ) (old : PassView) (output : WriterView)
-    (mid : PassView) (m : Told) (last : WriteEnd) (why : SessionEnd) (new : PassView) (u : Told) (later : WriterView) →
+    (mid : PassView) (m : LinkTrace) (last : WriteEnd) (why : SessionEnd) (new : PassView) (u : LinkTrace) (later : WriterView) →
     HasWritten n session old.fragment (told_to output) mid.fragment m → LeavesOut true r session mid.fragment m last more new.fragment u →
     GotLinesOf output u later → IsWriterOver waits may last.cause later why → left_out ≡ min (n + more) (2 ^ 64 - 1) →
     WritesOut waits may r session old output why new later left_out
@@ -217,7 +217,7 @@ writes_over waits may r n more left_out session old output mid m last why new u 
     }
 
 pub writes_stopped : (waits : Bool) (may : Bool → Type 0) (r : RouterView) (n more left_out : ℕ) (session : ℕ) (old : PassView)
-    (output : WriterView) (mid : PassView) (m : Told) (last : WriteEnd) (why : SessionEnd) (new : PassView) (u : Told) (later : WriterView) →
+    (output : WriterView) (mid : PassView) (m : LinkTrace) (last : WriteEnd) (why : SessionEnd) (new : PassView) (u : LinkTrace) (later : WriterView) →
     HasWritten n session old.fragment (told_to output) mid.fragment m → LeavesOut true r session mid.fragment m last more new.fragment u →
     GotLinesOf output u later → IsWriterStopped waits last.cause why → left_out ≡ min (n + more) (2 ^ 64 - 1) →
     WritesOut waits may r session old output why new later left_out
@@ -226,7 +226,7 @@ writes_stopped waits may r n more left_out session old output mid m last why new
     counted
 
 pub writes_absent : (waits : Bool) (may : Bool → Type 0) (r : RouterView) (n more left_out : ℕ) (session : ℕ) (old : PassView)
-    (output : WriterView) (mid : PassView) (m : Told) (last : WriteEnd) (new : PassView) (u : Told) (later : WriterView) →
+    (output : WriterView) (mid : PassView) (m : LinkTrace) (last : WriteEnd) (new : PassView) (u : LinkTrace) (later : WriterView) →
     HasWritten n session old.fragment (told_to output) mid.fragment m → LeavesOut true r session mid.fragment m last more new.fragment u →
     GotLinesOf output u later → WriterGoesOn waits last.cause → may false → left_out ≡ min (n + more) (2 ^ 64 - 1) →
     WritesOut waits may r session old output end.Closed new later left_out
@@ -235,7 +235,7 @@ writes_absent waits may r n more left_out session old output mid m last new u la
     counted
 
 pub writes_unwritten : (waits : Bool) (may : Bool → Type 0) (r : RouterView) (n more left_out : ℕ) (session : ℕ) (old : PassView)
-    (output : WriterView) (mid : PassView) (m : Told) (last : WriteEnd) (new : PassView) (u : Told) (later : WriterView) →
+    (output : WriterView) (mid : PassView) (m : LinkTrace) (last : WriteEnd) (new : PassView) (u : LinkTrace) (later : WriterView) →
     HasWritten n session old.fragment (told_to output) mid.fragment m → LeavesOut true r session mid.fragment m last more new.fragment u →
     GotLinesOf output u later → WriterGoesOn waits last.cause → later.over ≡ true → left_out ≡ min (n + more) (2 ^ 64 - 1) →
     WritesOut waits may r session old output end.Unwritten new later left_out

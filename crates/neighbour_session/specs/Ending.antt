@@ -19,5 +19,5 @@ pub record Ends (may_be_first : Bool → Type 0) (r : RouterView) (session : ℕ
 
 -- Nothing was entered; or Down was, and who leaves was told of its answer.
 abbrev pub TellsDown : (Answer → Type 0) → RouterView → ℕ → PassView → PassView → Type 0
-TellsDown is_told r session old new =
-    (new.fragment.mine ≡ old.fragment.mine) ⊎ ((a : Answer) × Closes r session old a new × is_told a)
+TellsDown is_notified r session old new =
+    (new.fragment.mine ≡ old.fragment.mine) ⊎ ((a : Answer) × Closes r session old a new × is_notified a)

@@ -12,7 +12,7 @@ use Rattle.netchange_core.specs.declared.message.Message.{Message}
 use Rattle.route_session.specs.Telling.{known}
 use Rattle.route_session.specs.declared.link.Got.{Got}
 use Rattle.route_session.specs.declared.link.Got.TheVariants as got
-use Rattle.route_session.specs.Told.{Told}
+use Rattle.route_session.specs.LinkTrace.{LinkTrace}
 use Rattle.neighbour_session.specs.declared.ends.SessionEnd.{SessionEnd}
 use Rattle.neighbour_session.specs.declared.ends.SessionEnd.TheVariants as end
 use Rattle.neighbour_session.specs.Said.{AreLines, GaveLines, GotLines, said_by, said_to}
@@ -58,7 +58,7 @@ pub record ReadsLines (first : ReaderView) (handed : Option (List Message)) (ove
 
 -- a link over one stream that is read: what it tells, its reader, and why it hands out no more, if it does not
 pub record InputView : Type 0 where
-  pub told : Told
+  pub told : LinkTrace
   pub reader : ReaderView
   pub over : Option SessionEnd
 
@@ -100,14 +100,14 @@ TearsLine (Some message) held holds = FitsMessage message × AppendsFront held h
 
 -- A stream got the lines of what its link was given, each in its turn; and then a front of the line of the first message that the link did
 -- not take, if there is one.
-pub record GotLinesOf (first : WriterView) (told : Told) (now : WriterView) : Type 0 where
+pub record GotLinesOf (first : WriterView) (told : LinkTrace) (now : WriterView) : Type 0 where
   pub held : Option (List ℕ)
   pub lines : AreLines (Appends first.held held) told.given
   pub torn : (refused : Option Message) → told.first_refused ≡ Some refused → TearsLine refused held now.held
 
 -- a link over one stream that is written: what it tells, and its writer
 pub record OutputView : Type 0 where
-  pub told : Told
+  pub told : LinkTrace
   pub writer : WriterView
 
 -- of the writer as it was given, as it was after the message that was written last, and as it is now, and of the first message that was

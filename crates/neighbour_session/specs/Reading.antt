@@ -5,7 +5,7 @@ use Rattle.route_session.specs.declared.ends.Cause.{Cause}
 use Rattle.route_session.specs.declared.ends.Cause.TheVariants as cause
 use Rattle.route_session.specs.declared.ends.ReadEnd.{ReadEnd}
 use Rattle.route_session.specs.Reads.{IsReadBy}
-use Rattle.route_session.specs.Told.{Told}
+use Rattle.route_session.specs.LinkTrace.{LinkTrace}
 use Rattle.slot_lock.specs.Passes.{PassView, RouterView}
 use Rattle.neighbour_session.specs.Ending.{Ends}
 use Rattle.neighbour_session.specs.Links.{ReadsLines, input_view}
@@ -14,7 +14,7 @@ use Rattle.neighbour_session.specs.declared.ends.SessionEnd.{SessionEnd}
 use Rattle.neighbour_session.specs.declared.ends.SessionEnd.TheVariants as end
 
 -- what a link over one stream that is read tells at first
-abbrev pub told_by : ReaderView → Told
+abbrev pub told_by : ReaderView → LinkTrace
 told_by input = (input_view input input input None false 0 false).told
 
 -- why a session is over whose link hands out no more
@@ -43,7 +43,7 @@ IsReaderOver waits may_be_present c over why = IsReaderStopped waits c over why
 pub record ReadsOut (waits : Bool) (may_be_present : Bool → Type 0) (r : RouterView) (session : ℕ) (old : PassView) (input : ReaderView)
     (why : SessionEnd) (new : PassView) (left : ReaderView) : Type 0 where
   pub end : ReadEnd
-  pub last : Told
+  pub last : LinkTrace
   pub read : IsReadBy r session old.fragment (told_by input) end new.fragment last
   pub over : Option SessionEnd
   pub lines : ReadsLines input last.handed over left

@@ -4,7 +4,7 @@ use Rattle.netchange_core.specs.declared.message.Message.{Message}
 use Rattle.route_history.specs.declared.entry.Entry.{Entry}
 use Rattle.route_session.specs.Calls.{Gained, IsFresh, stale}
 use Rattle.route_session.specs.Reads.{IsReadBy, Receives}
-use Rattle.route_session.specs.Told.{Told}
+use Rattle.route_session.specs.LinkTrace.{LinkTrace}
 use Rattle.route_session.specs.declared.ends.Cause.{Cause}
 use Rattle.route_session.specs.declared.ends.Cause.TheVariants as cause
 use Rattle.slot_lock.specs.Passes.{Fragment, RouterView}
@@ -40,6 +40,6 @@ EntersLater may_be_present r session m old cause.Memory new = Gained old [] new
 EntersLater may_be_present r session m old _ new = ⊥
 
 -- a reader ended for this cause
-abbrev pub ReadsFor : Cause → RouterView → ℕ → Fragment → Told → Fragment → Told → Type 0
+abbrev pub ReadsFor : Cause → RouterView → ℕ → Fragment → LinkTrace → Fragment → LinkTrace → Type 0
 ReadsFor why r session old t new u = (entered : ℕ) × (lost : Option Message) ×
     IsReadBy r session old t (record { cause = why; entered = entered; lost = lost }) new u

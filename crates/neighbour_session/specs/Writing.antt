@@ -5,7 +5,7 @@ use Rattle.message_streams.specs.Views.{WriterView}
 use Rattle.route_session.specs.declared.ends.Cause.{Cause}
 use Rattle.route_session.specs.declared.ends.Cause.TheVariants as cause
 use Rattle.route_session.specs.declared.ends.WriteEnd.{WriteEnd}
-use Rattle.route_session.specs.Told.{Told}
+use Rattle.route_session.specs.LinkTrace.{LinkTrace}
 use Rattle.route_session.specs.Writes.{LeavesOut}
 use Rattle.slot_lock.specs.Passes.{PassView, RouterView}
 use Rattle.neighbour_session.specs.Ending.{Ends}
@@ -16,7 +16,7 @@ use Rattle.neighbour_session.specs.declared.ends.SessionEnd.{SessionEnd}
 use Rattle.neighbour_session.specs.declared.ends.SessionEnd.TheVariants as end
 
 -- what a link over one stream that is written tells at first
-abbrev pub told_to : WriterView → Told
+abbrev pub told_to : WriterView → LinkTrace
 told_to output = (output_view output output output None false 0 false).told
 
 -- why a writer's session is over, where it did not use up its turns: a line was not written, or a call was refused
@@ -51,7 +51,7 @@ IsWriterOver waits may_be_present c later why = IsWriterStopped waits c why
 pub record WritesOut (waits : Bool) (may_be_present : Bool → Type 0) (r : RouterView) (session : ℕ) (old : PassView) (output : WriterView)
     (why : SessionEnd) (new : PassView) (later : WriterView) (left_out : ℕ) : Type 0 where
   pub end : WriteEnd
-  pub last : Told
+  pub last : LinkTrace
   pub count : ℕ
   pub written : LeavesOut true r session old.fragment (told_to output) end count new.fragment last
   pub counted : left_out ≡ min count (2 ^ 64 - 1)

@@ -10,7 +10,7 @@ ghost use Rattle.std.specs.Option.{option_or};
 ghost use Rattle.std.specs.Prelude.{◌≡◌, ◌<◌, None, Some, false, true, IfErr, IfOk, OnErr};
 ghost use Rattle.neighbour_session.specs.Links as spec;
 ghost use Rattle.route_session.specs.Telling.{known};
-ghost use Rattle.route_session.specs.Told.{Rose};
+ghost use Rattle.route_session.specs.LinkTrace.{Rose};
 
 use crate::ends::SessionEnd;
 use link_handshake::{Said, read_line};
@@ -168,7 +168,7 @@ impl<I: Read + Drop, S: GivenReader> InputLink<I, S> {
 }
 
 impl<I: Read, S: GivenReader> Link for InputLink<I, S> {
-    ghost told = { λ l. l.told };
+    ghost trace = { λ l. l.told };
 
     fn recv<R: Wait>(&mut self, _rt: &R) -> Result<Got, LinkFault> {
         if self.is_closed {
@@ -200,13 +200,13 @@ impl<I: Read, S: GivenReader> Link for InputLink<I, S> {
 }
 
 /// The writer that a link was given.
-pub(crate) trait Target {
+pub(crate) trait GivenWriter {
     ghost use Rattle.message_streams.specs.Views.{WriterView};
 
     ghost writer: { WriterView };
 }
 
-impl Target for Brand {
+impl GivenWriter for Brand {
     ghost use Rattle.neighbour_session.specs.Links.{nobodys_writer};
 
     ghost writer = { nobodys_writer };
@@ -216,7 +216,7 @@ impl Target for Brand {
 ///
 /// Once a line was not written it writes no more, and each message that it is given is a failure. It hands out no messages.
 #[derive(Drop)]
-pub(crate) struct OutputLink<O: Write, T: Target> {
+pub(crate) struct OutputLink<O: Write, T: GivenWriter> {
     output: MessageWriter<O>,
     // The writer as it was after the message that was written last.
     last: Snapshot<MessageWriter<O>>,
@@ -227,7 +227,7 @@ pub(crate) struct OutputLink<O: Write, T: Target> {
     of: PhantomData<T>,
 }
 
-impl<O: Write, T: Target> Model for OutputLink<O, T> {
+impl<O: Write, T: GivenWriter> Model for OutputLink<O, T> {
     ghost use Rattle.neighbour_session.specs.Links.{IsOutput, OutputView, output_view};
 
     ghost Value = { OutputView };
@@ -237,7 +237,7 @@ impl<O: Write, T: Target> Model for OutputLink<O, T> {
     ghost invariant = { λ l. IsOutput T.writer l.last.value l.output l.first_refused l.failures };
 }
 
-impl<O: Write + Drop, T: Target> OutputLink<O, T> {
+impl<O: Write + Drop, T: GivenWriter> OutputLink<O, T> {
     ghost use Rattle.neighbour_session.specs.Links.{GotLinesOf, output_view};
 
     /// A link over this writer.
@@ -277,8 +277,8 @@ impl<O: Write + Drop, T: Target> OutputLink<O, T> {
     }
 }
 
-impl<O: Write + Drop, T: Target> Link for OutputLink<O, T> {
-    ghost told = { λ l. l.told };
+impl<O: Write + Drop, T: GivenWriter> Link for OutputLink<O, T> {
+    ghost trace = { λ l. l.told };
 
     fn recv<R: Wait>(&mut self, _rt: &R) -> Result<Got, LinkFault> {
         if self.is_closed {

@@ -6,9 +6,9 @@ ghost use Rattle.route_session.specs.Reads.{IsReadBy};
 ghost use Rattle.route_session.specs.Calls.{StaysSound};
 ghost use Rattle.slot_lock.specs.Passes.{IsPassOf};
 
-use crate::crew::{Crew, READER};
 use crate::ends::SessionEnd;
 use crate::finish::end_session;
+use crate::guard::{READER, SessionGuard};
 use crate::links::{GivenReader, InputLink};
 use crate::waiting::{end_of_full, enter_later};
 use message_streams::MessageReader;
@@ -62,50 +62,50 @@ fn kept_message(read: &ReadEnd, waits: bool) -> Option<Message>
 
 /// Enters what a link hands out, for some turns: why the reader ended. A message that a full history had no room for is entered once there
 /// is room, if the reader waits. Then it ends for a full history only where the session is not there any more.
-fn read_turns<R: Wait + Clock, L: Link, C: Crew>(
+fn read_turns<R: Wait + Clock, L: Link, C: SessionGuard>(
     rt: &R,
     router: &Router,
     pass: &mut Pass,
     session: u32,
     link: &mut L,
-    crew: &C,
+    guard: &C,
     waits: bool,
 ) -> Cause
     requires { IsPassOf router.now pass.old }
     ensures pass { StaysSound router.now pass.old pass.new }
-    ensures read { ReadsFor result router.now session pass.old.fragment (L.told link.old) pass.new.fragment (L.told link.new) }
-    ensures absent { waits ≡ true → result ≡ Cause.Full → C.may_be_present crew.now false }
+    ensures read { ReadsFor result router.now session pass.old.fragment (L.trace link.old) pass.new.fragment (L.trace link.new) }
+    ensures absent { waits ≡ true → result ≡ Cause.Full → C.may_be_present guard.now false }
 {
-    let read = read_session(rt, router, pass, session, link, crew, READER, TURNS);
+    let read = read_session(rt, router, pass, session, link, guard, READER, TURNS);
     match kept_message(&read, waits) {
-        Some(message) => enter_later(rt, router, pass, session, message, crew),
+        Some(message) => enter_later(rt, router, pass, session, message, guard),
         None => read.cause,
     }
 }
 
 /// Enters what the stream of a neighbour says until the session is over: why it is.
-fn read_all<S: GivenReader, R: Wait + Clock, I: Read + Drop, C: Crew>(
+fn read_all<S: GivenReader, R: Wait + Clock, I: Read + Drop, C: SessionGuard>(
     rt: &R,
     router: &Router,
     pass: &mut Pass,
     session: u32,
     input: MessageReader<I>,
-    crew: &C,
+    guard: &C,
     waits: bool,
 ) -> (SessionEnd, MessageReader<I>)
     requires of { IsPassOf router.now pass.old }
     requires named { input ≡ S.reader }
     ensures pass { StaysSound router.now pass.old pass.new }
     ensures shares { pass.new.fragment.shares ≡ pass.old.fragment.shares }
-    ensures reads { spec.ReadsOut waits (C.may_be_present crew.now) router.now session pass.old input result.0 pass.new result.1 }
+    ensures reads { spec.ReadsOut waits (C.may_be_present guard.now) router.now session pass.old input result.0 pass.new result.1 }
 {
     let mut link: InputLink<I, S> = InputLink::new(input);
     for _ in rt.forever() {
-        let cause = read_turns(rt, router, pass, session, &mut link, crew, waits);
+        let cause = read_turns(rt, router, pass, session, &mut link, guard, waits);
         if let Some(why) = end_of_reader(cause, &link, waits) {
             return (why, link.into_reader());
         }
-        if !crew.is_present(rt) {
+        if !guard.is_present(rt) {
             return (SessionEnd::Closed, link.into_reader());
         }
     }
@@ -118,21 +118,21 @@ fn read_all<S: GivenReader, R: Wait + Clock, I: Read + Drop, C: Crew>(
 ///
 /// A full history (J1) ends the session; where `waits`, it does not: the message that the history had no room for is kept, and entered once
 /// there is room, before what comes after it.
-pub fn serve_reader<R: Wait + Clock, I: Read + Drop, C: Crew>(
+pub fn serve_reader<R: Wait + Clock, I: Read + Drop, C: SessionGuard>(
     rt: &R,
     router: &Router,
     pass: &mut Pass,
     session: u32,
     input: MessageReader<I>,
-    crew: C,
+    guard: C,
     waits: bool,
-) -> (SessionEnd, MessageReader<I>, C::Leaver)
+) -> (SessionEnd, MessageReader<I>, C::EndedGuard)
     requires { IsPassOf router.now pass.old }
     ensures pass { StaysSound router.now pass.old pass.new }
     ensures shares { pass.new.fragment.shares ≡ pass.old.fragment.shares }
-    ensures hears { spec.Hears waits (C.may_be_present crew) (C.may_be_first crew) router.now session pass.old input result.0 pass.new result.1 }
+    ensures hears { spec.Hears waits (C.may_be_present guard) (C.may_be_first guard) router.now session pass.old input result.0 pass.new result.1 }
 {
-    let (why, read) = read_all::<Brand, R, I, C>(rt, router, pass, session, input, &crew, waits);
-    let (why, leaver) = end_session(rt, router, pass, session, crew, why);
-    (why, read, leaver)
+    let (why, read) = read_all::<Brand, R, I, C>(rt, router, pass, session, input, &guard, waits);
+    let (why, ended_guard) = end_session(rt, router, pass, session, guard, why);
+    (why, read, ended_guard)
 }

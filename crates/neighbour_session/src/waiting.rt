@@ -4,8 +4,8 @@ ghost use Rattle.neighbour_session.specs.Waiting as spec;
 ghost use Rattle.route_session.specs.Calls.{StaysSound};
 ghost use Rattle.slot_lock.specs.Passes.{IsPassOf};
 
-use crate::crew::{Crew, READER};
 use crate::ends::SessionEnd;
+use crate::guard::{READER, SessionGuard};
 use netchange_core::{Event, Message};
 use route_history::CallFault;
 use route_session::{Cause, is_stale};
@@ -33,22 +33,22 @@ pub(crate) fn end_of_full(waits: bool) -> SessionEnd
 
 /// Enters a message that a full history had no room for, once there is room: it is tried again every few milliseconds, as long as the
 /// session is there. `Turns` where it was entered and the session goes on, and `Full` where the session is not there any more.
-pub(crate) fn enter_later<R: Wait + Clock, C: Crew>(
+pub(crate) fn enter_later<R: Wait + Clock, C: SessionGuard>(
     rt: &R,
     router: &Router,
     pass: &mut Pass,
     session: u32,
     message: Message,
-    crew: &C,
+    guard: &C,
 ) -> Cause
     requires of { IsPassOf router.now pass.old }
     requires full { spec.IsFull router.now pass.old.fragment }
     ensures pass { StaysSound router.now pass.old pass.new }
-    ensures entered { spec.EntersLater (C.may_be_present crew.now) router.now session message pass.old.fragment result pass.new.fragment }
+    ensures entered { spec.EntersLater (C.may_be_present guard.now) router.now session message pass.old.fragment result pass.new.fragment }
 {
     for _ in rt.forever() {
         pause(rt);
-        if !crew.is_present(rt) {
+        if !guard.is_present(rt) {
             return Cause::Full;
         }
         match router.call(
@@ -57,7 +57,7 @@ pub(crate) fn enter_later<R: Wait + Clock, C: Crew>(
             Event::Receive(session, message.dest, message.dist),
         ) {
             Ok(answer) => {
-                crew.answered(rt, READER, &answer);
+                guard.answered(rt, READER, &answer);
                 if is_stale(&answer.reply) {
                     return Cause::Stale;
                 }

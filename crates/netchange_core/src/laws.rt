@@ -25,7 +25,7 @@ pub fn best_route_leads()
 
 /// Each world that is reached from an opening is consistent, so a router can be restored to it: the world of an opening is
 /// consistent, and each event leaves a consistent world so.
-pub fn reached_worlds_are_consistent()
+fn reached_worlds_are_consistent()
     ensures opened { (o : OpeningView) → IsOpening o → IsConsistent (opened o) }
     ensures next { (w : World) (e : Event) → IsConsistent w → IsConsistent (next w e).world }
 {}

@@ -46,21 +46,21 @@ pub diagnosed_by : (Gives : CodeView → Type 0) (Lacks : Refusal → Type 0) (T
     (size : ℕ) (r : Result VerifiedView Failure) → Gives code → ArePlaces places → IfErr r (OnRefusal (IsUnsafe code size))
     → IfErr r (OnDiagnosis (TellsOfCode code places size)) → IfErr r (OnDiagnosis (IsDiagnosedBy Gives Lacks Tells ArePlaces size))
 diagnosed_by Gives Lacks Tells ArePlaces code places size (Ok v) gives are h tells = tt
-diagnosed_by Gives Lacks Tells ArePlaces code places size (Err (failure.Refused told)) gives are h tells = inr (code, gives, h, (places, are, tells))
+diagnosed_by Gives Lacks Tells ArePlaces code places size (Err (failure.Refused diagnosis)) gives are h tells = inr (code, gives, h, (places, are, tells))
 diagnosed_by Gives Lacks Tells ArePlaces code places size (Err failure.Memory) gives are h tells = tt
 
 -- of what something is told, that is refused
-is_refused : (Gives : CodeView → Type 0) (Lacks : Refusal → Type 0) (Tells : Diagnosis → Type 0) (ArePlaces : List ℕ → Type 0) (size : ℕ) (told : Diagnosis)
-    → IsDiagnosedBy Gives Lacks Tells ArePlaces size told → IsRefusedBy Gives Lacks size told.refusal
-is_refused Gives Lacks Tells ArePlaces size told (inl h) = inl h.0
-is_refused Gives Lacks Tells ArePlaces size told (inr h) = inr (h.0, h.1, h.2)
+is_refused : (Gives : CodeView → Type 0) (Lacks : Refusal → Type 0) (Tells : Diagnosis → Type 0) (ArePlaces : List ℕ → Type 0) (size : ℕ) (diagnosis : Diagnosis)
+    → IsDiagnosedBy Gives Lacks Tells ArePlaces size diagnosis → IsRefusedBy Gives Lacks size diagnosis.refusal
+is_refused Gives Lacks Tells ArePlaces size diagnosis (inl h) = inl h.0
+is_refused Gives Lacks Tells ArePlaces size diagnosis (inr h) = inr (h.0, h.1, h.2)
 
-pub refused_source : (given : FilterSource) (size : ℕ) (told : Diagnosis) → diagnoses given size told
-    → IsRefusedBy (gives given) (lacks given) size told.refusal
-refused_source (source.Text text) size told h =
-    is_refused (GivesText text.now) (IsRefusedText text.now) (TellsOfText text.now) (ArePlacesOf text.now) size told h
-refused_source (source.File bytes) size told h =
-    is_refused (GivesFile bytes.now) (IsRefusedFile bytes.now) TellsOfFile (λ places. places ≡ []) size told h
+pub refused_source : (given : FilterSource) (size : ℕ) (diagnosis : Diagnosis) → diagnoses given size diagnosis
+    → IsRefusedBy (gives given) (lacks given) size diagnosis.refusal
+refused_source (source.Text text) size diagnosis h =
+    is_refused (GivesText text.now) (IsRefusedText text.now) (TellsOfText text.now) (ArePlacesOf text.now) size diagnosis h
+refused_source (source.File bytes) size diagnosis h =
+    is_refused (GivesFile bytes.now) (IsRefusedFile bytes.now) TellsOfFile (λ places. places ≡ []) size diagnosis h
 
 -- the line of a refusal, by its code and its place
 refused_as : (why : Refusal) (number : ℕ) (code : List ℕ) (at : ℕ) → code ≡ refusal_code why → at ≡ place_in_line why number
@@ -80,7 +80,7 @@ module _ (Gives : CodeView → Type 0) (Lacks : Refusal → Type 0) (number : �
       → Answers (λ answer. AnswersSource Gives Lacks size number name names answer names) old new reply
   turned_away size names why code at reply old new is e f h =
       given reply (refused code at) (λ answer. AnswersSource Gives Lacks size number name names answer names) old new
-      (λ answer told. inr (why, is, (told ∙ refused_as why number code at e f, λ other. refl))) h
+      (λ answer diagnosis. inr (why, is, (diagnosis ∙ refused_as why number code at e f, λ other. refl))) h
 
   by_stage : (stage : StageView) (size : ℕ) (before : ScriptView) (answer : Answer) (after : ScriptView) → size_in stage ≡ Some size
       → NamesSource Gives Lacks size number name before answer after → AnswersFilter stage Gives Lacks number name before answer after
@@ -101,9 +101,9 @@ module _ (Gives : CodeView → Type 0) (Lacks : Refusal → Type 0) (number : �
       (λ answer a. by_stage stage size before answer after e (record { stage = stays; filters = a })) h
 
 -- a refusal is told of the source that is refused
-pub told_of : (IsTold : Diagnosis → Type 0) (number : ℕ) (before after : Option Diagnosis) (told : Diagnosis) (code : List ℕ) (at : ℕ)
-    (reply : LineReply) (old new : List ℕ) → IsTold told → code ≡ refusal_code told.refusal → at ≡ place_in_line told.refusal number
-    → after ≡ Some told → Adds (refused code at) old new reply → Answers (λ answer. TellsSource IsTold number before answer after) old new reply
-told_of IsTold number before after told code at reply old new is e f kept h =
+pub told_of : (IsTold : Diagnosis → Type 0) (number : ℕ) (before after : Option Diagnosis) (diagnosis : Diagnosis) (code : List ℕ) (at : ℕ)
+    (reply : LineReply) (old new : List ℕ) → IsTold diagnosis → code ≡ refusal_code diagnosis.refusal → at ≡ place_in_line diagnosis.refusal number
+    → after ≡ Some diagnosis → Adds (refused code at) old new reply → Answers (λ answer. TellsSource IsTold number before answer after) old new reply
+told_of IsTold number before after diagnosis code at reply old new is e f kept h =
     given reply (refused code at) (λ answer. TellsSource IsTold number before answer after) old new
-    (λ answer same. inr (told, is, same ∙ refused_as told.refusal number code at e f, kept)) h
+    (λ answer same. inr (diagnosis, is, same ∙ refused_as diagnosis.refusal number code at e f, kept)) h

@@ -1,6 +1,6 @@
 -- The first words of commands. (This project's own choice.)
-use Rattle.std.specs.Prelude.{ℕ, Bool, List, [], ◌∷◌, Option, find, codes}
-use Rattle.std.specs.Str.{bytes_eq}
+use Rattle.std.specs.Prelude.{ℕ, List, [], ◌∷◌, Option, find, codes}
+use Rattle.line_protocol.specs.Words.{is_spelled}
 use Rattle.operator_cmds.specs.declared.verb.Verb.{Verb}
 use Rattle.operator_cmds.specs.declared.verb.Verb.TheVariants.{Network, Prefix, Load, Code, Import, Export, Up, Down, Receive}
 use Rattle.operator_cmds.specs.declared.verb.Verb.TheVariants.{Take, Show, Routes, Neighbours, Told, History}
@@ -28,10 +28,6 @@ abbrev pub verbs : List Verb
 verbs = Network ∷ Prefix ∷ Load ∷ Code ∷ Import ∷ Export ∷ Up ∷ Down ∷ Receive ∷ Take ∷ Show ∷ Routes
     ∷ Neighbours ∷ Told ∷ History ∷ []
 
--- whether a verb is written so
-abbrev pub is_spelled : List ℕ → Verb → Bool
-is_spelled word verb = bytes_eq (verb_text verb) word
-
 -- the verb that is written so
 unfoldable pub verb_in : List ℕ → Option Verb
-verb_in word = find (is_spelled word) verbs
+verb_in word = find (is_spelled verb_text word) verbs

@@ -72,7 +72,7 @@ pub fn give_name(
 }
 
 /// Answers `load` and `code`: a source is verified for domains of a size, and gets a name. A refused one leaves the filter that the name
-/// has, and what is told of it is kept in `told`, which a verified one leaves.
+/// has, and what is told of it is kept in `diagnosis`, which a verified one leaves.
 pub fn name_source(
     alloc: Global,
     filters: &mut NamedFilters,
@@ -80,16 +80,16 @@ pub fn name_source(
     name: &[u8],
     source: FilterSource<'_>,
     size: u16,
-    told: &mut Option<Diagnosis>,
+    diagnosis: &mut Option<Diagnosis>,
     out: &mut Vec<u8>,
 ) -> Result<LineReply, AllocError>
     ensures ok { IfOk result (Answers (λ answer. spec.AnswersSource (spec.gives source.entry) (spec.lacks source.entry) size number name.now
         (filter_at filters.old) answer (filter_at filters.new)) out.old.items out.new.items) }
-    ensures told { IfOk result (Answers (λ answer. spec.TellsSource (spec.diagnoses source.entry size) number told.old answer told.new)
+    ensures diagnosis { IfOk result (Answers (λ answer. spec.TellsSource (spec.diagnoses source.entry size) number diagnosis.old answer diagnosis.new)
         out.old.items out.new.items) }
     ensures err { OnErr result (StartsWith out.new.items out.old.items) }
     ensures left { OnErr result (filters.new.entries ≡ filters.old.entries) }
-    ensures untold { OnErr result (told.new ≡ told.old) }
+    ensures untold { OnErr result (diagnosis.new ≡ diagnosis.old) }
 {
     match verify_source(alloc, source, size) {
         Ok(filter) => {
@@ -100,7 +100,7 @@ pub fn name_source(
         Err(Failure::Refused(refused)) => {
             let why = refused.refusal;
             let reply = refuse(out, why.code(), why.place_in_line(number))?;
-            *told = Some(refused);
+            *diagnosis = Some(refused);
             Ok(reply)
         }
         Err(Failure::Memory) => Err(AllocError),

@@ -34,7 +34,7 @@ pub use name::is_name;
 pub use plain::{PlainCommand, read_plain};
 pub use read::{read_code, read_command, read_load, read_node, read_node_prefix, read_small};
 pub use reply::{answer_reply, confirm, push_via, refuse};
-pub use watch::{Nobody, RefusedLine, Watch};
+pub use watch::{NoWatcher, RefusedLine, Watch};
 pub use words::{cut_word, one_word, text_in, three_words, two_words};
 
 /// The most entries that are told at once.

@@ -1,6 +1,8 @@
 //! The first word of a command.
-ghost use Rattle.std.specs.Prelude.{◌≡◌, find};
+ghost use Rattle.std.specs.Prelude.{◌≡◌};
 ghost use Rattle.operator_cmds.specs.Verbs as spec;
+
+use line_protocol::{Spelled, first_spelled};
 
 /// What a command does, as its first word says.
 #[derive(Clone, Copy, PartialEq, Eq)]
@@ -56,13 +58,12 @@ pub static VERBS: [Verb; 15] = [
     Verb::History,
 ];
 
-impl Verb {
+impl Spelled for Verb {
     ghost use Rattle.operator_cmds.specs.Verbs.{verb_text};
 
-    /// How it is written.
-    fn text(&self) -> &'static str
-        ensures { result.now ≡ verb_text self.now }
-    {
+    ghost spelling = { verb_text };
+
+    fn text(&self) -> &'static str {
         match self {
             Verb::Network => "network",
             Verb::Prefix => "prefix",
@@ -85,7 +86,7 @@ impl Verb {
 
 /// The verb that is written so. Those of the events that a script has most often, but for those of `read_plain`, are found at once.
 #[tactic(auto, unfolding(crate::specs::Verbs::verb_in))]
-pub fn read_verb(word: &[u8]) -> Option<Verb>
+pub(crate) fn read_verb(word: &[u8]) -> Option<Verb>
     ensures { spec.verb_in word.now ≡ result }
 {
     match word {
@@ -95,16 +96,4 @@ pub fn read_verb(word: &[u8]) -> Option<Verb>
         [b'e', b'x', b'p', b'o', b'r', b't'] => Some(Verb::Export),
         _ => first_spelled(&VERBS, word),
     }
-}
-
-/// The first of the verbs that is written so.
-fn first_spelled(verbs: &[Verb], word: &[u8]) -> Option<Verb>
-    ensures { find (spec.is_spelled word.now) verbs.now ≡ result }
-{
-    for verb in verbs {
-        if verb.text().as_bytes() == word {
-            return Some(*verb);
-        }
-    }
-    None
 }

@@ -18,7 +18,7 @@ pub struct RefusedLine<'a> {
     /// The filters that have names, if there can be any yet.
     pub filters: Option<&'a NamedFilters>,
     /// What is told of the last filter that was refused: of the one that this line gives, if the answer refuses that.
-    pub told: Option<Diagnosis>,
+    pub diagnosis: Option<Diagnosis>,
 }
 
 /// Somebody who watches a script.
@@ -29,8 +29,8 @@ pub trait Watch {
 
 /// Nobody watches.
 #[derive(Drop)]
-pub struct Nobody;
+pub struct NoWatcher;
 
-impl Watch for Nobody {
+impl Watch for NoWatcher {
     fn see_refused(&mut self, _alloc: Global, _refused: &RefusedLine<'_>) {}
 }

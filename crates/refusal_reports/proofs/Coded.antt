@@ -1,7 +1,7 @@
 -- What stands before a code that is behind some words.
 use Rattle.std.proofs.Common.{◌≡◌, ℕ, ◌+◌, ◌-◌, List, [], ◌∷◌, ◌++◌, codes, length, take, ap, sym, subst, ◌∙◌, append_assoc, arith, length-append}
 use Rattle.std.proofs.Math.Seq.{take-append_seam}
-use Rattle.filter_reports.specs.Explanations.{coded}
+use Rattle.refusal_words.specs.Explanations.{coded}
 
 front : (plain rest : List ℕ) (n : ℕ) → n ≡ length plain → take n (plain ++ rest) ≡ plain
 front plain rest n is = subst (λ (m : ℕ). take m (plain ++ rest) ≡ plain) (sym is) (take-append_seam plain rest)

@@ -3,8 +3,8 @@ use Rattle.std.specs.Prelude.{◌≡◌, ◌⊎◌, ℕ, Bool, List, Option, Som
 use Rattle.std.specs.Io.KnownBytes.{Appends, Keeps}
 use Rattle.std.specs.Option.{option_map}
 use Rattle.filter_reports.specs.Naming.{IsCutTelling, Named, TellsOf}
-use Rattle.filter_reports.specs.Places.{column_at, line_at}
-use Rattle.filter_reports.specs.Ranges.{EndsInRange}
+use Rattle.refusal_words.specs.Places.{column_at, line_at}
+use Rattle.refusal_words.specs.Ranges.{EndsInRange}
 use Rattle.filter_source.specs.Refusals.{refusal_code}
 use Rattle.filter_source.specs.declared.diagnosis.Diagnosis.{Diagnosis}
 use Rattle.line_protocol.specs.Runs.{AppendsFront}

@@ -1,13 +1,14 @@
 //! The line of JSON that says why a source is refused.
 ghost use Rattle.std.specs.Prelude.{◌≡◌, ℕ, List, IfOk, option_map};
-ghost use Rattle.filter_reports.specs.Explanations.{coded};
+ghost use Rattle.refusal_words.specs.Explanations.{coded};
 ghost use Rattle.filter_reports.specs.Naming.{named};
-ghost use Rattle.filter_reports.specs.Places.{column_at, line_at};
+ghost use Rattle.refusal_words.specs.Places.{column_at, line_at};
 ghost use Rattle.refusal_reports.specs.Refusing.{IsRefusalReport, refusal_view};
 ghost use Rattle.report_formats.specs.Reports.{report_line};
 
-use filter_reports::{NamedText, place_in, refusal_words};
+use filter_reports::NamedText;
 use filter_source::Diagnosis;
+use refusal_words::{place_in, refusal_words};
 use report_formats::{Report, Severity, push_report};
 use std::alloc::{AllocError, Global};
 

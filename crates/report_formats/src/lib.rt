@@ -20,3 +20,4 @@ pub use format::{Format, TestFormat};
 pub use laws::{attributes_are_closed, readable_text_is_kept};
 pub use part::{PartReport, push_part};
 pub use report::{Report, Severity, push_report};
+pub use text::{number_or_null, push_value, text_or_null, text_value};

@@ -11,7 +11,7 @@ use serde_json::Value;
 use std::alloc::{AllocError, Global};
 
 /// A text of these bytes.
-pub(crate) fn text_value(alloc: Global, bytes: &[u8]) -> Result<Value, AllocError>
+pub fn text_value(alloc: Global, bytes: &[u8]) -> Result<Value, AllocError>
     ensures { IfOk result (λ value. view value ≡ string (readable bytes.now)) }
 {
     let text = bytes.to_str_lossy(alloc)?;
@@ -19,7 +19,7 @@ pub(crate) fn text_value(alloc: Global, bytes: &[u8]) -> Result<Value, AllocErro
 }
 
 /// A text of these bytes, if there is one.
-pub(crate) fn text_or_null(alloc: Global, bytes: Option<&[u8]>) -> Result<Value, AllocError>
+pub fn text_or_null(alloc: Global, bytes: Option<&[u8]>) -> Result<Value, AllocError>
     ensures { IfOk result (λ value. view value ≡ text_or_null (option_map (λ text. text.now) bytes.entry)) }
 {
     match bytes {
@@ -29,7 +29,7 @@ pub(crate) fn text_or_null(alloc: Global, bytes: Option<&[u8]>) -> Result<Value,
 }
 
 /// A number, if there is one.
-pub(crate) fn number_or_null(number: Option<usize>) -> Value
+pub fn number_or_null(number: Option<usize>) -> Value
     ensures { view result ≡ number_or_null number }
 {
     match number {
@@ -39,7 +39,7 @@ pub(crate) fn number_or_null(number: Option<usize>) -> Value
 }
 
 /// Puts the line of a value without floats at the end of `out`.
-pub(crate) fn push_value(alloc: Global, out: &mut Vec<u8>, value: &Value) -> Result<(), AllocError>
+pub fn push_value(alloc: Global, out: &mut Vec<u8>, value: &Value) -> Result<(), AllocError>
     requires { has_float (view value.now) ≡ false }
     ensures { OnOk result (out.new.items ≡ out.old.items ++ json_line (view value.now)) }
 {

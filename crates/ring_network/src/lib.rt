@@ -1,7 +1,7 @@
 //! Three routers in a ring, each in threads of its own: the engine of the command `net`.
 //!
-//! **The engine of `net` is a crate of its own**, as the engines of `eval` and `check` are: an edit of it does not have the program's use of `clap`
-//! proved again.
+//! **The engine of `net` is a crate of its own**, as the engines of `eval` and `check` are: other programs can call `net_lines`, and an edit of it
+//! does not have the program's use of `clap` proved again.
 #![tactic(auto)]
 
 mod fault;

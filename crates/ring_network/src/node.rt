@@ -53,7 +53,7 @@ impl Side {
 
 /// A node and its two neighbours, the one of the lower number first.
 #[derive(Drop)]
-pub(crate) struct Node {
+pub(crate) struct RingNode {
     pub(crate) me: u16,
     pub(crate) low: Side,
     pub(crate) high: Side,
@@ -195,11 +195,11 @@ fn start_jobs<R: Wait>(
 pub(crate) fn run_node<R: Threads + Wait + Clock + Sync>(
     rt: &R,
     alloc: Global,
-    node: Node,
+    node: RingNode,
 ) -> Result<Journal, NetworkFault>
     ensures { IfOk result (IsJournalOf node.me) }
 {
-    let Node { me, low, high } = node;
+    let RingNode { me, low, high } = node;
     let (router, mut pass) = open(alloc, me)?;
     let jobs = start_jobs(rt, alloc, &router, &mut pass, low, high)?;
     let finished = run_sessions(rt, alloc, &router, jobs, &PacingGate, TURNS)?;

@@ -7,7 +7,7 @@ ghost use Rattle.std.specs.Prelude.{◌≡◌, IfErr, IfOk, IfSome, Ok};
 ghost use Rattle.ring_network.specs.Ring.{IsFirstFault, IsJournalOf};
 
 use crate::fault::NetworkFault;
-use crate::node::{Node, Side, run_node};
+use crate::node::{RingNode, Side, run_node};
 use route_history::Journal;
 use route_session::{ChannelLink, RunFault};
 use std::alloc::{AllocError, Global};
@@ -69,23 +69,23 @@ fn neighbours(alloc: Global, low: u16, high: u16) -> Result<(Side, Side), AllocE
 }
 
 /// The three nodes, with a channel from each to each other one.
-fn nodes(alloc: Global) -> Result<(Node, Node, Node), AllocError>
+fn nodes(alloc: Global) -> Result<(RingNode, RingNode, RingNode), AllocError>
     ensures { IfOk result (λ n. (n.0.me ≡ 0) × (n.1.me ≡ 1) × (n.2.me ≡ 2)) }
 {
     let (zero_of_one, one_of_zero) = neighbours(alloc, 0, 1)?;
     let (zero_of_two, two_of_zero) = neighbours(alloc, 0, 2)?;
     let (one_of_two, two_of_one) = neighbours(alloc, 1, 2)?;
-    let zero = Node {
+    let zero = RingNode {
         me: 0,
         low: one_of_zero,
         high: two_of_zero,
     };
-    let one = Node {
+    let one = RingNode {
         me: 1,
         low: zero_of_one,
         high: two_of_one,
     };
-    let two = Node {
+    let two = RingNode {
         me: 2,
         low: zero_of_two,
         high: one_of_two,

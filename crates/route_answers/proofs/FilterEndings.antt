@@ -44,23 +44,23 @@ module _ (text : List ℕ) (size : ℕ) (v : VerifiedView) (is : IsVerifiedOf si
       if_known known (λ input first. inr (inr first)) (first_meant known left held holds fault f)
 
 -- a refusal that is cut, whatever else there is to write
-cut : (Else : Type 0) (fault : StreamFault) (size : ℕ) (text input : List ℕ) (held holds : Option (List ℕ)) (told : Diagnosis)
-    → IsDiagnosis size false text told → IsCut fault held holds (refusal_line told.refusal)
+cut : (Else : Type 0) (fault : StreamFault) (size : ℕ) (text input : List ℕ) (held holds : Option (List ℕ)) (diagnosis : Diagnosis)
+    → IsDiagnosis size false text diagnosis → IsCut fault held holds (refusal_line diagnosis.refusal)
     → BreaksOff fault size text input (Some input) held holds Else
-cut Else stream.Read size text input held holds told r w = absurd w
-cut Else stream.Write size text input held holds told r w = inr (inl (told, r, refl, refl, w))
-cut Else stream.Memory size text input held holds told r w = inl (refl, refl, w)
-cut Else stream.TooLong size text input held holds told r w = absurd w
+cut Else stream.Read size text input held holds diagnosis r w = absurd w
+cut Else stream.Write size text input held holds diagnosis r w = inr (inl (diagnosis, r, refl, refl, w))
+cut Else stream.Memory size text input held holds diagnosis r w = inl (refl, refl, w)
+cut Else stream.TooLong size text input held holds diagnosis r w = absurd w
 
-pub cut_off : (Else : List ℕ → Type 0) (fault : StreamFault) (size : ℕ) (text : List ℕ) (known held holds : Option (List ℕ)) (told : Diagnosis)
-    → IsDiagnosis size false text told → IsCut fault held holds (refusal_line told.refusal)
+pub cut_off : (Else : List ℕ → Type 0) (fault : StreamFault) (size : ℕ) (text : List ℕ) (known held holds : Option (List ℕ)) (diagnosis : Diagnosis)
+    → IsDiagnosis size false text diagnosis → IsCut fault held holds (refusal_line diagnosis.refusal)
     → IfSome known (λ input. BreaksOff fault size text input known held holds (Else input))
-cut_off Else fault size text None held holds told r w = tt
-cut_off Else fault size text (Some input) held holds told r w = cut (Else input) fault size text input held holds told r w
+cut_off Else fault size text None held holds diagnosis r w = tt
+cut_off Else fault size text (Some input) held holds diagnosis r w = cut (Else input) fault size text input held holds diagnosis r w
 
 -- a filter that is refused
-pub refused_alone : (size : ℕ) (text : List ℕ) (known held holds : Option (List ℕ)) (told : Diagnosis)
-    → IsDiagnosis size false text told → Appends held holds (refusal_line told.refusal)
-    → IfSome known (λ input. Filters size text input known held holds (filtered.Refused told))
-refused_alone size text None held holds told r w = tt
-refused_alone size text (Some input) held holds told r w = (r, refl, w)
+pub refused_alone : (size : ℕ) (text : List ℕ) (known held holds : Option (List ℕ)) (diagnosis : Diagnosis)
+    → IsDiagnosis size false text diagnosis → Appends held holds (refusal_line diagnosis.refusal)
+    → IfSome known (λ input. Filters size text input known held holds (filtered.Refused diagnosis))
+refused_alone size text None held holds diagnosis r w = tt
+refused_alone size text (Some input) held holds diagnosis r w = (r, refl, w)

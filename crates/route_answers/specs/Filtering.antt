@@ -72,8 +72,8 @@ pub record AnswersFirst (answer_to : Line → Answer) (fault : StreamFault) (inp
 -- A run was answered to its end. A refused filter answers no route, and no line is read; otherwise each line is answered by what
 -- the text means for its route.
 abbrev pub Filters : ℕ → List ℕ → List ℕ → Option (List ℕ) → Option (List ℕ) → Option (List ℕ) → Filtered → Type 0
-Filters size text input left held holds (Refused told) =
-    IsDiagnosis size false text told × (left ≡ Some input) × Appends held holds (refusal_line told.refusal)
+Filters size text input left held holds (Refused diagnosis) =
+    IsDiagnosis size false text diagnosis × (left ≡ Some input) × Appends held holds (refusal_line diagnosis.refusal)
 Filters size text input left held holds (Answered refused) =
     (filter : FilterView) × IsFilterOf text size filter × AnswersEach (filter_answer filter size) input left held holds refused
 
@@ -81,8 +81,8 @@ Filters size text input left held holds (Answered refused) =
 abbrev pub BreaksOff : StreamFault → ℕ → List ℕ → List ℕ → Option (List ℕ) → Option (List ℕ) → Option (List ℕ) → Type 0 → Type 0
 BreaksOff fault size text input left held holds Else =
     ((fault ≡ Memory) × (left ≡ Some input) × Appends held holds [])
-    ⊎ (((told : Diagnosis) × IsDiagnosis size false text told × (fault ≡ Write) × (left ≡ Some input)
-    × AppendsFront held holds (refusal_line told.refusal))
+    ⊎ (((diagnosis : Diagnosis) × IsDiagnosis size false text diagnosis × (fault ≡ Write) × (left ≡ Some input)
+    × AppendsFront held holds (refusal_line diagnosis.refusal))
     ⊎ Else)
 
 -- It ended this one: if neither, the first lines were answered.

@@ -1,11 +1,11 @@
 -- The code that the routes of `eval` go through. (This project's own choice.)
 use Rattle.std.specs.Prelude.{Option, Some, None}
 use Rattle.filter_code.specs.CodeView.{CodeView}
-use Rattle.route_answers.specs.declared.judge.Stage.{Stage}
-use Rattle.route_answers.specs.declared.judge.Stage.TheVariants as stage
+use Rattle.route_answers.specs.declared.judge.CodeStage.{CodeStage}
+use Rattle.route_answers.specs.declared.judge.CodeStage.TheVariants as stage
 
 -- the code, once it has come
-abbrev pub code_at : Stage → Option CodeView
+abbrev pub code_at : CodeStage → Option CodeView
 code_at stage.Awaited = None
 code_at (stage.Untried code) = Some code
 code_at (stage.Checked code) = Some code

@@ -15,7 +15,7 @@ ghost use Rattle.filter_reports.specs.Faults.{stream_fault};
 use crate::judge::Judge;
 use crate::line_fault::LineFault;
 use crate::route_line::{read_usual, read_words};
-use crate::watch::{Nobody, RefusedRoute, WatchRoutes, WhyRefused};
+use crate::watch::{NoRouteWatcher, RefusedRoute, WatchRoutes, WhyRefused};
 use filter_code::Code;
 use filter_reports::ProgramFault;
 use filter_source::{Failure, check_length, read_hexadecimal};
@@ -77,15 +77,15 @@ impl<S: WatchRoutes + Drop> Evaluator<S> {
                 self.code = Judge::of(code);
                 Ok(LineReply::Answered)
             }
-            Err(Failure::Refused(told)) => {
-                let why = told.refusal;
+            Err(Failure::Refused(diagnosis)) => {
+                let why = diagnosis.refusal;
                 push_refusal(out, why.code(), why.place_in_line(number))?;
                 show(
                     alloc,
                     &mut self.watcher,
                     number,
                     line,
-                    WhyRefused::Code(told),
+                    WhyRefused::Code(diagnosis),
                 );
                 Ok(LineReply::Ended)
             }
@@ -179,7 +179,7 @@ pub fn eval_lines<R: Read, W: Write>(
     ensures broken_off { IfErr result (λ fault. IfSome (R.remaining reader.old) (λ input.
         Breaks (stream_fault fault) input (R.remaining reader.new) (W.contents writer.old) (W.contents writer.new))) }
 {
-    eval_watched_lines(alloc, reader, writer, Nobody)
+    eval_watched_lines(alloc, reader, writer, NoRouteWatcher)
 }
 
 /// Does what `eval_lines` does, and shows each line that is refused to who watches.

@@ -19,7 +19,7 @@ use std::mem::replace;
 
 /// How far the code of a run of `eval` is.
 #[derive(Drop)]
-enum Stage {
+enum CodeStage {
     /// It has not come.
     Awaited,
     /// It is to be verified when the first route comes.
@@ -39,7 +39,7 @@ enum Stage {
 /// alone, since both machines say the same of a route.
 #[derive(Drop)]
 pub(crate) struct Judge {
-    stage: Stage,
+    stage: CodeStage,
 }
 
 impl Model for Judge {
@@ -58,7 +58,7 @@ impl Judge {
         ensures { result ≡ None }
     {
         Judge {
-            stage: Stage::Awaited,
+            stage: CodeStage::Awaited,
         }
     }
 
@@ -68,9 +68,9 @@ impl Judge {
     {
         // One instruction ends before a call of the other machine would have begun.
         let stage = if code.instrs().len() > 1 {
-            Stage::Untried(code)
+            CodeStage::Untried(code)
         } else {
-            Stage::Checked(code)
+            CodeStage::Checked(code)
         };
         Judge { stage }
     }
@@ -80,7 +80,7 @@ impl Judge {
     pub(crate) fn is_awaiting(&self) -> bool
         ensures { is_some self.now ≡ not result }
     {
-        matches!(&self.stage, Stage::Awaited)
+        matches!(&self.stage, CodeStage::Awaited)
     }
 
     /// Puts the line of what the code says of a route at the end of `out`; nothing if the code has not come.
@@ -97,14 +97,14 @@ impl Judge {
         ensures err { OnErr result (StartsWith out.new.items out.old.items) }
         ensures kept { self.new ≡ self.old }
     {
-        if let Stage::AllSizes(all) = &self.stage {
+        if let CodeStage::AllSizes(all) = &self.stage {
             return push_for_all_sizes(out, all, route);
         }
         // Who takes a route by its address is given a copy, so that the route above is never written to memory.
         let copy = *route;
         match &self.stage {
-            Stage::Checked(code) => push_checked(out, code, &copy),
-            Stage::OneSize(verified) => push_for_one_size(out, verified, &copy),
+            CodeStage::Checked(code) => push_checked(out, code, &copy),
+            CodeStage::OneSize(verified) => push_for_one_size(out, verified, &copy),
             _ => self.answer_rarely(alloc, &copy, out),
         }
     }
@@ -121,38 +121,38 @@ impl Judge {
         ensures err { OnErr result (StartsWith out.new.items out.old.items) }
         ensures kept { self.new ≡ self.old }
     {
-        if matches!(&self.stage, Stage::Untried(_)) {
-            self.settle(alloc, route.size());
+        if matches!(&self.stage, CodeStage::Untried(_)) {
+            self.verify_stage(alloc, route.size());
         }
         match &self.stage {
-            Stage::Awaited => Ok(()),
-            Stage::Untried(code) | Stage::Checked(code) => push_checked(out, code, route),
-            Stage::OneSize(verified) => push_for_one_size(out, verified, route),
-            Stage::AllSizes(all) => push_for_all_sizes(out, all, route),
+            CodeStage::Awaited => Ok(()),
+            CodeStage::Untried(code) | CodeStage::Checked(code) => push_checked(out, code, route),
+            CodeStage::OneSize(verified) => push_for_one_size(out, verified, route),
+            CodeStage::AllSizes(all) => push_for_all_sizes(out, all, route),
         }
     }
 
     /// Verifies the code, if that is still to be tried.
     #[cold]
     #[inline(never)]
-    fn settle(&mut self, alloc: Global, size: u32)
+    fn verify_stage(&mut self, alloc: Global, size: u32)
         ensures { self.new ≡ self.old }
     {
-        self.stage = settled(alloc, replace(&mut self.stage, Stage::Awaited), size);
+        self.stage = verified_stage(alloc, replace(&mut self.stage, CodeStage::Awaited), size);
     }
 }
 
 /// The same code, verified for domains of all sizes if it is accepted so, and otherwise for those of the given size if the verifier
 /// accepts that.
-fn settled(alloc: Global, stage: Stage, size: u32) -> Stage
+fn verified_stage(alloc: Global, stage: CodeStage, size: u32) -> CodeStage
     ensures { code_at result ≡ code_at stage }
 {
     match stage {
-        Stage::Untried(code) => match ForAllSizes::verify(alloc, code) {
-            Ok(all) => Stage::AllSizes(all),
+        CodeStage::Untried(code) => match ForAllSizes::verify(alloc, code) {
+            Ok(all) => CodeStage::AllSizes(all),
             Err(code) => match verify(alloc, code, size) {
-                Ok(verified) => Stage::OneSize(verified),
-                Err((code, _)) => Stage::Checked(code),
+                Ok(verified) => CodeStage::OneSize(verified),
+                Err((code, _)) => CodeStage::Checked(code),
             },
         },
         other => other,

@@ -1,5 +1,7 @@
 //! What answers routes: the engines of `eval` and `filter`. Each is generic over its reader and writer, and its contract says what it
 //! reads and writes.
+//!
+//! **`eval_lines` is a call of this library**, and not of the program `ncroute`, so that other programs can make it.
 #![tactic(auto)]
 
 mod all_sizes;
@@ -10,9 +12,9 @@ mod laws;
 mod line_fault;
 mod route_line;
 mod route_words;
-mod told_routes;
 mod verdict_line;
 mod watch;
+mod watched_routes;
 
 pub use eval::{eval_lines, eval_watched_lines};
 pub use filter::{Filtered, ROUTES_LIMIT};
@@ -22,5 +24,5 @@ pub use laws::{
 };
 pub use line_fault::LineFault;
 pub use route_line::read_route;
-pub use told_routes::{Routes, eval_named, filter_named};
-pub use watch::{Nobody, RefusedRoute, WatchRoutes, WhyRefused};
+pub use watch::{NoRouteWatcher, RefusedRoute, WatchRoutes, WhyRefused};
+pub use watched_routes::{Routes, eval_named, filter_named};

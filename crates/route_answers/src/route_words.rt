@@ -1,21 +1,21 @@
 //! What is wrong with a line that gives no route, in words.
 ghost use Rattle.std.specs.Prelude.{◌≡◌, [], None, IfOk, codes};
-ghost use Rattle.filter_reports.specs.Explanations.{told_at};
-ghost use Rattle.route_answers.specs.ToldRoutes.{TellsLine, TellsRoute, no_code_words};
+ghost use Rattle.refusal_words.specs.Explanations.{explained_at};
+ghost use Rattle.route_answers.specs.WatchedRoutes.{TellsLine, TellsRoute, no_code_words};
 
 use crate::line_fault::LineFault;
 use crate::watch::{RefusedRoute, WhyRefused};
 use filter_code::{LARGEST_SIZE, SMALLEST_SIZE};
-use filter_reports::{
-    IPV6, byte_of_word, count_words, explain_line, push_shown, spelled, tell_at, word_at,
-};
 use line_protocol::{LINE_LIMIT, NUMBER_LIMIT};
 use prefix_patterns::read_number;
+use refusal_words::{
+    IPV6, byte_of_word, count_words, explain_line, push_shown, spelled, tell_at, word_at,
+};
 use std::alloc::{AllocError, Global};
 
 /// What is wrong with a line, and where.
 #[derive(Drop)]
-struct Finding {
+struct RouteFinding {
     /// In words. What they repeat of the line stands in them as it is.
     words: String,
     /// The byte of the line at which it is, if the line is to be shown.
@@ -23,8 +23,8 @@ struct Finding {
 }
 
 /// Words about the word of this index of a line, or about the line's end where it has fewer words.
-fn found_at(line: &[u8], index: usize, words: String) -> Finding {
-    Finding {
+fn found_at(line: &[u8], index: usize, words: String) -> RouteFinding {
+    RouteFinding {
         words,
         byte: Some(byte_of_word(line, index)),
     }
@@ -39,7 +39,11 @@ fn form_of(size: Option<u32>) -> (&'static str, usize) {
 }
 
 /// That a line has not the words of a route.
-fn count_finding(alloc: Global, line: &[u8], size: Option<u32>) -> Result<Finding, AllocError> {
+fn count_finding(
+    alloc: Global,
+    line: &[u8],
+    size: Option<u32>,
+) -> Result<RouteFinding, AllocError> {
     let (form, wanted) = form_of(size);
     let count = count_words(line, wanted);
     if count > wanted {
@@ -52,7 +56,7 @@ fn count_finding(alloc: Global, line: &[u8], size: Option<u32>) -> Result<Findin
 }
 
 /// What is wrong with a word that is no prefix.
-fn prefix_finding(alloc: Global, line: &[u8]) -> Result<Finding, AllocError> {
+fn prefix_finding(alloc: Global, line: &[u8]) -> Result<RouteFinding, AllocError> {
     let word = word_at(line, 0);
     let words = if word.contains(&b':') {
         String::from_str(alloc, IPV6)?
@@ -73,7 +77,11 @@ fn digit_words(alloc: Global, word: &[u8]) -> Result<String, AllocError> {
 }
 
 /// What is wrong with the numbers of a line.
-fn number_finding(alloc: Global, line: &[u8], size: Option<u32>) -> Result<Finding, AllocError> {
+fn number_finding(
+    alloc: Global,
+    line: &[u8],
+    size: Option<u32>,
+) -> Result<RouteFinding, AllocError> {
     let metric = word_at(line, 1);
     let Some(metric) = read_number(metric, NUMBER_LIMIT) else {
         return Ok(found_at(line, 1, digit_words(alloc, metric)?));
@@ -90,7 +98,7 @@ fn metric_finding(
     line: &[u8],
     metric: u32,
     size: u32,
-) -> Result<Finding, AllocError> {
+) -> Result<RouteFinding, AllocError> {
     let words = format!(in alloc;
         "in a domain of {size} nodes a metric is at most {size}, and this one is {metric}"
     )?;
@@ -98,7 +106,7 @@ fn metric_finding(
 }
 
 /// What is wrong with the size of a line, or with its metric for that size.
-fn size_finding(alloc: Global, line: &[u8], metric: u32) -> Result<Finding, AllocError> {
+fn size_finding(alloc: Global, line: &[u8], metric: u32) -> Result<RouteFinding, AllocError> {
     let word = word_at(line, 2);
     let Some(size) = read_number(word, NUMBER_LIMIT) else {
         return Ok(found_at(line, 2, digit_words(alloc, word)?));
@@ -113,9 +121,9 @@ fn size_finding(alloc: Global, line: &[u8], metric: u32) -> Result<Finding, Allo
 }
 
 /// That a line is too long. It is not shown.
-fn length_finding(alloc: Global, line: &[u8]) -> Result<Finding, AllocError> {
+fn length_finding(alloc: Global, line: &[u8]) -> Result<RouteFinding, AllocError> {
     let count = line.len();
-    Ok(Finding {
+    Ok(RouteFinding {
         words: format!(in alloc; "the line has {count} bytes, and at most {LINE_LIMIT} are read")?,
         byte: None,
     })
@@ -127,7 +135,7 @@ fn find_fault(
     line: &[u8],
     size: Option<u32>,
     fault: LineFault,
-) -> Result<Finding, AllocError> {
+) -> Result<RouteFinding, AllocError> {
     match fault {
         LineFault::Words => count_finding(alloc, line, size),
         LineFault::Numbers => number_finding(alloc, line, size),
@@ -162,7 +170,7 @@ fn tell_route(
 
 /// That no line gives code, for people.
 fn tell_no_code(alloc: Global, name: &[u8]) -> Result<Vec<u8>, AllocError>
-    ensures { IfOk result (λ out. out.items ≡ told_at name.now None [] no_code_words (codes "O1") None) }
+    ensures { IfOk result (λ out. out.items ≡ explained_at name.now None [] no_code_words (codes "O1") None) }
 {
     let words = b"there is no code: the first line is a code file in hexadecimal".as_slice();
     let code = LineFault::Words.code();
@@ -180,7 +188,7 @@ pub(crate) fn explain_route(
     let (number, line) = (refused.number, refused.line);
     match &refused.why {
         WhyRefused::Route(fault) => tell_route(alloc, name, refused, *fault),
-        WhyRefused::Code(told) => explain_line(alloc, name, number, line, line, told),
+        WhyRefused::Code(diagnosis) => explain_line(alloc, name, number, line, line, diagnosis),
         WhyRefused::NoCode => tell_no_code(alloc, name),
     }
 }

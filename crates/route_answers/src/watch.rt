@@ -41,8 +41,8 @@ pub trait WatchRoutes {
 
 /// Nobody watches.
 #[derive(Drop)]
-pub struct Nobody;
+pub struct NoRouteWatcher;
 
-impl WatchRoutes for Nobody {
+impl WatchRoutes for NoRouteWatcher {
     fn see_refused(&mut self, _alloc: Global, _refused: &RefusedRoute<'_>) {}
 }

@@ -17,7 +17,7 @@ use Rattle.netchange_core.specs.World.{World}
 use Rattle.route_feed.specs.declared.fault.FeedFault.{FeedFault}
 use Rattle.route_feed.specs.declared.fault.FeedFault.TheVariants as fault
 use Rattle.route_feed.specs.declared.hop.Hop.{Hop}
-use Rattle.route_feed.specs.declared.look.Look.{Look}
+use Rattle.route_feed.specs.declared.look.FeedSnapshot.{FeedSnapshot}
 use Rattle.route_feed.specs.Changes.{are_same_below, changes_below}
 use Rattle.route_feed.specs.Feeding.{AreMoments, FeedView, Got, HasFed, IsMoment, IsSpoken, Tells, is_none_before, seen_by, table_after}
 use Rattle.route_feed.specs.Lines.{Block, block_text, feed_text, gathered}
@@ -99,8 +99,8 @@ pub still_fed : (r : RouterView) (old new : PassView) → Begins old.fragment.se
 still_fed r old new begins f h = fed_longer (seen_by r old) new.fragment.seen begins f h
 
 -- a look that was found
-pub look_found : (j : JournalView) (found : Option Look) (look : Look) → found ≡ Some look → IfSome found (IsLook j) → IsLook j look
-look_found j found look is h = subst (λ (o : Option Look). IfSome o (IsLook j)) is h
+pub look_found : (j : JournalView) (found : Option FeedSnapshot) (look : FeedSnapshot) → found ≡ Some look → IfSome found (IsLook j) → IsLook j look
+look_found j found look is h = subst (λ (o : Option FeedSnapshot). IfSome o (IsLook j)) is h
 
 -- the nearest node by the same routes
 nearest_same : (size : ℕ) (prefix : ℕ → List Bool) (one two : ℕ → BestRoute) (p : List Bool) (n : ℕ) →
@@ -162,7 +162,7 @@ new_fed o opened size first stream hops j opened_is size_is first_is nowhere =
     }
 
 -- a look at a router, and a feed that told of its history
-module _ (f : FeedView) (j : JournalView) (same : j.opening ≡ f.opening) (member : f.opening.me < f.opening.size) (look : Look)
+module _ (f : FeedView) (j : JournalView) (same : j.opening ≡ f.opening) (member : f.opening.me < f.opening.size) (look : FeedSnapshot)
     (looks : IsLook j look) (fed : HasFed f j) where
   abbrev its_world : World
   its_world = world_of j.opening j.entries
@@ -327,7 +327,7 @@ spoke f g b hops end speaks (Ok n) at h = λ _. record { block = b; at = at ∙ 
 spoke f g b hops end speaks (Err why) at h = tt
 
 -- the same, as the code has it: by the size and the prefixes that it read
-module _ (f g : FeedView) (j : JournalView) (same : j.opening ≡ f.opening) (member : f.opening.me < f.opening.size) (look : Look)
+module _ (f g : FeedView) (j : JournalView) (same : j.opening ≡ f.opening) (member : f.opening.me < f.opening.size) (look : FeedSnapshot)
     (looks : IsLook j look) (fed : HasFed f j)
     (prefixes : List (List Bool)) (size : ℕ) (routes : List BestRoute) (hops : List (Option Hop)) (prefixes_are : prefixes ≡ f.opening.prefixes)
     (size_is : size ≡ f.opening.size) (routes_are : routes ≡ look.routes.items)

@@ -3,7 +3,7 @@ use Rattle.std.specs.Prelude.{◌≡◌, ℕ, ◌+◌, ◌<◌, List, length}
 use Rattle.netchange_core.specs.declared.best_route.BestRoute.{BestRoute}
 use Rattle.netchange_core.specs.Best.{best}
 use Rattle.netchange_core.specs.World.{World}
-use Rattle.route_feed.specs.declared.look.Look.{Look}
+use Rattle.route_feed.specs.declared.look.FeedSnapshot.{FeedSnapshot}
 use Rattle.route_feed.specs.Table.{route_at}
 use Rattle.route_history.specs.History.{world_of}
 use Rattle.route_history.specs.JournalView.{JournalView}
@@ -15,12 +15,12 @@ pub record AreRoutes (w : World) (routes : List BestRoute) : Type 0 where
   pub each : (v : ℕ) → v < w.opening.size → route_at routes v ≡ best w v
 
 -- a journal as it was read: how many entries its history has, and the routes of its tables
-pub record IsRead (j : LongView) (look : Look) : Type 0 where
+pub record IsRead (j : LongView) (look : FeedSnapshot) : Type 0 where
   pub end : look.end ≡ j.first + length j.entries
   pub routes : AreRoutes j.tables look.routes.items
 
 -- the routes after the whole history, and how many entries it has
-pub record IsLook (j : JournalView) (look : Look) : Type 0 where
+pub record IsLook (j : JournalView) (look : FeedSnapshot) : Type 0 where
   pub end : look.end ≡ length j.entries
   pub opening : (world_of j.opening j.entries).opening ≡ j.opening
   pub routes : AreRoutes (world_of j.opening j.entries) look.routes.items

@@ -12,7 +12,7 @@ ghost use Rattle.slot_lock.specs.Passes.{IsOwn, IsPassOf};
 use crate::fault::FeedFault;
 use crate::hop::Hop;
 use crate::lines::{are_same, block_of};
-use crate::look::{Look, Looking};
+use crate::look::{FeedReader, FeedSnapshot};
 use crate::table::hops_of;
 use line_protocol::write_text;
 use netchange_core::Opening;
@@ -170,7 +170,12 @@ impl<V: Write + Drop> Feed<V> {
     }
 
     /// Tells what is new by a look, and that nothing is where it is to speak.
-    fn tell_look(&mut self, alloc: Global, look: &Look, speaks: bool) -> Result<u64, FeedFault>
+    fn tell_look(
+        &mut self,
+        alloc: Global,
+        look: &FeedSnapshot,
+        speaks: bool,
+    ) -> Result<u64, FeedFault>
         requires goes_on { self.old.is_broken ≡ false }
         requires count { length look.now.routes.items ≡ self.old.opening.size }
         ensures opening { self.new.opening ≡ self.old.opening }
@@ -226,7 +231,7 @@ impl<V: Write + Drop> Feed<V> {
         if self.is_broken {
             return Err(FeedFault::Write);
         }
-        let mut looking = Looking { alloc, look: None };
+        let mut looking = FeedReader { alloc, look: None };
         router.observe(rt, pass, &mut looking);
         match looking.look() {
             Some(look) => self.tell_look(alloc, &look, speaks),

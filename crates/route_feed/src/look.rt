@@ -9,7 +9,7 @@ use std::alloc::{AllocError, Global};
 
 /// What is read of a router at once, while its callers wait: as little as tells the table.
 #[derive(Drop)]
-pub(crate) struct Look {
+pub(crate) struct FeedSnapshot {
     /// How many entries its history has.
     pub(crate) end: u64,
     /// The best route to each node.
@@ -29,7 +29,7 @@ fn read_routes(alloc: Global, tables: &Tables) -> Result<Vec<BestRoute>, AllocEr
 }
 
 /// What is told of a router, as its journal stands.
-fn read_look(alloc: Global, journal: &LongJournal) -> Result<Look, AllocError>
+fn read_look(alloc: Global, journal: &LongJournal) -> Result<FeedSnapshot, AllocError>
     ensures { IfOk result (IsRead journal.now) }
 {
     // No history has more entries than a position can tell.
@@ -37,28 +37,28 @@ fn read_look(alloc: Global, journal: &LongJournal) -> Result<Look, AllocError>
         return Err(AllocError);
     };
     let routes = read_routes(alloc, journal.tables())?;
-    Ok(Look { end, routes })
+    Ok(FeedSnapshot { end, routes })
 }
 
 /// Who looks.
 #[derive(Drop)]
-pub(crate) struct Looking {
+pub(crate) struct FeedReader {
     pub(crate) alloc: Global,
     /// What was read, unless memory was refused.
-    pub(crate) look: Option<Look>,
+    pub(crate) look: Option<FeedSnapshot>,
 }
 
-impl Looking {
+impl FeedReader {
     /// What was read, unless memory was refused.
-    pub(crate) fn look(self) -> Option<Look>
+    pub(crate) fn look(self) -> Option<FeedSnapshot>
         ensures { result ≡ self.look }
     {
-        let Looking { look, .. } = self;
+        let FeedReader { look, .. } = self;
         look
     }
 }
 
-impl Observer for Looking {
+impl Observer for FeedReader {
     ghost use Rattle.std.specs.Prelude.{IfSome};
     ghost use Rattle.route_feed.specs.Looks.{IsLook};
 

@@ -5,10 +5,10 @@ use Rattle.std.proofs.lemmas.List.Elements.{All-nil, All-cons}
 use Rattle.route_session.specs.declared.job.Finished.{Finished}
 use Rattle.route_session.specs.declared.job.Job.{Job}
 use Rattle.route_session.specs.Jobs.{AreBack, AreFinished}
-use Rattle.route_session.specs.Told.{Told}
+use Rattle.route_session.specs.LinkTrace.{LinkTrace}
 use Rattle.slot_lock.specs.Passes.{IsPassOf, RouterView}
 
-module _ {L : Type 0} (told : L → Told) (may : ℕ → ℕ → Bool → Type 0) (turns : ℕ) (r : RouterView) where
+module _ {L : Type 0} (told : L → LinkTrace) (may : ℕ → ℕ → Bool → Type 0) (turns : ℕ) (r : RouterView) where
   -- each job that was done gives back a pass of its router
   come_back : (first : ℕ) (jobs : List (Job L)) (finished : List (Finished L)) → AreFinished told may turns r first jobs finished
       → AreBack r finished

@@ -4,10 +4,10 @@ use Rattle.std.proofs.lemmas.List.{length-take-le, take-append-drop}
 use Rattle.route_session.specs.declared.job.Finished.{Finished}
 use Rattle.route_session.specs.declared.job.Job.{Job}
 use Rattle.route_session.specs.Jobs.{AreFinished, IsFinished}
-use Rattle.route_session.specs.Told.{Told}
+use Rattle.route_session.specs.LinkTrace.{LinkTrace}
 use Rattle.slot_lock.specs.Passes.{RouterView}
 
-module _ {L : Type 0} (told : L → Told) (may : ℕ → ℕ → Bool → Type 0) (turns : ℕ) (r : RouterView) where
+module _ {L : Type 0} (told : L → LinkTrace) (may : ℕ → ℕ → Bool → Type 0) (turns : ℕ) (r : RouterView) where
   joined : (first next : ℕ) (xs xs' : List (Job L)) (ys ys' : List (Finished L)) → next ≡ first + length xs
       → AreFinished told may turns r first xs ys → AreFinished told may turns r next xs' ys'
       → AreFinished told may turns r first (xs ++ xs') (ys ++ ys')

@@ -6,6 +6,6 @@ mod Leaving
 mod Planning
 mod Reading
 mod Rows
-mod Told
+mod LinkTrace
 mod Turning
 mod Writing

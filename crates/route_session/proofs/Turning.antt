@@ -7,7 +7,7 @@ use Rattle.route_session.specs.declared.ends.Cause.{Cause}
 use Rattle.route_session.specs.declared.ends.Cause.TheVariants as cause
 use Rattle.route_session.specs.declared.link.Got.TheVariants as got
 use Rattle.route_session.specs.Links.{Received}
-use Rattle.route_session.specs.Told.{Told, counted}
+use Rattle.route_session.specs.LinkTrace.{LinkTrace, counted}
 use Rattle.route_session.specs.Turns.{Asked, ReadsByTurns, TakesByTurns, uncounted_read, uncounted_take}
 use Rattle.slot_lock.specs.declared.answer.Answer.{Answer}
 use Rattle.slot_lock.specs.Calls.{Answered}
@@ -41,15 +41,15 @@ went may turn goes a goes_on = record {
 }
 
 -- a reader's turns so far, each of which is in a count
-pub record ReadSoFar (may : ℕ → Bool → Type 0) (turns entered : ℕ) (t u : Told) : Type 0 where
+pub record ReadSoFar (may : ℕ → Bool → Type 0) (turns entered : ℕ) (t u : LinkTrace) : Type 0 where
   pub nothings : ℕ
   pub told : u.nothings ≡ counted t.nothings nothings
   pub asked : Asked may turns (entered + nothings)
 
-pub no_turn_read : (may : ℕ → Bool → Type 0) (t : Told) → ReadSoFar may 0 0 t t
+pub no_turn_read : (may : ℕ → Bool → Type 0) (t : LinkTrace) → ReadSoFar may 0 0 t t
 no_turn_read may t = record { nothings = 0; told = counted_none t.nothings; asked = asked_none may }
 
-pub read_held_back : (may : ℕ → Bool → Type 0) (turn entered : ℕ) (t u : Told) → ReadSoFar may turn entered t u → may turn false →
+pub read_held_back : (may : ℕ → Bool → Type 0) (turn entered : ℕ) (t u : LinkTrace) → ReadSoFar may turn entered t u → may turn false →
     ReadSoFar may (turn + 1) entered t u
 read_held_back may turn entered t u r held = record {
   nothings = r.nothings;
@@ -57,28 +57,28 @@ read_held_back may turn entered t u r held = record {
   asked = held_back may turn (entered + r.nothings) r.asked held;
 }
 
-pub read_nothing : (may : ℕ → Bool → Type 0) (turn entered : ℕ) (t u v : Told) → ReadSoFar may turn entered t u → may turn true →
+pub read_nothing : (may : ℕ → Bool → Type 0) (turn entered : ℕ) (t u v : LinkTrace) → ReadSoFar may turn entered t u → may turn true →
     Received u (Ok got.Nothing) v → ReadSoFar may (turn + 1) entered t v
 read_nothing may turn entered t u v r goes_on g =
     let sum : (entered + r.nothings) + 1 ≡ entered + (r.nothings + 1) = omega arith in
     record {
       nothings = r.nothings + 1;
-      told = ap (λ (w : Told). w.nothings) g.1 ∙ ap (λ (o : Option ℕ). counted o 1) r.told ∙ counted_more t.nothings r.nothings;
+      told = ap (λ (w : LinkTrace). w.nothings) g.1 ∙ ap (λ (o : Option ℕ). counted o 1) r.told ∙ counted_more t.nothings r.nothings;
       asked = subst (λ (n : ℕ). Asked may (turn + 1) n) sum (went may turn (entered + r.nothings) r.asked goes_on);
     }
 
-pub read_message : (may : ℕ → Bool → Type 0) (turn entered : ℕ) (t u v : Told) (m : Message) → ReadSoFar may turn entered t u →
+pub read_message : (may : ℕ → Bool → Type 0) (turn entered : ℕ) (t u v : LinkTrace) (m : Message) → ReadSoFar may turn entered t u →
     may turn true → Received u (Ok (got.Message m)) v → ReadSoFar may (turn + 1) (entered + 1) t v
 read_message may turn entered t u v m r goes_on g =
     let sum : (entered + r.nothings) + 1 ≡ (entered + 1) + r.nothings = omega arith in
     record {
       nothings = r.nothings;
-      told = ap (λ (w : Told). w.nothings) g.1 ∙ r.told;
+      told = ap (λ (w : LinkTrace). w.nothings) g.1 ∙ r.told;
       asked = subst (λ (n : ℕ). Asked may (turn + 1) n) sum (went may turn (entered + r.nothings) r.asked goes_on);
     }
 
 -- where a reader ends: after turns that are all in a count, or at one that is in none
-pub read_so_far : (may : ℕ → Bool → Type 0) (turns used entered : ℕ) (t u : Told) (why : Cause) → uncounted_read why ≡ 0 →
+pub read_so_far : (may : ℕ → Bool → Type 0) (turns used entered : ℕ) (t u : LinkTrace) (why : Cause) → uncounted_read why ≡ 0 →
     used ≤ turns → (why ≡ cause.Turns → used ≡ turns) → ReadSoFar may used entered t u → ReadsByTurns may turns why entered t u
 read_so_far may turns used entered t u why counted_all within all r =
     let sum : entered + r.nothings ≡ entered + r.nothings + uncounted_read why = omega arith in
@@ -91,7 +91,7 @@ read_so_far may turns used entered t u why counted_all within all r =
       asked = subst (λ (n : ℕ). Asked may used n) sum r.asked;
     }
 
-pub read_cut_off : (may : ℕ → Bool → Type 0) (turns turn entered : ℕ) (t u v : Told) (why : Cause) → uncounted_read why ≡ 1 →
+pub read_cut_off : (may : ℕ → Bool → Type 0) (turns turn entered : ℕ) (t u v : LinkTrace) (why : Cause) → uncounted_read why ≡ 1 →
     turn < turns → ReadSoFar may turn entered t u → may turn true → v.nothings ≡ u.nothings → ReadsByTurns may turns why entered t v
 read_cut_off may turns turn entered t u v why uncounted within r goes_on same =
     let sum : (entered + r.nothings) + 1 ≡ entered + r.nothings + uncounted_read why = omega arith in

@@ -20,21 +20,21 @@ use Rattle.route_session.specs.declared.ends.WriteEnd.{WriteEnd}
 use Rattle.route_session.specs.Calls.{IsFresh, StaysSound, stale, take}
 use Rattle.route_session.specs.declared.link.LinkFault.{LinkFault}
 use Rattle.route_session.specs.Links.{Sent}
-use Rattle.route_session.specs.Told.{Rose, Told, grown, refuse, refuse_first}
-use Rattle.route_session.specs.Writes.{Hands, LeavesOut, Takes, Writes, carried_by, told_by, told_of}
+use Rattle.route_session.specs.LinkTrace.{Rose, LinkTrace, grown, refuse, refuse_first}
+use Rattle.route_session.specs.Writes.{Hands, LeavesOut, Takes, Writes, carried_by, told_by, messages_sent}
 use Rattle.route_session.proofs.Gaining.{IsCalled, fresh_more, gained_none, gained_one, gained_refused, sound_one}
-use Rattle.route_session.proofs.Told.{grown_none, grown_more}
+use Rattle.route_session.proofs.LinkTrace.{grown_none, grown_more}
 use Rattle.slot_lock.specs.declared.answer.Answer.{Answer}
 use Rattle.slot_lock.specs.Calls.{Answered, Refused}
 use Rattle.slot_lock.specs.Passes.{IsPassOf, PassView, RouterView}
 
 -- of nothing nothing is told
-told_none : (b : Bool) → told_of b [] ≡ []
+told_none : (b : Bool) → messages_sent b [] ≡ []
 told_none false = refl
 told_none true = refl
 
 -- so many messages were accepted so far, so many were left out, and none is left
-pub record IsWriting (b : Bool) (r : RouterView) (session : ℕ) (old : PassView) (t : Told) (n k : ℕ) (new : PassView) (u : Told) : Type 0 where
+pub record IsWriting (b : Bool) (r : RouterView) (session : ℕ) (old : PassView) (t : LinkTrace) (n k : ℕ) (new : PassView) (u : LinkTrace) : Type 0 where
   pub calls : List Entry
   pub accepted : List Message
   pub writes : Writes b session old.fragment t calls accepted [] new.fragment u
@@ -45,7 +45,7 @@ pub record IsWriting (b : Bool) (r : RouterView) (session : ℕ) (old : PassView
   pub failures : u.failures ≡ t.failures
   pub sound : StaysSound r old new
 
-pub begins_writing : (b : Bool) (r : RouterView) (session : ℕ) (p : PassView) (t : Told) → IsPassOf r p → IsWriting b r session p t 0 0 p t
+pub begins_writing : (b : Bool) (r : RouterView) (session : ℕ) (p : PassView) (t : LinkTrace) → IsPassOf r p → IsWriting b r session p t 0 0 p t
 begins_writing b r session p t of = record {
   calls = [];
   accepted = [];
@@ -86,10 +86,10 @@ count_more calls e k n dropped told unsent before now within =
     omega (arith, before, now, within, all)
 
 -- messages were taken, and given to the link as far as it accepted them
-taken_one : (b : Bool) (r : RouterView) (session : ℕ) (old : PassView) (t : Told) (n k : ℕ) (p q : PassView) (u v : Told) (a : Answer)
+taken_one : (b : Bool) (r : RouterView) (session : ℕ) (old : PassView) (t : LinkTrace) (n k : ℕ) (p q : PassView) (u v : LinkTrace) (a : Answer)
     (unsent : List Message)
     (i : IsWriting b r session old t n k p u) → Answered r p (take session) a q → IsCalled r p q →
-    (h : Hands u (told_of b (carried a.reply)) unsent v) →
+    (h : Hands u (messages_sent b (carried a.reply)) unsent v) →
     Writes b session old.fragment t (i.calls ++ entry (take session) a.reply ∷ []) (i.accepted ++ h.accepted) unsent q.fragment v
 taken_one b r session old t n k p q u v a unsent i answered is_called h = record {
   gained = gained_one r old.fragment i.calls p q (take session) a i.writes.gained answered is_called;
@@ -111,21 +111,21 @@ counted accepted more messages unsent n h e =
     omega (arith, length-append accepted more)
 
 -- what is left is no more than there was
-left_within : (u v : Told) (messages unsent : List Message) → Hands u messages unsent v → length unsent ≤ length messages
+left_within : (u v : LinkTrace) (messages unsent : List Message) → Hands u messages unsent v → length unsent ≤ length messages
 left_within u v messages unsent h =
     let lengths : length messages ≡ length h.accepted + length unsent = ap length h.in_order ∙ length-append h.accepted unsent in
     omega (arith, lengths)
 
-pub writes_on : (b : Bool) (r : RouterView) (session : ℕ) (old : PassView) (t : Told) (n k : ℕ) (p q : PassView) (u v : Told) (a : Answer)
+pub writes_on : (b : Bool) (r : RouterView) (session : ℕ) (old : PassView) (t : LinkTrace) (n k : ℕ) (p q : PassView) (u v : LinkTrace) (a : Answer)
     (unsent : List Message) (dropped : ℕ) →
     IsWriting b r session old t n k p u → Answered r p (take session) a q → IsCalled r p q → (a.reply ≡ stale → ⊥) →
-    dropped + length (told_of b (carried a.reply)) ≡ length (carried a.reply) →
-    Hands u (told_of b (carried a.reply)) unsent v → unsent ≡ [] →
-    IsWriting b r session old t (n + (length (told_of b (carried a.reply)) - length unsent)) (k + dropped) q v
+    dropped + length (messages_sent b (carried a.reply)) ≡ length (carried a.reply) →
+    Hands u (messages_sent b (carried a.reply)) unsent v → unsent ≡ [] →
+    IsWriting b r session old t (n + (length (messages_sent b (carried a.reply)) - length unsent)) (k + dropped) q v
 writes_on b r session old t n k p q u v a unsent dropped i answered is_called fresh split h none =
     let nothing : length unsent ≡ 0 = ap length none in
-    let all = count_more i.calls (entry (take session) a.reply) k n dropped (length (told_of b (carried a.reply))) (length unsent) i.counted
-    split (left_within u v (told_of b (carried a.reply)) unsent h) in
+    let all = count_more i.calls (entry (take session) a.reply) k n dropped (length (messages_sent b (carried a.reply))) (length unsent) i.counted
+    split (left_within u v (messages_sent b (carried a.reply)) unsent h) in
     record {
       calls = i.calls ++ entry (take session) a.reply ∷ [];
       accepted = i.accepted ++ h.accepted;
@@ -133,7 +133,7 @@ writes_on b r session old t n k p q u v a unsent dropped i answered is_called fr
           (λ (l : List Message). Writes b session old.fragment t (i.calls ++ entry (take session) a.reply ∷ [])
           (i.accepted ++ h.accepted) l q.fragment v) none
           (taken_one b r session old t n k p q u v a unsent i answered is_called h);
-      sent = counted i.accepted h.accepted (told_of b (carried a.reply)) unsent n i.sent h.in_order;
+      sent = counted i.accepted h.accepted (messages_sent b (carried a.reply)) unsent n i.sent h.in_order;
       counted = omega (arith, all, nothing);
       fresh = fresh_more i.calls (entry (take session) a.reply) i.fresh fresh;
       ended = h.ended ∙ i.ended;
@@ -146,11 +146,11 @@ abbrev pub write_end : Cause → ℕ → List Message → WriteEnd
 write_end why n unsent = record { cause = why; sent = n; unsent = unsent }
 
 -- nothing is left unsent
-none_unsent : (b : Bool) (r : RouterView) (session : ℕ) (old : PassView) (t : Told) (n k : ℕ) (p : PassView) (u : Told)
+none_unsent : (b : Bool) (r : RouterView) (session : ℕ) (old : PassView) (t : LinkTrace) (n k : ℕ) (p : PassView) (u : LinkTrace)
     (i : IsWriting b r session old t n k p u) → k + (n + 0) ≡ length (flat_map carried_by i.calls)
 none_unsent b r session old t n k p u i = omega (arith, i.counted)
 
-pub ends_by_turns : (b : Bool) (r : RouterView) (session : ℕ) (old : PassView) (t : Told) (n k : ℕ) (p : PassView) (u : Told) →
+pub ends_by_turns : (b : Bool) (r : RouterView) (session : ℕ) (old : PassView) (t : LinkTrace) (n k : ℕ) (p : PassView) (u : LinkTrace) →
     IsWriting b r session old t n k p u → LeavesOut b r session old.fragment t (write_end cause.Turns n []) k p.fragment u
 ends_by_turns b r session old t n k p u i = record {
   written = record {
@@ -165,29 +165,29 @@ ends_by_turns b r session old t n k p u i = record {
   counted = none_unsent b r session old t n k p u i;
 }
 
-pub ends_by_failure : (b : Bool) (r : RouterView) (session : ℕ) (old : PassView) (t : Told) (n k : ℕ) (p q : PassView) (u v : Told) (a : Answer)
+pub ends_by_failure : (b : Bool) (r : RouterView) (session : ℕ) (old : PassView) (t : LinkTrace) (n k : ℕ) (p q : PassView) (u v : LinkTrace) (a : Answer)
     (unsent : List Message) (dropped : ℕ) →
     IsWriting b r session old t n k p u → Answered r p (take session) a q → IsCalled r p q → (a.reply ≡ stale → ⊥) →
-    dropped + length (told_of b (carried a.reply)) ≡ length (carried a.reply) →
-    Hands u (told_of b (carried a.reply)) unsent v → (unsent ≡ [] → ⊥) →
-    LeavesOut b r session old.fragment t (write_end cause.LinkFault (n + (length (told_of b (carried a.reply)) - length unsent)) unsent) (k + dropped)
+    dropped + length (messages_sent b (carried a.reply)) ≡ length (carried a.reply) →
+    Hands u (messages_sent b (carried a.reply)) unsent v → (unsent ≡ [] → ⊥) →
+    LeavesOut b r session old.fragment t (write_end cause.LinkFault (n + (length (messages_sent b (carried a.reply)) - length unsent)) unsent) (k + dropped)
     q.fragment v
 ends_by_failure b r session old t n k p q u v a unsent dropped i answered is_called fresh split h some = record {
   written = record {
     calls = i.calls ++ entry (take session) a.reply ∷ [];
     accepted = i.accepted ++ h.accepted;
     writes = taken_one b r session old t n k p q u v a unsent i answered is_called h;
-    sent = counted i.accepted h.accepted (told_of b (carried a.reply)) unsent n i.sent h.in_order;
+    sent = counted i.accepted h.accepted (messages_sent b (carried a.reply)) unsent n i.sent h.in_order;
     leaves = some;
     in_history = fresh_more i.calls (entry (take session) a.reply) i.fresh fresh;
     at_link = (h.ended ∙ i.ended, subst (λ (before : Option ℕ). Rose before v.failures) i.failures (h.failed some));
   };
-  counted = count_more i.calls (entry (take session) a.reply) k n dropped (length (told_of b (carried a.reply))) (length unsent) i.counted
-      split (left_within u v (told_of b (carried a.reply)) unsent h);
+  counted = count_more i.calls (entry (take session) a.reply) k n dropped (length (messages_sent b (carried a.reply))) (length unsent) i.counted
+      split (left_within u v (messages_sent b (carried a.reply)) unsent h);
 }
 
 -- nothing is given to the link
-hands_none : (u : Told) (messages : List Message) → messages ≡ [] → Hands u messages [] u
+hands_none : (u : LinkTrace) (messages : List Message) → messages ≡ [] → Hands u messages [] u
 hands_none u messages none = record {
   accepted = [];
   in_order = none;
@@ -200,19 +200,19 @@ hands_none u messages none = record {
   failed = λ some. absurd (some refl);
 }
 
-pub ends_stale : (b : Bool) (r : RouterView) (session : ℕ) (old : PassView) (t : Told) (n k : ℕ) (p q : PassView) (u : Told) (a : Answer) →
+pub ends_stale : (b : Bool) (r : RouterView) (session : ℕ) (old : PassView) (t : LinkTrace) (n k : ℕ) (p q : PassView) (u : LinkTrace) (a : Answer) →
     IsWriting b r session old t n k p u → Answered r p (take session) a q → IsCalled r p q → a.reply ≡ stale →
     LeavesOut b r session old.fragment t (write_end cause.Stale n []) k q.fragment u
 unfolding hands_none
 ends_stale b r session old t n k p q u a i answered is_called is_stale =
     let nothing : carried a.reply ≡ [] = ap carried is_stale in
-    let told : told_of b (carried a.reply) ≡ [] = ap (told_of b) nothing ∙ told_none b in
+    let told : messages_sent b (carried a.reply) ≡ [] = ap (messages_sent b) nothing ∙ told_none b in
     let all = count_more i.calls (entry (take session) a.reply) k n 0 0 0 i.counted (sym (ap length nothing)) (omega arith) in
     record {
       written = record {
         calls = i.calls ++ entry (take session) a.reply ∷ [];
         accepted = i.accepted ++ [];
-        writes = taken_one b r session old t n k p q u u a [] i answered is_called (hands_none u (told_of b (carried a.reply)) told);
+        writes = taken_one b r session old t n k p q u u a [] i answered is_called (hands_none u (messages_sent b (carried a.reply)) told);
         sent = ap length (append-nil i.accepted) ∙ i.sent;
         leaves = refl;
         in_history = record {
@@ -228,7 +228,7 @@ ends_stale b r session old t n k p q u a i answered is_called is_stale =
     }
 
 -- a call was refused, which gains nothing
-refused_one : (b : Bool) (r : RouterView) (session : ℕ) (old : PassView) (t : Told) (n k : ℕ) (p q : PassView) (u : Told) (f : CallFault)
+refused_one : (b : Bool) (r : RouterView) (session : ℕ) (old : PassView) (t : LinkTrace) (n k : ℕ) (p q : PassView) (u : LinkTrace) (f : CallFault)
     (i : IsWriting b r session old t n k p u) → Refused f r p q → IsCalled r p q →
     Writes b session old.fragment t i.calls i.accepted [] q.fragment u
 refused_one b r session old t n k p q u f i h is_called = record {
@@ -241,7 +241,7 @@ refused_one b r session old t n k p q u f i h is_called = record {
   is_closed = i.writes.is_closed;
 }
 
-pub ends_full : (b : Bool) (r : RouterView) (session : ℕ) (old : PassView) (t : Told) (n k : ℕ) (p q : PassView) (u : Told) →
+pub ends_full : (b : Bool) (r : RouterView) (session : ℕ) (old : PassView) (t : LinkTrace) (n k : ℕ) (p q : PassView) (u : LinkTrace) →
     IsWriting b r session old t n k p u → Refused fault.Full r p q → IsCalled r p q →
     LeavesOut b r session old.fragment t (write_end cause.Full n []) k q.fragment u
 ends_full b r session old t n k p q u i h is_called = record {
@@ -257,7 +257,7 @@ ends_full b r session old t n k p q u i h is_called = record {
   counted = none_unsent b r session old t n k p u i;
 }
 
-pub ends_without_memory : (b : Bool) (r : RouterView) (session : ℕ) (old : PassView) (t : Told) (n k : ℕ) (p q : PassView) (u : Told) →
+pub ends_without_memory : (b : Bool) (r : RouterView) (session : ℕ) (old : PassView) (t : LinkTrace) (n k : ℕ) (p q : PassView) (u : LinkTrace) →
     IsWriting b r session old t n k p u → Refused fault.Memory r p q → IsCalled r p q →
     LeavesOut b r session old.fragment t (write_end cause.Memory n []) k q.fragment u
 ends_without_memory b r session old t n k p q u i h is_called = record {
@@ -288,7 +288,7 @@ at_most_16 r session p q a law h =
     subst (λ (x : Entry). IsWithinTake x) (get_or_push h.log e e (length h.log) refl) within
 
 -- messages go out, one after another: what was accepted so far, while the link is sound
-pub record IsSending (t : Told) (messages unsent : List Message) (u : Told) : Type 0 where
+pub record IsSending (t : LinkTrace) (messages unsent : List Message) (u : LinkTrace) : Type 0 where
   pub accepted : List Message
   pub in_order : messages ≡ accepted ++ unsent
   pub given : u.given ≡ grown t.given accepted
@@ -298,7 +298,7 @@ pub record IsSending (t : Told) (messages unsent : List Message) (u : Told) : Ty
   pub ended : u.ended ≡ t.ended
   pub failures : u.failures ≡ t.failures
 
-pub begins_sending : (t : Told) (messages : List Message) → IsSending t messages messages t
+pub begins_sending : (t : LinkTrace) (messages : List Message) → IsSending t messages messages t
 begins_sending t messages = record {
   accepted = [];
   in_order = refl;
@@ -310,21 +310,21 @@ begins_sending t messages = record {
   failures = refl;
 }
 
-pub sends_on : (t : Told) (messages : List Message) (m : Message) (rest : List Message) (u v : Told) →
+pub sends_on : (t : LinkTrace) (messages : List Message) (m : Message) (rest : List Message) (u v : LinkTrace) →
     IsSending t messages (m ∷ rest) u → Sent u m (Ok tt) v → IsSending t messages rest v
 sends_on t messages m rest u v i s = record {
   accepted = i.accepted ++ m ∷ [];
   in_order = i.in_order ∙ sym (append_assoc i.accepted (m ∷ []) rest);
-  given = ap (λ (w : Told). w.given) s.1 ∙ ap (λ (o : Option (List Message)). grown o (m ∷ [])) i.given
+  given = ap (λ (w : LinkTrace). w.given) s.1 ∙ ap (λ (o : Option (List Message)). grown o (m ∷ [])) i.given
       ∙ grown_more t.given i.accepted (m ∷ []);
-  refused = ap (λ (w : Told). w.first_refused) s.1 ∙ i.refused;
-  handed = ap (λ (w : Told). w.handed) s.1 ∙ i.handed;
-  is_closed = ap (λ (w : Told). w.closed) s.1 ∙ i.is_closed;
-  ended = ap (λ (w : Told). w.ended) s.1 ∙ i.ended;
-  failures = ap (λ (w : Told). w.failures) s.1 ∙ i.failures;
+  refused = ap (λ (w : LinkTrace). w.first_refused) s.1 ∙ i.refused;
+  handed = ap (λ (w : LinkTrace). w.handed) s.1 ∙ i.handed;
+  is_closed = ap (λ (w : LinkTrace). w.closed) s.1 ∙ i.is_closed;
+  ended = ap (λ (w : LinkTrace). w.ended) s.1 ∙ i.ended;
+  failures = ap (λ (w : LinkTrace). w.failures) s.1 ∙ i.failures;
 }
 
-pub sent_all : (t : Told) (messages unsent : List Message) (u : Told) → unsent ≡ [] → IsSending t messages unsent u →
+pub sent_all : (t : LinkTrace) (messages unsent : List Message) (u : LinkTrace) → unsent ≡ [] → IsSending t messages unsent u →
     Hands t messages unsent u
 sent_all t messages unsent u none i = record {
   accepted = i.accepted;
@@ -338,16 +338,16 @@ sent_all t messages unsent u none i = record {
   failed = λ some. absurd (some none);
 }
 
-pub sent_some : (t : Told) (messages : List Message) (m : Message) (rest : List Message) (u v : Told) (f : LinkFault) →
+pub sent_some : (t : LinkTrace) (messages : List Message) (m : Message) (rest : List Message) (u v : LinkTrace) (f : LinkFault) →
     IsSending t messages (m ∷ rest) u → Sent u m (Err f) v → Hands t messages (m ∷ rest) v
 sent_some t messages m rest u v f i s = record {
   accepted = i.accepted;
   in_order = i.in_order;
-  given = ap (λ (w : Told). w.given) s.only ∙ i.given;
-  refused = ap (λ (w : Told). w.first_refused) s.only ∙ ap (λ (o : Option (Option Message)). refuse o m) i.refused;
-  handed = ap (λ (w : Told). w.handed) s.only ∙ i.handed;
-  is_closed = ap (λ (w : Told). w.closed) s.only ∙ i.is_closed;
-  ended = ap (λ (w : Told). w.ended) s.only ∙ i.ended;
+  given = ap (λ (w : LinkTrace). w.given) s.only ∙ i.given;
+  refused = ap (λ (w : LinkTrace). w.first_refused) s.only ∙ ap (λ (o : Option (Option Message)). refuse o m) i.refused;
+  handed = ap (λ (w : LinkTrace). w.handed) s.only ∙ i.handed;
+  is_closed = ap (λ (w : LinkTrace). w.closed) s.only ∙ i.is_closed;
+  ended = ap (λ (w : LinkTrace). w.ended) s.only ∙ i.ended;
   sent_all = λ none. absurd cc;
   failed = λ e. subst (λ (before : Option ℕ). Rose before v.failures) i.failures s.rose;
 }

@@ -12,7 +12,7 @@ use Rattle.route_history.specs.Beginning.{Begins}
 use Rattle.route_history.specs.History.{IsLegal}
 use Rattle.route_session.specs.declared.ends.Cause.{Cause}
 use Rattle.route_session.specs.declared.ends.Cause.TheVariants as cause
-use Rattle.route_session.specs.Told.{Rose, Told, ended_now}
+use Rattle.route_session.specs.LinkTrace.{Rose, LinkTrace, ended_now}
 use Rattle.slot_lock.specs.Passes.{Fragment}
 use Rattle.slot_lock.specs.Passes.{IsOwn, IsPassOf, PassView, RouterView}
 
@@ -67,7 +67,7 @@ IsCauseIn cause.Full r calls new = All IsFresh calls × (length new.seen ≡ new
 IsCauseIn _ r calls new = All IsFresh calls
 
 -- what a cause says of the link: it answered that it has ended, or it failed, or neither
-abbrev pub IsCauseAt : Cause → Told → Told → Type 0
+abbrev pub IsCauseAt : Cause → LinkTrace → LinkTrace → Type 0
 IsCauseAt cause.LinkEnded t u = (u.ended ≡ ended_now t.ended) × (u.failures ≡ t.failures)
 IsCauseAt cause.LinkFault t u = (u.ended ≡ t.ended) × Rose t.failures u.failures
 IsCauseAt _ t u = (u.ended ≡ t.ended) × (u.failures ≡ t.failures)

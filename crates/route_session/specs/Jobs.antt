@@ -9,7 +9,7 @@ use Rattle.route_session.specs.declared.job.Role.{Role}
 use Rattle.route_session.specs.declared.job.Role.TheVariants as role
 use Rattle.route_session.specs.Calls.{StaysSound}
 use Rattle.route_session.specs.Reads.{IsReadBy}
-use Rattle.route_session.specs.Told.{Told, closed}
+use Rattle.route_session.specs.LinkTrace.{LinkTrace, closed}
 use Rattle.route_session.specs.Turns.{ReadsByTurns, TakesByTurns}
 use Rattle.route_session.specs.Writes.{IsWrittenBy}
 use Rattle.slot_lock.specs.Passes.{Fragment}
@@ -42,27 +42,27 @@ pub record Gathered {L : Type 0} (old : Fragment) (finished : List (Finished L))
   pub each_begins : All (λ f. Begins f.pass.fragment.seen new.seen) finished
 
 -- a reader ended as one, and a writer as one
-abbrev pub Did : RouterView → Role → ℕ → Fragment → Told → Ending → Fragment → Told → Type 0
+abbrev pub Did : RouterView → Role → ℕ → Fragment → LinkTrace → Ending → Fragment → LinkTrace → Type 0
 Did r role.Reader session old t (ending.Read end) new u = IsReadBy r session old t end new u
 Did r role.Writer session old t (ending.Write end) new u = IsWrittenBy r session old t end new u
 Did r _ session old t _ new u = ⊥
 
 -- so its turns were used up; `may` says what the gate may answer at each of them
-abbrev pub UsesTurns : (ℕ → Bool → Type 0) → ℕ → Fragment → Told → Ending → Fragment → Told → Type 0
+abbrev pub UsesTurns : (ℕ → Bool → Type 0) → ℕ → Fragment → LinkTrace → Ending → Fragment → LinkTrace → Type 0
 UsesTurns may turns old t (ending.Read end) new u = ReadsByTurns may turns end.cause end.entered t u
 UsesTurns may turns old t (ending.Write end) new u = TakesByTurns may turns end.cause old new
 
 -- a job was done, with at most so many turns, and its link is closed
-pub record IsFinished {L : Type 0} (told : L → Told) (may : ℕ → Bool → Type 0) (turns : ℕ) (r : RouterView) (j : Job L) (f : Finished L)
+pub record IsFinished {L : Type 0} (told : L → LinkTrace) (may : ℕ → Bool → Type 0) (turns : ℕ) (r : RouterView) (j : Job L) (f : Finished L)
     : Type 0 where
-  pub last : Told
+  pub last : LinkTrace
   pub did : Did r j.role j.session j.pass.fragment (told j.link) f.ending f.pass.fragment last
   pub by_turns : UsesTurns may turns j.pass.fragment (told j.link) f.ending f.pass.fragment last
   pub link : told f.link ≡ closed last
   pub pass : StaysSound r j.pass f.pass
 
 -- Each of these jobs was done. Their numbers, which the gate is told, go up from the first one's.
-abbrev pub AreFinished : {L : Type 0} → (L → Told) → (ℕ → ℕ → Bool → Type 0) → ℕ → RouterView → ℕ → List (Job L) → List (Finished L) → Type 0
+abbrev pub AreFinished : {L : Type 0} → (L → LinkTrace) → (ℕ → ℕ → Bool → Type 0) → ℕ → RouterView → ℕ → List (Job L) → List (Finished L) → Type 0
 AreFinished told may turns r number [] [] = Unit {0}
 AreFinished told may turns r number (j ∷ jobs) (f ∷ finished) =
     IsFinished told (may number) turns r j f × AreFinished told may turns r (number + 1) jobs finished

@@ -6,6 +6,6 @@ pub mod Links
 pub mod Plans
 pub mod Reads
 pub mod Telling
-pub mod Told
+pub mod LinkTrace
 pub mod Turns
 pub mod Writes

@@ -7,7 +7,7 @@ use Rattle.route_session.specs.declared.ends.Cause.{Cause}
 use Rattle.route_session.specs.declared.ends.Cause.TheVariants as cause
 use Rattle.route_session.specs.declared.ends.ReadEnd.{ReadEnd}
 use Rattle.route_session.specs.Calls.{Gained, IsCauseAt, IsCauseIn, receive}
-use Rattle.route_session.specs.Told.{Told, grown}
+use Rattle.route_session.specs.LinkTrace.{LinkTrace, grown}
 use Rattle.slot_lock.specs.Passes.{Fragment}
 use Rattle.slot_lock.specs.Passes.{RouterView}
 
@@ -16,7 +16,7 @@ abbrev pub Receives : ℕ → Entry → Message → Type 0
 Receives session e m = e.event ≡ receive session m
 
 -- Each message that the link handed out was entered, once and in order, but for those that were lost at the end.
-pub record Reads (session : ℕ) (old : Fragment) (t : Told) (calls : List Entry) (lost : List Message) (new : Fragment) (u : Told) : Type 0 where
+pub record Reads (session : ℕ) (old : Fragment) (t : LinkTrace) (calls : List Entry) (lost : List Message) (new : Fragment) (u : LinkTrace) : Type 0 where
   pub gained : Gained old calls new
   pub messages : List Message
   pub received : AllZip (Receives session) calls messages
@@ -42,7 +42,7 @@ LosesBy cause.Memory told lost = LosesOne told lost
 LosesBy _ told lost = LosesNone told lost
 
 -- a reader ended so
-pub record IsReadBy (r : RouterView) (session : ℕ) (old : Fragment) (t : Told) (end : ReadEnd) (new : Fragment) (u : Told) : Type 0 where
+pub record IsReadBy (r : RouterView) (session : ℕ) (old : Fragment) (t : LinkTrace) (end : ReadEnd) (new : Fragment) (u : LinkTrace) : Type 0 where
   pub calls : List Entry
   pub lost : List Message
   pub reads : Reads session old t calls lost new u

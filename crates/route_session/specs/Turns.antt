@@ -2,7 +2,7 @@
 use Rattle.std.specs.Prelude.{◌≡◌, ℕ, suc, ◌+◌, ◌≤◌, Bool, true, false, List, [], ◌∷◌, length, ⊤}
 use Rattle.route_session.specs.declared.ends.Cause.{Cause}
 use Rattle.route_session.specs.declared.ends.Cause.TheVariants as cause
-use Rattle.route_session.specs.Told.{Told, counted}
+use Rattle.route_session.specs.LinkTrace.{LinkTrace, counted}
 use Rattle.slot_lock.specs.Passes.{Fragment}
 
 -- what a gate answered, the last turn first, is what it may answer at each turn
@@ -38,7 +38,7 @@ uncounted_take _ = 0
 
 -- A reader's turns, whatever it ended for: at each that the gate let go, but for an uncounted last one, the link handed out a message,
 -- which was entered, or answered that none was there.
-pub record ReadsByTurns (may : ℕ → Bool → Type 0) (turns : ℕ) (why : Cause) (entered : ℕ) (t u : Told) : Type 0 where
+pub record ReadsByTurns (may : ℕ → Bool → Type 0) (turns : ℕ) (why : Cause) (entered : ℕ) (t u : LinkTrace) : Type 0 where
   pub used : ℕ
   pub within : used ≤ turns
   pub all : why ≡ cause.Turns → used ≡ turns

@@ -7,7 +7,7 @@ use Rattle.route_session.specs.declared.ends.Cause.{Cause}
 use Rattle.route_session.specs.declared.ends.Cause.TheVariants as cause
 use Rattle.route_session.specs.declared.ends.WriteEnd.{WriteEnd}
 use Rattle.route_session.specs.Calls.{Gained, IsCauseAt, IsCauseIn, take}
-use Rattle.route_session.specs.Told.{Rose, Told, grown, refuse_first}
+use Rattle.route_session.specs.LinkTrace.{Rose, LinkTrace, grown, refuse_first}
 use Rattle.routing_domain.specs.Batches.{is_replaced, newest}
 use Rattle.slot_lock.specs.Passes.{Fragment, RouterView}
 
@@ -19,17 +19,17 @@ abbrev pub carried_by : Entry → List Message
 carried_by e = carried e.reply
 
 -- What is told of the messages of one reply: all of them, or the newest alone, which no later one of them about the same node follows.
-abbrev pub told_of : Bool → List Message → List Message
-told_of false messages = messages
-told_of true messages = newest messages
+abbrev pub messages_sent : Bool → List Message → List Message
+messages_sent false messages = messages
+messages_sent true messages = newest messages
 
 abbrev pub told_by : Bool → Entry → List Message
-told_by newest_only e = told_of newest_only (carried_by e)
+told_by newest_only e = messages_sent newest_only (carried_by e)
 
 -- Each call takes messages of the session. What is told of the replies, one after another, is what the link accepted, and then what is
 -- left unsent, of which it did not take the first.
-pub record Writes (newest_only : Bool) (session : ℕ) (old : Fragment) (t : Told) (calls : List Entry) (accepted unsent : List Message)
-    (new : Fragment) (u : Told) : Type 0 where
+pub record Writes (newest_only : Bool) (session : ℕ) (old : Fragment) (t : LinkTrace) (calls : List Entry) (accepted unsent : List Message)
+    (new : Fragment) (u : LinkTrace) : Type 0 where
   pub gained : Gained old calls new
   pub takes : All (Takes session) calls
   pub taken : flat_map (told_by newest_only) calls ≡ accepted ++ unsent
@@ -45,8 +45,8 @@ LeavesBy cause.LinkEnded unsent = ⊥
 LeavesBy _ unsent = unsent ≡ []
 
 -- a writer ended so, of all messages or of the newest alone
-pub record IsWrittenAs (newest_only : Bool) (r : RouterView) (session : ℕ) (old : Fragment) (t : Told) (end : WriteEnd) (new : Fragment)
-    (u : Told) : Type 0 where
+pub record IsWrittenAs (newest_only : Bool) (r : RouterView) (session : ℕ) (old : Fragment) (t : LinkTrace) (end : WriteEnd) (new : Fragment)
+    (u : LinkTrace) : Type 0 where
   pub calls : List Entry
   pub accepted : List Message
   pub writes : Writes newest_only session old t calls accepted end.unsent new u
@@ -56,12 +56,12 @@ pub record IsWrittenAs (newest_only : Bool) (r : RouterView) (session : ℕ) (ol
   pub at_link : IsCauseAt end.cause t u
 
 -- of all messages
-abbrev pub IsWrittenBy : RouterView → ℕ → Fragment → Told → WriteEnd → Fragment → Told → Type 0
+abbrev pub IsWrittenBy : RouterView → ℕ → Fragment → LinkTrace → WriteEnd → Fragment → LinkTrace → Type 0
 IsWrittenBy r session old t end new u = IsWrittenAs false r session old t end new u
 
 -- and so many messages were left out: what the replies carried, and was neither accepted nor left unsent
-pub record LeavesOut (newest_only : Bool) (r : RouterView) (session : ℕ) (old : Fragment) (t : Told) (end : WriteEnd) (left_out : ℕ)
-    (new : Fragment) (u : Told) : Type 0 where
+pub record LeavesOut (newest_only : Bool) (r : RouterView) (session : ℕ) (old : Fragment) (t : LinkTrace) (end : WriteEnd) (left_out : ℕ)
+    (new : Fragment) (u : LinkTrace) : Type 0 where
   pub written : IsWrittenAs newest_only r session old t end new u
   pub counted : left_out + (end.sent + length end.unsent) ≡ length (flat_map carried_by written.calls)
 
@@ -71,7 +71,7 @@ is_first_replaced [] = false
 is_first_replaced (m ∷ later) = is_replaced m later
 
 -- messages are given to a link in order: what it accepted, and then what is left, which is none unless it failed at the first of it
-pub record Hands (t : Told) (messages unsent : List Message) (u : Told) : Type 0 where
+pub record Hands (t : LinkTrace) (messages unsent : List Message) (u : LinkTrace) : Type 0 where
   pub accepted : List Message
   pub in_order : messages ≡ accepted ++ unsent
   pub given : u.given ≡ grown t.given accepted

@@ -13,7 +13,7 @@ const CAPACITY: usize = 64;
 
 /// One end of a channel, or no end any more.
 #[derive(Drop)]
-enum End {
+enum ChannelEnd {
     /// Messages go in here.
     Writer(Sender<Message>),
     /// Messages come out here.
@@ -29,55 +29,55 @@ enum End {
 /// have. To close an end drops it.
 #[derive(Drop)]
 pub struct ChannelLink {
-    end: End,
+    end: ChannelEnd,
 }
 
 impl ChannelLink {
-    ghost use Rattle.route_session.specs.Telling.{channel_told, untold};
+    ghost use Rattle.route_session.specs.Telling.{channel_trace, empty_trace};
 
     /// The writer's end and the reader's end of a new channel.
     pub fn pair(alloc: Global) -> Result<(ChannelLink, ChannelLink), AllocError>
-        ensures { IfOk result (λ r. (channel_told r.0 ≡ untold false) × (channel_told r.1 ≡ untold false)) }
+        ensures { IfOk result (λ r. (channel_trace r.0 ≡ empty_trace false) × (channel_trace r.1 ≡ empty_trace false)) }
     {
         let (sender, receiver) = bounded(alloc, CAPACITY)?;
         Ok((
             ChannelLink {
-                end: End::Writer(sender),
+                end: ChannelEnd::Writer(sender),
             },
             ChannelLink {
-                end: End::Reader(receiver),
+                end: ChannelEnd::Reader(receiver),
             },
         ))
     }
 }
 
 impl Link for ChannelLink {
-    ghost use Rattle.route_session.specs.Telling.{channel_told};
+    ghost use Rattle.route_session.specs.Telling.{channel_trace};
 
-    ghost told = { channel_told };
+    ghost trace = { channel_trace };
 
     fn recv<R: Wait>(&mut self, rt: &R) -> Result<Got, LinkFault> {
         match &self.end {
-            End::Writer(_) => Err(LinkFault),
-            End::Reader(receiver) => match receiver.recv(rt) {
+            ChannelEnd::Writer(_) => Err(LinkFault),
+            ChannelEnd::Reader(receiver) => match receiver.recv(rt) {
                 Ok(message) => Ok(Got::Message(message)),
                 Err(_) => Ok(Got::Ended),
             },
-            End::Closed => Ok(Got::Ended),
+            ChannelEnd::Closed => Ok(Got::Ended),
         }
     }
 
     fn send<R: Wait>(&mut self, rt: &R, message: Message) -> Result<(), LinkFault> {
         match &self.end {
-            End::Writer(sender) => match sender.send(rt, message) {
+            ChannelEnd::Writer(sender) => match sender.send(rt, message) {
                 Ok(()) => Ok(()),
                 Err(_) => Err(LinkFault),
             },
-            End::Reader(_) | End::Closed => Err(LinkFault),
+            ChannelEnd::Reader(_) | ChannelEnd::Closed => Err(LinkFault),
         }
     }
 
     fn close(&mut self) {
-        self.end = End::Closed;
+        self.end = ChannelEnd::Closed;
     }
 }

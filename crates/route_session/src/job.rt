@@ -67,7 +67,7 @@ pub(crate) fn run_job<R: Wait + Clock, L: Link, G: Gate>(
     turns: u32,
 ) -> Finished<L>
     requires { IsPassOf router.now job.pass }
-    ensures { IsFinished L.told (G.may_answer gate.now number) turns router.now job result }
+    ensures { IsFinished L.trace (G.may_answer gate.now number) turns router.now job result }
 {
     let Job {
         role,

@@ -2,7 +2,7 @@
 
 ghost use Rattle.std.specs.Prelude.{◌≡◌, ◌↔◌, ◌≤◌, IsTrue, false, None, Some, [], vec_len};
 ghost use Rattle.std.specs.Option.{option_or};
-ghost use Rattle.route_session.specs.Told.{Rose};
+ghost use Rattle.route_session.specs.LinkTrace.{Rose};
 
 use crate::link::{Got, Link, LinkFault};
 use netchange_core::Message;
@@ -27,11 +27,11 @@ pub struct MemoryLink {
 
 impl MemoryLink {
     ghost use Rattle.route_session.specs.Plans.{IsToFail, memory_plan, next_call};
-    ghost use Rattle.route_session.specs.Telling.{known, memory_told};
+    ghost use Rattle.route_session.specs.Telling.{known, memory_trace};
 
     /// A link that hands out these messages, and fails at the call of this number, counted from 1 over both directions.
     pub fn new(alloc: Global, waiting: Vec<Message>, fails_at: Option<u64>) -> MemoryLink
-        ensures told { memory_told result ≡ record { handed = Some []; given = Some []; first_refused = Some None; nothings = Some 0; ended = Some false; failures = Some 0; closed = false } }
+        ensures told { memory_trace result ≡ record { handed = Some []; given = Some []; first_refused = Some None; nothings = Some 0; ended = Some false; failures = Some 0; closed = false } }
         ensures plan { memory_plan result ≡ record { waiting = waiting.items; calls = 0; fails_at = fails_at } }
     {
         MemoryLink {
@@ -49,14 +49,14 @@ impl MemoryLink {
 
     /// The messages that the link was given, in order.
     pub fn given(&self) -> &[Message]
-        ensures { Some result.now ≡ (memory_told self.now).given }
+        ensures { Some result.now ≡ (memory_trace self.now).given }
     {
         &self.given
     }
 
     /// Whether the link is closed.
     pub fn is_closed(&self) -> bool
-        ensures { result ≡ (memory_told self.now).closed }
+        ensures { result ≡ (memory_trace self.now).closed }
     {
         self.is_closed
     }
@@ -92,14 +92,14 @@ impl MemoryLink {
 impl Link for MemoryLink {
     ghost use Rattle.route_session.specs.Links.{Received, Sent};
     ghost use Rattle.route_session.specs.Plans.{HandsOut, TakesOne, memory_plan};
-    ghost use Rattle.route_session.specs.Telling.{memory_told};
+    ghost use Rattle.route_session.specs.Telling.{memory_trace};
 
-    ghost told = { memory_told };
+    ghost trace = { memory_trace };
 
     #[tactic(auto, using(crate::proofs::Planning::next_waits, crate::proofs::Planning::none_waits))]
     fn recv<R: Wait>(&mut self, _rt: &R) -> Result<Got, LinkFault>
-        ensures told { Received (memory_told self.old) result (memory_told self.new) }
-        ensures plan { (memory_told self.old).closed ≡ false → HandsOut (memory_plan self.old) result (memory_plan self.new) }
+        ensures told { Received (memory_trace self.old) result (memory_trace self.new) }
+        ensures plan { (memory_trace self.old).closed ≡ false → HandsOut (memory_plan self.old) result (memory_plan self.new) }
     {
         if self.is_closed {
             self.has_ended = true;
@@ -122,8 +122,8 @@ impl Link for MemoryLink {
     }
 
     fn send<R: Wait>(&mut self, _rt: &R, message: Message) -> Result<(), LinkFault>
-        ensures told { Sent (memory_told self.old) message result (memory_told self.new) }
-        ensures plan { (memory_told self.old).closed ≡ false → TakesOne (memory_plan self.old) result (memory_plan self.new) }
+        ensures told { Sent (memory_trace self.old) message result (memory_trace self.new) }
+        ensures plan { (memory_trace self.old).closed ≡ false → TakesOne (memory_plan self.old) result (memory_plan self.new) }
     {
         if self.is_closed || self.is_to_fail() {
             return Err(self.refuse(message));

@@ -24,5 +24,5 @@ impl<L: Link, G: Gate> Promise<Result<Vec<Finished<L>>, RunFault>> for Done<L, G
     ghost use Rattle.route_session.specs.Jobs.{AreFinished};
 
     ghost kept_by = { λ p r. IfOk r (λ v.
-        AreFinished L.told (G.may_answer p.gate.value) p.turns p.router.value p.first p.jobs.value.items v.items) };
+        AreFinished L.trace (G.may_answer p.gate.value) p.turns p.router.value p.first p.jobs.value.items v.items) };
 }

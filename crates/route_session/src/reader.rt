@@ -41,8 +41,8 @@ pub fn read_session<R: Wait + Clock, L: Link, G: Gate>(
 ) -> ReadEnd
     requires { IsPassOf router.now pass.old }
     ensures pass { StaysSound router.now pass.old pass.new }
-    ensures read { IsReadBy router.now session pass.old.fragment (L.told link.old) result pass.new.fragment (L.told link.new) }
-    ensures turns { ReadsByTurns (G.may_answer gate.now job) turns result.cause result.entered (L.told link.old) (L.told link.new) }
+    ensures read { IsReadBy router.now session pass.old.fragment (L.trace link.old) result pass.new.fragment (L.trace link.new) }
+    ensures turns { ReadsByTurns (G.may_answer gate.now job) turns result.cause result.entered (L.trace link.old) (L.trace link.new) }
 {
     let mut entered = 0;
     for turn in 0..turns {

@@ -40,7 +40,7 @@ pub fn run_sessions<R: Threads + Wait + Clock + Sync, L: Link + Send + Drop, G: 
 ) -> Result<Vec<Finished<L>>, RunFault>
     requires few { vec_len jobs ≤ 65536 }
     requires passes { AreFor router.now jobs.items }
-    ensures finished { IfOk result (λ v. AreFinished L.told (G.may_answer gate.now) turns router.now 0 jobs.items v.items) }
+    ensures finished { IfOk result (λ v. AreFinished L.trace (G.may_answer gate.now) turns router.now 0 jobs.items v.items) }
     ensures passes { IfOk result (λ v. AreBack router.now v.items) }
 {
     run_from(rt, alloc, router, jobs, gate, 0, turns)
@@ -59,7 +59,7 @@ fn run_from<R: Threads + Wait + Clock + Sync, L: Link + Send + Drop, G: Gate + S
 ) -> Result<Vec<Finished<L>>, RunFault>
     requires few { first + vec_len jobs < 2 ^ 32 }
     requires passes { AreFor router.now jobs.items }
-    ensures { IfOk result (λ v. AreFinished L.told (G.may_answer gate.now) turns router.now first jobs.items v.items) }
+    ensures { IfOk result (λ v. AreFinished L.trace (G.may_answer gate.now) turns router.now first jobs.items v.items) }
 {
     let count = jobs.len();
     if count < 2 {
@@ -84,13 +84,13 @@ fn run_from<R: Threads + Wait + Clock + Sync, L: Link + Send + Drop, G: Gate + S
             requires low { (first + vec_len jobs < 2 ^ 32) × AreFor router.now jobs.items }
             requires promise { (promise.jobs.value ≡ high) × (promise.router.value ≡ router.now) × (promise.gate.value ≡ gate.now)
                 × (promise.first ≡ next) × (promise.turns ≡ turns) }
-            ensures { IfOk result (λ v. AreFinished L.told (G.may_answer gate.entry.now) turns router.entry.now first jobs.items v.0.items
-                × AreFinished L.told (G.may_answer gate.entry.now) turns router.entry.now next high.items v.1.items) }
+            ensures { IfOk result (λ v. AreFinished L.trace (G.may_answer gate.entry.now) turns router.entry.now first jobs.items v.0.items
+                × AreFinished L.trace (G.may_answer gate.entry.now) turns router.entry.now next high.items v.1.items) }
         {
             let back = move || -> Result<Vec<Finished<L>>, RunFault>
                 requires sync { IsSync R.row × IsSync G.row × IsSend L.row }
                 requires high { (next + vec_len high < 2 ^ 32) × AreFor router.now high.items }
-                ensures { IfOk result (λ v. AreFinished L.told (G.may_answer gate.entry.now) turns router.entry.now next high.items v.items) }
+                ensures { IfOk result (λ v. AreFinished L.trace (G.may_answer gate.entry.now) turns router.entry.now next high.items v.items) }
             { run_from(rt, alloc, router, high, gate, next, turns) };
             let Ok(child) = scope.spawn_with(promise, back) else {
                 return Err(RunFault::NotStarted);
@@ -117,7 +117,7 @@ fn run_one<R: Wait + Clock, L: Link + Drop, G: Gate>(
 ) -> Result<Vec<Finished<L>>, RunFault>
     requires one { vec_len jobs < 2 }
     requires passes { AreFor router.now jobs.items }
-    ensures { IfOk result (λ v. AreFinished L.told (G.may_answer gate.now) turns router.now number jobs.items v.items) }
+    ensures { IfOk result (λ v. AreFinished L.trace (G.may_answer gate.now) turns router.now number jobs.items v.items) }
 {
     let mut finished = Vec::with_capacity(alloc, jobs.len())?;
     if let Some(job) = jobs.pop() {

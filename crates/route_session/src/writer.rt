@@ -44,7 +44,7 @@ pub fn write_session<R: Wait + Clock, L: Link, G: Gate>(
 ) -> WriteEnd
     requires { IsPassOf router.now pass.old }
     ensures pass { StaysSound router.now pass.old pass.new }
-    ensures written { IsWrittenBy router.now session pass.old.fragment (L.told link.old) result pass.new.fragment (L.told link.new) }
+    ensures written { IsWrittenBy router.now session pass.old.fragment (L.trace link.old) result pass.new.fragment (L.trace link.new) }
     ensures turns { TakesByTurns (G.may_answer gate.now job) turns result.cause pass.old.fragment pass.new.fragment }
 {
     let (end, _left_out) = write_turns(
@@ -69,7 +69,7 @@ pub fn write_newest<R: Wait + Clock, L: Link, G: Gate>(
 ) -> (WriteEnd, u64)
     requires { IsPassOf router.now pass.old }
     ensures pass { StaysSound router.now pass.old pass.new }
-    ensures written { LeavesOut true router.now session pass.old.fragment (L.told link.old) result.0 result.1 pass.new.fragment (L.told link.new) }
+    ensures written { LeavesOut true router.now session pass.old.fragment (L.trace link.old) result.0 result.1 pass.new.fragment (L.trace link.new) }
     ensures turns { TakesByTurns (G.may_answer gate.now job) turns result.0.cause pass.old.fragment pass.new.fragment }
 {
     write_turns(
@@ -92,7 +92,7 @@ fn write_turns<R: Wait + Clock, L: Link, G: Gate>(
 ) -> (WriteEnd, u64)
     requires { IsPassOf router.now pass.old }
     ensures pass { StaysSound router.now pass.old pass.new }
-    ensures written { LeavesOut newest_only router.now session pass.old.fragment (L.told link.old) result.0 result.1 pass.new.fragment (L.told link.new) }
+    ensures written { LeavesOut newest_only router.now session pass.old.fragment (L.trace link.old) result.0 result.1 pass.new.fragment (L.trace link.new) }
     ensures turns { TakesByTurns (G.may_answer gate.now job) turns result.0.cause pass.old.fragment pass.new.fragment }
 {
     // So that the number of messages cannot overflow: a reply has at most as many as were asked for.
@@ -112,7 +112,7 @@ fn write_turns<R: Wait + Clock, L: Link, G: Gate>(
         if is_stale(&answer.reply) {
             return (ended(alloc, Cause::Stale, sent), left_out);
         }
-        let (messages, dropped) = told_of(messages_of(alloc, answer.reply), newest_only);
+        let (messages, dropped) = messages_sent(messages_of(alloc, answer.reply), newest_only);
         left_out += dropped as u64;
         let count = messages.len();
         let unsent = send_each(rt, link, messages);
@@ -177,8 +177,8 @@ fn keep_newest(messages: Vec<Message>) -> (Vec<Message>, usize)
 }
 
 /// What is told of the messages of a reply, and how many are left out.
-fn told_of(messages: Vec<Message>, newest_only: bool) -> (Vec<Message>, usize)
-    ensures told { result.0.items ≡ spec.told_of newest_only messages.items }
+fn messages_sent(messages: Vec<Message>, newest_only: bool) -> (Vec<Message>, usize)
+    ensures told { result.0.items ≡ spec.messages_sent newest_only messages.items }
     ensures counted { result.1 + length result.0.items ≡ length messages.items }
 {
     if newest_only {
@@ -190,7 +190,7 @@ fn told_of(messages: Vec<Message>, newest_only: bool) -> (Vec<Message>, usize)
 
 /// Sends messages in order, until the link fails: what is left.
 fn send_each<R: Wait, L: Link>(rt: &R, link: &mut L, messages: Vec<Message>) -> Vec<Message>
-    ensures { Hands (L.told link.old) messages.items result.items (L.told link.new) }
+    ensures { Hands (L.trace link.old) messages.items result.items (L.trace link.new) }
 {
     let mut unsent = messages;
     while let Some(message) = unsent.first().copied() {

@@ -1,11 +1,14 @@
+mod EmptyQueues
 pub mod Entering
+pub mod FullCalls
 pub mod Greetings
 pub mod KeptEntries
 pub mod Lines
 pub mod Looking
+mod Notes
 pub mod Passes
 pub mod Running
 pub mod SavedWhole
 pub mod Serving
 pub mod Splitting
-pub mod Waiting
+pub mod Waking

@@ -6,7 +6,7 @@ use Rattle.slot_lock.specs.Calls.{Merged}
 use Rattle.slot_lock.specs.Passes.{Fragment, PassView, RouterView}
 use Rattle.slot_lock.specs.declared.answer.Answer.{Answer}
 use Rattle.router_daemon.specs.Sessions.{IsOver, OpensLater, OpensNever, ServesNeighbour, one_less, part_of}
-use Rattle.router_daemon.proofs.Waiting.{waited_shares}
+use Rattle.router_daemon.proofs.FullCalls.{waited_shares}
 
 -- the share that was given away came back
 came_back : (old mid other new : ℕ) → 1 < old → mid ≡ old - 1 → 1 ≤ other → new ≡ mid + other → old ≤ new

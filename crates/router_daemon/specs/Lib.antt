@@ -1,6 +1,10 @@
 -- what callers cite
 pub mod Codes
+pub mod Endings
+pub mod Noting
 pub mod Running
+pub mod StatesView
+pub mod Steps
 -- what only bodies are proved against
 pub mod Forgetting
 pub mod Links
@@ -10,5 +14,5 @@ pub mod Retries
 pub mod Sessions
 pub mod Sets
 pub mod Stations
-pub mod Told
+pub mod Notices
 pub mod Uses

@@ -16,8 +16,8 @@ use Rattle.router_daemon.specs.Retries.{reopens, wait_before}
 use Rattle.router_daemon.specs.Sessions.{ServesLast}
 
 -- the Down of a session was entered
-abbrev pub IsSettled : RouterView → ℕ → PassView → PassView → Type 0
-IsSettled r session old new = (a : Answer) × Closes r session old a new
+abbrev pub IsDownEntered : RouterView → ℕ → PassView → PassView → Type 0
+IsDownEntered r session old new = (a : Answer) × Closes r session old a new
 
 -- or it is owed still: memory was refused, or the history is full
 abbrev pub IsOwed : RouterView → PassView → PassView → Type 0

@@ -1,12 +1,12 @@
 -- For whom more messages wait than may. (This project's own choice.)
 use Rattle.std.specs.Prelude.{◌≡◌, ℕ, ◌<◌, ◌≤◌, nat_lt, ◌&&◌, Bool, false, List, length, MatchOption, Option, Some, None, is_some, slice_get}
-use Rattle.link_board.specs.Endings.{EndingView}
+use Rattle.router_daemon.specs.Endings.{SessionEndingView}
 use Rattle.netchange_core.specs.Calls.{session_of}
 use Rattle.netchange_core.specs.World.{World, neighbour_at}
 use Rattle.route_history.specs.History.{world_of}
 use Rattle.route_history.specs.JournalView.{JournalView}
 use Rattle.slot_lock.specs.Passes.{PassView, RouterView}
-use Rattle.router_daemon.specs.declared.queues.Finding.{Finding}
+use Rattle.router_daemon.specs.declared.queues.LongQueueSearch.{LongQueueSearch}
 use Rattle.router_daemon.specs.declared.queues.LongQueue.{LongQueue}
 
 -- how many messages wait for a node
@@ -44,12 +44,12 @@ abbrev pub FindsFirst : ℕ → World → List ℕ → ℕ → Option LongQueue 
 FindsFirst most w nodes from found = MatchOption found (NoneLong most w nodes from (length nodes)) (IsFirstLong most w nodes from)
 
 -- it was looked for in the tables after a history
-abbrev pub Finds : Finding → JournalView → Finding → Type 0
+abbrev pub Finds : LongQueueSearch → JournalView → LongQueueSearch → Type 0
 Finds before history after =
     FindsFirst before.most (world_of history.opening history.entries) before.nodes.now before.from after.found
 
 -- It was looked for after a history that a pass has seen; and the session that ended is the one that is there.
-abbrev pub EndsFirst : RouterView → ℕ → List ℕ → ℕ → Option (LongQueue × EndingView) → PassView → Type 0
+abbrev pub EndsFirst : RouterView → ℕ → List ℕ → ℕ → Option (LongQueue × SessionEndingView) → PassView → Type 0
 EndsFirst r most nodes from ended new =
     let w = world_of r.opening new.fragment.seen in
     MatchOption ended (NoneLong most w nodes from (length nodes)) (λ e. IsFirstLong most w nodes from e.0 × (e.1.link ≡ e.0.link)

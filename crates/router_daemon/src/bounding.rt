@@ -8,9 +8,9 @@ ghost use Rattle.slot_lock.specs.Passes.{IsPassOf};
 ghost use Rattle.router_daemon.specs.Running.{keep_of};
 
 use crate::forgetting::{Forgetter, slack_of};
-use crate::naming::Ticket;
 use crate::queues::{LOOK, close_long_queues};
 use crate::retrying::next_wait;
+use crate::router_passes::RouterPass;
 use crate::shared::Shared;
 use crate::signals::Closing;
 use crate::telling::{tell_saved, tell_unsaved};
@@ -43,7 +43,7 @@ pub(crate) struct MostInMemory {
 
 /// How far who bounds the history has come.
 #[derive(Clone, Copy)]
-enum State {
+enum BoundingState {
     /// So many entries were looked at, and are saved, if the history is.
     Bounded(u64),
     /// Saving failed. It is tried again after so many milliseconds, of which some are left.
@@ -83,12 +83,12 @@ fn await_turn<R: Wait + Clock, J: Naming, E: Write>(
     rt: &R,
     shared: &Shared<J, E>,
     limit: u32,
-    state: State,
+    state: BoundingState,
     saves: bool,
 ) -> Option<Closing> {
     match state {
-        State::Bounded(looked) => await_entries(rt, shared, limit, looked, saves),
-        State::Failing { left, .. } => {
+        BoundingState::Bounded(looked) => await_entries(rt, shared, limit, looked, saves),
+        BoundingState::Failing { left, .. } => {
             shared.signals.make_room(rt, None);
             // No history has so many entries.
             shared
@@ -103,27 +103,27 @@ fn state_after<R: Wait, J: Naming, E: Write>(
     rt: &R,
     alloc: Global,
     shared: &Shared<J, E>,
-    before: State,
+    before: BoundingState,
     turned: Result<u64, SaveFault>,
-) -> State {
+) -> BoundingState {
     match (before, turned) {
-        (State::Bounded(_), Ok(looked)) => State::Bounded(looked),
-        (State::Failing { .. }, Ok(looked)) => {
+        (BoundingState::Bounded(_), Ok(looked)) => BoundingState::Bounded(looked),
+        (BoundingState::Failing { .. }, Ok(looked)) => {
             let mut errors = shared.errors.lock(rt);
             tell_saved(alloc, &mut *errors);
-            State::Bounded(looked)
+            BoundingState::Bounded(looked)
         }
-        (State::Bounded(_), Err(fault)) => {
+        (BoundingState::Bounded(_), Err(fault)) => {
             let mut errors = shared.errors.lock(rt);
             tell_unsaved(alloc, &mut *errors, fault);
-            State::Failing {
+            BoundingState::Failing {
                 wait: REST,
                 left: REST,
             }
         }
-        (State::Failing { wait, .. }, Err(_)) => {
+        (BoundingState::Failing { wait, .. }, Err(_)) => {
             let wait = next_wait(REST, Some(wait), MINUTE);
-            State::Failing { wait, left: wait }
+            BoundingState::Failing { wait, left: wait }
         }
     }
 }
@@ -134,16 +134,17 @@ fn turn<R: Wait, F: SegmentFolder + Drop, J: Naming, E: Write>(
     alloc: Global,
     shared: &Shared<J, E>,
     forgetter: &mut Forgetter<F, J>,
-    state: State,
+    state: BoundingState,
     is_closing: bool,
-) -> State
+) -> BoundingState
     ensures { option_map keep_of forgetter.new.saver ≡ option_map keep_of forgetter.old.saver }
 {
     match state {
-        State::Failing { wait, left } if left > SECOND && !is_closing => State::Failing {
-            wait,
-            left: left - SECOND,
-        },
+        BoundingState::Failing { wait, left } if left > SECOND && !is_closing =>
+            BoundingState::Failing {
+                wait,
+                left: left - SECOND,
+            },
         _ => {
             let turned = forgetter.turn(rt, alloc, shared);
             state_after(rt, alloc, shared, state, turned)
@@ -164,7 +165,7 @@ fn bound<R: Wait + Clock, F: SegmentFolder + Drop, J: Naming, E: Write>(
     ensures { option_map keep_of forgetter.new.saver ≡ option_map keep_of forgetter.old.saver }
 {
     let saves = forgetter.saves();
-    let mut state = State::Bounded(0);
+    let mut state = BoundingState::Bounded(0);
     for _ in rt.forever() {
         let closing = await_turn(rt, shared, most.entries, state, saves);
         state = turn(rt, alloc, shared, forgetter, state, closing.is_some());
@@ -188,12 +189,12 @@ pub(crate) fn bound_memory<
     alloc: Global,
     shared: Arc<Shared<J, E>>,
     mut forgetter: Forgetter<F, J>,
-    ticket: Ticket<J>,
+    router_pass: RouterPass<J>,
     most: MostInMemory,
 ) -> Forgetter<F, J>
     ensures { option_map keep_of result.saver ≡ option_map keep_of forgetter.saver }
 {
-    let mut pass = ticket.pass();
+    let mut pass = router_pass.pass();
     bound(&rt, alloc, &shared, &mut forgetter, &mut pass, most);
     forgetter
 }

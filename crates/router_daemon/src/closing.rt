@@ -1,7 +1,7 @@
 //! A router is closed.
 ghost use Rattle.router_daemon.specs.Passes.{IsLegalPass};
 
-use crate::settling::passes;
+use crate::owed_downs::passes;
 use crate::shared::Shared;
 use neighbour_session::{enter_down, pause};
 use router_operator::Naming;
@@ -12,11 +12,11 @@ use std::sync::{Condvar, Wait};
 
 /// No session begins from now on. The number of links.
 fn close<R: Wait, J: Naming, E: Write>(rt: &R, shared: &Shared<J, E>) -> usize {
-    let mut board = shared.signals.board.lock(rt);
-    board.close();
-    let count = board.len();
-    shared.signals.wake(board);
-    shared.signals.news.ring(rt);
+    let mut states = shared.signals.states.lock(rt);
+    states.close();
+    let count = states.len();
+    shared.signals.wake(states);
+    shared.signals.news.notify(rt);
     count
 }
 
@@ -27,7 +27,7 @@ fn end_session<R: Wait, J: Naming, E: Write>(rt: &R, shared: &Shared<J, E>, link
     };
     if shared.signals.end(rt, link, session, false).is_first() {
         shared.signals.owe(rt, link, session);
-        shared.signals.settle(rt, link);
+        shared.signals.end_change(rt, link);
     }
 }
 
@@ -36,7 +36,7 @@ fn end_sessions<R: Wait, J: Naming, E: Write>(rt: &R, shared: &Shared<J, E>, cou
     for link in 0..count {
         end_session(rt, shared, link);
     }
-    shared.signals.await_settled(rt);
+    shared.signals.await_no_change(rt);
 }
 
 /// How often the Down of a session is tried, where the history is full: for a second. Nobody waits for ever until there is room.
@@ -102,8 +102,8 @@ pub(crate) fn close_links<R: Wait + Clock, J: Naming, E: Write>(
 /// Waits for ever.
 pub(crate) fn stay<R: Wait, J: Naming, E: Write>(rt: &R, shared: &Shared<J, E>) {
     let never = Condvar::new();
-    let mut board = shared.signals.board.lock(rt);
+    let mut states = shared.signals.states.lock(rt);
     for _ in rt.forever() {
-        board = never.wait(rt, board);
+        states = never.wait(rt, states);
     }
 }

@@ -4,8 +4,8 @@ ghost use Rattle.slot_lock.specs.Passes.{IsPassOf};
 ghost use Rattle.router_daemon.specs.Passes.{IsLegalPass};
 
 use crate::folder::LinkFolder;
-use crate::naming::Ticket;
 use crate::resting::await_rest;
+use crate::router_passes::RouterPass;
 use crate::shared::Shared;
 use crate::signals::Closing;
 use crate::starting::take_part;
@@ -96,22 +96,22 @@ const PAUSE: u64 = 200;
 const SILENCE: u64 = 1000;
 
 /// Whether a stream that was told something unasked then is to be told something again. Where the clock cannot be read, it is.
-fn is_silent<R: Clock>(rt: &R, told: Option<Instant>) -> bool {
-    let Some(told) = told else {
+fn is_silent<R: Clock>(rt: &R, last_notice: Option<Instant>) -> bool {
+    let Some(last_notice) = last_notice else {
         return true;
     };
-    match told.elapsed(rt) {
+    match last_notice.elapsed(rt) {
         Ok(lasted) => lasted >= Duration::from_millis(SILENCE),
         Err(_) => true,
     }
 }
 
 /// Whether the stream is to be told something now, although nothing may be new. It notes that it was.
-fn speaks_now<R: Clock>(rt: &R, is_kept: bool, told: &mut Option<Instant>) -> bool {
-    if is_kept || !is_silent(rt, *told) {
+fn speaks_now<R: Clock>(rt: &R, is_kept: bool, last_notice: &mut Option<Instant>) -> bool {
+    if is_kept || !is_silent(rt, *last_notice) {
         return false;
     }
-    *told = Instant::now(rt).ok();
+    *last_notice = Instant::now(rt).ok();
     true
 }
 
@@ -133,9 +133,9 @@ fn tell_stream<R: Wait + Clock, O: Write + Drop, J: Naming, E: Write>(
     let Ok(mut feed) = Feed::new(alloc, stream, opening) else {
         return None;
     };
-    let mut told = Instant::now(rt).ok();
+    let mut last_notice = Instant::now(rt).ok();
     for _ in rt.forever() {
-        let speaks = speaks_now(rt, is_kept, &mut told);
+        let speaks = speaks_now(rt, is_kept, &mut last_notice);
         match feed.tell(rt, alloc, &shared.router, pass, speaks) {
             Ok(end) => {
                 let longest = Duration::from_millis(SILENCE);
@@ -159,19 +159,19 @@ fn open_feed<R: Wait, I: Read, O: Write, D: LinkFolder<I, O>, J: Naming, E: Writ
     folder: &D,
     shared: &Shared<J, E>,
     name: &str,
-    is_told: &mut bool,
+    is_reported: &mut bool,
 ) -> Option<O> {
     match folder.open_feed(name) {
         Ok(stream) => {
-            *is_told = false;
+            *is_reported = false;
             Some(stream)
         }
         Err(why) => {
-            if !*is_told {
+            if !*is_reported {
                 let mut errors = shared.errors.lock(rt);
                 tell_unfed(alloc, &mut *errors, name, &why);
             }
-            *is_told = true;
+            *is_reported = true;
             None
         }
     }
@@ -192,14 +192,14 @@ fn feed_routes<
     folder: Arc<D>,
     shared: Arc<Shared<J, E>>,
     feeding: Feeding<J>,
-    ticket: Ticket<J>,
+    router_pass: RouterPass<J>,
 ) -> Closing {
-    let mut pass = ticket.pass();
+    let mut pass = router_pass.pass();
     if let Some(closing) = await_rest(&rt, &shared, feeding.settle) {
         return closing;
     }
     let name = feeding.name.as_str();
-    let mut is_told = false;
+    let mut is_reported = false;
     for _ in rt.forever() {
         let is_kept = folder.is_kept(name);
         if let Some(stream) = open_feed::<R, I, O, D, J, E>(
@@ -208,7 +208,7 @@ fn feed_routes<
             &folder,
             &shared,
             name,
-            &mut is_told,
+            &mut is_reported,
         ) {
             if let Some(closing) = tell_stream::<R, O, J, E>(
                 &rt,
@@ -252,12 +252,12 @@ pub(crate) fn start_feeding<
     let Some(feeding) = feeding else {
         return Ok(());
     };
-    let ticket = take_part(shared, pass, 1)?;
+    let router_pass = take_part(shared, pass, 1)?;
     let handle = *rt;
     let folder = Arc::try_clone(folder)?;
     let shared_with = Arc::try_clone(shared)?;
     let started = thread::spawn(rt, move || {
-        feed_routes::<R, I, O, D, J, E>(handle, alloc, folder, shared_with, feeding, ticket)
+        feed_routes::<R, I, O, D, J, E>(handle, alloc, folder, shared_with, feeding, router_pass)
     });
     if started.is_err() {
         let mut errors = shared.errors.lock(rt);

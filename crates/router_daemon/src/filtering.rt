@@ -8,7 +8,7 @@ ghost use Rattle.router_daemon.specs.Running.{IsEarly};
 ghost use Rattle.router_daemon.specs.Uses as spec;
 
 use crate::fault::DaemonFault;
-use crate::setting::Filters;
+use crate::setting::VerifiedFilters;
 use netchange_core::Event;
 use operator_cmds::Direction;
 use router_options::{FilterUse, RouterPlan};
@@ -36,7 +36,7 @@ fn set_one<R: Wait>(
     pass: &mut Pass,
     direction: Direction,
     used: &FilterUse,
-    filters: &Filters,
+    filters: &VerifiedFilters,
 ) -> Result<(), DaemonFault>
     requires { IsLegalPass router.now pass.old }
     ensures legal { IsLegalPass router.now pass.new }
@@ -61,7 +61,7 @@ fn set_each<R: Wait>(
     pass: &mut Pass,
     direction: Direction,
     uses: &[FilterUse],
-    filters: &Filters,
+    filters: &VerifiedFilters,
 ) -> Result<(), DaemonFault>
     requires { IsLegalPass router.now pass.old }
     ensures legal { IsLegalPass router.now pass.new }
@@ -81,7 +81,7 @@ pub(crate) fn set_filters<R: Wait>(
     router: &Router,
     pass: &mut Pass,
     plan: &RouterPlan,
-    filters: &Filters,
+    filters: &VerifiedFilters,
 ) -> Result<(), DaemonFault>
     requires { IsLegalPass router.now pass.old }
     ensures legal { IsLegalPass router.now pass.new }

@@ -10,7 +10,7 @@ ghost use Rattle.router_daemon.specs.Forgetting as spec;
 ghost use Rattle.router_daemon.specs.Passes.{IsLegalPass};
 ghost use Rattle.router_daemon.specs.Running.{SavesTo, keep_of};
 
-use crate::naming::Ticket;
+use crate::router_passes::RouterPass;
 use crate::shared::Shared;
 use history_saver::{Rotation, SaveFault, SegmentFolder, SegmentSaver};
 use netchange_core::Opening;
@@ -186,7 +186,7 @@ impl<F: SegmentFolder + Drop, J: Naming> Forgetter<F, J> {
         rt: &R,
         alloc: Global,
         shared: &Shared<J, E>,
-        other: Ticket<J>,
+        other: RouterPass<J>,
     ) -> Result<Option<SegmentSaver<F>>, SaveFault>
         ensures { IfOk result (SavesTo J.router other.pass.fragment.seen (option_map keep_of self.saver)) }
     {

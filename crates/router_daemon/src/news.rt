@@ -19,7 +19,7 @@ struct Known {
 #[derive(Drop)]
 pub(crate) struct News {
     known: Mutex<Known>,
-    bell: Condvar,
+    condvar: Condvar,
 }
 
 impl News {
@@ -34,7 +34,7 @@ impl News {
                 entries: 0,
                 is_awaited,
             }),
-            bell: Condvar::new(),
+            condvar: Condvar::new(),
         })
     }
 
@@ -43,7 +43,7 @@ impl News {
         let mut known = self.known.lock(rt);
         known.entries = known.entries.max(at.saturating_add(1));
         drop(known);
-        self.bell.notify_one();
+        self.condvar.notify_one();
     }
 
     /// Notes that a link came up, or failed and is not opened again.
@@ -55,10 +55,10 @@ impl News {
     }
 
     /// Wakes who waits.
-    pub(crate) fn ring<R: Wait>(&self, rt: &R) {
+    pub(crate) fn notify<R: Wait>(&self, rt: &R) {
         let known = self.known.lock(rt);
         drop(known);
-        self.bell.notify_one();
+        self.condvar.notify_one();
     }
 
     /// How many entries the history has at least, and whether no link is still to come up for the first time.
@@ -87,7 +87,7 @@ impl Signals {
         if closing.is_some() || known.entries > told {
             return closing;
         }
-        drop(self.news.bell.wait_timeout(rt, known, longest).0);
+        drop(self.news.condvar.wait_timeout(rt, known, longest).0);
         self.closing(rt)
     }
 }

@@ -7,7 +7,7 @@ ghost use Rattle.slot_lock.specs.Passes.{IsNew};
 
 use crate::fault::DaemonFault;
 use crate::filtering::set_filters;
-use crate::setting::Filters;
+use crate::setting::VerifiedFilters;
 use route_history::Journal;
 use router_options::RouterPlan;
 use slot_lock::{Pass, Right, Router};
@@ -44,7 +44,7 @@ pub(crate) fn open_router<R: Wait>(
     rt: &R,
     alloc: Global,
     plan: &RouterPlan,
-    filters: &Filters,
+    filters: &VerifiedFilters,
 ) -> Result<Opened, DaemonFault>
     ensures router { IfOk result (λ r. (r.0.opening ≡ plan.now.opening) × (r.0.limit ≡ plan.now.limit)) }
     ensures kind { IfOk result (λ r. r.0.endless ≡ true) }

@@ -4,8 +4,8 @@ ghost use Rattle.router_operator.specs.OperatorView.{IsAt, OperatorView};
 ghost use Rattle.router_daemon.specs.Running.{HasOperator, Operates, operator_of};
 
 use crate::closing::stay;
-use crate::naming::{LegalTicket, Ticket};
-use crate::setting::Filters;
+use crate::router_passes::{LegalPass, RouterPass};
+use crate::setting::VerifiedFilters;
 use crate::shared::Shared;
 use crate::signals::Signals;
 use crate::telling::tell_deaf;
@@ -34,7 +34,7 @@ pub(crate) struct OperatorEnd<J: Naming> {
     /// How many were refused, or what broke them off.
     pub(crate) answered: Result<u32, StreamFault>,
     /// The operator's pass, at the end.
-    pub(crate) ticket: Ticket<J>,
+    pub(crate) router_pass: RouterPass<J>,
 }
 
 /// Tells people that a router that goes on takes no line of its operator any more, where a fault broke the lines off.
@@ -57,12 +57,12 @@ pub(crate) fn serve_operator<'a, R: Wait + Clock, I: Read, W: Write, J: Naming, 
     shared: &'a Shared<J, E>,
     pass: Pass,
     figures: Figures,
-    filters: Filters,
+    filters: VerifiedFilters,
     reader: &mut I,
     writer: &mut W,
 ) -> OperatorEnd<J>
     requires { IsAt J.router pass figures.size figures.limit }
-    ensures { IfSome (I.remaining reader.old) (λ input. (after : OperatorView) × (after.pass ≡ result.ticket.pass)
+    ensures { IfSome (I.remaining reader.old) (λ input. (after : OperatorView) × (after.pass ≡ result.router_pass.pass)
         × Operates (operator_of J.router pass filters.entries shared.now.nodes.items) after result.answered input (I.remaining reader.new)
         (W.contents writer.old) (W.contents writer.new)) }
 {
@@ -83,7 +83,7 @@ pub(crate) fn serve_operator<'a, R: Wait + Clock, I: Read, W: Write, J: Naming, 
     }
     OperatorEnd {
         answered,
-        ticket: Ticket::new(operator.pass()),
+        router_pass: RouterPass::new(operator.pass()),
     }
 }
 
@@ -92,19 +92,19 @@ pub(crate) fn serve_lines<R: Wait + Clock, I: Read, W: Write, J: Naming, E: Writ
     rt: &R,
     alloc: Global,
     shared: &Shared<J, E>,
-    ticket: LegalTicket<J>,
+    router_pass: LegalPass<J>,
     figures: Figures,
-    filters: Filters,
+    filters: VerifiedFilters,
     reader: &mut I,
     writer: &mut W,
 ) -> OperatorEnd<J>
     requires size { figures.size ≡ J.router.opening.size }
     requires limit { figures.limit ≡ J.router.limit }
-    requires no_calls { ticket.fragment.mine ≡ [] }
+    requires no_calls { router_pass.fragment.mine ≡ [] }
     ensures { IfSome (I.remaining reader.old) (λ input.
-        HasOperator J.router ticket.fragment.seen filters.entries shared.now.nodes.items result.answered input (I.remaining reader.new)
-        (W.contents writer.old) (W.contents writer.new) result.ticket.pass) }
+        HasOperator J.router router_pass.fragment.seen filters.entries shared.now.nodes.items result.answered input (I.remaining reader.new)
+        (W.contents writer.old) (W.contents writer.new) result.router_pass.pass) }
 {
-    let pass = ticket.pass();
+    let pass = router_pass.pass();
     serve_operator(rt, alloc, shared, pass, figures, filters, reader, writer)
 }

@@ -6,9 +6,9 @@
 ghost use Rattle.std.specs.Prelude.{◌≡◌, ◌++◌, take};
 ghost use Rattle.line_protocol.specs.Runs.{AppendsFront};
 ghost use Rattle.rtrb.specs.Ring.{received};
-ghost use Rattle.router_daemon.specs.Told.{untold_line};
+ghost use Rattle.router_daemon.specs.Notices.{unwritten_count_line};
 
-use crate::telling::tell_untold;
+use crate::telling::tell_unwritten_count;
 use line_protocol::write_text;
 use rtrb::{Consumer, Producer, RingBuffer};
 use std::alloc::{AllocError, Global};
@@ -35,11 +35,11 @@ pub(crate) struct Counts {
     /// How many bytes were put there.
     put: AtomicU64,
     /// How many of them were taken, and written if they could be.
-    told: AtomicU64,
+    written: AtomicU64,
     /// How many lines there was no room for, of which people were not told yet.
-    untold: AtomicU64,
+    unwritten: AtomicU64,
     /// Who writes sleeps on it.
-    bell: Parker,
+    condvar: Parker,
 }
 
 impl Counts {
@@ -47,49 +47,49 @@ impl Counts {
     fn new() -> Counts {
         Counts {
             put: AtomicU64::new(0),
-            told: AtomicU64::new(0),
-            untold: AtomicU64::new(0),
-            bell: Parker::new(),
+            written: AtomicU64::new(0),
+            unwritten: AtomicU64::new(0),
+            condvar: Parker::new(),
         }
     }
 
     /// So many bytes were put there.
     fn note_put(&self, count: usize) {
         self.put.fetch_add(count as u64, Ordering::SeqCst);
-        self.bell.unpark();
+        self.condvar.unpark();
     }
 
     /// So many of them were taken, and written if they could be.
-    fn note_told(&self, count: usize) {
-        self.told.fetch_add(count as u64, Ordering::SeqCst);
+    fn note_written(&self, count: usize) {
+        self.written.fetch_add(count as u64, Ordering::SeqCst);
     }
 
     /// There was no room for a line.
-    fn note_untold(&self) {
-        self.untold.fetch_add(1, Ordering::SeqCst);
-        self.bell.unpark();
+    fn note_unwritten(&self) {
+        self.unwritten.fetch_add(1, Ordering::SeqCst);
+        self.condvar.unpark();
     }
 
     /// How many lines there was no room for, of which people were not told yet.
-    fn untold(&self) -> u64 {
-        self.untold.load(Ordering::SeqCst)
+    fn unwritten(&self) -> u64 {
+        self.unwritten.load(Ordering::SeqCst)
     }
 
     /// People were told of so many lines that there was no room for.
-    fn note_told_of(&self, count: u64) {
-        self.untold.fetch_sub(count, Ordering::SeqCst);
+    fn note_reported(&self, count: u64) {
+        self.unwritten.fetch_sub(count, Ordering::SeqCst);
     }
 
     /// Whether people were told all.
-    fn are_told(&self) -> bool {
-        let told = self.told.load(Ordering::SeqCst);
-        told == self.put.load(Ordering::SeqCst) && self.untold() == 0
+    fn are_written(&self) -> bool {
+        let written = self.written.load(Ordering::SeqCst);
+        written == self.put.load(Ordering::SeqCst) && self.unwritten() == 0
     }
 
     /// Waits until people were told all, for a second at most.
-    pub(crate) fn await_told<R: Clock>(&self, rt: &R) {
+    pub(crate) fn await_written<R: Clock>(&self, rt: &R) {
         for _ in 0..LAST {
-            if self.are_told() {
+            if self.are_written() {
                 return;
             }
             thread::sleep(rt, Duration::from_millis(1));
@@ -117,7 +117,7 @@ impl Write for Outbox {
                 Ok(line.len())
             }
             Err(_) => {
-                self.counts.note_untold();
+                self.counts.note_unwritten();
                 Err(io::Error::from(ErrorKind::WouldBlock))
             }
         }
@@ -151,21 +151,21 @@ pub(crate) fn open_outbox(alloc: Global) -> Result<(Outbox, Inbox), AllocError> 
 /// Tells people what waits, as far as there is place for it in a piece: how many bytes that is.
 fn tell_piece<E: Write>(errors: &mut E, inbox: &mut Inbox, piece: &mut [u8]) -> usize
     ensures taken { received inbox.new.lines ≡ received inbox.old.lines ++ take result piece.new }
-    ensures told { AppendsFront (E.contents errors.old) (E.contents errors.new) (take result piece.new) }
+    ensures written { AppendsFront (E.contents errors.old) (E.contents errors.new) (take result piece.new) }
 {
     let count = inbox.lines.pop_partial_slice(piece);
     // Where standard error takes no text, people are not told.
     let _ = write_text(errors, &piece[..count]);
-    inbox.counts.note_told(count);
+    inbox.counts.note_written(count);
     count
 }
 
 /// Tells people how many lines there was no room for, if there were any.
-fn tell_of_untold<E: Write>(alloc: Global, errors: &mut E, untold: u64)
-    ensures { AppendsFront (E.contents errors.old) (E.contents errors.new) (untold_line untold) }
+fn tell_if_unwritten<E: Write>(alloc: Global, errors: &mut E, unwritten: u64)
+    ensures { AppendsFront (E.contents errors.old) (E.contents errors.new) (unwritten_count_line unwritten) }
 {
-    if untold > 0 {
-        tell_untold(alloc, errors, untold);
+    if unwritten > 0 {
+        tell_unwritten_count(alloc, errors, unwritten);
     }
 }
 
@@ -179,10 +179,10 @@ pub(crate) fn tell_people<R: Wait + Drop, E: Write + Drop>(
     let mut piece = [0; PIECE];
     for _ in rt.forever() {
         if tell_piece(&mut errors, &mut inbox, &mut piece) == 0 {
-            let untold = inbox.counts.untold();
-            tell_of_untold(alloc, &mut errors, untold);
-            inbox.counts.note_told_of(untold);
-            inbox.counts.bell.park(&rt);
+            let unwritten = inbox.counts.unwritten();
+            tell_if_unwritten(alloc, &mut errors, unwritten);
+            inbox.counts.note_reported(unwritten);
+            inbox.counts.condvar.park(&rt);
         }
     }
 }

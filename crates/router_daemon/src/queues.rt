@@ -8,10 +8,10 @@ ghost use Rattle.route_history.specs.Beginning.{Begins};
 ghost use Rattle.slot_lock.specs.Passes.{IsPassOf};
 ghost use Rattle.router_daemon.specs.Queues as spec;
 
-use crate::settling::settle_once;
+use crate::ending::SessionEnding;
+use crate::owed_downs::try_owed_down;
 use crate::shared::Shared;
 use crate::telling::tell_long;
-use link_board::Ending;
 use netchange_core::Tables;
 use route_history::LongJournal;
 use router_operator::Naming;
@@ -77,7 +77,7 @@ fn first_long(tables: &Tables, nodes: &[u16], most: u32, from: usize) -> Option<
 
 /// The first such link is looked for.
 #[derive(Drop)]
-pub(crate) struct Finding<'a> {
+pub(crate) struct LongQueueSearch<'a> {
     /// The nodes that have links, in the order of the links.
     nodes: &'a [u16],
     /// The most messages that may wait.
@@ -88,7 +88,7 @@ pub(crate) struct Finding<'a> {
     found: Option<LongQueue>,
 }
 
-impl Observer for Finding<'_> {
+impl Observer for LongQueueSearch<'_> {
     ghost use Rattle.router_daemon.specs.Queues.{Finds};
 
     ghost sees = { λ before _ history after. Finds before history after };
@@ -98,7 +98,7 @@ impl Observer for Finding<'_> {
     }
 }
 
-/// Ends the session of the first link, from one on, for whose neighbour more messages wait than may, if there is one. The board says whether
+/// Ends the session of the first link, from one on, for whose neighbour more messages wait than may, if there is one. The states of the links say whether
 /// nobody ended it before.
 fn end_first<R: Wait, J: Naming, E: Write>(
     rt: &R,
@@ -106,13 +106,13 @@ fn end_first<R: Wait, J: Naming, E: Write>(
     pass: &mut Pass,
     most: u32,
     from: usize,
-) -> Option<(LongQueue, Ending)>
+) -> Option<(LongQueue, SessionEnding)>
     requires { IsPassOf J.router pass.old }
     ensures of { IsPassOf J.router pass.new }
     ensures looks { Begins pass.old.fragment.seen pass.new.fragment.seen × (pass.new.fragment.mine ≡ pass.old.fragment.mine) }
     ensures ends { spec.EndsFirst shared.now.router most shared.now.nodes.items from result pass.new }
 {
-    let mut finding = Finding {
+    let mut finding = LongQueueSearch {
         nodes: shared.nodes.as_slice(),
         most,
         from,
@@ -141,9 +141,9 @@ fn close_first<R: Wait, J: Naming, E: Write>(
     let (long, ending) = end_first(rt, shared, pass, most, from)?;
     if ending.is_first() {
         shared.signals.owe(rt, long.link, long.session);
-        shared.signals.settle(rt, long.link);
+        shared.signals.end_change(rt, long.link);
     }
-    settle_once(rt, shared, pass, long.link);
+    try_owed_down(rt, shared, pass, long.link);
     if ending.is_first() {
         let mut errors = shared.errors.lock(rt);
         tell_long(alloc, &mut *errors, long.node, long.waiting);

@@ -14,11 +14,11 @@ use crate::fault::DaemonFault;
 use crate::feeding::{FeedFile, Feeding, start_feeding};
 use crate::folder::LinkFolder;
 use crate::forgetting::Forgetter;
-use crate::naming::{LegalTicket, Ticket};
 use crate::opening::open_router;
 use crate::operating::{Figures, OperatorEnd, serve_lines};
 use crate::outbox::{Counts, Outbox};
-use crate::setting::{Filters, RouterEnd, Setting};
+use crate::router_passes::{LegalPass, RouterPass};
+use crate::setting::{RouterEnd, Setting, VerifiedFilters};
 use crate::shared::{Shared, shared_of};
 use crate::starting::{Bounding, Links, start_bounding, start_links, start_telling, take_part};
 use crate::telling::{tell_lost, tell_unkept};
@@ -66,7 +66,7 @@ fn tell_if_unkept<R: Clock>(
 ) {
     if !saves {
         tell_unkept(alloc, outbox);
-        counts.await_told(rt);
+        counts.await_written(rt);
     }
 }
 
@@ -76,11 +76,11 @@ fn end_saving<R: Wait, S: SegmentFolder + Drop, J: Naming, E: Write>(
     alloc: Global,
     shared: &Shared<J, E>,
     forgetter: Forgetter<S, J>,
-    ticket: Ticket<J>,
+    router_pass: RouterPass<J>,
 ) -> Result<Option<SegmentSaver<S>>, SaveFault>
-    ensures { IfOk result (SavesTo J.router ticket.pass.fragment.seen (option_map keep_of forgetter.saver)) }
+    ensures { IfOk result (SavesTo J.router router_pass.pass.fragment.seen (option_map keep_of forgetter.saver)) }
 {
-    let saved = forgetter.finish(rt, alloc, shared, ticket);
+    let saved = forgetter.finish(rt, alloc, shared, router_pass);
     if let Err(fault) = &saved {
         let mut errors = shared.errors.lock(rt);
         tell_lost(alloc, &mut *errors, *fault);
@@ -108,7 +108,7 @@ fn serve_all<
     common: Links,
     feeding: Option<Feeding<J>>,
     figures: Figures,
-    filters: Filters,
+    filters: VerifiedFilters,
     reader: &mut I,
     writer: &mut W,
 ) -> Result<OperatorEnd<J>, AllocError>
@@ -118,14 +118,14 @@ fn serve_all<
     ensures legal { IsLegalPass J.router pass.new }
     ensures operated { IfOk result (λ operated. IfSome (I.remaining reader.old) (λ input.
         HasOperator J.router pass.old.fragment.seen filters.entries shared.now.value.nodes.items operated.answered input (I.remaining reader.new)
-        (W.contents writer.old) (W.contents writer.new) operated.ticket.pass)) }
+        (W.contents writer.old) (W.contents writer.new) operated.router_pass.pass)) }
     ensures untouched { OnErr result ((reader.new ≡ reader.old) × (writer.new ≡ writer.old)) }
 {
     // Never so: a router is opened with 65,536 shares, far more than are given away. No clause says that here.
     if pass.shares() < 2 {
         return Err(AllocError);
     }
-    let operators = LegalTicket::new(shared.router.split(pass, 1));
+    let operators = LegalPass::new(shared.router.split(pass, 1));
     let folder = Arc::new(alloc, folder)?;
     start_links::<R, FI, FO, D, J, E>(rt, alloc, &folder, shared, pass, links, common)?;
     start_feeding::<R, FI, FO, D, J, E>(rt, alloc, &folder, shared, pass, feeding)?;
@@ -159,13 +159,18 @@ fn end_run<R: Threads + Wait, S: SegmentFolder + Drop, J: Naming, E: Write>(
     ran: Result<OperatorEnd<J>, AllocError>,
 ) -> Result<RouterEnd<S>, DaemonFault>
     ensures ok { IfOk result (λ end. IsOkAnd ran (λ operated. (operated.answered ≡ Ok end.refused)
-        × SavesTo J.router operated.ticket.pass.fragment.seen (option_map keep_of bounding.promise.0.value.saver) end.saved)) }
+        × SavesTo J.router operated.router_pass.pass.fragment.seen (option_map keep_of bounding.promise.0.value.saver) end.saved)) }
     ensures err { IfErr result (λ why. MatchResult ran (λ operated. spec.IsWhy operated.answered why) (λ _. why ≡ fault.Memory)) }
 {
     let forgetter = bounding.join(rt);
     match ran {
-        Ok(OperatorEnd { answered, ticket }) => {
-            let saved = end_saving(rt, alloc, shared, forgetter, ticket);
+        Ok(
+            OperatorEnd {
+                answered,
+                router_pass,
+            },
+        ) => {
+            let saved = end_saving(rt, alloc, shared, forgetter, router_pass);
             end_of(answered, saved)
         }
         Err(_) => Err(DaemonFault::Memory),
@@ -244,12 +249,12 @@ fn run_named<
         alloc,
         shared_of(alloc, router, links.as_slice(), errors)?,
     )?;
-    let ticket = take_part(&shared, &mut pass, 1)?;
+    let router_pass = take_part(&shared, &mut pass, 1)?;
     let most = MostInMemory {
         entries: limit,
         messages: queue,
     };
-    let bounding = start_bounding(rt, alloc, &shared, forgetter, ticket, most)?;
+    let bounding = start_bounding(rt, alloc, &shared, forgetter, router_pass, most)?;
     let ran = serve_all::<R, FI, FO, D, J, E, I, W>(
         rt, alloc, folder, &shared, &mut pass, links, common, feeding, figures, filters, reader,
         writer,
@@ -295,6 +300,6 @@ pub fn run_router<
     let ran = run_named::<Brand, R, FI, FO, D, S, Outbox, I, W>(
         rt, alloc, folder, setting, feed, outbox, reader, writer, router, pass, right,
     );
-    counts.await_told(rt);
+    counts.await_written(rt);
     ran
 }

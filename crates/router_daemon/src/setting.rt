@@ -7,7 +7,7 @@ use std::collections::BTreeMap;
 use std::sync::Arc;
 
 /// The verified filters of a router, by name.
-pub type Filters = BTreeMap<Vec<u8>, Arc<Verified>>;
+pub type VerifiedFilters = BTreeMap<Vec<u8>, Arc<Verified>>;
 
 /// What a router is run with.
 #[derive(Drop)]
@@ -15,7 +15,7 @@ pub struct Setting<F: SegmentFolder> {
     /// What it was told.
     pub plan: RouterPlan,
     /// Its filters.
-    pub filters: Filters,
+    pub filters: VerifiedFilters,
     /// Where its history is saved, in segments.
     pub save: Option<F>,
 }

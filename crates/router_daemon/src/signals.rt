@@ -1,10 +1,11 @@
 //! How the threads of a router wake one another.
 ghost use Rattle.std.specs.Prelude.{◌≡◌, IfOk, is_some};
-ghost use Rattle.link_board.specs.Boards.{AllAwake};
+ghost use Rattle.router_daemon.specs.StatesView.{AllAwake};
 
+use crate::ending::SessionEnding;
 use crate::news::News;
+use crate::states::LinkStates;
 use crate::stations::Stations;
-use link_board::{Board, Ending};
 use router_operator::Listener;
 use slot_lock::Answer;
 use std::alloc::{AllocError, Global};
@@ -12,7 +13,7 @@ use std::rt::Clock;
 use std::sync::{Condvar, Mutex, MutexGuard, Wait};
 use std::time::Duration;
 
-/// The router is being closed. Only `Signals` makes one: who has it was told so.
+/// Shows that the router is being closed: only `Signals` makes one, and only then.
 #[derive(Drop)]
 pub(crate) struct Closing {
     of: (),
@@ -21,47 +22,47 @@ pub(crate) struct Closing {
 /// What the threads of a router know together, and how they wake one another.
 #[derive(Drop)]
 pub(crate) struct Signals {
-    /// What those who serve the links know together.
-    pub(crate) board: Mutex<Board>,
+    /// What the threads that serve the links know together.
+    pub(crate) states: Mutex<LinkStates>,
     /// The ends of the links.
     pub(crate) stations: Stations,
     /// One for each link: its writer sleeps on it.
-    pub(crate) bells: Vec<Condvar>,
-    /// Who saves the history and forgets it sleeps on it.
-    pub(crate) saver_bell: Condvar,
-    /// Who closes the router sleeps on it until no Up and no Down of a session is being entered.
-    settled: Condvar,
-    /// For each link the session that is over, but whose Down is not entered, so that the router has it still.
+    pub(crate) condvars: Vec<Condvar>,
+    /// The thread that saves the history, and forgets it, sleeps on it.
+    pub(crate) saver_condvar: Condvar,
+    /// The thread that closes the router sleeps on it until no thread is entering an Up or a Down of a session.
+    changes_done: Condvar,
+    /// For each link the session that is over, but whose Down nobody entered yet, so that the router still has it.
     owed: Vec<Mutex<Option<u32>>>,
-    /// Where some entries are to be forgotten before others are made: from which position on.
+    /// A caller who made an entry at this position or a later one waits until the saver has forgotten some. None if nobody has to wait.
     room_end: Mutex<Option<u64>>,
-    /// Who made the last entry that there is room for sleeps on it.
-    room_bell: Condvar,
-    /// What who tells the routes waits for.
+    /// A caller who made the last entry that there is room for sleeps on it.
+    room_condvar: Condvar,
+    /// What the thread that tells the routes waits for.
     pub(crate) news: News,
 }
 
-/// That the router is being closed, if a board says so.
-fn closing_of(board: &Board) -> Option<Closing>
-    ensures { is_some result ≡ board.now.closing }
+/// Shows that the router is being closed, if the states of the links say so.
+fn closing_of(states: &LinkStates) -> Option<Closing>
+    ensures { is_some result ≡ states.now.closing }
 {
-    if board.is_closing() {
+    if states.is_closing() {
         Some(Closing { of: () })
     } else {
         None
     }
 }
 
-/// So many bells.
-fn bells_of(alloc: Global, count: usize) -> Result<Vec<Condvar>, AllocError> {
-    let mut bells = Vec::with_capacity(alloc, count)?;
+/// One condition variable for each link.
+fn condvars_of(alloc: Global, count: usize) -> Result<Vec<Condvar>, AllocError> {
+    let mut condvars = Vec::with_capacity(alloc, count)?;
     for _ in 0..count {
-        bells.push(Condvar::new())?;
+        condvars.push(Condvar::new())?;
     }
-    Ok(bells)
+    Ok(condvars)
 }
 
-/// So many links, of which each Down was entered.
+/// One empty slot for each link: no session is waiting yet for its Down.
 fn owed_of(alloc: Global, count: usize) -> Result<Vec<Mutex<Option<u32>>>, AllocError> {
     let mut owed = Vec::with_capacity(alloc, count)?;
     for _ in 0..count {
@@ -70,29 +71,29 @@ fn owed_of(alloc: Global, count: usize) -> Result<Vec<Mutex<Option<u32>>>, Alloc
     Ok(owed)
 }
 
-/// Wakes who saves the history, if the board says so.
-fn ring_saver(board: &mut Board, saver_bell: &Condvar) {
-    if board.wakes_saver() {
-        saver_bell.notify_one();
+/// Wakes the thread that saves the history, if the states of the links say so.
+fn notify_saver(states: &mut LinkStates, saver_condvar: &Condvar) {
+    if states.wakes_saver() {
+        saver_condvar.notify_one();
     }
 }
 
-/// Rings the bell of a link, if it is to be.
-fn ring_bell(bells: &[Condvar], index: usize, rings: bool) {
-    if rings {
-        if let Some(bell) = bells.get(index) {
-            bell.notify_one();
+/// Wakes the writer of a link, if it is to be woken.
+fn notify_writer(condvars: &[Condvar], index: usize, is_woken: bool) {
+    if is_woken {
+        if let Some(condvar) = condvars.get(index) {
+            condvar.notify_one();
         }
     }
 }
 
-/// Wakes the writers that the board says: none that is to be woken is left out.
-fn ring_writers(board: &mut Board, bells: &[Condvar])
-    ensures { AllAwake board.new }
+/// Wakes every writer that the states of the links name.
+fn notify_writers(states: &mut LinkStates, condvars: &[Condvar])
+    ensures { AllAwake states.new }
 {
-    for index in 0..board.len() {
-        let rings = board.wakes(index);
-        ring_bell(bells, index, rings);
+    for index in 0..states.len() {
+        let is_woken = states.wakes(index);
+        notify_writer(condvars, index, is_woken);
     }
 }
 
@@ -100,142 +101,143 @@ impl Signals {
     /// The signals of a router with links to these nodes.
     pub(crate) fn new(alloc: Global, nodes: &[u16]) -> Result<Signals, AllocError> {
         Ok(Signals {
-            board: Mutex::new(Board::new(alloc, nodes)?),
+            states: Mutex::new(LinkStates::new(alloc, nodes)?),
             stations: Stations::new(alloc, nodes.len())?,
-            bells: bells_of(alloc, nodes.len())?,
-            saver_bell: Condvar::new(),
-            settled: Condvar::new(),
+            condvars: condvars_of(alloc, nodes.len())?,
+            saver_condvar: Condvar::new(),
+            changes_done: Condvar::new(),
             owed: owed_of(alloc, nodes.len())?,
             room_end: Mutex::new(None),
-            room_bell: Condvar::new(),
+            room_condvar: Condvar::new(),
             news: News::new(alloc, nodes.len())?,
         })
     }
 
-    /// Wakes whom the board says, and lets go of it.
-    pub(crate) fn wake(&self, mut board: MutexGuard<'_, Board>) {
-        ring_writers(&mut board, self.bells.as_slice());
-        ring_saver(&mut board, &self.saver_bell);
+    /// Wakes the threads that the states of the links name, and unlocks the states.
+    pub(crate) fn wake(&self, mut states: MutexGuard<'_, LinkStates>) {
+        notify_writers(&mut states, self.condvars.as_slice());
+        notify_saver(&mut states, &self.saver_condvar);
     }
 
-    /// Wakes who saves the history, if the board says so, and lets go of it. That is enough where nothing came into a queue and no session
-    /// began or ended: then no writer is to be woken, and the links, which may be many, need not be looked at.
-    pub(crate) fn wake_saver(&self, mut board: MutexGuard<'_, Board>) {
-        ring_saver(&mut board, &self.saver_bell);
+    /// Wakes the thread that saves the history, if the states of the links say so, and unlocks the states. That is enough where nothing came into a
+    /// queue and no session began or ended: no writer has to be woken then, so this need not look at the links, which may be many.
+    pub(crate) fn wake_saver(&self, mut states: MutexGuard<'_, LinkStates>) {
+        notify_saver(&mut states, &self.saver_condvar);
     }
 
-    /// Wakes whom the board says, once an entry is noted by which something came into queues or not, and lets go of it.
-    fn wake_after(&self, board: MutexGuard<'_, Board>, has_changed: bool) {
+    /// Wakes the threads that the states of the links name, once these have noted an entry, and unlocks the states. `has_changed`: the entry put
+    /// something into queues.
+    fn wake_after(&self, states: MutexGuard<'_, LinkStates>, has_changed: bool) {
         if has_changed {
-            self.wake(board);
+            self.wake(states);
         } else {
-            self.wake_saver(board);
+            self.wake_saver(states);
         }
     }
 
     /// Wakes the writer of a link, whatever it waits for.
-    pub(crate) fn ring<R: Wait>(&self, rt: &R, link: usize) {
-        let board = self.board.lock(rt);
-        if let Some(bell) = self.bells.get(link) {
-            bell.notify_one();
+    pub(crate) fn notify<R: Wait>(&self, rt: &R, link: usize) {
+        let states = self.states.lock(rt);
+        if let Some(condvar) = self.condvars.get(link) {
+            condvar.notify_one();
         }
-        drop(board);
+        drop(states);
     }
 
     /// Notes the answer to a call: where it changed a distance, something waits for each neighbour.
     pub(crate) fn note<R: Wait>(&self, rt: &R, answer: &Answer) {
-        let mut board = self.board.lock(rt);
-        let has_changed = board.note(answer.at, &answer.reply);
-        self.wake_after(board, has_changed);
+        let mut states = self.states.lock(rt);
+        let has_changed = states.note(answer.at, &answer.reply);
+        self.wake_after(states, has_changed);
         self.news.note(rt, answer.at);
     }
 
-    /// Notes the answer to a call of those who serve a session of a link.
+    /// Notes the answer to a call that the reader or the writer of a link made.
     pub(crate) fn note_served<R: Wait>(&self, rt: &R, link: usize, answer: &Answer) {
-        let mut board = self.board.lock(rt);
-        let has_changed = board.note_served(link, answer.at, &answer.reply);
-        self.wake_after(board, has_changed);
+        let mut states = self.states.lock(rt);
+        let has_changed = states.note_served(link, answer.at, &answer.reply);
+        self.wake_after(states, has_changed);
         self.news.note(rt, answer.at);
     }
 
     /// The session of a link, if one is there.
     pub(crate) fn session<R: Wait>(&self, rt: &R, link: usize) -> Option<u32> {
-        self.board.lock(rt).session(link)
+        self.states.lock(rt).session(link)
     }
 
     /// Whether the router is being closed.
     pub(crate) fn is_closing<R: Wait>(&self, rt: &R) -> bool {
-        self.board.lock(rt).is_closing()
+        self.states.lock(rt).is_closing()
     }
 
-    /// That the router is being closed, if it is.
+    /// Shows that the router is being closed, if it is.
     pub(crate) fn closing<R: Wait>(&self, rt: &R) -> Option<Closing> {
-        closing_of(&self.board.lock(rt))
+        closing_of(&self.states.lock(rt))
     }
 
-    /// Says that the Up or the Down of a session of a link is about to be entered. False, and it is not to be, where the router is being
-    /// closed.
+    /// Says that the caller is about to enter the Up or the Down of a session of a link. False where the router is being closed: the caller must
+    /// not enter it then.
     pub(crate) fn open<R: Wait>(&self, rt: &R, link: usize) -> bool {
-        self.board.lock(rt).open(link)
+        self.states.lock(rt).open(link)
     }
 
-    /// Says that it is entered, or was refused.
-    pub(crate) fn settle<R: Wait>(&self, rt: &R, link: usize) {
-        let mut board = self.board.lock(rt);
-        board.settle(link);
-        let is_closing = board.is_closing();
-        drop(board);
+    /// Says that the caller has entered it, or that the router refused it.
+    pub(crate) fn end_change<R: Wait>(&self, rt: &R, link: usize) {
+        let mut states = self.states.lock(rt);
+        states.end_change(link);
+        let is_closing = states.is_closing();
+        drop(states);
         if is_closing {
-            self.settled.notify_all();
+            self.changes_done.notify_all();
         }
     }
 
-    /// Waits until no Up and no Down of a session is being entered.
-    pub(crate) fn await_settled<R: Wait>(&self, rt: &R) {
-        let mut board = self.board.lock(rt);
+    /// Waits until no thread is entering an Up or a Down of a session.
+    pub(crate) fn await_no_change<R: Wait>(&self, rt: &R) {
+        let mut states = self.states.lock(rt);
         for _ in rt.forever() {
-            if !board.is_changing() {
+            if !states.is_changing() {
                 return;
             }
-            board = self.settled.wait(rt, board);
+            states = self.changes_done.wait(rt, states);
         }
     }
 
-    /// Sleeps until the history has more than so many entries, or the router is being closed: that it is, if so. Only one thread does, who
-    /// forgets the history.
+    /// Sleeps until the history has more than `count` entries, or until the router is being closed, which the answer shows. Only the thread that
+    /// forgets the history calls this.
     pub(crate) fn await_entries<R: Wait>(&self, rt: &R, count: u64) -> Option<Closing> {
-        let mut board = self.board.lock(rt);
+        let mut states = self.states.lock(rt);
         for _ in rt.forever() {
-            if !board.rest_saver(count) {
-                return closing_of(&board);
+            if !states.rest_saver(count) {
+                return closing_of(&states);
             }
-            board = self.saver_bell.wait(rt, board);
+            states = self.saver_condvar.wait(rt, states);
         }
         unreachable!()
     }
 
-    /// The same, but sleeps no longer than this.
+    /// Does the same, but sleeps no longer than `longest`.
     pub(crate) fn rest<R: Wait + Clock>(
         &self,
         rt: &R,
         count: u64,
         longest: Duration,
     ) -> Option<Closing> {
-        let mut board = self.board.lock(rt);
-        if board.rest_saver(count) {
-            board = self.saver_bell.wait_timeout(rt, board, longest).0;
+        let mut states = self.states.lock(rt);
+        if states.rest_saver(count) {
+            states = self.saver_condvar.wait_timeout(rt, states, longest).0;
         }
-        closing_of(&board)
+        closing_of(&states)
     }
 
-    /// Says that entries are to be forgotten before more are made than up to this position; or that none have to.
+    /// Has callers wait for room from the entry at this position on, or has none of them wait.
     pub(crate) fn make_room<R: Wait>(&self, rt: &R, end: Option<u64>) {
         *self.room_end.lock(rt) = end;
-        self.room_bell.notify_all();
+        self.room_condvar.notify_all();
     }
 
-    /// Sleeps, behind the entry at this position, until there is room for more. So who makes entries waits for who forgets them, and a full
-    /// history refuses them only what many threads enter at once.
+    /// Sleeps, after the caller made the entry at this position, until there is room for more. So callers wait for the thread that forgets entries,
+    /// and a full history refuses them only what many threads enter at once.
     pub(crate) fn await_room<R: Wait>(&self, rt: &R, at: u64) {
         let mut end = self.room_end.lock(rt);
         for _ in rt.forever() {
@@ -243,7 +245,7 @@ impl Signals {
                 Some(end) if at >= end => {}
                 _ => return,
             }
-            end = self.room_bell.wait(rt, end);
+            end = self.room_condvar.wait(rt, end);
         }
     }
 
@@ -255,36 +257,42 @@ impl Signals {
         session: u32,
         answer: &Answer,
     ) -> bool {
-        let mut board = self.board.lock(rt);
-        let begins = board.begin(link, session, answer.at);
-        self.wake(board);
+        let mut states = self.states.lock(rt);
+        let begins = states.begin(link, session, answer.at);
+        self.wake(states);
         self.news.note(rt, answer.at);
         self.news.note_there(rt, link);
         begins
     }
 
-    /// Ends a session of a link: the answer says who is the first who does, who is to enter its Down, and to say when that is settled. The
-    /// end of the link begins anew then. If it is who reads the link that ends it, the line that is why is heard next.
-    pub(crate) fn end<R: Wait>(&self, rt: &R, link: usize, session: u32, by_line: bool) -> Ending
+    /// Ends a session of a link. The answer says whether this caller is the first to end it: then it must enter the Down, and say when that is done,
+    /// and the end of the link begins anew. `by_line`: the reader ends it for a line, which the new beginning hears first.
+    pub(crate) fn end<R: Wait>(
+        &self,
+        rt: &R,
+        link: usize,
+        session: u32,
+        by_line: bool,
+    ) -> SessionEnding
         ensures { (result.link ≡ link) × (result.session ≡ session) }
     {
-        let mut board = self.board.lock(rt);
-        let ending = board.end(link, session);
-        if ending.is_first() && !board.is_closing() {
+        let mut states = self.states.lock(rt);
+        let ending = states.end(link, session);
+        if ending.is_first() && !states.is_closing() {
             self.stations.begin_anew(rt, link, by_line);
         }
-        self.wake(board);
+        self.wake(states);
         ending
     }
 
-    /// Notes a session of a link that is over, but whose Down is not entered.
+    /// Notes a session of a link that is over, but whose Down nobody entered.
     pub(crate) fn owe<R: Wait>(&self, rt: &R, link: usize, session: u32) {
         if let Some(owed) = self.owed.get(link) {
             *owed.lock(rt) = Some(session);
         }
     }
 
-    /// Takes the session of a link whose Down is not entered, if there is one: who takes it is to enter it.
+    /// Takes the session of a link whose Down nobody entered, if there is one: the caller must enter it.
     pub(crate) fn take_owed<R: Wait>(&self, rt: &R, link: usize) -> Option<u32> {
         self.owed.get(link)?.lock(rt).take()
     }
@@ -297,9 +305,9 @@ impl Listener for Signals {
     }
 
     fn exported<R: Wait + Clock>(&self, rt: &R, node: u16, answer: &Answer) {
-        let mut board = self.board.lock(rt);
-        board.note_exported(node, answer.at, &answer.reply);
-        self.wake(board);
+        let mut states = self.states.lock(rt);
+        states.note_exported(node, answer.at, &answer.reply);
+        self.wake(states);
         self.news.note(rt, answer.at);
     }
 }

@@ -7,11 +7,11 @@ use crate::bounding::{MostInMemory, bound_memory};
 use crate::fault::DaemonFault;
 use crate::folder::LinkFolder;
 use crate::forgetting::{AsBegun, Forgetter};
-use crate::keeper::{Link, keep_link};
-use crate::naming::Ticket;
+use crate::mailbox::Mailbox;
 use crate::outbox::{Counts, Outbox, open_outbox, tell_people};
-use crate::room::Room;
+use crate::router_passes::RouterPass;
 use crate::shared::Shared;
+use crate::supervisor::{RouterLink, keep_link};
 use crate::telling::tell_unstarted;
 use crate::watching::watch_links;
 use crate::writer::write_link;
@@ -56,21 +56,21 @@ fn start_writer<
     rt: &R,
     alloc: Global,
     shared: &Arc<Shared<J, E>>,
-    room: &Arc<Room<O, J>>,
+    mailbox: &Arc<Mailbox<O, J>>,
     link: usize,
     node: u16,
 ) -> Result<bool, AllocError> {
     let handle = *rt;
     let shared = Arc::try_clone(shared)?;
-    let room = Arc::try_clone(room)?;
+    let mailbox = Arc::try_clone(mailbox)?;
     let started = thread::spawn(rt, move || {
-        write_link::<R, O, J, E>(handle, alloc, shared, room, link, node)
+        write_link::<R, O, J, E>(handle, alloc, shared, mailbox, link, node)
     });
     Ok(started.is_ok())
 }
 
 /// Starts the thread of who keeps a link. Whether it was started.
-fn start_keeper<
+fn start_supervisor<
     R: Threads + Wait + Clock + RandomSource + Copy + Send + Drop + 'static,
     I: Read + Send + Drop + 'static,
     O: Write + Send + Drop + 'static,
@@ -82,15 +82,15 @@ fn start_keeper<
     alloc: Global,
     folder: &Arc<D>,
     shared: &Arc<Shared<J, E>>,
-    room: Arc<Room<O, J>>,
-    link: Link,
-    ticket: Ticket<J>,
+    mailbox: Arc<Mailbox<O, J>>,
+    link: RouterLink,
+    router_pass: RouterPass<J>,
 ) -> Result<bool, AllocError> {
     let handle = *rt;
     let folder = Arc::try_clone(folder)?;
     let shared = Arc::try_clone(shared)?;
     let started = thread::spawn(rt, move || {
-        keep_link::<R, I, O, D, J, E>(handle, alloc, folder, shared, room, link, ticket)
+        keep_link::<R, I, O, D, J, E>(handle, alloc, folder, shared, mailbox, link, router_pass)
     });
     Ok(started.is_ok())
 }
@@ -108,14 +108,14 @@ fn start_link<
     alloc: Global,
     folder: &Arc<D>,
     shared: &Arc<Shared<J, E>>,
-    link: Link,
-    ticket: Ticket<J>,
+    link: RouterLink,
+    router_pass: RouterPass<J>,
 ) -> Result<bool, AllocError> {
-    let room: Arc<Room<O, J>> = Arc::new(alloc, Room::new())?;
-    if !start_writer::<R, O, J, E>(rt, alloc, shared, &room, link.index, link.files.node)? {
+    let mailbox: Arc<Mailbox<O, J>> = Arc::new(alloc, Mailbox::new())?;
+    if !start_writer::<R, O, J, E>(rt, alloc, shared, &mailbox, link.index, link.files.node)? {
         return Ok(false);
     }
-    start_keeper::<R, I, O, D, J, E>(rt, alloc, folder, shared, room, link, ticket)
+    start_supervisor::<R, I, O, D, J, E>(rt, alloc, folder, shared, mailbox, link, router_pass)
 }
 
 /// Takes a part of a pass, with so many shares.
@@ -123,7 +123,7 @@ pub(crate) fn take_part<J: Naming, E: Write>(
     shared: &Shared<J, E>,
     pass: &mut Pass,
     shares: u32,
-) -> Result<Ticket<J>, AllocError>
+) -> Result<RouterPass<J>, AllocError>
     requires legal { IsLegalPass J.router pass.old }
     requires some { 1 ≤ shares }
     ensures legal { IsLegalPass J.router pass.new }
@@ -133,7 +133,7 @@ pub(crate) fn take_part<J: Naming, E: Write>(
     if pass.shares() <= shares {
         return Err(AllocError);
     }
-    Ok(Ticket::new(shared.router.split(pass, shares)))
+    Ok(RouterPass::new(shared.router.split(pass, shares)))
 }
 
 /// Starts the thread that looks at the clock for all links. Whether it was started.
@@ -145,12 +145,12 @@ fn start_watcher<
     rt: &R,
     alloc: Global,
     shared: &Arc<Shared<J, E>>,
-    ticket: Ticket<J>,
+    router_pass: RouterPass<J>,
 ) -> Result<bool, AllocError> {
     let handle = *rt;
     let shared = Arc::try_clone(shared)?;
     let started = thread::spawn(rt, move || {
-        watch_links::<R, J, E>(handle, alloc, shared, ticket)
+        watch_links::<R, J, E>(handle, alloc, shared, router_pass)
     });
     Ok(started.is_ok())
 }
@@ -176,21 +176,21 @@ pub(crate) fn start_links<
     requires { IsLegalPass J.router pass.old }
     ensures { IsLegalPass J.router pass.new }
 {
-    let ticket = take_part(shared, pass, 1)?;
+    let router_pass = take_part(shared, pass, 1)?;
     // Without it no line is written again and no neighbour is found silent, as with a HOLD of 0.
-    let is_watched = start_watcher::<R, J, E>(rt, alloc, shared, ticket)?;
+    let is_watched = start_watcher::<R, J, E>(rt, alloc, shared, router_pass)?;
     let hold = if is_watched { common.hold } else { 0 };
     for (index, files) in links.into_iter().enumerate() {
         let node = files.node;
-        let link = Link {
+        let link = RouterLink {
             index,
             files,
             domain: common.domain,
             retry: common.retry,
             hold,
         };
-        let ticket = take_part(shared, pass, SHARES)?;
-        if !start_link::<R, I, O, D, J, E>(rt, alloc, folder, shared, link, ticket)? {
+        let router_pass = take_part(shared, pass, SHARES)?;
+        if !start_link::<R, I, O, D, J, E>(rt, alloc, folder, shared, link, router_pass)? {
             let mut errors = shared.errors.lock(rt);
             tell_unstarted(alloc, &mut *errors, node);
         }
@@ -228,7 +228,7 @@ pub(crate) fn start_bounding<
     alloc: Global,
     shared: &Arc<Shared<J, E>>,
     forgetter: Forgetter<S, J>,
-    ticket: Ticket<J>,
+    router_pass: RouterPass<J>,
     most: MostInMemory,
 ) -> Result<Bounding<S, J>, DaemonFault>
     ensures begun { IfOk result (λ bounding. bounding.promise.0.value ≡ forgetter) }
@@ -238,7 +238,7 @@ pub(crate) fn start_bounding<
     let shared = Arc::try_clone(shared)?;
     let promise = AsBegun(Snapshot::of(&forgetter));
     let started = thread::spawn_with(rt, promise, move || {
-        bound_memory::<R, S, J, E>(handle, alloc, shared, forgetter, ticket, most)
+        bound_memory::<R, S, J, E>(handle, alloc, shared, forgetter, router_pass, most)
     });
     match started {
         Ok(bounding) => Ok(bounding),

@@ -1,7 +1,7 @@
 //! What people are told.
 ghost use Rattle.std.specs.Prelude.{◌≡◌, ◌++◌, IfOk, OnOk, MatchResult, decimal, string_bytes, List, ℕ};
 ghost use Rattle.line_protocol.specs.Runs.{AppendsFront};
-ghost use Rattle.router_daemon.specs.Told as spec;
+ghost use Rattle.router_daemon.specs.Notices as spec;
 
 use history_saver::SaveFault;
 use itoa::Buffer;
@@ -226,8 +226,8 @@ pub(crate) fn tell_left_out<E: Write>(alloc: Global, errors: &mut E, node: u16, 
 }
 
 /// The line that tells how many lines were not told.
-fn untold_line(alloc: Global, count: u64) -> Result<String, AllocError>
-    ensures { IfOk result (λ line. string_bytes line ≡ spec.untold_line count) }
+fn unwritten_count_line(alloc: Global, count: u64) -> Result<String, AllocError>
+    ensures { IfOk result (λ line. string_bytes line ≡ spec.unwritten_count_line count) }
 {
     let mut line = String::from_str(
         alloc,
@@ -240,8 +240,8 @@ fn untold_line(alloc: Global, count: u64) -> Result<String, AllocError>
 }
 
 /// Tells how many lines were not told, since too many waited already.
-pub(crate) fn tell_untold<E: Write>(alloc: Global, errors: &mut E, count: u64)
-    ensures { AppendsFront (E.contents errors.old) (E.contents errors.new) (spec.untold_line count) }
+pub(crate) fn tell_unwritten_count<E: Write>(alloc: Global, errors: &mut E, count: u64)
+    ensures { AppendsFront (E.contents errors.old) (E.contents errors.new) (spec.unwritten_count_line count) }
 {
-    tell(errors, untold_line(alloc, count));
+    tell(errors, unwritten_count_line(alloc, count));
 }

@@ -8,11 +8,11 @@ ghost use Rattle.neighbour_session.specs.Ending.{Ends};
 ghost use Rattle.router_daemon.specs.Links.{EndsSilent};
 ghost use Rattle.slot_lock.specs.Passes.{IsPassOf};
 
-use crate::crew::LinkCrew;
-use crate::keeper::tell_unless_closed;
-use crate::naming::Ticket;
-use crate::settling::settle_once;
+use crate::guards::LinkGuard;
+use crate::owed_downs::try_owed_down;
+use crate::router_passes::RouterPass;
 use crate::shared::Shared;
+use crate::supervisor::tell_unless_closed;
 use neighbour_session::{SessionEnd, end_session};
 use router_operator::Naming;
 use slot_lock::Pass;
@@ -47,11 +47,11 @@ fn end_silent<R: Wait + Clock, J: Naming, E: Write>(
     ensures of { IsPassOf J.router pass.new }
     ensures ends { (why : SessionEnd) × Ends (λ _. ⊤) J.router session (SessionEnd.Silent hold) pass.old why pass.new }
 {
-    let crew = LinkCrew::new(&shared.signals, link, session);
+    let guard = LinkGuard::new(&shared.signals, link, session);
     let why = SessionEnd::Silent(hold);
-    let (why, leaver) = end_session(rt, &shared.router, pass, session, crew, why);
-    leaver.note_owed(rt);
-    if leaver.ended_it() {
+    let (why, ended_guard) = end_session(rt, &shared.router, pass, session, guard, why);
+    ended_guard.note_owed(rt);
+    if ended_guard.ended_it() {
         tell_unless_closed(rt, alloc, shared, node, why);
     }
 }
@@ -91,9 +91,9 @@ fn look_at<R: Wait + Clock, J: Naming, E: Write>(
     if let Some(silence) = shared.signals.stations.look(rt, link, now) {
         close_silent(rt, alloc, shared, pass, link, silence.hold());
     }
-    settle_once(rt, shared, pass, link);
+    try_owed_down(rt, shared, pass, link);
     if shared.signals.stations.is_due(rt, link) {
-        shared.signals.ring(rt, link);
+        shared.signals.notify(rt, link);
     }
 }
 
@@ -118,9 +118,9 @@ pub(crate) fn watch_links<R: Wait + Clock + Drop, J: Naming, E: Write + Drop>(
     rt: R,
     alloc: Global,
     shared: Arc<Shared<J, E>>,
-    ticket: Ticket<J>,
+    router_pass: RouterPass<J>,
 ) {
-    let mut pass = ticket.pass();
+    let mut pass = router_pass.pass();
     for _ in rt.forever() {
         thread::sleep(&rt, Duration::from_millis(LOOK));
         if shared.signals.is_closing(&rt) {

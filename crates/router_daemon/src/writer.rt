@@ -5,12 +5,12 @@ ghost use Rattle.neighbour_session.specs.Writing.{Serves};
 ghost use Rattle.std.specs.Io.KnownBytes.{Appends};
 ghost use Rattle.std.specs.Prelude.{IsTrue, true, ⊤};
 
-use crate::crew::{LinkCrew, LinkLeaver};
-use crate::keeper::{close_unmet, tell_unless_closed};
-use crate::naming::Ticket;
-use crate::room::{Order, Room};
-use crate::settling::settle;
+use crate::guards::{EndedLinkGuard, LinkGuard};
+use crate::mailbox::{Mailbox, WriterTask};
+use crate::owed_downs::enter_owed_down;
+use crate::router_passes::RouterPass;
 use crate::shared::Shared;
+use crate::supervisor::{close_unmet, tell_unless_closed};
 use crate::telling::tell_left_out;
 use link_handshake::{Greeting, push_greeting};
 use message_streams::MessageWriter;
@@ -23,11 +23,11 @@ use std::sync::{Arc, Wait};
 
 /// A session that was written: why it is over, how many messages were left out, what is left of who wrote it, and the writer's pass.
 #[derive(Drop)]
-struct Done<'a, J: Naming> {
+struct WrittenSession<'a, J: Naming> {
     why: SessionEnd,
     left_out: u64,
-    leaver: LinkLeaver<'a>,
-    ticket: Ticket<J>,
+    ended_guard: EndedLinkGuard<'a>,
+    router_pass: RouterPass<J>,
 }
 
 /// Writes one session, until it is over, and hands its stream back.
@@ -35,31 +35,34 @@ fn write_session<'a, R: Wait + Clock, O: Write + Drop, J: Naming, E: Write>(
     rt: &R,
     alloc: Global,
     shared: &Shared<J, E>,
-    crew: LinkCrew<'a>,
-    order: Order<J>,
+    guard: LinkGuard<'a>,
+    task: WriterTask<J>,
     output: MessageWriter<O>,
-) -> (Done<'a, J>, MessageWriter<O>)
-    ensures { Serves true (λ _. ⊤) (λ _. ⊤) J.router order.session order.ticket output result.0.why result.0.ticket.pass result.1
+) -> (WrittenSession<'a, J>, MessageWriter<O>)
+    ensures { Serves true (λ _. ⊤) (λ _. ⊤) J.router task.session task.router_pass output result.0.why result.0.router_pass.pass result.1
         result.0.left_out }
 {
-    let Order { session, ticket } = order;
-    let mut pass = ticket.pass();
-    let (why, written, leaver, left_out) = serve_writer(
+    let WriterTask {
+        session,
+        router_pass,
+    } = task;
+    let mut pass = router_pass.pass();
+    let (why, written, ended_guard, left_out) = serve_writer(
         rt,
         alloc,
         &shared.router,
         &mut pass,
         session,
         output,
-        crew,
+        guard,
         true,
     );
-    let ticket = Ticket::new(pass);
-    let done = Done {
+    let router_pass = RouterPass::new(pass);
+    let done = WrittenSession {
         why,
         left_out,
-        leaver,
-        ticket,
+        ended_guard,
+        router_pass,
     };
     (done, written)
 }
@@ -68,21 +71,24 @@ fn write_session<'a, R: Wait + Clock, O: Write + Drop, J: Naming, E: Write>(
 fn end_unwritten<'a, R: Wait + Clock, J: Naming, E: Write>(
     rt: &R,
     shared: &Shared<J, E>,
-    crew: LinkCrew<'a>,
-    order: Order<J>,
-) -> Done<'a, J>
-    ensures { Ends (λ _. ⊤) J.router order.session SessionEnd.Unwritten order.ticket result.why result.ticket.pass }
+    guard: LinkGuard<'a>,
+    task: WriterTask<J>,
+) -> WrittenSession<'a, J>
+    ensures { Ends (λ _. ⊤) J.router task.session SessionEnd.Unwritten task.router_pass result.why result.router_pass.pass }
 {
-    let Order { session, ticket } = order;
-    let mut pass = ticket.pass();
+    let WriterTask {
+        session,
+        router_pass,
+    } = task;
+    let mut pass = router_pass.pass();
     let why = SessionEnd::Unwritten;
-    let (why, leaver) = end_session(rt, &shared.router, &mut pass, session, crew, why);
-    let ticket = Ticket::new(pass);
-    Done {
+    let (why, ended_guard) = end_session(rt, &shared.router, &mut pass, session, guard, why);
+    let router_pass = RouterPass::new(pass);
+    WrittenSession {
         why,
         left_out: 0,
-        leaver,
-        ticket,
+        ended_guard,
+        router_pass,
     }
 }
 
@@ -110,7 +116,7 @@ enum Work<J: Naming> {
     /// Write a greeting.
     Greet(Greeting),
     /// Write a session.
-    Serve(Order<J>),
+    Serve(WriterTask<J>),
     /// Close the stream.
     Close,
 }
@@ -119,25 +125,25 @@ enum Work<J: Naming> {
 fn await_work<R: Wait, O: Write + Drop, J: Naming, E: Write>(
     rt: &R,
     shared: &Shared<J, E>,
-    room: &Room<O, J>,
+    mailbox: &Mailbox<O, J>,
     link: usize,
 ) -> Work<J> {
     let signals = &shared.signals;
-    let Some(bell) = signals.bells.get(link) else {
+    let Some(condvar) = signals.condvars.get(link) else {
         return Work::Close;
     };
-    let mut board = signals.board.lock(rt);
+    let mut states = signals.states.lock(rt);
     for _ in rt.forever() {
         if let Some(greeting) = signals.stations.take_greeting(rt, link) {
             return Work::Greet(greeting);
         }
-        if let Some(order) = room.take_order(rt) {
-            return Work::Serve(order);
+        if let Some(task) = mailbox.take_task(rt) {
+            return Work::Serve(task);
         }
-        if room.closes(rt) {
+        if mailbox.closes(rt) {
             return Work::Close;
         }
-        board = bell.wait(rt, board);
+        states = condvar.wait(rt, states);
     }
     unreachable!()
 }
@@ -157,42 +163,42 @@ fn tell_if_left_out<R: Wait, J: Naming, E: Write>(
 }
 
 /// Writes a session, if its stream is there. The stream, if it can be written to still; it is closed at once where it cannot.
-fn serve_order<R: Wait + Clock, O: Write + Drop, J: Naming, E: Write>(
+fn serve_task<R: Wait + Clock, O: Write + Drop, J: Naming, E: Write>(
     rt: &R,
     alloc: Global,
     shared: &Shared<J, E>,
-    room: &Room<O, J>,
+    mailbox: &Mailbox<O, J>,
     link: usize,
     node: u16,
-    order: Order<J>,
+    task: WriterTask<J>,
     output: Option<MessageWriter<O>>,
 ) -> Option<MessageWriter<O>> {
-    let crew = LinkCrew::new(&shared.signals, link, order.session);
+    let guard = LinkGuard::new(&shared.signals, link, task.session);
     let (done, mut output) = match output {
         Some(output) => {
-            let (done, output) = write_session(rt, alloc, shared, crew, order, output);
+            let (done, output) = write_session(rt, alloc, shared, guard, task, output);
             (done, Some(output))
         }
-        None => (end_unwritten(rt, shared, crew, order), None),
+        None => (end_unwritten(rt, shared, guard, task), None),
     };
-    let Done {
+    let WrittenSession {
         why,
         left_out,
-        leaver,
-        ticket,
+        ended_guard,
+        router_pass,
     } = done;
-    leaver.note_owed(rt);
+    ended_guard.note_owed(rt);
     if why == SessionEnd::Unwritten {
         shared.signals.stations.close(rt, link);
         output = None;
     }
-    if leaver.ended_it() {
+    if ended_guard.ended_it() {
         tell_unless_closed(rt, alloc, shared, node, why);
     }
     tell_if_left_out(rt, alloc, shared, node, left_out);
-    let mut pass = ticket.pass();
-    settle(rt, shared, &mut pass, link);
-    room.put_done(rt, Ticket::new(pass));
+    let mut pass = router_pass.pass();
+    enter_owed_down(rt, shared, &mut pass, link);
+    mailbox.put_done(rt, RouterPass::new(pass));
     output
 }
 
@@ -201,14 +207,14 @@ fn write_stream<R: Wait + Clock, O: Write + Drop, J: Naming, E: Write>(
     rt: &R,
     alloc: Global,
     shared: &Shared<J, E>,
-    room: &Room<O, J>,
+    mailbox: &Mailbox<O, J>,
     link: usize,
     node: u16,
     output: MessageWriter<O>,
 ) {
     let mut output = Some(output);
     for _ in rt.forever() {
-        match await_work(rt, shared, room, link) {
+        match await_work(rt, shared, mailbox, link) {
             Work::Greet(greeting) => {
                 if let Some(mut stream) = output.take() {
                     if write_greeting(alloc, &mut stream, greeting) {
@@ -218,8 +224,8 @@ fn write_stream<R: Wait + Clock, O: Write + Drop, J: Naming, E: Write>(
                     }
                 }
             }
-            Work::Serve(order) => {
-                output = serve_order(rt, alloc, shared, room, link, node, order, output.take());
+            Work::Serve(task) => {
+                output = serve_task(rt, alloc, shared, mailbox, link, node, task, output.take());
             }
             Work::Close => return,
         }
@@ -231,13 +237,13 @@ pub(crate) fn write_link<R: Wait + Clock + Drop, O: Write + Drop, J: Naming, E: 
     rt: R,
     alloc: Global,
     shared: Arc<Shared<J, E>>,
-    room: Arc<Room<O, J>>,
+    mailbox: Arc<Mailbox<O, J>>,
     link: usize,
     node: u16,
 ) {
     for _ in rt.forever() {
-        let output = room.await_output(&rt);
-        write_stream(&rt, alloc, &shared, &room, link, node, output);
-        room.put_closed(&rt);
+        let output = mailbox.await_output(&rt);
+        write_stream(&rt, alloc, &shared, &mailbox, link, node, output);
+        mailbox.put_closed(&rt);
     }
 }

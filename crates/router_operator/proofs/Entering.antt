@@ -23,7 +23,7 @@ use Rattle.slot_lock.specs.declared.answer.Answer.{Answer as CallAnswer}
 use Rattle.router_operator.specs.Looking.{AnswersCall}
 use Rattle.router_operator.specs.OperatorView.{IsAt, Names, OperatorView, journal_with}
 use Rattle.router_operator.specs.Operators.{AnswersEvent, BreaksOff, Enters, OnlyPass}
-use Rattle.router_operator.specs.Telling.{IsTold, exported_by}
+use Rattle.router_operator.specs.Telling.{IsNotified, exported_by}
 
 -- what stands before the last entry of a legal history is legal
 legal_front : (w : World) (es more : List Entry) → IsLegalFrom w (es ++ more) → IsLegalFrom w es
@@ -53,12 +53,12 @@ module _ (before : OperatorView) (happened : Event) (a : CallAnswer) (pass : Pas
   legal : IsLegal before.router.opening (h.log ++ entry happened a.reply ∷ [])
   legal = subst (λ (es : List Entry). IsLegal before.router.opening es) h.seen h.legal
 
-  told : told_of (journal_with before.router h.log) happened ≡ a.reply
-  told = last_reply (opened before.router.opening) h.log (entry happened a.reply) legal
+  query_answer : told_of (journal_with before.router h.log) happened ≡ a.reply
+  query_answer = last_reply (opened before.router.opening) h.log (entry happened a.reply) legal
 
   enters : (answer : Answer) → answer ≡ reply_answer a.at a.reply → Enters before h.log happened answer (record before { pass = pass })
   enters answer e =
-      let reply_is = told in record {
+      let reply_is = query_answer in record {
         answers = e ∙ ap (λ (n : ℕ). reply_answer n a.reply) h.position ∙ ap (λ (r : Reply). reply_answer (length h.log) r) (sym reply_is);
         seen = ap (λ (es : List Entry). journal_with before.router es)
             (h.seen ∙ ap (λ (r : Reply). h.log ++ entry happened r ∷ []) (sym reply_is));
@@ -135,12 +135,12 @@ module _ (before : OperatorView) (happened : Event) (pass : PassView) (shares : 
   breaks_call (Err call_fault.Memory) good bad = failed_tries_break before pass bad.0 bad.1
 
 -- who listens was told of what was entered
-told_by : (is_told : Option ℕ → CallAnswer → Type 0) (r : RouterView) (old new : PassView) (happened : Event) (called : Result CallAnswer CallFault) →
+told_by : (is_notified : Option ℕ → CallAnswer → Type 0) (r : RouterView) (old new : PassView) (happened : Event) (called : Result CallAnswer CallFault) →
     IfOk called (λ a. Answered r old happened a new) → IfErr called (λ f. Refused f r old new) →
-    IfOk called (λ a. is_told (exported_by happened) a) → IsTold is_told r old happened new
-told_by is_told r old new happened (Ok a) good bad told = inr (a, good, told)
-told_by is_told r old new happened (Err call_fault.Full) good bad told = inl bad.mine
-told_by is_told r old new happened (Err call_fault.Memory) good bad told = inl (ap (λ (p : PassView). p.fragment.mine) bad.1)
+    IfOk called (λ a. is_notified (exported_by happened) a) → IsNotified is_notified r old happened new
+told_by is_notified r old new happened (Ok a) good bad query_answer = inr (a, good, query_answer)
+told_by is_notified r old new happened (Err call_fault.Full) good bad query_answer = inl bad.mine
+told_by is_notified r old new happened (Err call_fault.Memory) good bad query_answer = inl (ap (λ (p : PassView). p.fragment.mine) bad.1)
 
 -- the same of an operator whose fields are these; `old` is how they were
 module _ (old : OperatorView) (router : RouterView) (was pass : PassView) (names : Names) (links : List ℕ) (quit : Bool) (size limit : ℕ)
@@ -158,8 +158,8 @@ module _ (old : OperatorView) (router : RouterView) (was pass : PassView) (names
   pub call_breaks : BreaksOff old (record start { pass = pass })
   call_breaks = subst (λ (o : OperatorView). BreaksOff o (record start { pass = pass })) is (breaks_call start happened pass shares r good bad)
 
-  pub call_told : (is_told : Option ℕ → CallAnswer → Type 0) (exported : Option ℕ) → exported ≡ exported_by happened →
-      IfOk r (λ a. is_told exported a) → IsTold is_told old.router old.pass happened pass
-  call_told is_told exported by told =
-      subst (λ (o : OperatorView). IsTold is_told o.router o.pass happened pass) is
-      (told_by is_told router was pass happened r good bad (subst (λ node. IfOk r (λ a. is_told node a)) by told))
+  pub call_told : (is_notified : Option ℕ → CallAnswer → Type 0) (exported : Option ℕ) → exported ≡ exported_by happened →
+      IfOk r (λ a. is_notified exported a) → IsNotified is_notified old.router old.pass happened pass
+  call_told is_notified exported by query_answer =
+      subst (λ (o : OperatorView). IsNotified is_notified o.router o.pass happened pass) is
+      (told_by is_notified router was pass happened r good bad (subst (λ node. IfOk r (λ a. is_notified node a)) by query_answer))

@@ -8,20 +8,20 @@ use Rattle.netchange_core.specs.Calls.{session_of}
 use Rattle.operator_cmds.specs.declared.command.Look.{Look}
 use Rattle.route_history.specs.Long.{LongView, OfHistory}
 use Rattle.route_history.proofs.Windows.{tables_are}
-use Rattle.router_operator.specs.Looking.{Finds, told}
-use Rattle.router_operator.specs.declared.looking.Asked.TheVariants.{Tables, Entries}
+use Rattle.router_operator.specs.Looking.{Finds, query_answer}
+use Rattle.router_operator.specs.declared.looking.Query.TheVariants.{Tables, Entries}
 use Rattle.router_operator.specs.declared.looking.FindingSession.{FindingSession}
 
 -- the tables are those after the whole history
 pub told_tables : {E : Type 0} (j : LongView) (look : Look) (number : ℕ) (old new : List ℕ) (r : Result LineReply E) →
-    IfOk r (Adds (looked j.tables number look) old new) → OfHistory j (λ history. IfOk r (Adds (told (Tables look) number j.first history) old new))
+    IfOk r (Adds (looked j.tables number look) old new) → OfHistory j (λ history. IfOk r (Adds (query_answer (Tables look) number j.first history) old new))
 told_tables j look number old new r h = λ o b log w legal.
     subst (λ (v : World). IfOk r (Adds (looked v number look) old new)) (tables_are o b log j j w) h
 
 -- and the entries that are kept are its last ones
 pub told_entries : {E : Type 0} (j : LongView) (from number : ℕ) (old new : List ℕ) (r : Result LineReply E) →
     IfOk r (λ reply. OfHistory j (λ history. Adds (history_looked j.first history.entries from) old new reply)) →
-    OfHistory j (λ history. IfOk r (Adds (told (Entries from) number j.first history) old new))
+    OfHistory j (λ history. IfOk r (Adds (query_answer (Entries from) number j.first history) old new))
 told_entries j from number old new (Ok reply) h = h
 told_entries j from number old new (Err e) h = λ o b log w legal. tt
 

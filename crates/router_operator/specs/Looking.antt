@@ -10,8 +10,8 @@ use Rattle.route_history.specs.JournalView.{JournalView}
 use Rattle.route_history.specs.declared.fault.CallFault.{CallFault}
 use Rattle.route_history.specs.declared.fault.CallFault.TheVariants as call_fault
 use Rattle.slot_lock.specs.declared.answer.Answer.{Answer as CallAnswer}
-use Rattle.router_operator.specs.declared.looking.Asked.{Asked}
-use Rattle.router_operator.specs.declared.looking.Asked.TheVariants.{Tables, Entries}
+use Rattle.router_operator.specs.declared.looking.Query.{Query}
+use Rattle.router_operator.specs.declared.looking.Query.TheVariants.{Tables, Entries}
 use Rattle.router_operator.specs.declared.looking.FindingSession.{FindingSession}
 use Rattle.router_operator.specs.declared.looking.Looking.{Looking}
 
@@ -22,14 +22,14 @@ AnswersCall limit (Err call_fault.Full) answer = answer ≡ refused (codes "J1")
 AnswersCall limit (Err call_fault.Memory) answer = ⊥
 
 -- the answer to the line of this number, which asks so, by the router's history, of which so many entries are forgotten
-abbrev pub told : Asked → ℕ → ℕ → JournalView → Answer
-told (Tables look) number first journal = looked (tables_of journal) number look
-told (Entries from) number first journal = history_looked first journal.entries from
+abbrev pub query_answer : Query → ℕ → ℕ → JournalView → Answer
+query_answer (Tables look) number first journal = looked (tables_of journal) number look
+query_answer (Entries from) number first journal = history_looked first journal.entries from
 
 -- the answer is added to what was written, unless memory was refused
 abbrev pub Tells : Looking → ℕ → JournalView → Looking → Type 0
 Tells before first journal after =
-    IfOk after.reply (Adds (told before.asked before.number first journal) before.text.items after.text.items)
+    IfOk after.reply (Adds (query_answer before.asked before.number first journal) before.text.items after.text.items)
     × OnErr after.reply (StartsWith after.text.items before.text.items)
 
 -- the session is the node's present one

@@ -12,6 +12,6 @@ exported_by (event.SetExport node filter) = Some node
 exported_by _ = None
 
 -- nothing was entered; or the event was, and who listens was told of its answer, and of the node whose export filter it set
-abbrev pub IsTold : (Option ℕ → Answer → Type 0) → RouterView → PassView → Event → PassView → Type 0
-IsTold is_told r old happened new = (new.fragment.mine ≡ old.fragment.mine)
-    ⊎ ((answer : Answer) × Answered r old happened answer new × is_told (exported_by happened) answer)
+abbrev pub IsNotified : (Option ℕ → Answer → Type 0) → RouterView → PassView → Event → PassView → Type 0
+IsNotified is_notified r old happened new = (new.fragment.mine ≡ old.fragment.mine)
+    ⊎ ((answer : Answer) × Answered r old happened answer new × is_notified (exported_by happened) answer)

@@ -27,7 +27,7 @@ pub(crate) fn exported_by(event: &Event) -> Option<u16>
 
 /// Tells a listener of the answer to a call, which set the export filter of this node, if of any.
 fn tell<R: Wait + Clock, L: Listener>(rt: &R, listener: &L, exported: Option<u16>, answer: &Answer)
-    ensures { L.is_told exported answer.now }
+    ensures { L.is_notified exported answer.now }
 {
     match exported {
         Some(node) => listener.exported(rt, node, answer),
@@ -46,7 +46,7 @@ pub(crate) fn answer_call<R: Wait + Clock, L: Listener>(
 ) -> Result<LineReply, AllocError>
     ensures ok { IfOk result (Answers (AnswersCall limit called) out.old.items out.new.items) }
     ensures err { OnErr result (StartsWith out.new.items out.old.items) }
-    ensures told { IfOk called (λ answer. L.is_told exported answer) }
+    ensures query_answer { IfOk called (λ answer. L.is_notified exported answer) }
 {
     match called {
         Ok(answer) => {

@@ -12,13 +12,13 @@ pub trait Listener {
     ghost use Rattle.slot_lock.specs.declared.answer.Answer.{Answer as Told};
 
     // That it was told of an answer, to a call that set the export filter of this node, if of any.
-    ghost is_told: { Option ℕ → Told → Type 0 } = { λ _ _. ⊤ };
+    ghost is_notified: { Option ℕ → Told → Type 0 } = { λ _ _. ⊤ };
 
     /// A call was answered.
     fn answered<R: Wait + Clock>(&self, rt: &R, answer: &Answer)
-        ensures { is_told None answer.now };
+        ensures { is_notified None answer.now };
 
     /// A call that set the export filter of a node was answered. If the node is up, its queue has all distances again.
     fn exported<R: Wait + Clock>(&self, rt: &R, node: u16, answer: &Answer)
-        ensures { is_told (Some node) answer.now };
+        ensures { is_notified (Some node) answer.now };
 }

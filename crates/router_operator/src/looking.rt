@@ -8,7 +8,7 @@ use std::alloc::{AllocError, Global};
 
 /// What a look asks for.
 #[derive(Clone, Copy)]
-pub(crate) enum Asked {
+pub(crate) enum Query {
     /// A look at the tables.
     Tables(Look),
     /// The entries from a position on.
@@ -21,7 +21,7 @@ pub(crate) struct Looking {
     pub(crate) alloc: Global,
     /// The number of the line that looks.
     pub(crate) number: u32,
-    pub(crate) asked: Asked,
+    pub(crate) asked: Query,
     /// What is written so far.
     pub(crate) text: Vec<u8>,
     /// What is answered. Before the look it is nothing, which is told as refused memory.
@@ -33,19 +33,19 @@ impl Looking {
     ghost use Rattle.std.specs.Io.{StartsWith};
     ghost use Rattle.operator_cmds.specs.Replies.{Adds};
     ghost use Rattle.route_history.specs.Long.{OfHistory};
-    ghost use Rattle.router_operator.specs.Looking.{told};
+    ghost use Rattle.router_operator.specs.Looking.{query_answer};
 
     /// Answers the look, behind what is written so far.
     fn answer(&mut self, journal: &LongJournal) -> Result<LineReply, AllocError>
         ensures ok { OfHistory journal.now (λ history.
-            IfOk result (Adds (told self.old.asked self.old.number journal.now.first history) self.old.text.items self.new.text.items)) }
+            IfOk result (Adds (query_answer self.old.asked self.old.number journal.now.first history) self.old.text.items self.new.text.items)) }
         ensures err { OnErr result (StartsWith self.new.text.items self.old.text.items) }
     {
         match self.asked {
-            Asked::Tables(look) => {
+            Query::Tables(look) => {
                 answer_look(&mut self.text, journal.tables(), self.number, look)
             }
-            Asked::Entries(from) => answer_kept(self.alloc, &mut self.text, journal, from),
+            Query::Entries(from) => answer_kept(self.alloc, &mut self.text, journal, from),
         }
     }
 }

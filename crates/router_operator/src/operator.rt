@@ -5,16 +5,16 @@ ghost use Rattle.netchange_core.specs.declared.event.Event.TheVariants as event;
 ghost use Rattle.operator_cmds.specs.CommandView.{view_of};
 ghost use Rattle.operator_cmds.specs.Replies.{Answers};
 ghost use Rattle.operator_cmds.specs.Script as script;
-ghost use Rattle.router_operator.specs.Looking.{told};
+ghost use Rattle.router_operator.specs.Looking.{query_answer};
 ghost use Rattle.router_operator.specs.OperatorView.{IsAt, filter_of};
 ghost use Rattle.router_operator.specs.Operators as spec;
 ghost use Rattle.router_operator.specs.Running.{IsBrokenOff, IsServed};
-ghost use Rattle.router_operator.specs.Telling.{IsTold};
+ghost use Rattle.router_operator.specs.Telling.{IsNotified};
 ghost use Rattle.slot_lock.specs.Passes.{IsPassOf};
 
 use crate::calls::{answer_call, exported_by};
 use crate::listener::Listener;
-use crate::looking::{Asked, FindingSession, Looking};
+use crate::looking::{FindingSession, Looking, Query};
 use crate::naming::Naming;
 use crate::questions::{has_link, is_quit};
 use filter_verifier::Verified;
@@ -215,8 +215,8 @@ impl<'a, R: Wait + Clock, L: Listener, J: Naming> Operator<'a, R, L, J> {
             Command::Up(_) => refuse(out, LINK_DOES_IT, u64::from(number)),
             Command::Down(node) => self.take_down(number, node, out),
             Command::Show(node) => self.enter(Event::Show(node), out),
-            Command::Look(look) => self.look(alloc, number, Asked::Tables(look), out),
-            Command::History(from) => self.look(alloc, number, Asked::Entries(from), out),
+            Command::Look(look) => self.look(alloc, number, Query::Tables(look), out),
+            Command::History(from) => self.look(alloc, number, Query::Entries(from), out),
         }
     }
 
@@ -234,7 +234,7 @@ impl<'a, R: Wait + Clock, L: Listener, J: Naming> Operator<'a, R, L, J> {
         ensures err { OnErr result (StartsWith out.new.items out.old.items) }
         ensures left { OnErr result (self.new ≡ self.old) }
     {
-        let mut told = None;
+        let mut query_answer = None;
         name_source(
             alloc,
             &mut self.filters,
@@ -242,7 +242,7 @@ impl<'a, R: Wait + Clock, L: Listener, J: Naming> Operator<'a, R, L, J> {
             name,
             source,
             self.size,
-            &mut told,
+            &mut query_answer,
             out,
         )
     }
@@ -296,7 +296,7 @@ impl<'a, R: Wait + Clock, L: Listener, J: Naming> Operator<'a, R, L, J> {
         ensures ok { IfOk result (Answers (λ answer. spec.AnswersEvent self.old event answer self.new) out.old.items out.new.items) }
         ensures err { OnErr result (StartsWith out.new.items out.old.items) }
         ensures left { OnErr result (spec.BreaksOff self.old self.new) }
-        ensures told { IsTold L.is_told self.old.router self.old.pass event self.new.pass }
+        ensures query_answer { IsNotified L.is_notified self.old.router self.old.pass event self.new.pass }
     {
         let exported = exported_by(&event);
         let called = self.router.call(self.rt, &mut self.pass, event);
@@ -308,10 +308,10 @@ impl<'a, R: Wait + Clock, L: Listener, J: Naming> Operator<'a, R, L, J> {
         &mut self,
         alloc: Global,
         number: u32,
-        asked: Asked,
+        asked: Query,
         out: &mut Vec<u8>,
     ) -> Result<LineReply, AllocError>
-        ensures ok { IfOk result (Answers (λ answer. spec.AnswersLook (told asked number) self.old answer self.new)
+        ensures ok { IfOk result (Answers (λ answer. spec.AnswersLook (query_answer asked number) self.old answer self.new)
             out.old.items out.new.items) }
         ensures err { OnErr result (StartsWith out.new.items out.old.items) }
         ensures left { OnErr result (spec.BreaksOff self.old self.new) }

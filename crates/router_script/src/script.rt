@@ -7,15 +7,14 @@ ghost use Rattle.std.specs.Prelude.{◌≡◌, IfErr, IfOk, IfSome};
 ghost use Rattle.operator_cmds.specs.Running.{IsBrokenOff, IsCarriedOut};
 
 use crate::stage::{Setup, Stage};
-use crate::watch::run_watched_script;
 use filter_source::Diagnosis;
 use filter_verifier::Verified;
-use line_protocol::{LineReply, Service, StreamFault};
+use line_protocol::{LineReply, Service, StreamFault, answer_lines};
 use netchange_core::{Event, Opening};
 use operator_cmds::{
-    Command, CommandFault, Direction, FilterSource, Look, NamedFilters, Network, Nobody,
-    PlainCommand, RefusedLine, StateFault, answer_history, answer_look, confirm, enter, give_name,
-    name_source, read_command, read_plain, refuse, session_number,
+    Command, CommandFault, Direction, FilterSource, Look, NamedFilters, Network, PlainCommand,
+    RefusedLine, StateFault, answer_history, answer_look, confirm, enter, give_name, name_source,
+    read_command, read_plain, refuse, session_number,
 };
 use prefix_patterns::Prefix;
 use route_history::Journal;
@@ -35,7 +34,7 @@ pub struct Script {
     /// The filter of each name.
     filters: NamedFilters,
     /// What is told of the last filter that was refused.
-    told: Option<Diagnosis>,
+    diagnosis: Option<Diagnosis>,
 }
 
 impl Service for Script {
@@ -73,7 +72,7 @@ impl Script {
     ghost use Rattle.operator_cmds.specs.Script as spec;
     ghost use Rattle.operator_cmds.specs.Stages.{session_in, size_in};
     ghost use Rattle.operator_cmds.specs.State.{filter_at};
-    ghost use Rattle.router_script.specs.State.{script_of, setting_in, stage_of, told_of};
+    ghost use Rattle.router_script.specs.State.{script_of, setting_in, stage_of, diagnosis_of};
 
     /// A script at its first line.
     pub fn new(alloc: Global) -> Script
@@ -82,7 +81,7 @@ impl Script {
         Script {
             stage: Stage::Empty,
             filters: BTreeMap::new(alloc),
-            told: None,
+            diagnosis: None,
         }
     }
 
@@ -126,7 +125,7 @@ impl Script {
         ensures number { result.number ≡ number }
         ensures size { result.size ≡ size_in (script_of self.now).stage }
         ensures filters { option_map (λ filters. filter_at filters.now) result.filters ≡ Some (script_of self.now).filters }
-        ensures told { result.told ≡ told_of self.now }
+        ensures diagnosis { result.diagnosis ≡ diagnosis_of self.now }
     {
         RefusedLine {
             number,
@@ -134,7 +133,7 @@ impl Script {
             answer,
             size: self.size(),
             filters: Some(&self.filters),
-            told: self.told,
+            diagnosis: self.diagnosis,
         }
     }
 
@@ -145,7 +144,7 @@ impl Script {
         let Script {
             stage: _stage,
             filters,
-            told: _told,
+            diagnosis: _diagnosis,
         } = self;
         filters
     }
@@ -319,8 +318,8 @@ impl Script {
     ) -> Result<LineReply, AllocError>
         ensures ok { IfOk result (Answers (λ answer. spec.AnswersFilter (stage_of self.old.stage) (spec.gives source.entry)
             (spec.lacks source.entry) number name.now (script_of self.old) answer (script_of self.new)) out.old.items out.new.items) }
-        ensures told { IfSome (size_in (stage_of self.old.stage)) (λ size. IfOk result (Answers (λ answer.
-            spec.TellsSource (spec.diagnoses source.entry size) number (told_of self.old) answer (told_of self.new))
+        ensures diagnosis { IfSome (size_in (stage_of self.old.stage)) (λ size. IfOk result (Answers (λ answer.
+            spec.TellsSource (spec.diagnoses source.entry size) number (diagnosis_of self.old) answer (diagnosis_of self.new))
             out.old.items out.new.items)) }
         ensures err { OnErr result (StartsWith out.new.items out.old.items) }
     {
@@ -332,7 +331,7 @@ impl Script {
                 name,
                 source,
                 size,
-                &mut self.told,
+                &mut self.diagnosis,
                 out,
             ),
             None => refuse(out, StateFault::NoNetwork.code(), u64::from(number)),
@@ -474,5 +473,6 @@ pub fn run_script<R: Read, W: Write>(
     ensures broken_off { IfErr result (λ fault. IfSome (R.remaining reader.old) (λ input.
         IsBrokenOff fault input (R.remaining reader.new) (W.contents writer.old) (W.contents writer.new))) }
 {
-    run_watched_script(alloc, reader, writer, Nobody)
+    let mut script = Script::new(alloc);
+    answer_lines(alloc, reader, writer, &mut script)
 }

@@ -26,7 +26,7 @@ pub fn no_file() -> Origin<'static>
 }
 
 /// Whether a line says an option.
-pub fn is_of(statement: &Statement, option: RouterOption) -> bool
+pub(crate) fn is_of(statement: &Statement, option: RouterOption) -> bool
     ensures { result ≡ spec.is_of option (statement_of statement.now) }
 {
     statement.option.name() == option.name()

@@ -122,14 +122,14 @@ gives_enough d v k loose a b u r watched s fair short other w near =
           far.1,
           no_less d v loose u r s w near up,
           watched.top.least u short other w near (up_linked d v loose u r s w up),
-          ap (λ c. cond c (a w) ((topology d v).toll u w (a w))) far.0,
+          ap (λ c. cond c (a w) ((topology d v).filtered u w (a w))) far.0,
         ))
     told up (inr (inl is)) =
         inl (omega (
           arith,
           gives_up d v loose u r s w near up is.0 ∙ ap (imported d u w v) is.1,
           watched.top.least u short other w near (up_linked d v loose u r s w up),
-          ap (λ c. cond c (a w) ((topology d v).toll u w (a w))) is.0,
+          ap (λ c. cond c (a w) ((topology d v).filtered u w (a w))) is.0,
         ))
     told up (inr (inr past)) = inr (omega (arith, past.1, no_less d v loose u r s w near up))
 
@@ -277,7 +277,7 @@ hop_by d v k loose a b u r watched s fair short near w one other dist (Node hop)
         (cases_Bool (is_up (neighbour_at r.neighbours hop)))
 
     one_hop : Fair d v k loose a hop u (slice_index (neighbour_at r.neighbours hop).advertised v) →
-        a u ≡ suc ((with_all (topology d v) loose).toll u hop (a hop))
+        a u ≡ suc ((with_all (topology d v) loose).filtered u hop (a hop))
     one_hop (inl far) =
         omega (
           arith,
@@ -286,7 +286,7 @@ hop_by d v k loose a b u r watched s fair short near w one other dist (Node hop)
           l.one_more,
           no_less d v loose u r s hop l.is_neighbour up,
           watched.top.least u short one.leads.other hop l.is_neighbour (up_linked d v loose u r s hop up),
-          ap (λ c. cond c (a hop) ((topology d v).toll u hop (a hop))) far.0,
+          ap (λ c. cond c (a hop) ((topology d v).filtered u hop (a hop))) far.0,
         )
     one_hop (inr (inl told)) =
         omega (
@@ -294,7 +294,7 @@ hop_by d v k loose a b u r watched s fair short near w one other dist (Node hop)
           is,
           l.one_more,
           gives_up d v loose u r s hop l.is_neighbour up told.0 ∙ ap (imported d u hop v) told.1,
-          ap (λ c. cond c (a hop) ((topology d v).toll u hop (a hop))) told.0,
+          ap (λ c. cond c (a hop) ((topology d v).filtered u hop (a hop))) told.0,
         )
     one_hop (inr (inr past)) = absurd (omega (arith, past.1, no_less d v loose u r s hop l.is_neighbour up, l.one_more, is, near))
 

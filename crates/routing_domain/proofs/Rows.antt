@@ -13,7 +13,7 @@ each_of_three P a b c (suc (suc (suc u))) h = absurd (omega arith)
 
 -- nodes 0, 1 and 2 in a line, without filters
 abbrev line : Topology
-line = record { size = 3; linked = λ u w. is_between 0 1 u w || is_between 1 2 u w; toll = λ u w d. d }
+line = record { size = 3; linked = λ u w. is_between 0 1 u w || is_between 1 2 u w; filtered = λ u w d. d }
 
 abbrev steps : ℕ → ℕ
 steps u = slice_index (0 ∷ 1 ∷ 2 ∷ []) u
@@ -35,7 +35,7 @@ line_rests = record {
 
 -- node 0 alone, and nodes 1 and 2 with filters that make each distance one less
 abbrev lowering : Topology
-lowering = record { size = 3; linked = λ u w. is_between 1 2 u w; toll = λ u w d. d - 1 }
+lowering = record { size = 3; linked = λ u w. is_between 1 2 u w; filtered = λ u w d. d - 1 }
 
 abbrev looping : ℕ → ℕ
 looping u = slice_index (0 ∷ 1 ∷ 1 ∷ []) u

@@ -15,7 +15,7 @@ use Rattle.netchange_core.specs.FilteredDistance.{filtered_distance}
 use Rattle.netchange_core.specs.World.{World, changed, is_up, neighbour_at}
 use Rattle.netchange_core.proofs.Change.{changed_at}
 use Rattle.netchange_core.proofs.Goes.{export_goes, import_goes}
-use Rattle.routing_domain.specs.Changes.{is_between, is_pair, with_link, with_toll, without_link}
+use Rattle.routing_domain.specs.Changes.{is_between, is_pair, with_link, with_filtered, without_link}
 use Rattle.routing_domain.specs.Domain.{Domain, IsInOrder, IsMember, KeepsLinksAndFilters, are_linked, exported, imported, topology}
 use Rattle.routing_domain.specs.Events.{CanLink, cuts, enters, links}
 use Rattle.routing_domain.specs.Rest.{Topology}
@@ -130,7 +130,7 @@ pub kept_topology : (d e : Domain) (v : ℕ) → KeepsLinksAndFilters d e → to
 kept_topology d e v k = λ i. record {
   size = k.size i;
   linked = λ a b. k.linked a b i;
-  toll = λ a b x. toll_as (d.router a) (e.router a) (d.router b) (e.router b) a b v x (k.openings a) (k.imports a b) (k.openings b) (k.exports b a) i;
+  filtered = λ a b x. toll_as (d.router a) (e.router a) (d.router b) (e.router b) a b v x (k.openings a) (k.imports a b) (k.openings b) (k.exports b a) i;
 }
 
 pub kept_itself : (d : Domain) → KeepsLinksAndFilters d d
@@ -209,7 +209,7 @@ link_topology d e u w v s t now size apart are su sw = λ i. record {
       (ap (λ r. is_up (neighbour_at r.neighbours w)) are.one ∙ su.here) (ap (λ r. is_up (neighbour_at r.neighbours u)) are.other ∙ sw.here)
       (λ x y p q. two_read (λ r. is_up (neighbour_at r.neighbours y)) d e u w s t are x (λ h. su.up y (p.other h)) (λ h. sw.up y (q.other h)))
       a b i;
-  toll = λ a b x. toll_as (d.router a) (e.router a) (d.router b) (e.router b) a b v x
+  filtered = λ a b x. toll_as (d.router a) (e.router a) (d.router b) (e.router b) a b v x
       (opening a) (two_read (λ r. (neighbour_at r.neighbours b).imports) d e u w s t are a (λ _. su.imports b) (λ _. sw.imports b))
       (opening b) (two_read (λ r. (neighbour_at r.neighbours a).exports) d e u w s t are b (λ _. su.exports a) (λ _. sw.exports a)) i;
 }
@@ -255,7 +255,7 @@ cuts_topology d u w v o from to linked =
 -- new filters
 pub import_topology : (d : Domain) (u w v : ℕ) (f : Arc VerifiedView Global) → IsInOrder d → u < d.size → w < d.size → (u ≡ w → ⊥) → f.value.size ≡ d.size →
     topology (enters d u (event.SetImport w f)) v
-    ≡ with_toll (topology d v) u w (λ x. filtered_distance (d.router u).opening (Some f.value) v (exported d w u v x))
+    ≡ with_filtered (topology d v) u w (λ x. filtered_distance (d.router u).opening (Some f.value) v (exported d w u v x))
 import_topology d u w v f o from to apart fits =
     ap (λ a. topology (with_router d u a.world) v)
     (import_goes r.opening r.sessions w r.neighbours f.value (no_neighbour r.opening w (omega (arith, to, o.size u from)) (λ h. apart (sym (h ∙ o.me u from)))) (fits ∙ sym (o.size u from)))
@@ -286,19 +286,19 @@ import_topology d u w v f o from to apart fits =
     here = ap (λ y. (neighbour_at y.neighbours w).imports) (router_here d u s)
         ∙ told_seen (λ n. n.imports) r w (importing f.value) w (λ _ _. refl) ∙ ap (λ n. n.imports) (changed_at w (importing f.value) r.neighbours near)
 
-    toll : (a b x : ℕ) → (topology e v).toll a b x ≡ (with_toll (topology d v) u w (λ y. filtered_distance (d.router u).opening (Some f.value) v (exported d w u v y))).toll a b x
-    toll = pair_set (topology e v).toll (topology d v).toll u w (λ y. filtered_distance (d.router u).opening (Some f.value) v (exported d w u v y))
+    filtered : (a b x : ℕ) → (topology e v).filtered a b x ≡ (with_filtered (topology d v) u w (λ y. filtered_distance (d.router u).opening (Some f.value) v (exported d w u v y))).filtered a b x
+    filtered = pair_set (topology e v).filtered (topology d v).filtered u w (λ y. filtered_distance (d.router u).opening (Some f.value) v (exported d w u v y))
         (λ x i. filtered_distance (opening u i) (here i) v (filtered_distance (opening w i) (exports w u i) v x))
         (λ a b x p. toll_as (d.router a) (e.router a) (d.router b) (e.router b) a b v x (opening a)
         (one_read (λ y. (neighbour_at y.neighbours b).imports) d u s a (λ h. recomputed_other (λ n. n.imports) r w (importing f.value) b (λ _ _. refl) near (p.other h)))
         (opening b) (exports b a))
 
-    after : topology e v ≡ with_toll (topology d v) u w (λ x. filtered_distance (d.router u).opening (Some f.value) v (exported d w u v x))
-    after = λ i. record { size = d.size; linked = λ a b. linked a b i; toll = λ a b x. toll a b x i }
+    after : topology e v ≡ with_filtered (topology d v) u w (λ x. filtered_distance (d.router u).opening (Some f.value) v (exported d w u v x))
+    after = λ i. record { size = d.size; linked = λ a b. linked a b i; filtered = λ a b x. filtered a b x i }
 
 pub export_topology : (d : Domain) (u w v : ℕ) (f : Arc VerifiedView Global) → IsInOrder d → u < d.size → w < d.size → (u ≡ w → ⊥) → f.value.size ≡ d.size →
     topology (enters d u (event.SetExport w f)) v
-    ≡ with_toll (topology d v) w u (λ x. imported d w u v (filtered_distance (d.router u).opening (Some f.value) v x))
+    ≡ with_filtered (topology d v) w u (λ x. imported d w u v (filtered_distance (d.router u).opening (Some f.value) v x))
 export_topology d u w v f o from to apart fits =
     ap (λ a. topology (with_router d u a.world) v)
     (export_goes r.opening r.sessions w r.neighbours f.value (no_neighbour r.opening w (omega (arith, to, o.size u from)) (λ h. apart (sym (h ∙ o.me u from)))) (fits ∙ sym (o.size u from)))
@@ -329,11 +329,11 @@ export_topology d u w v f o from to apart fits =
     here = ap (λ y. (neighbour_at y.neighbours w).exports) (router_here d u s)
         ∙ ap (λ n. n.exports) (changed_at w (exporting r.opening (distance r) f.value) r.neighbours near)
 
-    toll : (a b x : ℕ) → (topology e v).toll a b x ≡ (with_toll (topology d v) w u (λ y. imported d w u v (filtered_distance (d.router u).opening (Some f.value) v y))).toll a b x
-    toll = pair_set (topology e v).toll (topology d v).toll w u (λ y. imported d w u v (filtered_distance (d.router u).opening (Some f.value) v y))
+    filtered : (a b x : ℕ) → (topology e v).filtered a b x ≡ (with_filtered (topology d v) w u (λ y. imported d w u v (filtered_distance (d.router u).opening (Some f.value) v y))).filtered a b x
+    filtered = pair_set (topology e v).filtered (topology d v).filtered w u (λ y. imported d w u v (filtered_distance (d.router u).opening (Some f.value) v y))
         (λ x i. filtered_distance (opening w i) (imports w u i) v (filtered_distance (opening u i) (here i) v x))
         (λ a b x p. toll_as (d.router a) (e.router a) (d.router b) (e.router b) a b v x (opening a) (imports a b) (opening b)
         (one_read (λ y. (neighbour_at y.neighbours a).exports) d u s b (λ h. ap (λ n. n.exports) (changed_other w a (exporting r.opening (distance r) f.value) r.neighbours near (λ q. p.other q h)))))
 
-    after : topology e v ≡ with_toll (topology d v) w u (λ x. imported d w u v (filtered_distance (d.router u).opening (Some f.value) v x))
-    after = λ i. record { size = d.size; linked = λ a b. linked a b i; toll = λ a b x. toll a b x i }
+    after : topology e v ≡ with_filtered (topology d v) w u (λ x. imported d w u v (filtered_distance (d.router u).opening (Some f.value) v x))
+    after = λ i. record { size = d.size; linked = λ a b. linked a b i; filtered = λ a b x. filtered a b x i }

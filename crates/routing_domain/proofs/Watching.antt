@@ -76,8 +76,8 @@ agree_more m v k loose a b c never fits top bottom rest one j room agree u short
         let nearer : b w < b u = leads_nearer (with_none m loose) v b never bottom u w short l in
         let low : a w ≡ b w = same_below w l.member (omega (arith, nearer, here, is, room)) in
         let there : c w ≡ a w = (agree w l.member).0 (omega (arith, low, nearer, here, is)) in
-        let most : c u ≤ suc (m.toll u w (c w)) = rest.least u short other w l.member (cond_none (loose.links u w) (m.linked u w) l.linked) in
-        let upper : c u ≤ a u = omega (arith, most, here, l.one_more, ap (m.toll u w) (there ∙ low)) in
+        let most : c u ≤ suc (m.filtered u w (c w)) = rest.least u short other w l.member (cond_none (loose.links u w) (m.linked u w) l.linked) in
+        let upper : c u ≤ a u = omega (arith, most, here, l.one_more, ap (m.filtered u w) (there ∙ low)) in
         ⊎_elim (λ (before : c u < j). (agree u short).1 before) (λ (past : j ≤ c u). omega (arith, past, upper, is)) (cases_lt (c u) j)
 
     from_rest : (u ≡ v → ⊥) → c u ≡ j → c u ≡ a u
@@ -87,10 +87,10 @@ agree_more m v k loose a b c never fits top bottom rest one j room agree u short
         let l : LeadsThrough m v c u w = led.1 in
         let nearer : c w < c u = leads_nearer m v c never rest u w short l in
         let there : c w ≡ a w = (agree w l.member).1 (omega (arith, nearer, is)) in
-        let most : a u ≤ suc (m.toll u w (a w)) =
-        no_more (loose.filters u w) (a w) (m.toll u w (a w)) (never u w (a w) short l.member (top.bounded w l.member))
+        let most : a u ≤ suc (m.filtered u w (a w)) =
+        no_more (loose.filters u w) (a w) (m.filtered u w (a w)) (never u w (a w) short l.member (top.bounded w l.member))
         (top.least u short other w l.member (cond_all (loose.links u w) (m.linked u w) l.linked)) in
-        let upper : a u ≤ c u = omega (arith, most, l.one_more, ap (m.toll u w) there) in
+        let upper : a u ≤ c u = omega (arith, most, l.one_more, ap (m.filtered u w) there) in
         ⊎_elim (λ (before : a u < j). (agree u short).0 before) (λ (past : j ≤ a u). omega (arith, past, upper, is)) (cases_lt (a u) j)
 
 agree_below : (m : Topology) (v k : ℕ) (loose : Loose) (a b c : ℕ → ℕ) → NeverNearer m → k ≤ m.size → IsRest (with_all m loose) v a → IsRest (with_none m loose) v b →

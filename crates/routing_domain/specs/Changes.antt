@@ -16,6 +16,6 @@ with_link m u w = record m { linked = λ a b. if is_between u w a b then true el
 abbrev pub without_link : Topology → ℕ → ℕ → Topology
 without_link m u w = record m { linked = λ a b. if is_between u w a b then false else m.linked a b }
 
--- with another toll at one node for what the other tells
-abbrev pub with_toll : Topology → ℕ → ℕ → (ℕ → ℕ) → Topology
-with_toll m u w toll = record m { toll = λ a b x. if is_pair u w a b then toll x else m.toll a b x }
+-- with another filter at one node for what the other tells
+abbrev pub with_filtered : Topology → ℕ → ℕ → (ℕ → ℕ) → Topology
+with_filtered m u w filtered = record m { filtered = λ a b x. if is_pair u w a b then filtered x else m.filtered a b x }

@@ -26,7 +26,7 @@ pub record IsLoose (loose : Loose) : Type 0 where
 abbrev pub with_all : Topology → Loose → Topology
 with_all m loose = record m {
   linked = λ u w. if loose.links u w then true else m.linked u w;
-  toll = λ u w x. if loose.filters u w then x else m.toll u w x;
+  filtered = λ u w x. if loose.filters u w then x else m.filtered u w x;
 }
 
 abbrev pub with_none : Topology → Loose → Topology

@@ -5,10 +5,10 @@ use Rattle.routing_domain.specs.Events.{CanLink, links}
 use Rattle.routing_domain.specs.Rest.{Topology}
 use Rattle.routing_domain.specs.Runs.{IsStep}
 
--- The tolls keep order: of two distances of a node, the one that is no farther comes to one that is no farther at each neighbour. (An
+-- The filters keep order: of two distances of a node, the one that is no farther comes to one that is no farther at each neighbour. (An
 -- isotone routing algebra.)
 abbrev pub KeepsOrder : Topology → Type 0
-KeepsOrder m = (u w x y : ℕ) → u < m.size → w < m.size → x ≤ y → y ≤ m.size → m.toll u w x ≤ m.toll u w y
+KeepsOrder m = (u w x y : ℕ) → u < m.size → w < m.size → x ≤ y → y ≤ m.size → m.filtered u w x ≤ m.filtered u w y
 
 -- two nodes become neighbours
 pub record GainsLink (d e : Domain) : Type 0 where

@@ -10,7 +10,7 @@ ghost use Rattle.filter_verifier.specs.VerifiedView.{VerifiedView};
 ghost use Rattle.netchange_core.specs.declared.event.Event.TheVariants as event;
 ghost use Rattle.netchange_core.specs.declared.message.Message.{Message};
 ghost use Rattle.netchange_core.specs.FilteredDistance.{filtered_distance};
-ghost use Rattle.routing_domain.specs.Changes.{with_link, with_toll, without_link};
+ghost use Rattle.routing_domain.specs.Changes.{with_link, with_filtered, without_link};
 ghost use Rattle.routing_domain.specs.Domain.{Domain, IsInOrder, KeepsLinksAndFilters, are_linked, exported, imported, topology};
 ghost use Rattle.routing_domain.specs.Events.{CanLink, cuts, enters, links};
 ghost use Rattle.routing_domain.specs.Runs.{DropsOne, Runs};
@@ -26,15 +26,15 @@ pub fn steps_keep_topology()
     ensures topology { (d e : Domain) → KeepsLinksAndFilters d e → (v : ℕ) → topology e v ≡ topology d v }
 {}
 
-/// Linking adds a link, cutting takes it away, and a new filter is another toll at one end of it.
+/// Linking adds a link, cutting takes it away, and a new filter is another filter at one end of it.
 pub fn events_change_topology()
     ensures link { (d : Domain) → (u w v : ℕ) → IsInOrder d → CanLink d u w → topology (links d u w) v ≡ with_link (topology d v) u w }
     ensures cut { (d : Domain) → (u w v : ℕ) → IsInOrder d → u < d.size → w < d.size → are_linked d u w ≡ true →
         topology (cuts d u w) v ≡ without_link (topology d v) u w }
     ensures set_import { (d : Domain) → (u w v : ℕ) → (f : Arc VerifiedView Global) → IsInOrder d → u < d.size → w < d.size → u ≢ w → f.value.size ≡ d.size →
         topology (enters d u (event.SetImport w f)) v
-        ≡ with_toll (topology d v) u w (λ x. filtered_distance (d.router u).opening (Some f.value) v (exported d w u v x)) }
+        ≡ with_filtered (topology d v) u w (λ x. filtered_distance (d.router u).opening (Some f.value) v (exported d w u v x)) }
     ensures set_export { (d : Domain) → (u w v : ℕ) → (f : Arc VerifiedView Global) → IsInOrder d → u < d.size → w < d.size → u ≢ w → f.value.size ≡ d.size →
         topology (enters d u (event.SetExport w f)) v
-        ≡ with_toll (topology d v) w u (λ x. imported d w u v (filtered_distance (d.router u).opening (Some f.value) v x)) }
+        ≡ with_filtered (topology d v) w u (λ x. imported d w u v (filtered_distance (d.router u).opening (Some f.value) v x)) }
 {}

@@ -4,7 +4,7 @@ ghost use Rattle.script_words.specs.Causes as spec;
 
 /// Why a line of a script is refused, where no filter in it is.
 #[derive(Clone, Copy)]
-pub enum Cause {
+pub enum RefusalCause {
     /// O1: it is no command, or has other words than that command.
     Words,
     /// O2: a number in it is none, or out of its range.
@@ -48,30 +48,30 @@ pub enum Cause {
 }
 
 /// All of them.
-pub static CAUSES: [Cause; 20] = [
-    Cause::Words,
-    Cause::Number,
-    Cause::Hexadecimal,
-    Cause::Early,
-    Cause::Late,
-    Cause::UnknownFilter,
-    Cause::Long,
-    Cause::Prefix,
-    Cause::NoNode,
-    Cause::AlreadyUp,
-    Cause::NotUp,
-    Cause::NoDestination,
-    Cause::FarDistance,
-    Cause::OtherSize,
-    Cause::NoSession,
-    Cause::Full,
-    Cause::BadNode,
-    Cause::Linked,
-    Cause::Apart,
-    Cause::Unplayable,
+pub static CAUSES: [RefusalCause; 20] = [
+    RefusalCause::Words,
+    RefusalCause::Number,
+    RefusalCause::Hexadecimal,
+    RefusalCause::Early,
+    RefusalCause::Late,
+    RefusalCause::UnknownFilter,
+    RefusalCause::Long,
+    RefusalCause::Prefix,
+    RefusalCause::NoNode,
+    RefusalCause::AlreadyUp,
+    RefusalCause::NotUp,
+    RefusalCause::NoDestination,
+    RefusalCause::FarDistance,
+    RefusalCause::OtherSize,
+    RefusalCause::NoSession,
+    RefusalCause::Full,
+    RefusalCause::BadNode,
+    RefusalCause::Linked,
+    RefusalCause::Apart,
+    RefusalCause::Unplayable,
 ];
 
-impl Cause {
+impl RefusalCause {
     ghost use Rattle.script_words.specs.Causes.{cause_code};
 
     /// The code that names it in an answer.
@@ -79,40 +79,40 @@ impl Cause {
         ensures { result.now ≡ cause_code self }
     {
         match self {
-            Cause::Words => "O1",
-            Cause::Number => "O2",
-            Cause::Hexadecimal => "O3",
-            Cause::Early => "O4",
-            Cause::Late => "O5",
-            Cause::UnknownFilter => "O6",
-            Cause::Long => "O7",
-            Cause::Prefix => "O8",
-            Cause::NoNode => "N1",
-            Cause::AlreadyUp => "N2",
-            Cause::NotUp => "N3",
-            Cause::NoDestination => "N4",
-            Cause::FarDistance => "N5",
-            Cause::OtherSize => "N6",
-            Cause::NoSession => "N7",
-            Cause::Full => "J1",
-            Cause::BadNode => "D1",
-            Cause::Linked => "D2",
-            Cause::Apart => "D3",
-            Cause::Unplayable => "D4",
+            RefusalCause::Words => "O1",
+            RefusalCause::Number => "O2",
+            RefusalCause::Hexadecimal => "O3",
+            RefusalCause::Early => "O4",
+            RefusalCause::Late => "O5",
+            RefusalCause::UnknownFilter => "O6",
+            RefusalCause::Long => "O7",
+            RefusalCause::Prefix => "O8",
+            RefusalCause::NoNode => "N1",
+            RefusalCause::AlreadyUp => "N2",
+            RefusalCause::NotUp => "N3",
+            RefusalCause::NoDestination => "N4",
+            RefusalCause::FarDistance => "N5",
+            RefusalCause::OtherSize => "N6",
+            RefusalCause::NoSession => "N7",
+            RefusalCause::Full => "J1",
+            RefusalCause::BadNode => "D1",
+            RefusalCause::Linked => "D2",
+            RefusalCause::Apart => "D3",
+            RefusalCause::Unplayable => "D4",
         }
     }
 }
 
 /// The cause that a code names, if it names one.
 #[tactic(auto, unfolding(crate::specs::Causes::cause_in))]
-pub fn read_cause(code: &[u8]) -> Option<Cause>
+pub fn read_cause(code: &[u8]) -> Option<RefusalCause>
     ensures { spec.cause_in code.now ≡ result }
 {
     first_coded(&CAUSES, code)
 }
 
 /// The first of some causes that a code names.
-fn first_coded(causes: &[Cause], code: &[u8]) -> Option<Cause>
+fn first_coded(causes: &[RefusalCause], code: &[u8]) -> Option<RefusalCause>
     ensures { find (spec.is_coded code.now) causes.now ≡ result }
 {
     for cause in causes {

@@ -1,9 +1,9 @@
 //! What is wrong with a line that is no command: O1.
 
-use crate::finding::{Finding, found_at};
+use crate::finding::{ScriptFinding, found_at};
 use crate::forms::{Form, ScriptKind};
 use crate::spelling::{byte_of_word, count_words, short_text, spelled, word_at};
-use filter_reports::nearest_word;
+use refusal_words::nearest_word;
 use std::alloc::{AllocError, Global};
 
 /// What is wrong with a line that is no command.
@@ -11,7 +11,7 @@ pub(crate) fn command_words(
     alloc: Global,
     kind: ScriptKind,
     line: &[u8],
-) -> Result<Finding, AllocError> {
+) -> Result<ScriptFinding, AllocError> {
     let verb = word_at(line, 0);
     match kind.form_of(verb) {
         Some(form) => form_words(alloc, line, form),
@@ -41,7 +41,7 @@ fn verb_words(alloc: Global, kind: ScriptKind, verb: &[u8]) -> Result<String, Al
 }
 
 /// What is wrong with the words after the first one of a command: their number, or else the name among them, or the last one.
-fn form_words(alloc: Global, line: &[u8], form: Form) -> Result<Finding, AllocError> {
+fn form_words(alloc: Global, line: &[u8], form: Form) -> Result<ScriptFinding, AllocError> {
     let count = count_words(line, form.most.saturating_add(1)).saturating_sub(1);
     if count > form.most {
         let words = written_words(alloc, "too many", line, form)?;
@@ -50,7 +50,7 @@ fn form_words(alloc: Global, line: &[u8], form: Form) -> Result<Finding, AllocEr
     if count < form.least {
         let words = written_words(alloc, "too few", line, form)?;
         let byte = Some(line.len());
-        return Ok(Finding { words, byte });
+        return Ok(ScriptFinding { words, byte });
     }
     match form.name {
         Some(index) => name_words(alloc, line, index),
@@ -76,7 +76,7 @@ fn written_words(
 }
 
 /// What is wrong with the name of a filter, which is the word of this index.
-fn name_words(alloc: Global, line: &[u8], index: usize) -> Result<Finding, AllocError> {
+fn name_words(alloc: Global, line: &[u8], index: usize) -> Result<ScriptFinding, AllocError> {
     let word = spelled(alloc, word_at(line, index))?;
     let words = format!(in alloc;
         "{word} is no name: a name is letters, digits and `_`, does not begin with a digit, and has at most 64 bytes"

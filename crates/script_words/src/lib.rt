@@ -12,6 +12,6 @@ mod spelling;
 mod state_words;
 mod telling;
 
-pub use cause::{CAUSES, Cause, read_cause};
+pub use cause::{CAUSES, RefusalCause, read_cause};
 pub use forms::ScriptKind;
 pub use telling::explain_refused;

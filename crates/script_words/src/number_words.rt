@@ -1,6 +1,6 @@
 //! What is wrong with the numbers, the digits and the prefix of a command: O2, O3 and O8.
 
-use crate::finding::{Finding, found_at};
+use crate::finding::{ScriptFinding, found_at};
 use crate::forms::ScriptKind;
 use crate::spelling::{byte_of_word, no_such_node, number_at, spelled, word_at};
 use line_protocol::NUMBER_LIMIT;
@@ -32,7 +32,7 @@ pub(crate) fn number_words(
     kind: ScriptKind,
     line: &[u8],
     size: Option<u16>,
-) -> Result<Finding, AllocError> {
+) -> Result<ScriptFinding, AllocError> {
     let verb = word_at(line, 0);
     let numbers = match kind.form_of(verb) {
         Some(form) => form.numbers,
@@ -53,7 +53,7 @@ fn range_words(
     verb: &[u8],
     line: &[u8],
     size: Option<u16>,
-) -> Result<Finding, AllocError> {
+) -> Result<ScriptFinding, AllocError> {
     let first = number_at(line, 1);
     match verb {
         b"network" => network_words(alloc, line),
@@ -77,7 +77,7 @@ fn size_words(alloc: Global, size: u16) -> Result<String, AllocError> {
 }
 
 /// What is wrong with the numbers of `network`.
-fn network_words(alloc: Global, line: &[u8]) -> Result<Finding, AllocError> {
+fn network_words(alloc: Global, line: &[u8]) -> Result<ScriptFinding, AllocError> {
     let (size, me) = (number_at(line, 1), number_at(line, 2));
     if size < 2 || size > 250 {
         return Ok(found_at(line, 1, size_words(alloc, size)?));
@@ -90,7 +90,7 @@ fn network_words(alloc: Global, line: &[u8]) -> Result<Finding, AllocError> {
 }
 
 /// What is wrong with the digits of a code file.
-pub(crate) fn digit_words(alloc: Global, line: &[u8]) -> Result<Finding, AllocError> {
+pub(crate) fn digit_words(alloc: Global, line: &[u8]) -> Result<ScriptFinding, AllocError> {
     let digits = word_at(line, 2);
     let right = digits
         .iter()
@@ -103,14 +103,14 @@ pub(crate) fn digit_words(alloc: Global, line: &[u8]) -> Result<Finding, AllocEr
     } else {
         format!(in alloc; "a byte is two hexadecimal digits, and there are {count} digits")?
     };
-    Ok(Finding {
+    Ok(ScriptFinding {
         words,
         byte: Some(start.saturating_add(right)),
     })
 }
 
 /// What is wrong with the prefix of a command.
-pub(crate) fn prefix_words(alloc: Global, line: &[u8]) -> Result<Finding, AllocError> {
+pub(crate) fn prefix_words(alloc: Global, line: &[u8]) -> Result<ScriptFinding, AllocError> {
     let word = spelled(alloc, word_at(line, 2))?;
     let words = format!(in alloc; "{word} is no prefix: write one as 10.0.0.0/8")?;
     Ok(found_at(line, 2, words))

@@ -1,9 +1,9 @@
 //! The words of a line, as they are repeated to people.
 
-pub(crate) use filter_reports::{
+use operator_cmds::read_small;
+pub(crate) use refusal_words::{
     byte_of_word, count_words, from_word, short_text, spelled, word_at,
 };
-use operator_cmds::read_small;
 use std::alloc::{AllocError, Global};
 
 /// The number that the word of this index is; 0 where it is none.

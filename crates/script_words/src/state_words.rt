@@ -1,11 +1,11 @@
 //! What is wrong with a command that a script refuses as it stands: O4, O5, O6 and the D codes.
 
-use crate::cause::Cause;
-use crate::finding::{Finding, found_at};
+use crate::cause::RefusalCause;
+use crate::finding::{ScriptFinding, found_at};
 use crate::forms::ScriptKind;
 use crate::spelling::{no_such_node, number_at, spelled, word_at};
-use filter_reports::nearest_word;
 use operator_cmds::{NamedFilters, RefusedLine};
+use refusal_words::nearest_word;
 use std::alloc::{AllocError, Global};
 use std::str;
 
@@ -66,7 +66,7 @@ pub(crate) fn unknown_words(
     alloc: Global,
     kind: ScriptKind,
     refused: &RefusedLine<'_>,
-) -> Result<Finding, AllocError> {
+) -> Result<ScriptFinding, AllocError> {
     let index = match kind {
         ScriptKind::Router => 2,
         ScriptKind::Domain => 3,
@@ -87,18 +87,18 @@ pub(crate) fn unknown_words(
 /// What a domain refuses a pair of nodes for.
 pub(crate) fn domain_words(
     alloc: Global,
-    cause: Cause,
+    cause: RefusalCause,
     refused: &RefusedLine<'_>,
-) -> Result<Finding, AllocError> {
+) -> Result<ScriptFinding, AllocError> {
     let line = refused.line;
     let (u, w) = (number_at(line, 1), number_at(line, 2));
     match cause {
-        Cause::BadNode => node_words(alloc, line, u, w, refused.size.unwrap_or(0)),
-        Cause::Linked => {
+        RefusalCause::BadNode => node_words(alloc, line, u, w, refused.size.unwrap_or(0)),
+        RefusalCause::Linked => {
             let words = format!(in alloc; "nodes {u} and {w} are neighbours already")?;
             Ok(found_at(line, 1, words))
         }
-        Cause::Apart => {
+        RefusalCause::Apart => {
             let words = format!(in alloc; "nodes {u} and {w} are not neighbours")?;
             Ok(found_at(line, 1, words))
         }
@@ -119,7 +119,7 @@ fn node_words(
     u: u16,
     w: u16,
     size: u16,
-) -> Result<Finding, AllocError> {
+) -> Result<ScriptFinding, AllocError> {
     if u >= size {
         return Ok(found_at(line, 1, no_such_node(alloc, u, size)?));
     }

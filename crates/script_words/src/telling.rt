@@ -4,12 +4,12 @@ ghost use Rattle.std.specs.Prelude.{◌≡◌, IfOk};
 ghost use Rattle.script_words.specs.Causes.{cause_in};
 ghost use Rattle.script_words.specs.Telling.{Tells, TellsCause, TellsFilter, cause_of, code_in};
 
-use crate::cause::{Cause, read_cause};
-use crate::finding::Finding;
+use crate::cause::{RefusalCause, read_cause};
+use crate::finding::ScriptFinding;
 use crate::forms::ScriptKind;
 use crate::line_words::line_words;
-use filter_reports::{explain_line, place_in, push_shown, tell_at};
 use operator_cmds::{RefusedLine, text_in, three_words};
+use refusal_words::{explain_line, place_in, push_shown, tell_at};
 use std::alloc::{AllocError, Global};
 
 /// The code and the place of an answer `refused CODE AT`.
@@ -23,9 +23,9 @@ struct CodeAndPlace<'a> {
 
 /// Why a line is refused, where no filter in it is, and the place that the answer names.
 #[derive(Clone, Copy)]
-struct Placed<'a> {
+struct PlacedCause<'a> {
     /// Why.
-    cause: Cause,
+    cause: RefusalCause,
     /// The place.
     at: &'a [u8],
 }
@@ -39,13 +39,13 @@ fn refusal_in(answer: &[u8]) -> Option<CodeAndPlace<'_>>
 }
 
 /// The cause that an answer names, if it names one.
-fn cause_of(answer: &[u8]) -> Option<Placed<'_>>
+fn cause_of(answer: &[u8]) -> Option<PlacedCause<'_>>
     ensures { option_map (λ p. p.cause) result ≡ cause_of answer.now }
 {
     let refusal = refusal_in(answer)?;
     let cause = read_cause(refusal.code)?;
     let at = refusal.at;
-    Some(Placed { cause, at })
+    Some(PlacedCause { cause, at })
 }
 
 /// What is said of a line that is refused for this cause, in words as they are shown.
@@ -53,8 +53,8 @@ fn tell_found(
     alloc: Global,
     name: &[u8],
     refused: &RefusedLine<'_>,
-    cause: Cause,
-    found: Finding,
+    cause: RefusalCause,
+    found: ScriptFinding,
 ) -> Result<Vec<u8>, AllocError>
     ensures { IfOk result (λ out. TellsCause name.now refused.now.number refused.now.line.now cause out.items) }
 {
@@ -78,14 +78,14 @@ fn tell_filter(
     name: &[u8],
     refused: &RefusedLine<'_>,
 ) -> Result<Option<Vec<u8>>, AllocError>
-    ensures { IfOk result (λ out. TellsFilter refused.now.told name.now refused.now.number refused.now.line.now
+    ensures { IfOk result (λ out. TellsFilter refused.now.diagnosis name.now refused.now.number refused.now.line.now
         (option_map (λ out. out.items) out)) }
 {
-    let Some(told) = refused.told else {
+    let Some(diagnosis) = refused.diagnosis else {
         return Ok(None);
     };
     let (number, line) = (refused.number, refused.line);
-    let words = explain_line(alloc, name, number, line, text_in(line), &told)?;
+    let words = explain_line(alloc, name, number, line, text_in(line), &diagnosis)?;
     Ok(Some(words))
 }
 
@@ -95,7 +95,7 @@ fn tell_cause(
     kind: ScriptKind,
     name: &[u8],
     refused: &RefusedLine<'_>,
-    placed: Placed<'_>,
+    placed: PlacedCause<'_>,
 ) -> Result<Vec<u8>, AllocError>
     ensures { IfOk result (λ out. TellsCause name.now refused.now.number refused.now.line.now placed.entry.cause out.items) }
 {
@@ -111,7 +111,7 @@ pub fn explain_refused(
     name: &[u8],
     refused: &RefusedLine<'_>,
 ) -> Result<Option<Vec<u8>>, AllocError>
-    ensures { IfOk result (λ out. Tells name.now refused.now.number refused.now.line.now refused.now.answer.now refused.now.told
+    ensures { IfOk result (λ out. Tells name.now refused.now.number refused.now.line.now refused.now.answer.now refused.now.diagnosis
         (option_map (λ out. out.items) out)) }
 {
     match cause_of(refused.answer) {

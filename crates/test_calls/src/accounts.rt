@@ -1,9 +1,9 @@
 //! What was done at a router, beside what its journal says of it.
 
 use crate::asserts::{RouterHost, done, must, some};
-use crate::crews::Auditor;
 use crate::histories::must_answer;
 use crate::random_link::RandomLink;
+use crate::session_groups::Auditor;
 use netchange_core::{Event, Message, ReplyRef};
 use route_history::{Entries, EntryRef, Journal};
 use route_session::{Cause, Ending, Finished};
@@ -23,17 +23,17 @@ pub const COUNTED: [&str; 8] = [
 ];
 
 /// Messages, each with its session.
-type Told = Vec<(u32, Message)>;
+type SessionMessages = Vec<(u32, Message)>;
 
 /// Adds messages of a session.
-fn add<R: Abort>(rt: &R, told: &mut Told, session: u32, messages: &[Message]) {
+fn add<R: Abort>(rt: &R, told: &mut SessionMessages, session: u32, messages: &[Message]) {
     for message in messages {
         done(rt, told.push((session, *message)));
     }
 }
 
 /// Messages by session, those of each in the order in which they came.
-fn by_session<R: RouterHost>(rt: &R, mut told: Told) -> Told {
+fn by_session<R: RouterHost>(rt: &R, mut told: SessionMessages) -> SessionMessages {
     done(rt, told.sort_by_key(|one: &(u32, Message)| one.0));
     told
 }
@@ -44,9 +44,9 @@ pub struct Account {
     /// The present session of each neighbour that has links, as far as is known.
     pub sessions: [u32; 2],
     /// What links handed out, but for what was lost.
-    told: Told,
+    told: SessionMessages,
     /// What links were given, and what was left unsent.
-    taken: Told,
+    taken: SessionMessages,
     /// Entries that say nothing of a session.
     others: usize,
     refused: u64,

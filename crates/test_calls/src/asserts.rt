@@ -1,4 +1,8 @@
-//! What ends a test at once. Who calls these functions goes on one path alone, where an error that is handed on would be a second one.
+//! What ends a test at once.
+//!
+//! **Helpers of tests end the process.** An error that is handed on is a path in each function that hands it on, and the proof of a test spends its
+//! time on paths. So helpers take the runtime of the test, which may abort, and end the test where something is not as it must be. Each test is a
+//! process of its own, and prints the row or the error first. A library may not abort, so these functions stand in the crate of the tests.
 
 use std::fmt::{Debug, Display};
 use std::process::Abort;
@@ -18,14 +22,14 @@ pub trait RouterHost: Host + Clock + Threads + Wait + Sync {}
 impl<R: Host + Clock + Threads + Wait + Sync> RouterHost for R {}
 
 /// Ends the test with the name of a row, unless something holds of it.
-pub fn must<R: Abort>(rt: &R, holds: bool, row: &str) {
+pub(crate) fn must<R: Abort>(rt: &R, holds: bool, row: &str) {
     if !holds {
         rt.panic(row);
     }
 }
 
 /// Ends the test, unless bytes, most often of a text, are these.
-pub fn must_bytes<R: Abort>(rt: &R, found: &[u8], wanted: &[u8]) {
+pub(crate) fn must_bytes<R: Abort>(rt: &R, found: &[u8], wanted: &[u8]) {
     if found != wanted {
         let text = str::from_utf8(found).unwrap_or("bytes that are no text");
         rt.panic(format_args!("other bytes: {text}"));
@@ -33,13 +37,13 @@ pub fn must_bytes<R: Abort>(rt: &R, found: &[u8], wanted: &[u8]) {
 }
 
 /// Ends the test, unless people are shown this of something.
-pub fn must_read<R: Host, T: Display>(rt: &R, shown: &T, wanted: &str) {
+pub(crate) fn must_read<R: Host, T: Display>(rt: &R, shown: &T, wanted: &str) {
     let text = done(rt, format!(in rt.alloc(); "{shown}"));
     must(rt, text.as_str() == wanted, wanted);
 }
 
 /// What there is. Where there is nothing, for want of memory for one, the test ends with this error.
-pub fn some<R: Abort, T>(rt: &R, found: Option<T>, error: &str) -> T {
+pub(crate) fn some<R: Abort, T>(rt: &R, found: Option<T>, error: &str) -> T {
     match found {
         Some(it) => it,
         None => rt.panic(format_args!("error: {error}")),
@@ -47,7 +51,7 @@ pub fn some<R: Abort, T>(rt: &R, found: Option<T>, error: &str) -> T {
 }
 
 /// What was made. Where it was refused, for want of memory for one, the test ends with that error.
-pub fn done<R: Abort, T, E: Debug + Drop>(rt: &R, made: Result<T, E>) -> T {
+pub(crate) fn done<R: Abort, T, E: Debug + Drop>(rt: &R, made: Result<T, E>) -> T {
     match made {
         Ok(it) => it,
         Err(error) => rt.panic(format_args!("error: {error:?}")),

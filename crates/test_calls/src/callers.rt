@@ -1,4 +1,7 @@
 //! Who calls a router in a test.
+//!
+//! **A test knows nothing of passes.** A call of a router requires that the pass is one of this router. A `Caller` has a router and a pass of it,
+//! which its invariant says. So no test has to prove it again at each call, and callers cross threads without a contract.
 
 ghost use Rattle.std.specs.Prelude.{◌≡◌, ◌<◌, false};
 ghost use Rattle.slot_lock.specs.Passes.{IsFirst, IsPassOf};
@@ -14,7 +17,7 @@ use std::panic::Expect;
 use std::thread;
 
 /// What node 0 of a domain of so many nodes opens with. The nodes' prefixes are 10.V.0.0/16.
-pub fn opening<R: Host>(rt: &R, size: u16) -> Opening {
+pub(crate) fn opening<R: Host>(rt: &R, size: u16) -> Opening {
     let mut prefixes = Vec::new(rt.alloc());
     for node in 0..size {
         let address = Ip(0x0a00_0000 + 0x1_0000 * u32::from(node % 256));
@@ -25,7 +28,7 @@ pub fn opening<R: Host>(rt: &R, size: u16) -> Opening {
 }
 
 /// The router of node 0 of so many, with a history of so many entries at most, and its first pass.
-pub fn open<R: Host>(rt: &R, size: u16, limit: u32) -> (Router, Pass)
+pub(crate) fn open<R: Host>(rt: &R, size: u16, limit: u32) -> (Router, Pass)
     ensures first { IsFirst result.0 result.1 }
     ensures whole { result.0.endless ≡ false }
 {
@@ -35,7 +38,7 @@ pub fn open<R: Host>(rt: &R, size: u16, limit: u32) -> (Router, Pass)
 }
 
 /// Closes a router.
-pub fn close<R: Host>(rt: &R, router: Router, pass: Pass) -> Journal
+pub(crate) fn close<R: Host>(rt: &R, router: Router, pass: Pass) -> Journal
     requires of { IsPassOf router pass }
     requires whole { router.endless ≡ false }
 {

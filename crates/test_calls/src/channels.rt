@@ -14,7 +14,7 @@ use std::time::Duration;
 
 /// What is done with one of some links, by its number.
 #[derive(Clone, Copy)]
-enum Step {
+enum ChannelStep {
     /// It is asked for a message, and answers this.
     Asked(usize, Result<Got, LinkFault>),
     /// It is given a message, which it takes or not.
@@ -24,42 +24,47 @@ enum Step {
 }
 
 /// Does with some links what steps say.
-fn must_follow<R: RouterHost, L: Link>(rt: &R, links: &mut [L], steps: &[Step]) {
+fn must_follow<R: RouterHost, L: Link>(rt: &R, links: &mut [L], steps: &[ChannelStep]) {
     for step in steps {
-        let (Step::Asked(at, _) | Step::Given(at, _, _) | Step::Closed(at)) = step;
+        let (ChannelStep::Asked(at, _) | ChannelStep::Given(at, _, _) | ChannelStep::Closed(at)) =
+            step;
         let link = some(rt, links.get_mut(*at), "a link");
         match step {
-            Step::Asked(_, wanted) => must(rt, link.recv(rt) == *wanted, "what a link hands out"),
-            Step::Given(_, message, is_taken) => {
+            ChannelStep::Asked(_, wanted) => must(
+                rt,
+                link.recv(rt) == *wanted,
+                "what a link hands out",
+            ),
+            ChannelStep::Given(_, message, is_taken) => {
                 let is_so = link.send(rt, *message).is_ok() == *is_taken;
                 must(rt, is_so, "what a link takes");
             }
-            Step::Closed(_) => link.close(),
+            ChannelStep::Closed(_) => link.close(),
         }
     }
 }
 
 /// The end of a channel that is written, number 0, and the end that is read, number 1. What an end has no direction for fails. A closed end has ended
 /// and fails; the other end still hands out what is in the channel, and then has ended, too.
-const WRITER_CLOSED: [Step; 11] = [
-    Step::Asked(0, Err(LinkFault)),
-    Step::Given(1, FIRST, false),
-    Step::Given(0, FIRST, true),
-    Step::Given(0, SECOND, true),
-    Step::Closed(0),
-    Step::Given(0, FIRST, false),
-    Step::Asked(0, Ok(Got::Ended)),
-    Step::Asked(1, Ok(Got::Message(FIRST))),
-    Step::Asked(1, Ok(Got::Message(SECOND))),
-    Step::Asked(1, Ok(Got::Ended)),
-    Step::Closed(1),
+const WRITER_CLOSED: [ChannelStep; 11] = [
+    ChannelStep::Asked(0, Err(LinkFault)),
+    ChannelStep::Given(1, FIRST, false),
+    ChannelStep::Given(0, FIRST, true),
+    ChannelStep::Given(0, SECOND, true),
+    ChannelStep::Closed(0),
+    ChannelStep::Given(0, FIRST, false),
+    ChannelStep::Asked(0, Ok(Got::Ended)),
+    ChannelStep::Asked(1, Ok(Got::Message(FIRST))),
+    ChannelStep::Asked(1, Ok(Got::Message(SECOND))),
+    ChannelStep::Asked(1, Ok(Got::Ended)),
+    ChannelStep::Closed(1),
 ];
 
 /// A closed reader has ended, and nobody is left to read.
-const READER_CLOSED: [Step; 3] = [
-    Step::Closed(1),
-    Step::Asked(1, Ok(Got::Ended)),
-    Step::Given(0, FIRST, false),
+const READER_CLOSED: [ChannelStep; 3] = [
+    ChannelStep::Closed(1),
+    ChannelStep::Asked(1, Ok(Got::Ended)),
+    ChannelStep::Given(0, FIRST, false),
 ];
 
 #[test]
@@ -128,9 +133,9 @@ struct StreamLink<I: Read + Drop, O: Write + Drop> {
 }
 
 impl<I: Read + Drop, O: Write + Drop> Link for StreamLink<I, O> {
-    ghost use Rattle.route_session.specs.Telling.{untold};
+    ghost use Rattle.route_session.specs.Telling.{empty_trace};
 
-    ghost told = { λ l. untold l.is_closed };
+    ghost trace = { λ l. empty_trace l.is_closed };
 
     fn recv<R: Wait>(&mut self, _rt: &R) -> Result<Got, LinkFault> {
         let mut bytes = [0; 4];

@@ -32,7 +32,7 @@ const THREE: [Message; 3] = [
 /// A reader at node 0 of 4, with neighbour 1 up in session 1: what its link hands out before it has ended, the call at which the link
 /// fails, the limit of the history, its session, its turns, how many of how many of them its gate lets go, why it ends, and how many messages
 /// it has entered then.
-type Reader = (
+type ReaderRow = (
     &'static [Message],
     Option<u64>,
     u32,
@@ -45,7 +45,7 @@ type Reader = (
 
 /// Readers whose turns or whose session end them, two of which have every other turn alone. A turn that the gate does not let go is used
 /// up. Then a link that is asked five times, and fails at each; and a history that has room for the Up and so many messages.
-const READERS: [Reader; 18] = [
+const READERS: [ReaderRow; 18] = [
     (&THREE, None, 100, 1, 10, (1, 1), Cause::LinkEnded, 3),
     (&THREE, None, 100, 1, 2, (1, 1), Cause::Turns, 2),
     (&THREE, None, 100, 1, 3, (1, 1), Cause::Turns, 3),
@@ -67,7 +67,7 @@ const READERS: [Reader; 18] = [
 ];
 
 /// The end of a reader.
-pub fn end(cause: Cause, entered: u32, lost: Option<Message>) -> ReadEnd {
+pub(crate) fn end(cause: Cause, entered: u32, lost: Option<Message>) -> ReadEnd {
     ReadEnd {
         cause,
         entered,
@@ -108,7 +108,7 @@ fn read<R: RouterHost, L: Link>(
 }
 
 /// A reader ends as its row says, and what it entered is what was handed out before, in order. A full history loses the message that came next.
-fn must_read<R: RouterHost>(rt: &R, row: &Reader) {
+fn must_read<R: RouterHost>(rt: &R, row: &ReaderRow) {
     let (told, fails_at, limit, session, turns, (most, of), cause, entered) = row;
     let mut link = MemoryLink::new(rt.alloc(), done(rt, told.to_vec(rt.alloc())), *fails_at);
     let gate = NotingGate::new(rt.alloc(), *most, *of);

@@ -25,7 +25,7 @@ pub enum EventKind {
 }
 
 /// A filter of sets and instructions, for domains of so many nodes.
-pub fn filter<R: Host>(
+pub(crate) fn filter<R: Host>(
     rt: &R,
     sets: Vec<PatternSet>,
     instrs: &[Instr],
@@ -42,7 +42,7 @@ pub fn filter<R: Host>(
 }
 
 /// A filter of one instruction, for domains of 4 nodes.
-pub fn small_filter<R: Host>(rt: &R, instr: Instr) -> Arc<Verified> {
+pub(crate) fn small_filter<R: Host>(rt: &R, instr: Instr) -> Arc<Verified> {
     filter(rt, Vec::new(rt.alloc()), &[instr], 4)
 }
 
@@ -61,7 +61,7 @@ fn event_in_turn<R: Host>(rt: &R, number: u16) -> Event {
 }
 
 /// The event of a kind that has a number.
-pub fn event_of<R: Host>(rt: &R, kind: EventKind, number: u16) -> Event {
+pub(crate) fn event_of<R: Host>(rt: &R, kind: EventKind, number: u16) -> Event {
     match kind {
         EventKind::Up => Event::Up(number.saturating_add(1)),
         EventKind::Look => Event::Show(0),
@@ -84,7 +84,7 @@ fn kind_of(event: &Event) -> usize {
 }
 
 /// There are so many entries of each kind.
-pub fn must_count<R: Host>(rt: &R, entries: &Entries, wanted: &[u64; 7]) {
+pub(crate) fn must_count<R: Host>(rt: &R, entries: &Entries, wanted: &[u64; 7]) {
     let mut counts = [0u64; 7];
     for at in 0..entries.len() {
         if let Some(count) = counts.get_mut(kind_of(entries.entry(at).event)) {

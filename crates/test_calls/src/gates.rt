@@ -50,7 +50,7 @@ impl Gate for NotingGate {
 }
 
 /// Waits until a count has come so far, some ten seconds at most: whether it has.
-pub fn comes_to<R: Clock>(rt: &R, count: &AtomicU64, wanted: u64) -> bool {
+pub(crate) fn comes_to<R: Clock>(rt: &R, count: &AtomicU64, wanted: u64) -> bool {
     for _ in 0..10_000 {
         if count.load(Ordering::SeqCst) >= wanted {
             return true;

@@ -6,7 +6,7 @@ use route_history::{Entries, Journal, replay};
 use slot_lock::Answer;
 
 /// A journal replays.
-pub fn must_replay<R: Host>(rt: &R, journal: &Journal) {
+pub(crate) fn must_replay<R: Host>(rt: &R, journal: &Journal) {
     let tables = done(rt, replay(rt.alloc(), journal.opening(), journal.entries()));
     for node in 0..4 {
         let is_same = tables.present_session(node) == journal.present_session(node);
@@ -15,7 +15,7 @@ pub fn must_replay<R: Host>(rt: &R, journal: &Journal) {
 }
 
 /// The entries of a journal read so, and they replay.
-pub fn must_have<R: Host>(rt: &R, journal: &Journal, lines: &[&str]) {
+pub(crate) fn must_have<R: Host>(rt: &R, journal: &Journal, lines: &[&str]) {
     let entries = journal.entries();
     must(rt, entries.len() == lines.len(), "as many entries");
     for at in 0..entries.len() {
@@ -39,7 +39,7 @@ fn is_first_at(entries: &Entries, answer: &Answer, found: &mut [bool]) -> bool {
 }
 
 /// Each answer stands at its position, no two have the same one, and the journal replays.
-pub fn must_answer<R: Host>(rt: &R, journal: &Journal, answers: &[Answer]) {
+pub(crate) fn must_answer<R: Host>(rt: &R, journal: &Journal, answers: &[Answer]) {
     let entries = journal.entries();
     let mut found = done(rt, Vec::from_elem(rt.alloc(), false, entries.len()));
     for answer in answers {
@@ -59,7 +59,7 @@ pub struct Traffic {
 }
 
 /// What a journal says of the messages of a session.
-pub fn said<R: Host>(rt: &R, journal: &Journal, session: u32) -> Traffic {
+pub(crate) fn said<R: Host>(rt: &R, journal: &Journal, session: u32) -> Traffic {
     let (mut entered, mut taken) = (Vec::new(rt.alloc()), Vec::new(rt.alloc()));
     let entries = journal.entries();
     for at in 0..entries.len() {
@@ -79,7 +79,7 @@ pub fn said<R: Host>(rt: &R, journal: &Journal, session: u32) -> Traffic {
 }
 
 /// The messages that a journal entered in a session are these, in order, and the journal replays.
-pub fn must_enter<R: Host>(rt: &R, journal: &Journal, session: u32, wanted: &[Message]) {
+pub(crate) fn must_enter<R: Host>(rt: &R, journal: &Journal, session: u32, wanted: &[Message]) {
     let said = said(rt, journal, session);
     let are_so = said.entered.as_slice() == wanted;
     must(rt, are_so, "the messages that were entered");

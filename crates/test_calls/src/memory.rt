@@ -1,7 +1,8 @@
 //! Each call that asks for memory, where it is refused.
 //!
-//! `scripts/check_memory.py` runs these tests with one allocation refused at a time, from the first to the last. So in each of its runs at most one
-//! call is refused memory. That one has to say so, and to answer as ever when it is made again; the test then ends with what the call answered.
+//! `scripts/check_memory.py` runs these tests, and the program, as they are built, with one allocation refused at a time, from the first to the last.
+//! So **all these calls stand in one table**, which a test makes one after another: in each run at most one call is refused memory. That one has to
+//! say so, and to answer as ever when it is made again; the test then ends, and says which call it was and what it answered.
 
 use crate::asserts::{RouterHost, must};
 use crate::callers::Way;

@@ -16,7 +16,7 @@ fn pattern() -> Option<Pattern> {
 }
 
 /// Builds a set of a pattern so many times.
-pub fn built<R: Host>(rt: &R, count: usize) -> Answered {
+pub(crate) fn built<R: Host>(rt: &R, count: usize) -> Answered {
     let pattern = some(rt, pattern(), "a pattern");
     let given = done(rt, vec![in rt.alloc(); pattern; count]);
     match PatternSet::build(rt.alloc(), &given) {
@@ -35,7 +35,7 @@ fn is_code(code: &Code) -> bool {
 }
 
 /// Reads the file.
-pub fn read(alloc: Global) -> Answered {
+pub(crate) fn read(alloc: Global) -> Answered {
     match read_code(alloc, &FILE) {
         Ok(code) => Ok(is_code(&code)),
         Err(fault) => Err(fault.code()),
@@ -43,7 +43,7 @@ pub fn read(alloc: Global) -> Answered {
 }
 
 /// Writes the file.
-pub fn written<R: Host>(rt: &R) -> Answered {
+pub(crate) fn written<R: Host>(rt: &R) -> Answered {
     let code = done(rt, read_code(rt.alloc(), &FILE));
     match write_code(rt.alloc(), &code) {
         Ok(bytes) => Ok(bytes.as_slice() == FILE.as_slice()),
@@ -57,7 +57,7 @@ fn has_bounds(verified: &Verified, budget: u32, depth: u32) -> bool {
 }
 
 /// Verifies the code of the file, whose longest way has seven steps. The code is handed back where memory is refused, and can be verified then.
-pub fn verified<R: Host>(rt: &R) -> Answered {
+pub(crate) fn verified<R: Host>(rt: &R) -> Answered {
     match verify(rt.alloc(), done(rt, read_code(rt.alloc(), &FILE)), 8) {
         Ok(verified) => Ok(has_bounds(&verified, 7, 1)),
         Err((code, fault)) => {
@@ -79,7 +79,7 @@ pub enum CodeSource {
 const UP_TWO_FILE: &[u8] = b"NCF1\0\0\0\x08\x13\x01\0\0\0\x02\x20\x14\x24\x15\x70\x71";
 
 /// Makes that code of a source.
-pub fn sourced(alloc: Global, source: CodeSource) -> Answered {
+pub(crate) fn sourced(alloc: Global, source: CodeSource) -> Answered {
     let made = match source {
         CodeSource::Text => compile_text(
             alloc,
@@ -96,7 +96,7 @@ pub fn sourced(alloc: Global, source: CodeSource) -> Answered {
 }
 
 /// Verifies that code.
-pub fn verified_source<R: Host>(rt: &R) -> Answered {
+pub(crate) fn verified_source<R: Host>(rt: &R) -> Answered {
     match verify_code(rt.alloc(), done(rt, read_file(rt.alloc(), UP_TWO_FILE)), 8) {
         Ok(verified) => Ok(has_bounds(&verified, 7, 2)),
         Err(Failure::Memory) => Err("Memory"),

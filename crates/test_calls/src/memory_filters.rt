@@ -16,7 +16,7 @@ const TEXT: &[u8] =
 const CASE: &[u8] = b"filter c { case rip_metric { 1, 3..5: accept; else: reject; } }";
 
 /// Reads the text.
-pub fn parsed(alloc: Global) -> Answered {
+pub(crate) fn parsed(alloc: Global) -> Answered {
     match parse(alloc, TEXT) {
         Ok(filter) => Ok(filter.tokens().len() == 38),
         Err(why) => Err(why.code()),
@@ -24,7 +24,7 @@ pub fn parsed(alloc: Global) -> Answered {
 }
 
 /// Judges the text with labels.
-pub fn judged<R: Host>(rt: &R) -> Answered {
+pub(crate) fn judged<R: Host>(rt: &R) -> Answered {
     match check(rt.alloc(), done(rt, parse(rt.alloc(), CASE))) {
         Ok(typed) => Ok(typed.number_of(b"c") == 0),
         Err(why) => Err(why.code()),
@@ -32,7 +32,7 @@ pub fn judged<R: Host>(rt: &R) -> Answered {
 }
 
 /// Judges the other text, which has none. Its variable is the first one.
-pub fn judged_plainly<R: Host>(rt: &R) -> Answered {
+pub(crate) fn judged_plainly<R: Host>(rt: &R) -> Answered {
     match check(rt.alloc(), done(rt, parse(rt.alloc(), TEXT))) {
         Ok(typed) => Ok(typed.number_of(b"a") == 0 && typed.number_of(b"other") == 1),
         Err(why) => Err(why.code()),
@@ -45,7 +45,7 @@ fn typed<R: Host>(rt: &R) -> Typed {
 }
 
 /// Compiles the text.
-pub fn compiled<R: Host>(rt: &R) -> Answered {
+pub(crate) fn compiled<R: Host>(rt: &R) -> Answered {
     match compile(rt.alloc(), &typed(rt)) {
         Ok(code) => Ok(code.instrs().len() == 20),
         Err(fault) => Err(fault.code()),
@@ -53,7 +53,7 @@ pub fn compiled<R: Host>(rt: &R) -> Answered {
 }
 
 /// Compiles the text, with the places of its instructions.
-pub fn mapped<R: Host>(rt: &R) -> Answered {
+pub(crate) fn mapped<R: Host>(rt: &R) -> Answered {
     match compile_mapped(rt.alloc(), &typed(rt)) {
         Ok(mapped) => Ok(mapped.places.len() == 20 && mapped.code.instrs().len() == 20),
         Err(fault) => Err(fault.code()),

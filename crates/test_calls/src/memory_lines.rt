@@ -4,9 +4,8 @@ use crate::line_tests::Echo;
 use crate::memory::Answered;
 use crate::streams::{Pieces, Sink};
 use line_protocol::{StreamFault, answer_lines};
-use operator_cmds::Nobody;
-use router_script::run_script;
-use script_runs::{SavingFault, run_saved_script};
+use operator_cmds::NoWatcher;
+use router_script::{SavingFault, run_saved_script, run_script};
 use std::alloc::Global;
 
 /// What was answered, and whether that is as it is with ample memory. Where memory was refused the answers are some of the first lines of those, each
@@ -26,7 +25,7 @@ fn outcome(ended: Result<u32, StreamFault>, refused: u32, text: &[u8], whole: &[
 }
 
 /// Answers lines, of which one is skipped and one refused.
-pub fn answered(alloc: Global) -> Answered {
+pub(crate) fn answered(alloc: Global) -> Answered {
     let mut reader = Pieces::new(b"one\n# two\n!three\nfour and a long one\nfive", 5, None);
     let mut out = Sink::new(100, 1000, None);
     let ended = answer_lines(alloc, &mut reader, &mut out, &mut Echo);
@@ -47,7 +46,7 @@ const REPLIES: &[u8] =
     b"ok\nverified 4 1\ndone 0\nopened 1\ndone 1\nmessages 0:0 1:4 2:4 3:4 1:1\nroute 1 via 1\n";
 
 /// Runs the commands.
-pub fn run(alloc: Global) -> Answered {
+pub(crate) fn run(alloc: Global) -> Answered {
     let mut reader = Pieces::new(SCRIPT, 5, None);
     let mut out = Sink::new(100, 1000, None);
     let ended = run_script(alloc, &mut reader, &mut out);
@@ -55,7 +54,7 @@ pub fn run(alloc: Global) -> Answered {
 }
 
 /// Runs the commands, and saves their history where nothing fails: what is refused memory is not taken for a saver that failed.
-pub fn saved(alloc: Global) -> Answered {
+pub(crate) fn saved(alloc: Global) -> Answered {
     let mut reader = Pieces::new(SCRIPT, 5, None);
     let mut out = Sink::new(100, 1000, None);
     let saver = Sink::new(100, 1000, None);
@@ -63,8 +62,9 @@ pub fn saved(alloc: Global) -> Answered {
         alloc,
         &mut reader,
         &mut out,
+        true,
         saver,
-        Nobody,
+        NoWatcher,
         &[],
         false,
     );

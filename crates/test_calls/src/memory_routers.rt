@@ -2,11 +2,11 @@
 
 use crate::asserts::{RouterHost, done, must};
 use crate::callers::{Caller, Way, close, open, opening};
-use crate::crews::{Auditor, Crew};
 use crate::gates::OpenGate;
 use crate::histories::must_replay;
 use crate::memory::Answered;
 use crate::memory_tables::event;
+use crate::session_groups::{Auditor, SessionGroup};
 use netchange_core::{Event, Message};
 use route_history::Journal;
 use route_session::{Cause, Ending, Finished, MemoryLink, ReadEnd, Role, WriteEnd};
@@ -15,7 +15,7 @@ use std::panic::Expect;
 use std::process::Abort;
 
 /// Opens a router for two nodes.
-pub fn started<R: RouterHost>(rt: &R) -> Answered {
+pub(crate) fn started<R: RouterHost>(rt: &R) -> Answered {
     let journal = Journal::open(rt.alloc(), opening(rt, 2), 3).expect(rt, "error");
     match Router::open(rt.alloc(), journal) {
         Ok((_, pass)) => Ok(pass.shares() == 65_536),
@@ -58,7 +58,7 @@ fn enter_all<R: RouterHost>(rt: &R, mut caller: Caller<'_>, way: Way) -> Answere
 }
 
 /// Enters three events at a router for two nodes, whose history replays at the end.
-pub fn called<R: RouterHost>(rt: &R, way: Way) -> Answered {
+pub(crate) fn called<R: RouterHost>(rt: &R, way: Way) -> Answered {
     let (router, mut pass) = open(rt, 2, 3);
     let answered = enter_all(rt, Caller::of(&router, &mut pass), way);
     must_replay(rt, &close(rt, router, pass));
@@ -111,31 +111,31 @@ impl Auditor<MemoryLink> for Memory {
 }
 
 /// A reader of session 1 with two messages, and a writer of it.
-fn crew<'a, R: RouterHost>(rt: &R, caller: Caller<'a>) -> Crew<'a, MemoryLink> {
-    let mut crew = Crew::of(rt, caller);
+fn group<'a, R: RouterHost>(rt: &R, caller: Caller<'a>) -> SessionGroup<'a, MemoryLink> {
+    let mut group = SessionGroup::of(rt, caller);
     let heard = done(rt, HEARD.to_vec(rt.alloc()));
-    crew.add(
+    group.add(
         rt,
         Role::Reader,
         1,
         MemoryLink::new(rt.alloc(), heard, None),
     );
     let silent = Vec::new(rt.alloc());
-    crew.add(
+    group.add(
         rt,
         Role::Writer,
         1,
         MemoryLink::new(rt.alloc(), silent, None),
     );
-    crew
+    group
 }
 
 /// Runs a reader and a writer. Where they are not run the router still answers.
 fn run<R: RouterHost>(rt: &R, mut caller: Caller<'_>) -> Answered {
     caller.bring_up(rt, 1);
-    let crew = crew(rt, caller.split(rt, 1_000));
+    let group = group(rt, caller.split(rt, 1_000));
     let mut memory = Memory { was_there: true };
-    match crew.run(rt, &OpenGate, 3, &mut memory) {
+    match group.run(rt, &OpenGate, 3, &mut memory) {
         Ok(shares) => {
             must(rt, shares == 1_000, "the passes have all shares");
             if memory.was_there {

@@ -12,7 +12,7 @@ use std::alloc::{AllocError, Global};
 use std::collections::VecDeque;
 
 /// Opens tables.
-pub fn opened<R: Host>(rt: &R) -> Answered {
+pub(crate) fn opened<R: Host>(rt: &R) -> Answered {
     match Tables::open(rt.alloc(), opening(rt, 4)) {
         Ok(tables) => Ok(tables.opening().size() == 4),
         Err(_) => Err("AllocError"),
@@ -72,7 +72,7 @@ fn restore<R: Host>(rt: &R) -> Result<bool, AllocError> {
 }
 
 /// Restores tables.
-pub fn restored<R: Host>(rt: &R) -> Answered {
+pub(crate) fn restored<R: Host>(rt: &R) -> Answered {
     restore(rt).map_err(|_| "AllocError")
 }
 
@@ -131,7 +131,7 @@ fn tables<R: Host>(rt: &R) -> Tables {
 }
 
 /// Applies a change to those tables. Where memory is refused, the event has its reply when it is applied again.
-pub fn applied<R: Host>(rt: &R, change: Change) -> Answered {
+pub(crate) fn applied<R: Host>(rt: &R, change: Change) -> Answered {
     let mut tables = tables(rt);
     let event = event_of(rt, change);
     match tables.apply(&event) {
@@ -145,7 +145,7 @@ pub fn applied<R: Host>(rt: &R, change: Change) -> Answered {
 }
 
 /// Opens a journal.
-pub fn kept<R: Host>(rt: &R) -> Answered {
+pub(crate) fn kept<R: Host>(rt: &R) -> Answered {
     match Journal::open(rt.alloc(), opening(rt, 4), 3) {
         Ok(journal) => Ok(journal.limit() == 3),
         Err(_) => Err("AllocError"),
@@ -153,7 +153,7 @@ pub fn kept<R: Host>(rt: &R) -> Answered {
 }
 
 /// The event at a place of a history.
-pub fn event(at: u32) -> Event {
+pub(crate) fn event(at: u32) -> Event {
     match at {
         0 => Event::Up(1),
         1 => Event::Receive(1, 1, 0),
@@ -162,7 +162,7 @@ pub fn event(at: u32) -> Event {
 }
 
 /// Enters three events at a journal, up to the first that is refused memory. That can be entered again.
-pub fn entered<R: Host>(rt: &R) -> Answered {
+pub(crate) fn entered<R: Host>(rt: &R) -> Answered {
     let mut journal = done(rt, Journal::open(rt.alloc(), opening(rt, 4), 3));
     for at in 0..3u32 {
         if let Err(fault) = journal.apply(event(at)) {
@@ -175,7 +175,7 @@ pub fn entered<R: Host>(rt: &R) -> Answered {
 }
 
 /// Replays a journal with three entries.
-pub fn replayed<R: Host>(rt: &R) -> Answered {
+pub(crate) fn replayed<R: Host>(rt: &R) -> Answered {
     let mut journal = done(rt, Journal::open(rt.alloc(), opening(rt, 4), 3));
     for at in 0..3u32 {
         let _entered = done(rt, journal.apply(event(at)));

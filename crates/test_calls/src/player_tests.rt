@@ -19,43 +19,43 @@ const NEAR: &[u8] = b"filter near { if net ~ [10.0.0.0/15+] then accept; reject;
 const SIZE: u16 = 5;
 
 /// How far a node is, and through whom.
-type Route = (u16, Via);
+type NodeRoute = (u16, Via);
 
 /// The route of a node to itself, and none.
-const OWN: Route = (0, Via::Local);
+const OWN: NodeRoute = (0, Via::Local);
 
-const NONE: Route = (5, Via::Nowhere);
+const NONE: NodeRoute = (5, Via::Nowhere);
 
 /// Routes of some distances, each by a node.
-const ONE_BY_0: Route = (1, Via::Node(0));
+const ONE_BY_0: NodeRoute = (1, Via::Node(0));
 
-const ONE_BY_1: Route = (1, Via::Node(1));
+const ONE_BY_1: NodeRoute = (1, Via::Node(1));
 
-const ONE_BY_2: Route = (1, Via::Node(2));
+const ONE_BY_2: NodeRoute = (1, Via::Node(2));
 
-const ONE_BY_3: Route = (1, Via::Node(3));
+const ONE_BY_3: NodeRoute = (1, Via::Node(3));
 
-const ONE_BY_4: Route = (1, Via::Node(4));
+const ONE_BY_4: NodeRoute = (1, Via::Node(4));
 
-const TWO_BY_1: Route = (2, Via::Node(1));
+const TWO_BY_1: NodeRoute = (2, Via::Node(1));
 
-const TWO_BY_2: Route = (2, Via::Node(2));
+const TWO_BY_2: NodeRoute = (2, Via::Node(2));
 
-const TWO_BY_4: Route = (2, Via::Node(4));
+const TWO_BY_4: NodeRoute = (2, Via::Node(4));
 
-const THREE_BY_1: Route = (3, Via::Node(1));
+const THREE_BY_1: NodeRoute = (3, Via::Node(1));
 
-const THREE_BY_2: Route = (3, Via::Node(2));
+const THREE_BY_2: NodeRoute = (3, Via::Node(2));
 
-const THREE_BY_4: Route = (3, Via::Node(4));
+const THREE_BY_4: NodeRoute = (3, Via::Node(4));
 
-const FOUR_BY_2: Route = (4, Via::Node(2));
+const FOUR_BY_2: NodeRoute = (4, Via::Node(2));
 
-const FOUR_BY_4: Route = (4, Via::Node(4));
+const FOUR_BY_4: NodeRoute = (4, Via::Node(4));
 
 /// What is done to the routers, and what is asked.
 #[derive(Clone, Copy)]
-enum Step {
+enum PlayerStep {
     /// Links two nodes.
     Link(u16, u16),
     /// Cuts their link.
@@ -67,7 +67,7 @@ enum Step {
     /// Plays the routers: so many rounds and messages are wanted.
     Settle(u64, u64),
     /// The routes of a node, to each in turn.
-    Table(u16, [Route; 5]),
+    Table(u16, [NodeRoute; 5]),
 }
 
 /// The routers of a domain.
@@ -84,14 +84,14 @@ fn filter<R: Host>(rt: &R, text: &[u8]) -> Arc<Verified> {
 }
 
 /// Takes a step with two nodes.
-fn set_up<R: Host>(rt: &R, routers: &mut Routers, (u, w): (u16, u16), step: &Step) {
+fn set_up<R: Host>(rt: &R, routers: &mut Routers, (u, w): (u16, u16), step: &PlayerStep) {
     if u >= routers.size() || w >= routers.size() || u == w {
         rt.panic("two nodes");
     }
     let is_linked = routers.is_linked(u, w);
     match step {
-        Step::Link(..) if !is_linked => done(rt, routers.link(u, w)),
-        Step::Cut(..) if is_linked => done(rt, routers.cut(u, w)),
+        PlayerStep::Link(..) if !is_linked => done(rt, routers.link(u, w)),
+        PlayerStep::Cut(..) if is_linked => done(rt, routers.cut(u, w)),
         _ => rt.panic("linked already, or not"),
     }
 }
@@ -122,7 +122,7 @@ fn settles<R: Host>(rt: &R, routers: &mut Routers, rounds: u64, messages: u64) -
 }
 
 /// Whether the routes of a node are these.
-fn has_routes(routers: &mut Routers, u: u16, wanted: &[Route; 5]) -> bool {
+fn has_routes(routers: &mut Routers, u: u16, wanted: &[NodeRoute; 5]) -> bool {
     let mut v = 0u16;
     for route in wanted {
         if u >= routers.size() || v >= routers.size() || routers.route(u, v) != *route {
@@ -134,52 +134,58 @@ fn has_routes(routers: &mut Routers, u: u16, wanted: &[Route; 5]) -> bool {
 }
 
 /// Takes a step, and expects what is wanted.
-fn take_step<R: Host>(rt: &R, routers: &mut Routers, step: &Step) {
+fn take_step<R: Host>(rt: &R, routers: &mut Routers, step: &PlayerStep) {
     match step {
-        Step::Link(u, w) | Step::Cut(u, w) => set_up(rt, routers, (*u, *w), step),
-        Step::Import(u, w, text) => set_filter(rt, routers, (*u, *w), filter(rt, text), true),
-        Step::Export(u, w, text) => set_filter(rt, routers, (*u, *w), filter(rt, text), false),
-        Step::Settle(rounds, messages) => {
+        PlayerStep::Link(u, w) | PlayerStep::Cut(u, w) => set_up(rt, routers, (*u, *w), step),
+        PlayerStep::Import(u, w, text) => set_filter(rt, routers, (*u, *w), filter(rt, text), true),
+        PlayerStep::Export(u, w, text) => set_filter(
+            rt,
+            routers,
+            (*u, *w),
+            filter(rt, text),
+            false,
+        ),
+        PlayerStep::Settle(rounds, messages) => {
             let is_so = settles(rt, routers, *rounds, *messages);
             must(rt, is_so, "rounds and messages")
         }
-        Step::Table(u, wanted) => must(rt, has_routes(routers, *u, wanted), "a table"),
+        PlayerStep::Table(u, wanted) => must(rt, has_routes(routers, *u, wanted), "a table"),
     }
 }
 
 /// A ring settles, and loses a link.
-const RING: [Step; 16] = [
-    Step::Settle(0, 0),
-    Step::Link(0, 1),
-    Step::Link(1, 2),
-    Step::Link(2, 3),
-    Step::Link(3, 4),
-    Step::Link(4, 0),
-    Step::Table(0, [OWN, NONE, NONE, NONE, NONE]),
-    Step::Settle(3, 90),
-    Step::Table(0, [OWN, ONE_BY_1, TWO_BY_1, TWO_BY_4, ONE_BY_4]),
-    Step::Settle(0, 0),
-    Step::Import(0, 4, UP_TWO),
-    Step::Table(0, [OWN, ONE_BY_1, TWO_BY_1, THREE_BY_1, THREE_BY_1]),
-    Step::Cut(0, 1),
-    Step::Settle(3, 12),
-    Step::Table(0, [OWN, NONE, NONE, FOUR_BY_4, THREE_BY_4]),
-    Step::Table(1, [FOUR_BY_2, OWN, ONE_BY_2, TWO_BY_2, THREE_BY_2]),
+const RING: [PlayerStep; 16] = [
+    PlayerStep::Settle(0, 0),
+    PlayerStep::Link(0, 1),
+    PlayerStep::Link(1, 2),
+    PlayerStep::Link(2, 3),
+    PlayerStep::Link(3, 4),
+    PlayerStep::Link(4, 0),
+    PlayerStep::Table(0, [OWN, NONE, NONE, NONE, NONE]),
+    PlayerStep::Settle(3, 90),
+    PlayerStep::Table(0, [OWN, ONE_BY_1, TWO_BY_1, TWO_BY_4, ONE_BY_4]),
+    PlayerStep::Settle(0, 0),
+    PlayerStep::Import(0, 4, UP_TWO),
+    PlayerStep::Table(0, [OWN, ONE_BY_1, TWO_BY_1, THREE_BY_1, THREE_BY_1]),
+    PlayerStep::Cut(0, 1),
+    PlayerStep::Settle(3, 12),
+    PlayerStep::Table(0, [OWN, NONE, NONE, FOUR_BY_4, THREE_BY_4]),
+    PlayerStep::Table(1, [FOUR_BY_2, OWN, ONE_BY_2, TWO_BY_2, THREE_BY_2]),
 ];
 
 /// A triangle with filters settles.
-const TRIANGLE: [Step; 11] = [
-    Step::Export(0, 1, UP_TWO),
-    Step::Link(0, 1),
-    Step::Link(1, 2),
-    Step::Link(2, 0),
-    Step::Link(2, 3),
-    Step::Import(2, 1, NEAR),
-    Step::Settle(3, 66),
-    Step::Table(0, [OWN, ONE_BY_1, ONE_BY_2, TWO_BY_2, NONE]),
-    Step::Table(1, [TWO_BY_2, OWN, ONE_BY_2, TWO_BY_2, NONE]),
-    Step::Table(2, [ONE_BY_0, ONE_BY_1, OWN, ONE_BY_3, NONE]),
-    Step::Table(4, [NONE, NONE, NONE, NONE, OWN]),
+const TRIANGLE: [PlayerStep; 11] = [
+    PlayerStep::Export(0, 1, UP_TWO),
+    PlayerStep::Link(0, 1),
+    PlayerStep::Link(1, 2),
+    PlayerStep::Link(2, 0),
+    PlayerStep::Link(2, 3),
+    PlayerStep::Import(2, 1, NEAR),
+    PlayerStep::Settle(3, 66),
+    PlayerStep::Table(0, [OWN, ONE_BY_1, ONE_BY_2, TWO_BY_2, NONE]),
+    PlayerStep::Table(1, [TWO_BY_2, OWN, ONE_BY_2, TWO_BY_2, NONE]),
+    PlayerStep::Table(2, [ONE_BY_0, ONE_BY_1, OWN, ONE_BY_3, NONE]),
+    PlayerStep::Table(4, [NONE, NONE, NONE, NONE, OWN]),
 ];
 
 #[test]

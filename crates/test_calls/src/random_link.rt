@@ -43,9 +43,9 @@ fn random_message(numbers: &mut Numbers) -> Message {
 }
 
 impl Link for RandomLink {
-    ghost use Rattle.route_session.specs.Telling.{untold};
+    ghost use Rattle.route_session.specs.Telling.{empty_trace};
 
-    ghost told = { λ l. untold l.is_closed };
+    ghost trace = { λ l. empty_trace l.is_closed };
 
     fn recv<R: Wait>(&mut self, _rt: &R) -> Result<Got, LinkFault> {
         if self.is_closed {

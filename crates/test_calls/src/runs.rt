@@ -3,10 +3,10 @@
 
 use crate::asserts::{RouterHost, done, must, some};
 use crate::callers::{Caller, close, open};
-use crate::crews::{Auditor, Crew};
 use crate::ends::{FIRST, FOUR, SECOND, THIRD};
 use crate::gates::{MeetingGate, NotingGate};
 use crate::histories::must_replay;
+use crate::session_groups::{Auditor, SessionGroup};
 use netchange_core::Message;
 use route_history::Journal;
 use route_session::{Cause, Ending, Finished, Gate, MemoryLink, Role};
@@ -17,17 +17,17 @@ use std::sync::Wait;
 use std::sync::atomic::{AtomicU64, Ordering};
 
 /// A session of a table: its role, its number, and what its link hands out.
-type Job = (Role, u32, &'static [Message]);
+type JobRow = (Role, u32, &'static [Message]);
 
 /// The job of a number. A table begins again at its end.
-fn job<R: Abort>(rt: &R, jobs: &'static [Job], number: usize) -> &'static Job {
+fn job<R: Abort>(rt: &R, jobs: &'static [JobRow], number: usize) -> &'static JobRow {
     some(rt, jobs.get(number % jobs.len().max(1)), "a session")
 }
 
 /// The jobs of a run, their turns, and how many of them were looked at.
 #[derive(Drop)]
 struct Outcomes {
-    jobs: &'static [Job],
+    jobs: &'static [JobRow],
     turns: u32,
     seen: u16,
 }
@@ -61,26 +61,26 @@ impl Auditor<MemoryLink> for Outcomes {
 }
 
 /// Runs so many sessions, with neighbours 1 to `ups` up. In the end their passes have all shares that there were at first.
-fn run_crew<R: RouterHost, G: Gate + Sync>(
+fn run_group<R: RouterHost, G: Gate + Sync>(
     rt: &R,
     mut caller: Caller<'_>,
-    (ups, jobs, count): (u16, &'static [Job], u16),
+    (ups, jobs, count): (u16, &'static [JobRow], u16),
     gate: &G,
     turns: u32,
 ) {
     caller.bring_up(rt, ups);
-    let mut crew = Crew::of(rt, caller);
+    let mut group = SessionGroup::of(rt, caller);
     for number in 0..count {
         let (role, session, told) = job(rt, jobs, usize::from(number));
         let told = done(rt, told.to_vec(rt.alloc()));
-        crew.add(rt, *role, *session, MemoryLink::new(rt.alloc(), told, None));
+        group.add(rt, *role, *session, MemoryLink::new(rt.alloc(), told, None));
     }
     let mut outcomes = Outcomes {
         jobs,
         turns,
         seen: 0,
     };
-    let shares = done(rt, crew.run(rt, gate, turns, &mut outcomes));
+    let shares = done(rt, group.run(rt, gate, turns, &mut outcomes));
     must(rt, shares == 30_000, "the passes have all shares");
     must(rt, outcomes.seen == count, "each job has an end");
 }
@@ -88,19 +88,19 @@ fn run_crew<R: RouterHost, G: Gate + Sync>(
 /// Runs so many sessions at a router of four nodes: the journal, which replays.
 fn run<R: RouterHost, G: Gate + Sync>(
     rt: &R,
-    sessions: (u16, &'static [Job], u16),
+    sessions: (u16, &'static [JobRow], u16),
     gate: &G,
     turns: u32,
 ) -> Journal {
     let (router, mut pass) = open(rt, 4, 1_000);
-    run_crew(rt, Caller::of(&router, &mut pass), sessions, gate, turns);
+    run_group(rt, Caller::of(&router, &mut pass), sessions, gate, turns);
     let journal = close(rt, router, pass);
     must_replay(rt, &journal);
     journal
 }
 
 /// Readers of session 1, of which the first has no message, the second one, and so on up to four.
-const READERS: &[Job] = &[
+const READERS: &[JobRow] = &[
     (Role::Reader, 1, &[]),
     (Role::Reader, 1, &[FIRST]),
     (Role::Reader, 1, &[FIRST, SECOND]),
@@ -109,19 +109,19 @@ const READERS: &[Job] = &[
 ];
 
 /// A writer, and a reader that is handed one message.
-const TWO: &[Job] = &[
+const TWO: &[JobRow] = &[
     (Role::Writer, 1, &[]),
     (Role::Reader, 2, &[Message { dest: 2, dist: 0 }]),
 ];
 
 /// Readers of two sessions, each with one message.
-const BOTH: &[Job] = &[
+const BOTH: &[JobRow] = &[
     (Role::Reader, 1, &[Message { dest: 1, dist: 0 }]),
     (Role::Reader, 2, &[Message { dest: 2, dist: 0 }]),
 ];
 
 /// Writers of three sessions.
-const WRITERS: &[Job] = &[
+const WRITERS: &[JobRow] = &[
     (Role::Writer, 1, &[]),
     (Role::Writer, 2, &[]),
     (Role::Writer, 3, &[]),
@@ -130,7 +130,7 @@ const WRITERS: &[Job] = &[
 /// Neighbours that are up, a table and how many jobs of it, their turns, how many entries the history has then, and how often the gate is asked: any
 /// number of readers, up to more than there are processors, a reader and a writer side by side, and writers. The entries are the Ups, a message each,
 /// and what a writer takes at a turn.
-const RUNS: [(u16, &[Job], u16, u32, usize, usize); 9] = [
+const RUNS: [(u16, &[JobRow], u16, u32, usize, usize); 9] = [
     (1, READERS, 0, 10, 1, 0),
     (1, READERS, 1, 10, 1, 1),
     (1, READERS, 2, 10, 2, 3),

@@ -2,9 +2,8 @@
 
 use crate::asserts::{Host, must, must_bytes};
 use crate::streams::{Pieces, Sink};
-use operator_cmds::Nobody;
-use router_script::ScriptFault;
-use script_runs::{SavingFault, run_saved_script};
+use operator_cmds::NoWatcher;
+use router_script::{SavingFault, ScriptFault, run_saved_script};
 use std::io::ErrorKind;
 
 /// A script with a look, a refused line, an event that the router refuses, and one that a full history does.
@@ -24,12 +23,12 @@ const SAVED: &[u8] = b"NCH1 4 0 4 10.0.0.0/16 10.1.0.0/16 10.2.0.0/16 10.3.0.0/1
 
 /// A script, how many bytes its saver takes before it fails, how the script ends, and how many bytes of the answers and of the history are written, of
 /// the answers at most so many where the saver fails. An input fails at its end where the script ends so.
-type Run = (&'static [u8], usize, Result<u32, SavingFault>, usize, usize);
+type SavedRun = (&'static [u8], usize, Result<u32, SavingFault>, usize, usize);
 
 /// A script that is saved as a whole. Savers with room for the opening and the first entry, and for a part of the second: no line is answered whose
 /// entry is not saved, nor one before it that is not written yet. An input that fails: what was answered before is saved. And scripts without an event, of
 /// which the opening is saved at the end, if they come to it.
-const RUNS: [Run; 8] = [
+const RUNS: [SavedRun; 8] = [
     (LINES, 1_000, Ok(4), ANSWERS.len(), SAVED.len()),
     (LINES, 75, Err(SavingFault::Saver), 35, 75),
     (LINES, 76, Err(SavingFault::Saver), 35, 76),
@@ -53,7 +52,7 @@ const RUNS: [Run; 8] = [
 ];
 
 /// Expects how a script ends, the first of its answers, and what is saved.
-fn expect_saved<R: Host>(rt: &R, run: &Run) {
+fn expect_saved<R: Host>(rt: &R, run: &SavedRun) {
     let (lines, room, want, answered, saved) = run;
     let fault = if *want == Err(SavingFault::Stream(ScriptFault::Read)) {
         Some(ErrorKind::BrokenPipe)
@@ -67,8 +66,9 @@ fn expect_saved<R: Host>(rt: &R, run: &Run) {
         rt.alloc(),
         &mut reader,
         &mut writer,
+        true,
         saver,
-        Nobody,
+        NoWatcher,
         &[],
         false,
     );

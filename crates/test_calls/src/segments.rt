@@ -117,14 +117,14 @@ impl SegmentFolder for MemoryFolder {
 
 /// Who saves a router's history. That the right is one of the router, and what was saved of its history, is no matter of contracts here.
 #[derive(Drop)]
-struct Keeper<'a, F: SegmentFolder> {
+struct RouterSaver<'a, F: SegmentFolder> {
     router: &'a Router,
     right: Right,
     saver: SegmentSaver<F>,
     faults: u32,
 }
 
-impl<'a, F: SegmentFolder> Model for Keeper<'a, F> {
+impl<'a, F: SegmentFolder> Model for RouterSaver<'a, F> {
     ghost use Rattle.std.specs.Prelude.{◌≤◌};
     ghost use Rattle.history_saver.specs.Looking.{seen_by};
     ghost use Rattle.history_saver.specs.Segments.{HasSegments};
@@ -138,13 +138,13 @@ impl<'a, F: SegmentFolder> Model for Keeper<'a, F> {
         × (k.right.fragment.forgot ≤ k.saver.saved)) };
 }
 
-impl<'a, F: SegmentFolder + Drop> Keeper<'a, F> {
+impl<'a, F: SegmentFolder + Drop> RouterSaver<'a, F> {
     /// Who saves a router's history by a right.
-    fn of(router: &'a Router, right: Right, saver: SegmentSaver<F>) -> Keeper<'a, F>
+    fn of(router: &'a Router, right: Right, saver: SegmentSaver<F>) -> RouterSaver<'a, F>
         requires right { IsNew router.now 1 right }
         requires saved { HasSegments saver (seen_by router.now right) }
     {
-        Keeper {
+        RouterSaver {
             router,
             right,
             saver,
@@ -168,7 +168,7 @@ impl<'a, F: SegmentFolder + Drop> Keeper<'a, F> {
     }
 
     /// Saves until so many entries are saved: what the folder has then, and how often it was full.
-    fn save_all<R: RouterHost>(mut self, rt: &R, all: u64) -> Keeper<'a, F> {
+    fn save_all<R: RouterHost>(mut self, rt: &R, all: u64) -> RouterSaver<'a, F> {
         for _ in rt.forever() {
             if self.save(rt) >= all {
                 return self;
@@ -256,8 +256,12 @@ fn segments_are_one_history(rt: HostRuntime) {
     };
     let (router, mut pass, right, saver) = begin(&rt, MemoryFolder::new(rt.alloc()), rotation);
     let caller = Caller::of(&router, &mut pass);
-    let keeper = Keeper::of(&router, right, saver);
-    let (kept, _) = thread::join(&rt, || keeper.save_all(&rt, ALL), || call_all(&rt, caller));
+    let router_saver = RouterSaver::of(&router, right, saver);
+    let (kept, _) = thread::join(
+        &rt,
+        || router_saver.save_all(&rt, ALL),
+        || call_all(&rt, caller),
+    );
     must(&rt, kept.faults > 0, "the folder was full");
     let named = kept.saver.into_folder().named;
     must(&rt, named.len() >= 2, "there are several segments");
@@ -278,12 +282,12 @@ fn the_newest_segments_are_kept(rt: HostRuntime) {
     };
     let (router, mut pass, right, saver) = begin(&rt, MemoryFolder::new(rt.alloc()), rotation);
     let mut caller = Caller::of(&router, &mut pass);
-    let mut keeper = Keeper::of(&router, right, saver);
+    let mut router_saver = RouterSaver::of(&router, right, saver);
     for number in 0..2_100u16 {
         enter(&rt, &mut caller, EventKind::Each, number);
-        keeper.save(&rt);
+        router_saver.save(&rt);
     }
-    let kept = keeper.save_all(&rt, 2_100);
+    let kept = router_saver.save_all(&rt, 2_100);
     let named = kept.saver.into_folder().named;
     must(&rt, named.len() == 2, "two are kept");
     let (first, next) = replay_all(&rt, named.as_slice());
@@ -322,14 +326,14 @@ fn save_in_files<R: RouterHost + Files>(rt: &R) {
     };
     let (router, mut pass, right, saver) = begin(rt, files, rotation);
     let mut caller = Caller::of(&router, &mut pass);
-    let mut keeper = Keeper::of(&router, right, saver);
+    let mut router_saver = RouterSaver::of(&router, right, saver);
     for number in 0..1_200u16 {
         enter(rt, &mut caller, EventKind::Each, number);
         if number % 100 == 99 {
-            keeper.save(rt);
+            router_saver.save(rt);
         }
     }
-    must(rt, keeper.faults == 0, "nothing failed");
+    must(rt, router_saver.faults == 0, "nothing failed");
     let first = take_segment(rt, folder.as_str(), 0);
     let second = some(rt, take_segment(rt, folder.as_str(), 500), "the second");
     let third = some(rt, take_segment(rt, folder.as_str(), 1_000), "the third");

@@ -2,11 +2,11 @@
 
 use crate::accounts::Account;
 use crate::asserts::{RouterHost, done, some};
-use crate::crews::Crew;
 use crate::gates::OpenGate;
 use crate::numbers::Numbers;
 use crate::operators::{LINKED, Operator};
 use crate::random_link::RandomLink;
+use crate::session_groups::SessionGroup;
 use filter_verifier::Verified;
 use netchange_core::Event;
 use route_session::Role;
@@ -17,8 +17,8 @@ use std::thread;
 const TURNS: u32 = 300;
 
 /// A session for each neighbour, over a link of its own: a reader, or one time in three a writer.
-fn crew<'a, R: RouterHost>(rt: &R, first: &mut Operator<'a>) -> Crew<'a, RandomLink> {
-    let mut crew = Crew::of(rt, first.caller.split(rt, 10));
+fn group<'a, R: RouterHost>(rt: &R, first: &mut Operator<'a>) -> SessionGroup<'a, RandomLink> {
+    let mut group = SessionGroup::of(rt, first.caller.split(rt, 10));
     for session in first.sessions {
         let role = if first.numbers.below(3) == 0 {
             Role::Writer
@@ -26,9 +26,9 @@ fn crew<'a, R: RouterHost>(rt: &R, first: &mut Operator<'a>) -> Crew<'a, RandomL
             Role::Reader
         };
         let link = RandomLink::new(rt.alloc(), first.numbers.below(u32::MAX), true);
-        crew.add(rt, role, session, link);
+        group.add(rt, role, session, link);
     }
-    crew
+    group
 }
 
 /// Two operators, the first of which takes neighbours down and up.
@@ -61,7 +61,7 @@ fn operate_all<'a, R: RouterHost>(
 
 /// Runs a shift: the first operator, who lasts over all shifts of a router, brings up the neighbours that are down, if the history has room, and has
 /// the others and the sessions called. What was done is added to the account and to the first operator.
-pub fn run_shift<R: RouterHost>(
+pub(crate) fn run_shift<R: RouterHost>(
     rt: &R,
     first: &mut Operator<'_>,
     account: &mut Account,
@@ -71,11 +71,11 @@ pub fn run_shift<R: RouterHost>(
         let _has_room = first.enter(rt, Event::Up(*node), side);
     }
     account.sessions = first.sessions;
-    let (crew, operators) = (crew(rt, first), operators(rt, first));
+    let (group, operators) = (group(rt, first), operators(rt, first));
     let (operated, finished) = thread::join(
         rt,
         move || operate_all(rt, operators, filters),
-        move || crew.run(rt, &OpenGate, TURNS, account),
+        move || group.run(rt, &OpenGate, TURNS, account),
     );
     let _shares = done(rt, finished);
     for mut operator in operated {

@@ -5,6 +5,9 @@
 //! answer of an operator stands at its position, that each message that a link handed out was entered once and in order or is the
 //! one that was lost, that what was taken is what was sent and what is left unsent, and that there is no other entry. What was
 //! done is told on standard error, as it differs from run to run. `scripts/soak.sh` says for how long, and from which seed.
+//!
+//! **The soak is a test, not a program.** It shares callers and sessions with the other tests. A program would be proved beside them, and built
+//! twice.
 
 use crate::accounts::{Account, COUNTED};
 use crate::asserts::{RouterHost, done, some};

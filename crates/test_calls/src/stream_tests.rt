@@ -2,7 +2,7 @@
 
 use crate::asserts::{Host, must, must_bytes};
 use crate::line_tests::Echo;
-use crate::streams::{Pieces, Sink, Terminal, Typed};
+use crate::streams::{Pieces, Sink, Terminal, TypedLine};
 use filter_reports::{ProgramFault, check_text};
 use line_protocol::{StreamFault, answer_lines};
 use route_answers::eval_lines;
@@ -130,7 +130,7 @@ fn streams_that_fail_are_told(rt: HostRuntime) {
 }
 
 /// What is read at once, and what has to be written before the next read. One line of each is refused.
-const ECHOED: &[Typed] = &[
+const ECHOED: &[TypedLine] = &[
     (b"a\n", b"1a\n"),
     (b"b\n!c\nbeg", b"2b\n3!c\n"),
     (b"un\n", b"4begun\n"),
@@ -138,7 +138,7 @@ const ECHOED: &[Typed] = &[
     (b"e", b""),
 ];
 
-const EVALUATED: &[Typed] = &[
+const EVALUATED: &[TypedLine] = &[
     (b"4e4346310000000170\n", b""),
     (b"10.0.0.0/8 3 8\n", b"accept 3\n"),
     (
@@ -148,7 +148,7 @@ const EVALUATED: &[Typed] = &[
     (b"# the end\n", b""),
 ];
 
-const COMMANDED: &[Typed] = &[
+const COMMANDED: &[TypedLine] = &[
     (b"network 4 0\n", b"ok\n"),
     (b"up 1\n", b"opened 1\n"),
     (b"# no answer\n", b""),

@@ -127,13 +127,13 @@ impl Write for Sink {
 }
 
 /// A line that is typed, and the answer that has to come before the next.
-pub type Typed = (&'static [u8], &'static [u8]);
+pub type TypedLine = (&'static [u8], &'static [u8]);
 
 /// One who types a line at a time, and types the next only after the answer to the last was written and flushed: else a read
 /// fails. A reference to it is both a reader and a writer.
 #[derive(Drop)]
 pub struct Terminal {
-    lines: &'static [Typed],
+    lines: &'static [TypedLine],
     /// How many lines were typed.
     typed: Cell<usize>,
     /// What is still to be written before the next line. None once something else was written.
@@ -144,7 +144,7 @@ pub struct Terminal {
 
 impl Terminal {
     /// One who has typed nothing yet.
-    pub fn new(lines: &'static [Typed]) -> Terminal {
+    pub fn new(lines: &'static [TypedLine]) -> Terminal {
         Terminal {
             lines,
             typed: Cell::new(0),

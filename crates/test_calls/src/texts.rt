@@ -19,7 +19,7 @@ use netchange_core::{Event, EventRefusal};
 use prefix_patterns::{Ip, Prefix, SetFault};
 use route_history::{CallFault, Journal};
 use route_session::RunFault;
-use script_runs::SavingFault;
+use router_script::SavingFault;
 use slot_lock::{LockFault, TryFault};
 
 /// What is shown.

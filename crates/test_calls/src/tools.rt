@@ -43,7 +43,7 @@ fn refused_routes_are_told(rt: HostRuntime) {
     let (mut writer, mut errors) = (Vec::new(rt.alloc()), Vec::new(rt.alloc()));
     let routes = Routes {
         name: b"r",
-        is_told: true,
+        tells_people: true,
     };
     let evaluated = eval_named(rt.alloc(), routes, &mut reader, &mut writer, &mut errors);
     must(&rt, matches!(evaluated, Ok(1)), "one line is refused");

@@ -15,7 +15,7 @@ use Rattle.bird_import.proofs.text.judge.Goals as goal
 pub returns-in-Err : goal.returns-in-Err
 returns-in-Err c =
     let refused = c.in-Err.ensures in
-    of_fault c.args.words.now c.args.text.now c.in-Err.why c.fate_of.result c.fate_of.ensures
+    of_fault c.args.words.now c.args.text.now c.in-Err.why c.refused_outcome.result c.refused_outcome.ensures
     (λ other. record {
       spells_none = refused.refused other;
       no_memory = other;

@@ -1,11 +1,11 @@
 -- The answer to a kind of question is the answer to the question.
-use Rattle.std.proofs.Common.{◌≡◌, List, Option, Vec, Global, IfOk, subst, sym}
+use Rattle.std.proofs.Common.{List, Option, Vec, Global, IfOk, subst, sym}
 use Rattle.std.specs.Option.{option_map}
 use Rattle.std.specs.declared.sync.Arc.{Arc}
 use Rattle.operator_cmds.specs.Replies.{Answers}
 use Rattle.domain_routes.specs.PlanView.{PlanView}
 use Rattle.domain_routes.specs.declared.best.Best.{Best}
-use Rattle.domain_cmds.specs.Script.{AnswersQuestion, IsToldPath}
+use Rattle.domain_cmds.specs.Script.{AnswersQuestion, IsPathAnswer}
 use Rattle.domain_cmds.specs.declared.command.Question.{Question}
 use Rattle.domain_cmds.proofs.asking.answer_question.Goals as goal
 
@@ -22,7 +22,7 @@ returns-in-Path-clause-ok c =
     (Answers (AnswersQuestion q c.args.domain.now (marks c.args.marked.now) c.args.since.now c.args.number) old new))
     (sym c.in-Path.is)
     (subst
-    (λ (plan : PlanView). IfOk c.answer_path.result (Answers (IsToldPath plan c.args.number c.in-Path.u c.in-Path.v) old new))
+    (λ (plan : PlanView). IfOk c.answer_path.result (Answers (IsPathAnswer plan c.args.number c.in-Path.u c.in-Path.v) old new))
     c.plan-in-Path.ensures c.answer_path.ensures.ok)
 
 pub returns-in-Settle-clause-ok : goal.returns-in-Settle-clause-ok

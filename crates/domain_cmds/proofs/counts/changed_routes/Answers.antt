@@ -1,5 +1,5 @@
 -- One node more.
-use Rattle.std.proofs.Common.{◌≡◌, ◌+◌, ◌*◌, sym, ◌∙◌, arith}
+use Rattle.std.proofs.Common.{◌+◌, sym, ◌∙◌, arith}
 use Rattle.domain_cmds.specs.Failures.{changed_of}
 use Rattle.domain_cmds.proofs.Counting.{sum_more}
 use Rattle.domain_cmds.proofs.counts.changed_routes.Goals as goal

@@ -1,5 +1,5 @@
 -- One destination more.
-use Rattle.std.proofs.Common.{◌≡◌, min, sym, ◌∙◌}
+use Rattle.std.proofs.Common.{min, sym, ◌∙◌}
 use Rattle.domain_routes.proofs.Still.{least_more}
 use Rattle.domain_cmds.specs.Failures.{still_to}
 use Rattle.domain_cmds.proofs.counts.still_near.Goals as goal

@@ -1,5 +1,5 @@
 -- One node more.
-use Rattle.std.proofs.Common.{◌≡◌, min, sym, ◌∙◌}
+use Rattle.std.proofs.Common.{min, sym, ◌∙◌}
 use Rattle.domain_routes.proofs.Still.{least_more}
 use Rattle.domain_cmds.specs.Failures.{told_lesser}
 use Rattle.domain_cmds.proofs.counts.still_told.Goals as goal

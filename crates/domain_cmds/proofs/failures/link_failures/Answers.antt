@@ -1,8 +1,8 @@
 -- One node more.
-use Rattle.std.proofs.Common.{◌≡◌, ◌∙◌, [], refl, subst}
+use Rattle.std.proofs.Common.{◌∙◌, [], subst}
 use Rattle.domain_routes.specs.PlanView.{PlanView}
-use Rattle.domain_cmds.specs.Failures.{AddsFailures, all_links, links_of}
-use Rattle.domain_cmds.proofs.Failing.{adds_more, from_none}
+use Rattle.domain_cmds.specs.Failures.{AddsFailures, links_of}
+use Rattle.domain_cmds.proofs.Failing.{adds_more}
 use Rattle.domain_cmds.proofs.failures.link_failures.Goals as goal
 
 pub loop-u-preserved : goal.loop-u-preserved

@@ -1,9 +1,9 @@
 -- One node more.
-use Rattle.std.proofs.Common.{◌≡◌, ◌∙◌, ℕ, [], ◌∷◌, refl, subst}
+use Rattle.std.proofs.Common.{◌∙◌, ℕ, [], ◌∷◌, subst}
 use Rattle.domain_routes.specs.PlanView.{PlanView}
-use Rattle.domain_cmds.specs.Failures.{IsFailure, all_nodes}
+use Rattle.domain_cmds.specs.Failures.{IsFailure}
 use Rattle.domain_cmds.specs.declared.failure.Failing.TheVariants.{Node}
-use Rattle.domain_cmds.proofs.Failing.{adds_more, adds_one, from_none}
+use Rattle.domain_cmds.proofs.Failing.{adds_more, adds_one}
 use Rattle.domain_cmds.proofs.failures.node_failures.Goals as goal
 
 pub loop-x-preserved : goal.loop-x-preserved

@@ -1,5 +1,5 @@
 -- One link more.
-use Rattle.std.proofs.Common.{◌≡◌, ◌∙◌, refl, subst}
+use Rattle.std.proofs.Common.{◌∙◌, refl, subst}
 use Rattle.domain_routes.specs.PlanView.{PlanView}
 use Rattle.domain_cmds.specs.Failures.{AddsFailures, link_at}
 use Rattle.domain_cmds.proofs.Failing.{adds_more, adds_nothing}

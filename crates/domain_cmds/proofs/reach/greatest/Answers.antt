@@ -1,5 +1,5 @@
 -- One destination more.
-use Rattle.std.proofs.Common.{◌≡◌, max, sym, ◌∙◌}
+use Rattle.std.proofs.Common.{max, sym, ◌∙◌}
 use Rattle.domain_routes.proofs.Reach.{greatest_more}
 use Rattle.domain_routes.specs.Reach.{greatest_to}
 use Rattle.domain_cmds.specs.Texts.{distances}

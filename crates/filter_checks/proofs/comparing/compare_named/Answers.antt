@@ -20,8 +20,8 @@ returns-in-Ok-after-clause-broken_off g c =
 
 pub returns-in-Ok-clause-finished : goal.returns-in-Ok-clause-finished
 returns-in-Ok-clause-finished g c =
-    refused_told c.args.format c.args.size c.args.limit c.args.is_explained (named c.args.old.now) (named c.args.new.now) None (Some c.in-Err-after.told)
-    (second_refused c.args.size (named c.args.old.now) (named c.args.new.now) c.in-Ok.old_code c.in-Err-after.told
+    refused_told c.args.format c.args.size c.args.limit c.args.is_explained (named c.args.old.now) (named c.args.new.now) None (Some c.in-Err-after.diagnosis)
+    (second_refused c.args.size (named c.args.old.now) (named c.args.new.now) c.in-Ok.old_code c.in-Err-after.diagnosis
     (rw c.in-Ok.is at c.in_ok-before.ensures) (rw c.in-Err-after.is at c.in_ok-after.ensures))
     (g.W.Write.contents c.args.writer.now) (g.W.Write.contents c.refuse_both.new.writer) (g.E.Write.contents c.args.errors.now)
     (g.E.Write.contents c.refuse_both.new.errors)
@@ -29,8 +29,8 @@ returns-in-Ok-clause-finished g c =
 
 pub returns-in-Ok-clause-broken_off : goal.returns-in-Ok-clause-broken_off
 returns-in-Ok-clause-broken_off g c =
-    refused_cut c.args.format c.args.size c.args.limit c.args.is_explained (named c.args.old.now) (named c.args.new.now) None (Some c.in-Err-after.told)
-    (second_refused c.args.size (named c.args.old.now) (named c.args.new.now) c.in-Ok.old_code c.in-Err-after.told
+    refused_cut c.args.format c.args.size c.args.limit c.args.is_explained (named c.args.old.now) (named c.args.new.now) None (Some c.in-Err-after.diagnosis)
+    (second_refused c.args.size (named c.args.old.now) (named c.args.new.now) c.in-Ok.old_code c.in-Err-after.diagnosis
     (rw c.in-Ok.is at c.in_ok-before.ensures) (rw c.in-Err-after.is at c.in_ok-after.ensures))
     (g.W.Write.contents c.args.writer.now) (g.W.Write.contents c.refuse_both.new.writer) (g.E.Write.contents c.args.errors.now)
     (g.E.Write.contents c.refuse_both.new.errors)
@@ -38,8 +38,8 @@ returns-in-Ok-clause-broken_off g c =
 
 pub returns-clause-finished : goal.returns-clause-finished
 returns-clause-finished g c =
-    refused_told c.args.format c.args.size c.args.limit c.args.is_explained (named c.args.old.now) (named c.args.new.now) (Some c.in-Err.told) c.err.result
-    (first_refused c.args.size (named c.args.old.now) (named c.args.new.now) c.in-Err.told c.in_ok-after.after c.err.result c.err.ensures.value
+    refused_told c.args.format c.args.size c.args.limit c.args.is_explained (named c.args.old.now) (named c.args.new.now) (Some c.in-Err.diagnosis) c.err.result
+    (first_refused c.args.size (named c.args.old.now) (named c.args.new.now) c.in-Err.diagnosis c.in_ok-after.after c.err.result c.err.ensures.value
     (rw c.in-Err.is at c.in_ok-before.ensures) c.in_ok-after.ensures)
     (g.W.Write.contents c.args.writer.now) (g.W.Write.contents c.refuse_both-in-Err.new.writer) (g.E.Write.contents c.args.errors.now)
     (g.E.Write.contents c.refuse_both-in-Err.new.errors)
@@ -47,8 +47,8 @@ returns-clause-finished g c =
 
 pub returns-clause-broken_off : goal.returns-clause-broken_off
 returns-clause-broken_off g c =
-    refused_cut c.args.format c.args.size c.args.limit c.args.is_explained (named c.args.old.now) (named c.args.new.now) (Some c.in-Err.told) c.err.result
-    (first_refused c.args.size (named c.args.old.now) (named c.args.new.now) c.in-Err.told c.in_ok-after.after c.err.result c.err.ensures.value
+    refused_cut c.args.format c.args.size c.args.limit c.args.is_explained (named c.args.old.now) (named c.args.new.now) (Some c.in-Err.diagnosis) c.err.result
+    (first_refused c.args.size (named c.args.old.now) (named c.args.new.now) c.in-Err.diagnosis c.in_ok-after.after c.err.result c.err.ensures.value
     (rw c.in-Err.is at c.in_ok-before.ensures) c.in_ok-after.ensures)
     (g.W.Write.contents c.args.writer.now) (g.W.Write.contents c.refuse_both-in-Err.new.writer) (g.E.Write.contents c.args.errors.now)
     (g.E.Write.contents c.refuse_both-in-Err.new.errors)

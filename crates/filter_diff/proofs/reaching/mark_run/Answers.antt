@@ -5,7 +5,7 @@ use Rattle.std.proofs.lemmas.Option.{gets}
 use Rattle.filter_diff.specs.Marking.{AreMarked}
 use Rattle.filter_diff.specs.Turns.{Parts}
 use Rattle.filter_diff.proofs.Marking.{extend_self}
-use Rattle.filter_diff.proofs.Reached.{begin_marked, come_settled, end_noted, go_on_noted, more_noted, sound_noted}
+use Rattle.filter_diff.proofs.Reached.{begin_marked, come_explored, end_noted, go_on_noted, more_noted, sound_noted}
 use Rattle.filter_diff.proofs.reaching.mark_run.Goals as goal
 
 pub loop-instr-init : goal.loop-instr-init
@@ -51,8 +51,8 @@ returns-in_default-carry_out c =
           c.loop-instr.invariant.sound;
     }
 
-pub returns-then-is_settled-clause-marked : goal.returns-then-is_settled-clause-marked
-returns-then-is_settled-clause-marked c =
-    come_settled c.args.code.now c.args.class.now c.args.marks.now c.loop-instr.marks c.args.settled.now c.loop-instr.pc
+pub returns-then-is_explored-clause-marked : goal.returns-then-is_explored-clause-marked
+returns-then-is_explored-clause-marked c =
+    come_explored c.args.code.now c.args.class.now c.args.marks.now c.loop-instr.marks c.args.explored.now c.loop-instr.pc
     c.loop-instr.stack c.loop-instr.locals c.loop-instr.metric
-    c.loop-instr.invariant.more c.requires.settled c.loop-instr.invariant.come (c.if-is_settled.ensures (search rules))
+    c.loop-instr.invariant.more c.requires.explored c.loop-instr.invariant.come (c.if-is_explored.ensures (search rules))

@@ -4,19 +4,19 @@ use Rattle.std.proofs.lemmas.List.{length-replicate, with_items_is}
 use Rattle.std.specs.Vec.{with_items}
 use Rattle.filter_diff.specs.Marking.{AreAllMarked, AreSound, Extend, unmarked}
 use Rattle.filter_diff.specs.Searches.{IsLeft, most_tried}
-use Rattle.filter_diff.specs.Settling.{AreSettled}
+use Rattle.filter_diff.specs.Exploring.{AreExplored}
 use Rattle.filter_diff.specs.declared.mark.Mark.{Mark}
 use Rattle.filter_diff.proofs.Completed.{complete_all, marked_taken, reach_partly, reach_whole, sound_none}
 use Rattle.filter_diff.proofs.Counted.{taken, tried_some}
 use Rattle.filter_diff.proofs.Expected.{size_taken}
 use Rattle.filter_diff.proofs.Marking.{extend_further, extend_self}
-use Rattle.filter_diff.proofs.Settled.{none_settled}
+use Rattle.filter_diff.proofs.Explored.{none_explored}
 use Rattle.filter_diff.proofs.reaching.reach.Goals as goal
 
 pub loop-next-init : goal.loop-next-init
 loop-next-init c =
     let are = c.in_ok-marks.ensures in
-    let none : c.in_ok-settled.settled.items ≡ replicate (length c.args.watched.now) false = grind (arith, common_steps) in
+    let none : c.in_ok-explored.explored.items ≡ replicate (length c.args.watched.now) false = grind (arith, common_steps) in
     record {
       marked = λ route is_in. inr (c.in_ok-todo.ensures.all route is_in);
       real = c.in_ok-todo.ensures.real;
@@ -24,8 +24,8 @@ loop-next-init c =
       more = subst (Extend (map unmarked c.args.watched.now)) (sym are) (extend_self (map unmarked c.args.watched.now));
       sound = subst (AreSound c.args.code.now c.args.size) (sym are) (sound_none c.args.code.now c.args.size c.args.watched.now);
       places = ap length none ∙ (length-replicate (length c.args.watched.now) false ∙ c.requires.watched);
-      settled = subst (AreSettled c.args.code.now c.in_ok-marks.marks.items) (sym none)
-          (none_settled c.args.code.now c.in_ok-marks.marks.items (length c.args.watched.now));
+      explored = subst (AreExplored c.args.code.now c.in_ok-marks.marks.items) (sym none)
+          (none_explored c.args.code.now c.in_ok-marks.marks.items (length c.args.watched.now));
     }
 
 pub returns-then-left-eq0-clause-found : goal.returns-then-left-eq0-clause-found
@@ -49,8 +49,8 @@ returns-then-not-is_dealt-clause-found c =
 pub loop-next-preserved : goal.loop-next-preserved
 loop-next-preserved c =
     let are = with_items_is c.loop-next.marks c.deal.new.marks (omega (arith, c.deal.ensures.more.long, c.deref_mut.ensures.len)) in
-    let as_many : length c.deal.new.settled ≡ length c.deref_mut-in-Some.result.now = c.deal.auto.settled in
-    let settled_are = with_items_is c.loop-next.settled c.deal.new.settled (omega (arith, as_many, c.deref_mut-in-Some.ensures.len)) in
+    let as_many : length c.deal.new.explored ≡ length c.deref_mut-in-Some.result.now = c.deal.auto.explored in
+    let explored_are = with_items_is c.loop-next.explored c.deal.new.explored (omega (arith, as_many, c.deref_mut-in-Some.ensures.len)) in
     record {
       marked = λ route is_in.
           subst (λ (marks : List Mark). AreAllMarked c.args.code.now marks route ⊎ IsLeft route c.deal.new.todo.items) (sym are)
@@ -68,10 +68,10 @@ loop-next-preserved c =
           (subst (λ (marks : List Mark). Extend marks c.deal.new.marks) c.deref_mut.ensures.value c.deal.ensures.more));
       sound = subst (AreSound c.args.code.now c.args.size) (sym are)
           (c.deal.ensures.sound (subst (AreSound c.args.code.now c.args.size) (sym c.deref_mut.ensures.value) c.loop-next.invariant.sound));
-      places = ap length settled_are ∙ as_many ∙ ap length c.deref_mut-in-Some.ensures.value ∙ c.loop-next.invariant.places;
-      settled = subst (λ (marks : List Mark). AreSettled c.args.code.now marks (with_items c.loop-next.settled c.deal.new.settled).items) (sym are)
-          (subst (λ (places : List Bool). AreSettled c.args.code.now c.deal.new.marks places) (sym settled_are)
-          c.in_ok-is_dealt.ensures.settled);
+      places = ap length explored_are ∙ as_many ∙ ap length c.deref_mut-in-Some.ensures.value ∙ c.loop-next.invariant.places;
+      explored = subst (λ (marks : List Mark). AreExplored c.args.code.now marks (with_items c.loop-next.explored c.deal.new.explored).items) (sym are)
+          (subst (λ (places : List Bool). AreExplored c.args.code.now c.deal.new.marks places) (sym explored_are)
+          c.in_ok-is_dealt.ensures.explored);
     }
 
 pub returns-clause-found : goal.returns-clause-found

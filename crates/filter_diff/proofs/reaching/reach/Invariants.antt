@@ -4,7 +4,7 @@ use Rattle.filter_diff.specs.Classes.{IsOfSize}
 use Rattle.filter_diff.specs.Marking.{AreAllMarked, AreSound, Extend, unmarked}
 use Rattle.filter_diff.specs.Parts.{IsIn, class_limit}
 use Rattle.filter_diff.specs.Searches.{IsLeft, most_tried_of}
-use Rattle.filter_diff.specs.Settling.{AreSettled}
+use Rattle.filter_diff.specs.Exploring.{AreExplored}
 use Rattle.filter_diff.proofs.reaching.reach.Given as goal
 
 -- what the run on each route comes to is marked, or the route is left; what was tried and what is left to try are not more than all classes
@@ -15,8 +15,8 @@ invariant-loop-next l = record {
   tried : l.limit + most_tried_of l.size l.todo.items ≤ l.left + class_limit l.size;
   more : Extend (map unmarked l.watched) l.marks.items;
   sound : AreSound l.code l.size l.marks.items;
-  places : length l.settled.items ≡ length l.code.instrs;
-  settled : AreSettled l.code l.marks.items l.settled.items;
+  places : length l.explored.items ≡ length l.code.instrs;
+  explored : AreExplored l.code l.marks.items l.explored.items;
 }
 
 -- each class that is tried takes one off what is left of the limit, and leaves no more than so many others

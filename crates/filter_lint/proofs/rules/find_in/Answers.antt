@@ -25,7 +25,7 @@ returns-clause-found c =
       is_order = c.in_ok-order.ensures.found;
       found_is = c.in_ok-found.ensures;
       complete_is = refl;
-      ordered_is = c.is_told.ensures;
+      ordered_is = c.is_decided_order.ensures;
     }
 
 pub returns-clause-sound : goal.returns-clause-sound

@@ -18,20 +18,20 @@ returns-clause-listing c =
     let counted : length c.as_slice.result.now ≡ surveyed program c.args.size (the_fault program c.args.size) =
     ap length c.as_slice.ensures.value ∙ c.in_ok-survey.ensures.reach in
     let lists = subst (λ (n : ℕ). Lists program.instrs (known_before program c.args.size) origin n front) counted c.in_ok-text.ensures in
-    IfOk-weaker c.end_listing.result (λ listing. EndsListing c.args.origins.now.places.now verdict front listing.text.items listing.told)
-    (λ listing. IsListing (Some c.args.size) program origin listing.text.items (refusal_in listing.told))
-    (λ listing ends. listing_ends program c.args.size origin c.args.origins.now.places.now verdict front listing.text.items listing.told
+    IfOk-weaker c.end_listing.result (λ listing. EndsListing c.args.origins.now.places.now verdict front listing.text.items listing.diagnosis)
+    (λ listing. IsListing (Some c.args.size) program origin listing.text.items (refusal_in listing.diagnosis))
+    (λ listing ends. listing_ends program c.args.size origin c.args.origins.now.places.now verdict front listing.text.items listing.diagnosis
     c.in_ok-survey.ensures.verdict lists ends)
     c.end_listing.ensures.listing
 
-pub returns-clause-told : goal.returns-clause-told
-returns-clause-told c =
+pub returns-clause-diagnosis : goal.returns-clause-diagnosis
+returns-clause-diagnosis c =
     let verdict = c.in_ok-survey.survey.verdict in
     let front = c.in_ok-text.text.items in
     let places = c.args.origins.now.places.now in
-    IfOk-weaker c.end_listing.result (λ listing. EndsListing places verdict front listing.text.items listing.told)
-    (λ listing. IfSome listing.told (λ told. IsUnsafe c.args.code.now c.args.size told.refusal × TellsOfCode c.args.code.now places c.args.size told))
-    (λ listing ends. listing_told c.args.code.now c.args.size places verdict front listing.text.items listing.told c.in_ok-survey.ensures.verdict ends)
+    IfOk-weaker c.end_listing.result (λ listing. EndsListing places verdict front listing.text.items listing.diagnosis)
+    (λ listing. IfSome listing.diagnosis (λ diagnosis. IsUnsafe c.args.code.now c.args.size diagnosis.refusal × TellsOfCode c.args.code.now places c.args.size diagnosis))
+    (λ listing ends. listing_told c.args.code.now c.args.size places verdict front listing.text.items listing.diagnosis c.in_ok-survey.ensures.verdict ends)
     c.end_listing.ensures.listing
 
 pub list_visited-requires-clause-within : goal.list_visited-requires-clause-within

@@ -12,4 +12,4 @@ pub returns-in-Err-clause-refused : goal.returns-in-Err-clause-refused
 returns-in-Err-clause-refused c =
     refused_code c.args.size c.args.text.now c.as_slice.result.now c.in_ok-code.field-0.code c.in-Err.failure c.in_ok-code.ensures.code
     (subst (ArePlaces false c.args.text.now) (sym c.as_slice.ensures.value) c.in_ok-code.ensures.places)
-    c.in-Err.ensures.refused c.in-Err.ensures.told
+    c.in-Err.ensures.refused c.in-Err.ensures.diagnosis

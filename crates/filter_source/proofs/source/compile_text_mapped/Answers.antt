@@ -22,8 +22,8 @@ returns-in_err-typed-clause-refused c =
     (untyped c.args.text.now c.in_ok-filter.filter c.in_err-typed.field-0.0.fault c.in_err-typed.field-0.0.around parsed.found parsed.placed
     parsed.spans refused.refused refused.fault refused.placed)
 
-pub returns-in_err-typed-clause-told : goal.returns-in_err-typed-clause-told
-returns-in_err-typed-clause-told c =
+pub returns-in_err-typed-clause-diagnosis : goal.returns-in_err-typed-clause-diagnosis
+returns-in_err-typed-clause-diagnosis c =
     let parsed = c.in_ok-filter.ensures in
     let why = c.in_err-typed.field-0.0 in
     of_error c.from_residual-in_err-typed.result _ _ c.from_residual-in_err-typed.ensures.1

@@ -29,7 +29,7 @@ returns-in_err-write_refusal-in-Err-Refused-clause-broken_off g c =
     of_error c.from_residual-in_err-write_refusal-in-Err-Refused.result _ fault
     c.from_residual-in_err-write_refusal-in-Err-Refused.ensures.1
     (cut_off _ (stream_fault fault) c.args.size c.args.text.now known
-    (g.W.Write.contents c.args.writer.now) (g.W.Write.contents c.write_refusal.new.writer) c.in-Err-Refused.told
+    (g.W.Write.contents c.args.writer.now) (g.W.Write.contents c.write_refusal.new.writer) c.in-Err-Refused.diagnosis
     (subst (OnDiagnosis (IsDiagnosis c.args.size false c.args.text.now)) c.in-Err-Refused.field-0-is c.in-Err-Refused.ensures.refused)
     c.in_err-write_refusal-in-Err-Refused.ensures.err)
 

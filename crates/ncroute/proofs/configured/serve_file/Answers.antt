@@ -9,10 +9,10 @@ unfolding ServesFile
 returns-in-Err-clause-served g c =
     rw (← c.console.view_is) (IfOk-weaker c.end_by_memory.result _ _ (λ status told. inl (inr (told, refl, refl))) c.end_by_memory.ensures.told)
 
-pub returns-in-Err-clause-untold : goal.returns-in-Err-clause-untold
+pub returns-in-Err-clause-unreported : goal.returns-in-Err-clause-unreported
 unfolding CutsFile
-returns-in-Err-clause-untold g c =
-    rw (← c.console.view_is) (IfErr-weaker c.end_by_memory.result _ _ (λ untold told. inr (told, refl, refl)) c.end_by_memory.ensures.cut)
+returns-in-Err-clause-unreported g c =
+    rw (← c.console.view_is) (IfErr-weaker c.end_by_memory.result _ _ (λ unreported told. inr (told, refl, refl)) c.end_by_memory.ensures.cut)
 
 pub returns-in-Ok-Some-clause-served : goal.returns-in-Ok-Some-clause-served
 unfolding ServesFile
@@ -26,17 +26,17 @@ returns-in-Ok-Some-clause-served g c =
     )))
     (rw c.as_slice.ensures.value at c.serve_text.ensures.served)
 
-pub returns-in-Ok-Some-clause-untold : goal.returns-in-Ok-Some-clause-untold
+pub returns-in-Ok-Some-clause-unreported : goal.returns-in-Ok-Some-clause-unreported
 unfolding CutsFile
-returns-in-Ok-Some-clause-untold g c =
+returns-in-Ok-Some-clause-unreported g c =
     let read = rw c.in-Ok-Some.field-0-is at c.in-Ok-Some.ensures.read in
     IfErr-weaker c.serve_text.result _ _
-    (λ untold does. inl (
+    (λ unreported does. inl (
       File c.in-Ok.name,
       ap Some c.in-Ok.ensures.ok,
       inl (c.in-Ok-Some.text.items, c.read_config.new.console, read, does),
     ))
-    (rw c.as_slice.ensures.value at c.serve_text.ensures.untold)
+    (rw c.as_slice.ensures.value at c.serve_text.ensures.unreported)
 
 pub returns-in-Ok-None-clause-served : goal.returns-in-Ok-None-clause-served
 unfolding ServesFile
@@ -55,12 +55,12 @@ returns-in-Err-read_config-clause-served g c =
     )))
     (rw c.fault_line.ensures at (rw c.as_bytes.ensures.value at c.end_by_line.ensures.told))
 
-pub returns-in-Err-read_config-clause-untold : goal.returns-in-Err-read_config-clause-untold
+pub returns-in-Err-read_config-clause-unreported : goal.returns-in-Err-read_config-clause-unreported
 unfolding CutsFile
-returns-in-Err-read_config-clause-untold g c =
+returns-in-Err-read_config-clause-unreported g c =
     let stopped = rw (← c.console-in-Err-read_config.view_is) at c.in-Err-read_config.ensures.stopped in
     IfErr-weaker c.end_by_line.result _ _
-    (λ untold told. inl (
+    (λ unreported told. inl (
       File c.in-Ok.name,
       ap Some c.in-Ok.ensures.ok,
       inr (c.in-Err-read_config.fault, _, stopped, ((told.1, told.0), refl, refl)),

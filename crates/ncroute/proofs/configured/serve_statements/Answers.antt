@@ -9,11 +9,11 @@ returns-in-Some-clause-served g c =
     rw (← c.console.view_is) (IfOk-weaker c.end_by_clash.result _ _
     (λ status told. inr (inl (c.in-Some.clash, c.in-Some.ensures, (told, refl, refl)))) c.end_by_clash.ensures.told)
 
-pub returns-in-Some-clause-untold : goal.returns-in-Some-clause-untold
+pub returns-in-Some-clause-unreported : goal.returns-in-Some-clause-unreported
 unfolding CutsStatements
-returns-in-Some-clause-untold g c =
+returns-in-Some-clause-unreported g c =
     rw (← c.console.view_is) (IfErr-weaker c.end_by_clash.result _ _
-    (λ untold told. inr (inl (c.in-Some.clash, c.in-Some.ensures, (told, refl, refl)))) c.end_by_clash.ensures.cut)
+    (λ unreported told. inr (inl (c.in-Some.clash, c.in-Some.ensures, (told, refl, refl)))) c.end_by_clash.ensures.cut)
 
 pub returns-in-Ok-clause-served : goal.returns-in-Ok-clause-served
 unfolding ServesStatements
@@ -21,18 +21,18 @@ returns-in-Ok-clause-served g c =
     IfOk-weaker c.serve_words.result _ _
     (λ status does. inl (rw c.in_default.is at c.find_clash.ensures, (c.in-Ok.all, c.in-Ok.ensures, does))) c.serve_words.ensures.served
 
-pub returns-in-Ok-clause-untold : goal.returns-in-Ok-clause-untold
+pub returns-in-Ok-clause-unreported : goal.returns-in-Ok-clause-unreported
 unfolding CutsStatements
-returns-in-Ok-clause-untold g c =
+returns-in-Ok-clause-unreported g c =
     IfErr-weaker c.serve_words.result _ _
-    (λ untold does. inl (rw c.in_default.is at c.find_clash.ensures, (c.in-Ok.all, c.in-Ok.ensures, does))) c.serve_words.ensures.untold
+    (λ unreported does. inl (rw c.in_default.is at c.find_clash.ensures, (c.in-Ok.all, c.in-Ok.ensures, does))) c.serve_words.ensures.unreported
 
 pub returns-in-Err-clause-served : goal.returns-in-Err-clause-served
 unfolding ServesStatements
 returns-in-Err-clause-served g c =
     rw (← c.console.view_is) (IfOk-weaker c.end_by_memory.result _ _ (λ status told. inr (inr (told, refl, refl))) c.end_by_memory.ensures.told)
 
-pub returns-in-Err-clause-untold : goal.returns-in-Err-clause-untold
+pub returns-in-Err-clause-unreported : goal.returns-in-Err-clause-unreported
 unfolding CutsStatements
-returns-in-Err-clause-untold g c =
-    rw (← c.console.view_is) (IfErr-weaker c.end_by_memory.result _ _ (λ untold told. inr (inr (told, refl, refl))) c.end_by_memory.ensures.cut)
+returns-in-Err-clause-unreported g c =
+    rw (← c.console.view_is) (IfErr-weaker c.end_by_memory.result _ _ (λ unreported told. inr (inr (told, refl, refl))) c.end_by_memory.ensures.cut)

@@ -10,10 +10,10 @@ unfolding ServesText
 returns-in_default-clause-served g c =
     rw (← c.console.view_is) (IfOk-weaker c.end_by_memory.result _ _ (λ status told. inr (told, refl, refl)) c.end_by_memory.ensures.told)
 
-pub returns-in_default-clause-untold : goal.returns-in_default-clause-untold
+pub returns-in_default-clause-unreported : goal.returns-in_default-clause-unreported
 unfolding CutsText
-returns-in_default-clause-untold g c =
-    rw (← c.console.view_is) (IfErr-weaker c.end_by_memory.result _ _ (λ untold told. inr (told, refl, refl)) c.end_by_memory.ensures.cut)
+returns-in_default-clause-unreported g c =
+    rw (← c.console.view_is) (IfErr-weaker c.end_by_memory.result _ _ (λ unreported told. inr (told, refl, refl)) c.end_by_memory.ensures.cut)
 
 pub returns-in-Ok-read_statements-clause-served : goal.returns-in-Ok-read_statements-clause-served
 unfolding ServesText
@@ -27,17 +27,17 @@ returns-in-Ok-read_statements-clause-served g c =
     ))
     (rw c.as_slice-statements.ensures.value at c.serve_statements.ensures.served)
 
-pub returns-in-Ok-read_statements-clause-untold : goal.returns-in-Ok-read_statements-clause-untold
+pub returns-in-Ok-read_statements-clause-unreported : goal.returns-in-Ok-read_statements-clause-unreported
 unfolding CutsText
-returns-in-Ok-read_statements-clause-untold g c =
+returns-in-Ok-read_statements-clause-unreported g c =
     let file = rw c.as_str.ensures.value at c.in-Ok-read_statements.ensures in
     IfErr-weaker c.serve_statements.result _ _
-    (λ untold does. inl (
+    (λ unreported does. inl (
       string_bytes c.in-Ok.folder,
       c.in-Ok.ensures,
       inl (map statement_of c.in-Ok-read_statements.statements.items, file, does),
     ))
-    (rw c.as_slice-statements.ensures.value at c.serve_statements.ensures.untold)
+    (rw c.as_slice-statements.ensures.value at c.serve_statements.ensures.unreported)
 
 pub returns-in-Err-clause-served : goal.returns-in-Err-clause-served
 unfolding ServesText
@@ -47,10 +47,10 @@ returns-in-Err-clause-served g c =
     (λ status told. inl (string_bytes c.in-Ok.folder, c.in-Ok.ensures, inr (c.in-Err.wrong, wrong, (told, refl, refl))))
     c.end_by_wrong.ensures.told)
 
-pub returns-in-Err-clause-untold : goal.returns-in-Err-clause-untold
+pub returns-in-Err-clause-unreported : goal.returns-in-Err-clause-unreported
 unfolding CutsText
-returns-in-Err-clause-untold g c =
+returns-in-Err-clause-unreported g c =
     let wrong = rw c.as_str.ensures.value at c.in-Err.ensures in
     rw (← c.console.view_is) (IfErr-weaker c.end_by_wrong.result _ _
-    (λ untold told. inl (string_bytes c.in-Ok.folder, c.in-Ok.ensures, inr (c.in-Err.wrong, wrong, (told, refl, refl))))
+    (λ unreported told. inl (string_bytes c.in-Ok.folder, c.in-Ok.ensures, inr (c.in-Err.wrong, wrong, (told, refl, refl))))
     c.end_by_wrong.ensures.cut)

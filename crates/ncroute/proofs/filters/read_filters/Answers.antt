@@ -1,6 +1,6 @@
 -- The filters so far were read, and the next one is read too, or it is not.
 use Rattle.std.proofs.Common.{List, refl, subst, sym}
-use Rattle.script_runs.specs.declared.naming.NamedFilter.{NamedFilter}
+use Rattle.router_script.specs.declared.filter_naming.NamedFilter.{NamedFilter}
 use Rattle.ncroute.specs.Filters.{ReadsFirst}
 use Rattle.ncroute.proofs.FiltersRead.{none_read, not_read, one_more_read}
 use Rattle.ncroute.proofs.filters.read_filters.Goals as goal

@@ -10,12 +10,12 @@ returns-in-Ok-None-clause-finished g c =
     let opens = g.F.Folder.opens c.args.files.now in
     let known = g.R.Read.remaining c.console.inside.reader in
     let left = g.R.Read.remaining c.load_filters.new.reader in
-    let told = g.E.Write.contents c.console.inside.errors in
-    let tells = g.E.Write.contents c.load_filters.new.errors in
+    let stderr_before = g.E.Write.contents c.console.inside.errors in
+    let stderr_after = g.E.Write.contents c.load_filters.new.errors in
     let lacks = rw c.in-Ok-None.field-0-is at c.in-Ok-None.ensures.finished in
-    let all = subst (λ (files : List NamedFile). LacksFilters opens files c.args.plan.now.opening.size known left told tells)
+    let all = subst (λ (files : List NamedFile). LacksFilters opens files c.args.plan.now.opening.size known left stderr_before stderr_after)
     c.as_slice.ensures.value
-    (subst (λ (size : ℕ). LacksFilters opens c.as_slice.result.now size known left told tells) c.size_of.ensures lacks) in
+    (subst (λ (size : ℕ). LacksFilters opens c.as_slice.result.now size known left stderr_before stderr_after) c.size_of.ensures lacks) in
     rw (← c.console.view_is) (refl, all)
 
 pub returns-clause-stopped : goal.returns-clause-stopped
@@ -24,10 +24,10 @@ returns-clause-stopped g c =
     let fault = stream_fault c.in-Err.fault in
     let known = g.R.Read.remaining c.console.inside.reader in
     let left = g.R.Read.remaining c.load_filters.new.reader in
-    let told = g.E.Write.contents c.console.inside.errors in
-    let tells = g.E.Write.contents c.load_filters.new.errors in
-    let all = subst (λ (files : List NamedFile). StopsLoading opens fault files c.args.plan.now.opening.size known left told tells)
+    let stderr_before = g.E.Write.contents c.console.inside.errors in
+    let stderr_after = g.E.Write.contents c.load_filters.new.errors in
+    let all = subst (λ (files : List NamedFile). StopsLoading opens fault files c.args.plan.now.opening.size known left stderr_before stderr_after)
     c.as_slice.ensures.value
-    (subst (λ (size : ℕ). StopsLoading opens fault c.as_slice.result.now size known left told tells) c.size_of.ensures
+    (subst (λ (size : ℕ). StopsLoading opens fault c.as_slice.result.now size known left stderr_before stderr_after) c.size_of.ensures
     c.in-Err.ensures.stopped) in
     rw (← c.console.view_is) (refl, all)

@@ -18,9 +18,9 @@ returns-in-Err-clause-checked g c =
     (λ status told. inr (inr (c.in-Err.fault, _, rw (← c.console.view_is) at c.in-Err.ensures.stopped, told.1, refl, refl, told.0)))
     c.end_unset.ensures.told
 
-pub returns-in-Err-clause-untold : goal.returns-in-Err-clause-untold
+pub returns-in-Err-clause-unreported : goal.returns-in-Err-clause-unreported
 unfolding CutsCheck
-returns-in-Err-clause-untold g c =
+returns-in-Err-clause-unreported g c =
     IfErr-weaker c.end_unset.result _ _
-    (λ untold told. (c.in-Err.fault, _, rw (← c.console.view_is) at c.in-Err.ensures.stopped, told.1, refl, refl, told.0))
+    (λ unreported told. (c.in-Err.fault, _, rw (← c.console.view_is) at c.in-Err.ensures.stopped, told.1, refl, refl, told.0))
     c.end_unset.ensures.cut

@@ -14,12 +14,12 @@ returns-in-Ok-None-clause-finished g c =
     let opens = g.F.Folder.opens c.args.files.now in
     let known = g.R.Read.remaining c.console.inside.reader in
     let left = g.R.Read.remaining c.load_filters.new.reader in
-    let told = g.E.Write.contents c.console.inside.errors in
-    let tells = g.E.Write.contents c.load_filters.new.errors in
+    let stderr_before = g.E.Write.contents c.console.inside.errors in
+    let stderr_after = g.E.Write.contents c.load_filters.new.errors in
     let lacks = rw c.in-Ok-None.field-0-is at c.in-Ok-None.ensures.finished in
-    let all = subst (λ (files : List NamedFile). LacksFilters opens files c.args.plan.opening.size known left told tells)
+    let all = subst (λ (files : List NamedFile). LacksFilters opens files c.args.plan.opening.size known left stderr_before stderr_after)
     c.as_slice-named.ensures.value
-    (subst (λ (size : ℕ). LacksFilters opens c.as_slice-named.result.now size known left told tells) c.size_of-size.ensures lacks) in
+    (subst (λ (size : ℕ). LacksFilters opens c.as_slice-named.result.now size known left stderr_before stderr_after) c.size_of-size.ensures lacks) in
     elim c.match-plan-3.branch [
       | in-Some-1 w ↦ rw (w.console-is, ← c.console.view_is) (refl, inl all)
       | in-None-1 w ↦ rw (w.console-is, ← c.console.view_is) (refl, inl all)
@@ -31,11 +31,11 @@ returns-in-Err-clause-stopped g c =
     let fault = stream_fault c.in-Err.fault in
     let known = g.R.Read.remaining c.console.inside.reader in
     let left = g.R.Read.remaining c.load_filters.new.reader in
-    let told = g.E.Write.contents c.console.inside.errors in
-    let tells = g.E.Write.contents c.load_filters.new.errors in
-    let all = subst (λ (files : List NamedFile). StopsLoading opens fault files c.args.plan.opening.size known left told tells)
+    let stderr_before = g.E.Write.contents c.console.inside.errors in
+    let stderr_after = g.E.Write.contents c.load_filters.new.errors in
+    let all = subst (λ (files : List NamedFile). StopsLoading opens fault files c.args.plan.opening.size known left stderr_before stderr_after)
     c.as_slice-named.ensures.value
-    (subst (λ (size : ℕ). StopsLoading opens fault c.as_slice-named.result.now size known left told tells) c.size_of-size.ensures
+    (subst (λ (size : ℕ). StopsLoading opens fault c.as_slice-named.result.now size known left stderr_before stderr_after) c.size_of-size.ensures
     c.in-Err.ensures.stopped) in
     elim c.match-plan-4.branch [
       | in-Some-2 w ↦ rw (w.console-is, ← c.console.view_is) (refl, inl all)
@@ -47,7 +47,7 @@ returns-after-make_save-clause-stopped g c =
     let opens = g.F.Folder.opens c.args.files.now in
     let known = g.R.Read.remaining c.console.inside.reader in
     let left = g.R.Read.remaining c.load_filters.new.reader in
-    let tells = g.E.Write.contents c.make_save.new.errors in
+    let stderr_after = g.E.Write.contents c.make_save.new.errors in
     let names = c.in-Ok-Some.filters.entries in
     let has = rw c.in-Ok-Some.field-0-is at c.in-Ok-Some.ensures.finished in
     let loads = subst (λ (files : List NamedFile). LoadsFilters opens files c.args.plan.opening.size names known left)
@@ -62,8 +62,8 @@ returns-after-make_save-clause-stopped g c =
         inr (
           names,
           loads,
-          subst (λ (told : Option (List ℕ)). CutsSave (g.F.HistoryFolders.makes c.args.files.now) (stream_fault w.in-Err-make_save.fault)
-              c.args.words.now.save told tells) has.1 w.in-Err-make_save.ensures.stopped,
+          subst (λ (stderr_before : Option (List ℕ)). CutsSave (g.F.HistoryFolders.makes c.args.files.now) (stream_fault w.in-Err-make_save.fault)
+              c.args.words.now.save stderr_before stderr_after) has.1 w.in-Err-make_save.ensures.stopped,
         ),
       )
       | in-Err-make_save+in-None-1 w ↦ rw (w.result-is, ← c.console.view_is) (
@@ -71,8 +71,8 @@ returns-after-make_save-clause-stopped g c =
         inr (
           names,
           loads,
-          subst (λ (told : Option (List ℕ)). CutsSave (g.F.HistoryFolders.makes c.args.files.now) (stream_fault w.in-Err-make_save.fault)
-              c.args.words.now.save told tells) has.1 w.in-Err-make_save.ensures.stopped,
+          subst (λ (stderr_before : Option (List ℕ)). CutsSave (g.F.HistoryFolders.makes c.args.files.now) (stream_fault w.in-Err-make_save.fault)
+              c.args.words.now.save stderr_before stderr_after) has.1 w.in-Err-make_save.ensures.stopped,
         ),
       )
     ]

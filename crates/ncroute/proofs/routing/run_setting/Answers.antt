@@ -40,8 +40,8 @@ returns-in-Err-clause-finished g c =
     (g.R.HistoryFolders.keeps c.args.rt.now) c.args.save.now
     (option_map (λ segments. g.R.Segments.SegmentFolder.holds segments) c.args.setting.save) c.end_by_fault.result c.end_by_fault.ensures.told)
 
-pub returns-in-Err-clause-untold : goal.returns-in-Err-clause-untold
-returns-in-Err-clause-untold g c =
+pub returns-in-Err-clause-unreported : goal.returns-in-Err-clause-unreported
+returns-in-Err-clause-unreported g c =
     let before : Streams = record {
       reads = g.I.Read.remaining c.console.inside.reader;
       holds = g.W.Write.contents c.console.inside.writer;

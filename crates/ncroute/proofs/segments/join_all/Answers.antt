@@ -3,7 +3,7 @@ use Rattle.std.proofs.Common.{Some, ◌+◌, subst}
 use Rattle.filter_source.proofs.Refused.{of_error}
 use Rattle.filter_reports.specs.Faults.{stream_fault}
 use Rattle.ncroute.specs.Segments.{JoinsSource}
-use Rattle.ncroute.specs.declared.segments.Replayed.{Replayed}
+use Rattle.ncroute.specs.declared.segments.ReplayedSegments.{ReplayedSegments}
 use Rattle.ncroute.proofs.Chained.{bails, left_off, none_joined, one_more_joined, some_stopped}
 use Rattle.ncroute.proofs.segments.join_all.Goals as goal
 
@@ -29,5 +29,5 @@ pub loop-at-preserved : goal.loop-at-preserved
 loop-at-preserved g c =
     one_more_joined _ c.args.sources.now c.loop-at.at c.index-sources-at.result _ _ _ c.loop-at.chain c.in-Right.now c.loop-at-test.true
     c.index-sources-at.is c.loop-at.invariant
-    (subst (λ (found : Replayed). JoinsSource (g.F.Folder.opens c.args.files.now) c.loop-at.chain (Some (c.loop-at.at + 1))
+    (subst (λ (found : ReplayedSegments). JoinsSource (g.F.Folder.opens c.args.files.now) c.loop-at.chain (Some (c.loop-at.at + 1))
     c.index-sources-at.result c.loop-at.console c.join_source.new.console found) c.in-Right.is c.in_ok-found.ensures.finished)

@@ -19,7 +19,7 @@ loop-init g c = record {
 pub returns-in-Some-end_of_reader-clause-reads : goal.returns-in-Some-end_of_reader-clause-reads
 returns-in-Some-end_of_reader-clause-reads g c =
     let link = c.read_turns-cause.new.link in
-    reads_stopped c.args.waits (g.C.Crew.may_be_present c.args.crew.now) c.args.router.now c.args.session c.args.pass.now c.args.input
+    reads_stopped c.args.waits (g.C.SessionGuard.may_be_present c.args.guard.now) c.args.router.now c.args.session c.args.pass.now c.args.input
     c.loop.pass c.loop.link.told c.read_turns-cause.result c.in-Some-end_of_reader.why c.read_turns-cause.new.pass
     link.told link.over c.into_reader.result c.loop.invariant.read c.read_turns-cause.ensures.read
     (subst (λ (r : ReaderView). ReadsLines r link.told.handed link.over c.into_reader.result) (sym c.requires.named) c.into_reader.ensures)
@@ -28,7 +28,7 @@ returns-in-Some-end_of_reader-clause-reads g c =
 pub returns-then-not-is_present-clause-reads : goal.returns-then-not-is_present-clause-reads
 returns-then-not-is_present-clause-reads g c =
     let link = c.read_turns-cause.new.link in
-    reads_absent c.args.waits (g.C.Crew.may_be_present c.args.crew.now) c.args.router.now c.args.session c.args.pass.now c.args.input
+    reads_absent c.args.waits (g.C.SessionGuard.may_be_present c.args.guard.now) c.args.router.now c.args.session c.args.pass.now c.args.input
     c.loop.pass c.loop.link.told c.read_turns-cause.result c.read_turns-cause.new.pass link.told link.over
     c.into_reader-then-not-is_present.result c.loop.invariant.read c.read_turns-cause.ensures.read
     (subst (λ (r : ReaderView). ReadsLines r link.told.handed link.over c.into_reader-then-not-is_present.result) (sym c.requires.named)

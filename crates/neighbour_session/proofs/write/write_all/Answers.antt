@@ -1,5 +1,5 @@
 use Rattle.std.proofs.Common.{◌∙◌, ◌+◌, ap, refl, rules, subst, sym}
-use Rattle.route_session.specs.Told.{Told}
+use Rattle.route_session.specs.LinkTrace.{LinkTrace}
 use Rattle.message_streams.specs.Views.{WriterView}
 use Rattle.neighbour_session.specs.Links.{GotLinesOf, OutputView}
 use Rattle.neighbour_session.specs.Writing.{told_to}
@@ -24,7 +24,7 @@ returns-in-Some-end_of_writer-clause-writes g c =
     let end = c.write_newest-end in
     let u = end.new.link.told in
     let later = c.into_writer.result in
-    writes_stopped c.args.waits (g.C.Crew.may_be_present c.args.crew.now) c.args.router.now c.loop.invariant.count end.result.1
+    writes_stopped c.args.waits (g.C.SessionGuard.may_be_present c.args.guard.now) c.args.router.now c.loop.invariant.count end.result.1
     c.saturating_add-left_out.result c.args.session c.args.pass.now c.args.output c.loop.pass c.loop.link.told end.result.0 c.in-Some-end_of_writer.why
     end.new.pass u later c.loop.invariant.written end.ensures.written
     (subst (λ (w : WriterView). GotLinesOf w u later) (sym c.requires.named) c.into_writer.ensures.lines) c.in-Some-end_of_writer.ensures.over
@@ -35,7 +35,7 @@ returns-then-not-is_present-clause-writes g c =
     let end = c.write_newest-end in
     let u = end.new.link.told in
     let later = c.into_writer-then-not-is_present.result in
-    writes_absent c.args.waits (g.C.Crew.may_be_present c.args.crew.now) c.args.router.now c.loop.invariant.count end.result.1
+    writes_absent c.args.waits (g.C.SessionGuard.may_be_present c.args.guard.now) c.args.router.now c.loop.invariant.count end.result.1
     c.saturating_add-left_out.result c.args.session c.args.pass.now c.args.output c.loop.pass c.loop.link.told end.result.0 end.new.pass u later
     c.loop.invariant.written end.ensures.written
     (subst (λ (w : WriterView). GotLinesOf w u later) (sym c.requires.named) c.into_writer-then-not-is_present.ensures.lines)
@@ -55,11 +55,11 @@ returns-then-not-write_owed-clause-writes g c =
     let end = c.write_newest-end in
     let u = end.new.link.told in
     let later = c.into_writer-then-not-write_owed.result in
-    writes_unwritten c.args.waits (g.C.Crew.may_be_present c.args.crew.now) c.args.router.now c.loop.invariant.count end.result.1
+    writes_unwritten c.args.waits (g.C.SessionGuard.may_be_present c.args.guard.now) c.args.router.now c.loop.invariant.count end.result.1
     c.saturating_add-left_out.result c.args.session c.args.pass.now c.args.output c.loop.pass c.loop.link.told end.result.0 end.new.pass u later
     c.loop.invariant.written end.ensures.written
     (subst (λ (w : WriterView). GotLinesOf w u later) (sym c.requires.named)
-    (subst (λ (t : Told). GotLinesOf g.T.Target.writer t later) c.write_owed.ensures.told c.into_writer-then-not-write_owed.ensures.lines))
+    (subst (λ (t : LinkTrace). GotLinesOf g.T.GivenWriter.writer t later) c.write_owed.ensures.told c.into_writer-then-not-write_owed.ensures.lines))
     c.in_default.ensures.goes_on
     (ap (λ (w : WriterView). w.over) c.into_writer-then-not-write_owed.ensures.writer ∙ c.write_owed.ensures.unwritten (search rules))
     (c.saturating_add-left_out.ensures ∙ min_more c.loop.left_out c.loop.invariant.count end.result.1 c.loop.invariant.counted)
@@ -74,7 +74,7 @@ loop-preserved g c =
       shares = end.ensures.written.written.writes.gained.shares ∙ c.loop.invariant.shares;
       count = c.loop.invariant.count + end.result.1;
       counted = c.saturating_add-left_out.ensures ∙ min_more c.loop.left_out c.loop.invariant.count end.result.1 c.loop.invariant.counted;
-      written = subst (λ (t : Told). HasWritten (c.loop.invariant.count + end.result.1) c.args.session c.args.pass.now.fragment
+      written = subst (λ (t : LinkTrace). HasWritten (c.loop.invariant.count + end.result.1) c.args.session c.args.pass.now.fragment
           (told_to c.args.output) end.new.pass.fragment t) (sym c.write_owed.ensures.told)
           (writes_on c.args.waits c.args.router.now c.loop.invariant.count end.result.1 c.args.session c.args.pass.now.fragment
           (told_to c.args.output) c.loop.pass.fragment c.loop.link.told end.result.0 end.new.pass.fragment end.new.link.told

@@ -17,19 +17,19 @@ returns-in_ok-give_name-in-Ok-clause-ok c =
 
 pub returns-in_ok-reply-in-Err-Refused-clause-ok : goal.returns-in_ok-reply-in-Err-Refused-clause-ok
 returns-in_ok-reply-in-Err-Refused-clause-ok c =
-    let told = c.in-Err-Refused.refused in
+    let diagnosis = c.in-Err-Refused.refused in
     turned_away (gives c.args.source) (lacks c.args.source) c.args.number c.args.name.now c.args.size (filter_at c.args.filters.now)
-    told.refusal c.code.result.now c.place_in_line.result c.in_ok-reply-in-Err-Refused.reply c.args.out.now.items c.refuse.new.out.items
-    (refused_source c.args.source c.args.size told
+    diagnosis.refusal c.code.result.now c.place_in_line.result c.in_ok-reply-in-Err-Refused.reply c.args.out.now.items c.refuse.new.out.items
+    (refused_source c.args.source c.args.size diagnosis
     (subst (OnDiagnosis (diagnoses c.args.source c.args.size)) c.in-Err-Refused.field-0-is c.in-Err-Refused.ensures.refused))
     (rw c.in-Err-Refused.field-0-is at c.code.ensures) (rw c.in-Err-Refused.field-0-is at c.place_in_line.ensures)
     c.in_ok-reply-in-Err-Refused.ensures.ok
 
-pub returns-in_ok-reply-in-Err-Refused-clause-told : goal.returns-in_ok-reply-in-Err-Refused-clause-told
-returns-in_ok-reply-in-Err-Refused-clause-told c =
-    let told = c.in-Err-Refused.refused in
+pub returns-in_ok-reply-in-Err-Refused-clause-diagnosis : goal.returns-in_ok-reply-in-Err-Refused-clause-diagnosis
+returns-in_ok-reply-in-Err-Refused-clause-diagnosis c =
+    let diagnosis = c.in-Err-Refused.refused in
     rw c.in-Err-Refused.field-0-is
-    (told_of (diagnoses c.args.source c.args.size) c.args.number c.args.told.now (Some told) told
+    (told_of (diagnoses c.args.source c.args.size) c.args.number c.args.diagnosis.now (Some diagnosis) diagnosis
     c.code.result.now c.place_in_line.result c.in_ok-reply-in-Err-Refused.reply c.args.out.now.items c.refuse.new.out.items
     (subst (OnDiagnosis (diagnoses c.args.source c.args.size)) c.in-Err-Refused.field-0-is c.in-Err-Refused.ensures.refused)
     (rw c.in-Err-Refused.field-0-is at c.code.ensures) (rw c.in-Err-Refused.field-0-is at c.place_in_line.ensures) refl

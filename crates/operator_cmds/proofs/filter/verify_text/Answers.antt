@@ -22,4 +22,4 @@ returns-clause-refused c =
     subst (λ (n : ℕ). IfErr c.verify_mapped.result (OnDiagnosis (IsTextDiagnosis text n))) c.from.ensures
     (diagnosed_by (GivesText text) (IsRefusedText text) (TellsOfText text) (ArePlacesOf text) mapped.code c.as_slice.result.now c.from.result c.verify_mapped.result
     c.in_ok-code.ensures.code (subst (ArePlacesOf text) (sym c.as_slice.ensures.value) c.in_ok-code.ensures.places)
-    c.verify_mapped.ensures.refused c.verify_mapped.ensures.told)
+    c.verify_mapped.ensures.refused c.verify_mapped.ensures.diagnosis)

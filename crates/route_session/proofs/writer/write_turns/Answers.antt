@@ -4,7 +4,7 @@ use Rattle.netchange_core.specs.Calls.{carried}
 use Rattle.route_history.specs.declared.fault.CallFault.TheVariants as fault
 use Rattle.route_session.specs.declared.ends.Cause.TheVariants as cause
 use Rattle.route_session.specs.Calls.{stale, take}
-use Rattle.route_session.specs.Writes.{Hands, told_of}
+use Rattle.route_session.specs.Writes.{Hands, messages_sent}
 use Rattle.route_session.proofs.Gaining.{called}
 use Rattle.route_session.proofs.Writing.{at_most_16, begins_writing, ends_by_failure, ends_by_turns, ends_full, ends_stale, ends_without_memory}
 use Rattle.route_session.proofs.Writing.{none_left, writes_on}
@@ -16,7 +16,7 @@ use Rattle.route_session.proofs.writer.write_turns.Goals as goal
 pub loop-turn-init : goal.loop-turn-init
 loop-turn-init g c = record {
   pass = c.requires;
-  writing = begins_writing c.args.newest_only c.args.router.now c.args.session c.args.pass.now (g.L.Link.told c.args.link.now) c.requires;
+  writing = begins_writing c.args.newest_only c.args.router.now c.args.session c.args.pass.now (g.L.Link.trace c.args.link.now) c.requires;
   turned = no_turn_taken (g.G.Gate.may_answer c.args.gate.now c.args.job) c.args.pass.now.fragment;
   room = omega arith;
 }
@@ -26,8 +26,8 @@ returns-in-Err-Full-clause-written g c =
     let refused : Refused fault.Full c.args.router.now c.loop-turn.pass c.call.new.pass = rw c.in-Err-Full.field-0-is at
     c.in-Err-Full.ensures.refused in
     rw c.ended.ensures
-    (ends_full c.args.newest_only c.args.router.now c.args.session c.args.pass.now (g.L.Link.told c.args.link.now) c.loop-turn.sent
-    c.loop-turn.left_out c.loop-turn.pass c.call.new.pass (g.L.Link.told c.loop-turn.link) c.loop-turn.invariant.writing refused
+    (ends_full c.args.newest_only c.args.router.now c.args.session c.args.pass.now (g.L.Link.trace c.args.link.now) c.loop-turn.sent
+    c.loop-turn.left_out c.loop-turn.pass c.call.new.pass (g.L.Link.trace c.loop-turn.link) c.loop-turn.invariant.writing refused
     (called c.args.router.now c.loop-turn.pass c.call.new.pass c.call.ensures.pass c.call.ensures.own c.call.ensures.failed_tries))
 
 pub returns-in-Err-Memory-clause-written : goal.returns-in-Err-Memory-clause-written
@@ -35,15 +35,15 @@ returns-in-Err-Memory-clause-written g c =
     let refused : Refused fault.Memory c.args.router.now c.loop-turn.pass c.call.new.pass = rw c.in-Err-Memory.field-0-is at
     c.in-Err-Memory.ensures.refused in
     rw c.ended-in-Err-Memory.ensures
-    (ends_without_memory c.args.newest_only c.args.router.now c.args.session c.args.pass.now (g.L.Link.told c.args.link.now) c.loop-turn.sent
-    c.loop-turn.left_out c.loop-turn.pass c.call.new.pass (g.L.Link.told c.loop-turn.link) c.loop-turn.invariant.writing refused
+    (ends_without_memory c.args.newest_only c.args.router.now c.args.session c.args.pass.now (g.L.Link.trace c.args.link.now) c.loop-turn.sent
+    c.loop-turn.left_out c.loop-turn.pass c.call.new.pass (g.L.Link.trace c.loop-turn.link) c.loop-turn.invariant.writing refused
     (called c.args.router.now c.loop-turn.pass c.call.new.pass c.call.ensures.pass c.call.ensures.own c.call.ensures.failed_tries))
 
 pub returns-clause-written : goal.returns-clause-written
 returns-clause-written g c =
     rw c.ended-2.ensures
-    (ends_by_turns c.args.newest_only c.args.router.now c.args.session c.args.pass.now (g.L.Link.told c.args.link.now) c.loop-turn.sent
-    c.loop-turn.left_out c.loop-turn.pass (g.L.Link.told c.loop-turn.link) c.loop-turn.invariant.writing)
+    (ends_by_turns c.args.newest_only c.args.router.now c.args.session c.args.pass.now (g.L.Link.trace c.args.link.now) c.loop-turn.sent
+    c.loop-turn.left_out c.loop-turn.pass (g.L.Link.trace c.loop-turn.link) c.loop-turn.invariant.writing)
 
 pub returns-then-is_stale-clause-written : goal.returns-then-is_stale-clause-written
 returns-then-is_stale-clause-written g c =
@@ -51,8 +51,8 @@ returns-then-is_stale-clause-written g c =
     (take c.args.session) c.in-Ok.answer c.call.new.pass = c.in-Ok.ensures.answered in
     let is_stale : c.in-Ok.answer.reply ≡ stale = search rules in
     rw c.ended-then-is_stale.ensures
-    (ends_stale c.args.newest_only c.args.router.now c.args.session c.args.pass.now (g.L.Link.told c.args.link.now) c.loop-turn.sent
-    c.loop-turn.left_out c.loop-turn.pass c.call.new.pass (g.L.Link.told c.loop-turn.link) c.in-Ok.answer c.loop-turn.invariant.writing answered
+    (ends_stale c.args.newest_only c.args.router.now c.args.session c.args.pass.now (g.L.Link.trace c.args.link.now) c.loop-turn.sent
+    c.loop-turn.left_out c.loop-turn.pass c.call.new.pass (g.L.Link.trace c.loop-turn.link) c.in-Ok.answer c.loop-turn.invariant.writing answered
     (called c.args.router.now c.loop-turn.pass c.call.new.pass c.call.ensures.pass c.call.ensures.own c.call.ensures.failed_tries) is_stale)
 
 pub returns-then-not-is_empty-clause-written : goal.returns-then-not-is_empty-clause-written
@@ -60,22 +60,22 @@ returns-then-not-is_empty-clause-written g c =
     let answered : Answered c.args.router.now c.loop-turn.pass
     (take c.args.session) c.in-Ok.answer c.call.new.pass = c.in-Ok.ensures.answered in
     let fresh : c.in-Ok.answer.reply ≡ stale → ⊥ = search rules in
-    let messages : c.told_of-messages.result.0.items ≡ told_of c.args.newest_only (carried c.in-Ok.answer.reply) =
-    c.told_of-messages.ensures.told ∙ ap (told_of c.args.newest_only) c.messages_of.ensures in
-    let handed : Hands (g.L.Link.told c.loop-turn.link) (told_of c.args.newest_only (carried c.in-Ok.answer.reply))
-    c.send_each-unsent.result.items (g.L.Link.told c.send_each-unsent.new.link) =
-    subst (λ (l : List Message). Hands (g.L.Link.told c.loop-turn.link) l c.send_each-unsent.result.items
-    (g.L.Link.told c.send_each-unsent.new.link)) messages c.send_each-unsent.ensures in
-    let split : c.told_of-messages.result.1 + length (told_of c.args.newest_only (carried c.in-Ok.answer.reply)) ≡ length (carried c.in-Ok.answer.reply) =
-    ap (λ (l : List Message). c.told_of-messages.result.1 + length l) (sym messages) ∙ c.told_of-messages.ensures.counted
+    let messages : c.messages_sent-messages.result.0.items ≡ messages_sent c.args.newest_only (carried c.in-Ok.answer.reply) =
+    c.messages_sent-messages.ensures.told ∙ ap (messages_sent c.args.newest_only) c.messages_of.ensures in
+    let handed : Hands (g.L.Link.trace c.loop-turn.link) (messages_sent c.args.newest_only (carried c.in-Ok.answer.reply))
+    c.send_each-unsent.result.items (g.L.Link.trace c.send_each-unsent.new.link) =
+    subst (λ (l : List Message). Hands (g.L.Link.trace c.loop-turn.link) l c.send_each-unsent.result.items
+    (g.L.Link.trace c.send_each-unsent.new.link)) messages c.send_each-unsent.ensures in
+    let split : c.messages_sent-messages.result.1 + length (messages_sent c.args.newest_only (carried c.in-Ok.answer.reply)) ≡ length (carried c.in-Ok.answer.reply) =
+    ap (λ (l : List Message). c.messages_sent-messages.result.1 + length l) (sym messages) ∙ c.messages_sent-messages.ensures.counted
     ∙ ap length c.messages_of.ensures in
-    let count : c.len-count.result ≡ length (told_of c.args.newest_only (carried c.in-Ok.answer.reply)) = search rules in
+    let count : c.len-count.result ≡ length (messages_sent c.args.newest_only (carried c.in-Ok.answer.reply)) = search rules in
     let left : c.len.result ≡ length c.send_each-unsent.result.items = search rules in
     let some : c.send_each-unsent.result.items ≡ [] → ⊥ = search rules in
     rw (c.from_vec.ensures, count, left)
-    (ends_by_failure c.args.newest_only c.args.router.now c.args.session c.args.pass.now (g.L.Link.told c.args.link.now) c.loop-turn.sent
-    c.loop-turn.left_out c.loop-turn.pass c.call.new.pass (g.L.Link.told c.loop-turn.link) (g.L.Link.told c.send_each-unsent.new.link) c.in-Ok.answer
-    c.send_each-unsent.result.items c.told_of-messages.result.1 c.loop-turn.invariant.writing answered
+    (ends_by_failure c.args.newest_only c.args.router.now c.args.session c.args.pass.now (g.L.Link.trace c.args.link.now) c.loop-turn.sent
+    c.loop-turn.left_out c.loop-turn.pass c.call.new.pass (g.L.Link.trace c.loop-turn.link) (g.L.Link.trace c.send_each-unsent.new.link) c.in-Ok.answer
+    c.send_each-unsent.result.items c.messages_sent-messages.result.1 c.loop-turn.invariant.writing answered
     (called c.args.router.now c.loop-turn.pass c.call.new.pass c.call.ensures.pass c.call.ensures.own c.call.ensures.failed_tries) fresh split
     handed some)
 
@@ -84,16 +84,16 @@ loop-turn-preserved g c =
     let answered : Answered c.args.router.now c.loop-turn.pass
     (take c.args.session) c.in-Ok.answer c.call.new.pass = c.in-Ok.ensures.answered in
     let fresh : c.in-Ok.answer.reply ≡ stale → ⊥ = search rules in
-    let messages : c.told_of-messages.result.0.items ≡ told_of c.args.newest_only (carried c.in-Ok.answer.reply) =
-    c.told_of-messages.ensures.told ∙ ap (told_of c.args.newest_only) c.messages_of.ensures in
-    let handed : Hands (g.L.Link.told c.loop-turn.link) (told_of c.args.newest_only (carried c.in-Ok.answer.reply))
-    c.send_each-unsent.result.items (g.L.Link.told c.send_each-unsent.new.link) =
-    subst (λ (l : List Message). Hands (g.L.Link.told c.loop-turn.link) l c.send_each-unsent.result.items
-    (g.L.Link.told c.send_each-unsent.new.link)) messages c.send_each-unsent.ensures in
-    let split : c.told_of-messages.result.1 + length (told_of c.args.newest_only (carried c.in-Ok.answer.reply)) ≡ length (carried c.in-Ok.answer.reply) =
-    ap (λ (l : List Message). c.told_of-messages.result.1 + length l) (sym messages) ∙ c.told_of-messages.ensures.counted
+    let messages : c.messages_sent-messages.result.0.items ≡ messages_sent c.args.newest_only (carried c.in-Ok.answer.reply) =
+    c.messages_sent-messages.ensures.told ∙ ap (messages_sent c.args.newest_only) c.messages_of.ensures in
+    let handed : Hands (g.L.Link.trace c.loop-turn.link) (messages_sent c.args.newest_only (carried c.in-Ok.answer.reply))
+    c.send_each-unsent.result.items (g.L.Link.trace c.send_each-unsent.new.link) =
+    subst (λ (l : List Message). Hands (g.L.Link.trace c.loop-turn.link) l c.send_each-unsent.result.items
+    (g.L.Link.trace c.send_each-unsent.new.link)) messages c.send_each-unsent.ensures in
+    let split : c.messages_sent-messages.result.1 + length (messages_sent c.args.newest_only (carried c.in-Ok.answer.reply)) ≡ length (carried c.in-Ok.answer.reply) =
+    ap (λ (l : List Message). c.messages_sent-messages.result.1 + length l) (sym messages) ∙ c.messages_sent-messages.ensures.counted
     ∙ ap length c.messages_of.ensures in
-    let count : c.len-count.result ≡ length (told_of c.args.newest_only (carried c.in-Ok.answer.reply)) = search rules in
+    let count : c.len-count.result ≡ length (messages_sent c.args.newest_only (carried c.in-Ok.answer.reply)) = search rules in
     let left : c.len.result ≡ length c.send_each-unsent.result.items = search rules in
     let nothing : length c.send_each-unsent.result.items ≡ 0 = search rules in
     let none : c.send_each-unsent.result.items ≡ [] = none_left c.send_each-unsent.result.items nothing in
@@ -103,9 +103,9 @@ loop-turn-preserved g c =
     record {
       pass = c.call.ensures.pass.0;
       writing = rw (count, left)
-          (writes_on c.args.newest_only c.args.router.now c.args.session c.args.pass.now (g.L.Link.told c.args.link.now) c.loop-turn.sent
-          c.loop-turn.left_out c.loop-turn.pass c.call.new.pass (g.L.Link.told c.loop-turn.link) (g.L.Link.told c.send_each-unsent.new.link) c.in-Ok.answer
-          c.send_each-unsent.result.items c.told_of-messages.result.1 c.loop-turn.invariant.writing answered
+          (writes_on c.args.newest_only c.args.router.now c.args.session c.args.pass.now (g.L.Link.trace c.args.link.now) c.loop-turn.sent
+          c.loop-turn.left_out c.loop-turn.pass c.call.new.pass (g.L.Link.trace c.loop-turn.link) (g.L.Link.trace c.send_each-unsent.new.link) c.in-Ok.answer
+          c.send_each-unsent.result.items c.messages_sent-messages.result.1 c.loop-turn.invariant.writing answered
           (called c.args.router.now c.loop-turn.pass c.call.new.pass c.call.ensures.pass c.call.ensures.own c.call.ensures.failed_tries) fresh
           split handed none);
       turned = take_made (g.G.Gate.may_answer c.args.gate.now c.args.job) c.loop-turn.turn c.args.pass.now.fragment c.args.router.now

@@ -22,8 +22,8 @@ returns-clause-operated g c =
     IfOk-weaker c.end_run.result _ _
     (λ end ok. run_is_one plan c.args.setting.filters.entries g.J.Naming.router c.args.pass nodes (g.I.Read.remaining c.args.reader.now)
     (g.I.Read.remaining c.serve_all-ran.new.reader) (g.W.Write.contents c.args.writer.now) (g.W.Write.contents c.serve_all-ran.new.writer)
-    given c.requires.is_opened c.requires.set c.take_part.new.pass.fragment.seen c.in_ok-ticket.ensures.same.0 are
-    (λ o. o.answered) (λ o. o.ticket.pass)
+    given c.requires.is_opened c.requires.set c.take_part.new.pass.fragment.seen c.in_ok-router_pass.ensures.same.0 are
+    (λ o. o.answered) (λ o. o.router_pass.pass)
     c.serve_all-ran.result end.refused _ end.saved asked c.serve_all-ran.ensures.operated ok)
     c.end_run.ensures.ok
 
@@ -41,8 +41,8 @@ returns-clause-saved g c =
     IfOk-weaker c.end_run.result _ _
     (λ end ok. run_saves plan c.args.setting.filters.entries g.J.Naming.router c.args.pass nodes (g.I.Read.remaining c.args.reader.now)
     (g.I.Read.remaining c.serve_all-ran.new.reader) (g.W.Write.contents c.args.writer.now) (g.W.Write.contents c.serve_all-ran.new.writer)
-    given c.requires.is_opened c.requires.set c.take_part.new.pass.fragment.seen c.in_ok-ticket.ensures.same.0 are
-    (λ o. o.answered) (λ o. o.ticket.pass)
+    given c.requires.is_opened c.requires.set c.take_part.new.pass.fragment.seen c.in_ok-router_pass.ensures.same.0 are
+    (λ o. o.answered) (λ o. o.router_pass.pass)
     c.serve_all-ran.result end.refused _ end.saved asked ok)
     c.end_run.ensures.ok
 
@@ -58,8 +58,8 @@ returns-clause-failed g c =
     IfErr-weaker c.end_run.result _ _
     (λ why is. run_fails plan c.args.setting.filters.entries g.J.Naming.router c.args.pass nodes (g.I.Read.remaining c.args.reader.now)
     (g.I.Read.remaining c.serve_all-ran.new.reader) (g.W.Write.contents c.args.writer.now) (g.W.Write.contents c.serve_all-ran.new.writer)
-    given c.requires.is_opened c.requires.set c.take_part.new.pass.fragment.seen c.in_ok-ticket.ensures.same.0 are
-    (λ o. o.answered) (λ o. o.ticket.pass)
+    given c.requires.is_opened c.requires.set c.take_part.new.pass.fragment.seen c.in_ok-router_pass.ensures.same.0 are
+    (λ o. o.answered) (λ o. o.router_pass.pass)
     ((c.serve_all-ran.new.reader ≡ c.args.reader.now) × (c.serve_all-ran.new.writer ≡ c.args.writer.now))
     c.serve_all-ran.result why c.serve_all-ran.ensures.operated c.serve_all-ran.ensures.untouched is)
     c.end_run.ensures.err

@@ -1,4 +1,4 @@
-use Rattle.router_daemon.specs.Told.{lost_line}
+use Rattle.router_daemon.specs.Notices.{lost_line}
 use Rattle.router_daemon.proofs.Lines.{tells}
 use Rattle.router_daemon.proofs.telling.tell_lost.Goals as goal
 

@@ -1,4 +1,4 @@
-use Rattle.router_daemon.specs.Told.{unsaved_line}
+use Rattle.router_daemon.specs.Notices.{unsaved_line}
 use Rattle.router_daemon.proofs.Lines.{tells}
 use Rattle.router_daemon.proofs.telling.tell_unsaved.Goals as goal
 

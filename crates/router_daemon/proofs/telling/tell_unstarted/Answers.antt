@@ -1,4 +1,4 @@
-use Rattle.router_daemon.specs.Told.{unstarted_line}
+use Rattle.router_daemon.specs.Notices.{unstarted_line}
 use Rattle.router_daemon.proofs.Lines.{tells}
 use Rattle.router_daemon.proofs.telling.tell_unstarted.Goals as goal
 

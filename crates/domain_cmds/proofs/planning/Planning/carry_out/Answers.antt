@@ -3,7 +3,16 @@ use Rattle.std.proofs.Common.{ℕ, List, IfOk, ap, subst, sym}
 use Rattle.operator_cmds.specs.Replies.{Answers}
 use Rattle.domain_cmds.specs.CommandView.{CommandView, Code, view_of}
 use Rattle.domain_cmds.specs.Script.{AnswersPlanned}
+use Rattle.domain_cmds.specs.Short.{IsShort, IsShortCode}
+use Rattle.domain_cmds.specs.declared.command.DomainCommand.{DomainCommand}
 use Rattle.domain_cmds.proofs.planning.Planning.carry_out.Goals as goal
+
+pub load-requires : goal.load-requires
+load-requires c = subst (λ (command : DomainCommand). IsShort (view_of command)) c.in-Load.is c.requires
+
+pub load-requires-in-Code : goal.load-requires-in-Code
+load-requires-in-Code c =
+    subst IsShortCode (sym c.as_slice.ensures.value) (subst (λ (command : DomainCommand). IsShort (view_of command)) c.in-Code.is c.requires)
 
 pub returns-in-Code-clause-ok : goal.returns-in-Code-clause-ok
 returns-in-Code-clause-ok c =

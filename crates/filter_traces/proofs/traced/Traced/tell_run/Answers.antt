@@ -11,7 +11,7 @@ loop-taken-init c = record {
   here = begun c.args.self.now.program c.args.route.now
       ∙ ap (λ (x : Config). let s : State = Going x in s)
       (sym (rw c.code.ensures at c.new-running.ensures));
-  told = c.new-lines.ensures.items ∙ sym (none_told c.args.self.now c.args.route.now);
+  shown_step = c.new-lines.ensures.items ∙ sym (none_told c.args.self.now c.args.route.now);
   place = sym (no_place c.args.self.now.program c.args.route.now);
 }
 
@@ -35,9 +35,9 @@ returns-in-Some-clause-lines c =
     let t = c.args.self.now in
     let few = few_steps t.program c.code-2.result.now c.instrs.result.now c.loop-taken.taken c.code-2.ensures
     c.instrs.ensures.value c.loop-taken-test.true in
-    c.in_ok-outcome.ensures.told
+    c.in_ok-outcome.ensures.shown_step
     ∙ (ap (λ (lines : List ℕ). lines ++ line_between t (Going c.loop-taken.running) (step t.program c.args.route.now c.loop-taken.running))
-    c.loop-taken.invariant.told
+    c.loop-taken.invariant.shown_step
     ∙ (sym (lines_more t c.args.route.now c.loop-taken.taken c.loop-taken.running _ c.loop-taken.invariant.here refl)
     ∙ sym (ended_lines t c.args.route.now c.loop-taken.taken c.loop-taken.running c.in-Some.outcome few
     c.loop-taken.invariant.here (rw c.in-Some.is at c.in_ok-outcome.ensures.stepped))))
@@ -47,9 +47,9 @@ loop-taken-preserved c =
     let t = c.args.self.now in record {
       here = after_more t.program c.args.route.now c.loop-taken.taken c.loop-taken.running _ c.loop-taken.invariant.here
           (rw c.in-None.is at c.in_ok-outcome.ensures.stepped);
-      told = c.in_ok-outcome.ensures.told
+      shown_step = c.in_ok-outcome.ensures.shown_step
           ∙ (ap (λ (lines : List ℕ). lines ++ line_between t (Going c.loop-taken.running) (step t.program c.args.route.now c.loop-taken.running))
-          c.loop-taken.invariant.told
+          c.loop-taken.invariant.shown_step
           ∙ sym (lines_more t c.args.route.now c.loop-taken.taken c.loop-taken.running _ c.loop-taken.invariant.here refl));
       place = c.place-place.ensures
           ∙ sym (place_more t.program c.args.route.now c.loop-taken.taken c.loop-taken.running c.loop-taken.invariant.here);

@@ -7,6 +7,6 @@ use Rattle.filter_traces.proofs.traced.Traced.tell_run.Given as goal
 abbrev pub invariant-loop-taken : goal.invariant-loop-taken
 invariant-loop-taken l = record {
   here : after l.self.program l.route l.taken ≡ Going l.running;
-  told : l.lines.items ≡ lines_of l.self l.route l.taken;
+  shown_step : l.lines.items ≡ lines_of l.self l.route l.taken;
   place : l.place ≡ last_place l.self.program l.route l.taken;
 }

@@ -1,9 +1,9 @@
 use Rattle.std.proofs.Common.{◌≡◌, ◌∙◌, ◌++◌, List, ℕ, None, Option, Some, ap, subst, sym, append-nil}
 use Rattle.std.specs.Prelude.{slice_get}
 use Rattle.std.specs.Slice.{IsItemAt}
-use Rattle.filter_reports.specs.Shown.{shown}
+use Rattle.refusal_words.specs.Shown.{shown}
 use Rattle.ncroute.specs.Places.{ConfigView, FileView, file_of, place_in}
-use Rattle.ncroute.specs.declared.including.File.{File}
+use Rattle.ncroute.specs.declared.including.ConfigFile.{ConfigFile}
 use Rattle.ncroute.proofs.FilePlaces.{adds_place, file_missing, file_there, on_ok}
 use Rattle.ncroute.proofs.placed.PlacedConfig.push_file_place.Goals as goal
 
@@ -11,7 +11,7 @@ pub returns-in_ok-push_shown-in-Some-Some : goal.returns-in_ok-push_shown-in-Som
 returns-in_ok-push_shown-in-Some-Some c =
     let i = c.self.inside in
     let there = file_there i.whole.now.files.items i.positions.items c.args.index c.in-Some-Some.file c.in-Some-Some.positions c.self.invariant
-    (subst (λ (l : List File). IsItemAt l c.args.index (Some c.in-Some-Some.file)) c.deref.ensures.value c.in-Some-Some.ensures.lookup)
+    (subst (λ (l : List ConfigFile). IsItemAt l c.args.index (Some c.in-Some-Some.file)) c.deref.ensures.value c.in-Some-Some.ensures.lookup)
     (subst (λ (l : List (List ℕ)). IsItemAt l c.args.index (Some c.in-Some-Some.positions)) c.deref-2.ensures.value c.in-Some-Some.ensures'.lookup) in
     on_ok c.push_position.result
     (adds_place c.args.out.now.items c.push_shown.new.out.items c.push_position.new.out.items (file_of c.in-Some-Some.file.now)
@@ -27,5 +27,5 @@ returns-in_default-2 c =
     let none : slice_get c.args.self.now.files c.args.index ≡ None =
     ap (λ (v : ConfigView). slice_get v.files c.args.index) (sym c.self.view_is)
     ∙ file_missing i.whole.now.files.items c.args.index
-    (subst (λ (l : List File). IsItemAt l c.args.index None) c.deref.ensures.value c.in_default.ensures.lookup) in
+    (subst (λ (l : List ConfigFile). IsItemAt l c.args.index None) c.deref.ensures.value c.in_default.ensures.lookup) in
     sym (append-nil c.args.out.now.items) ∙ ap (λ (o : Option FileView). c.args.out.now.items ++ place_in o c.args.at) (sym none)

@@ -8,5 +8,5 @@ pub invariant_of-result : goal.invariant_of-result
 invariant_of-result g c =
     let output = c.args.output in
     let last : c.of.result.value ≡ output = search rules in
-    subst (λ (w : WriterView). IsOutput g.T.Target.writer w output None 0) (sym last)
+    subst (λ (w : WriterView). IsOutput g.T.GivenWriter.writer w output None 0) (sym last)
     (subst (λ (w : WriterView). IsOutput w output output None 0) c.requires (output_new output))

@@ -10,7 +10,7 @@ use Rattle.neighbour_session.proofs.links.OutputLink.write_empty.Goals as goal
 pub invariant_of-self : goal.invariant_of-self
 invariant_of-self g c =
     let i = c.self.inside in
-    let first = g.T.Target.writer in
+    let first = g.T.GivenWriter.writer in
     let new = c.write_text.new.self in
     let last : c.of.result.value ≡ new = search rules in
     let none : i.failures ≡ 0 = output_unfailed first i.last.value i.output i.first_refused i.has_ended i.is_closed i.failures
@@ -25,7 +25,7 @@ invariant_of-self g c =
 pub returns-clause-told : goal.returns-clause-told
 returns-clause-told g c =
     let i = c.self.inside in
-    let first = g.T.Target.writer in
+    let first = g.T.GivenWriter.writer in
     let new = c.write_text.new.self in
     let last : c.of.result.value ≡ new = search rules in
     let none : i.failures ≡ 0 = output_unfailed first i.last.value i.output i.first_refused i.has_ended i.is_closed i.failures

@@ -9,7 +9,7 @@ use Rattle.neighbour_session.proofs.links.OutputLinkLink.send.Goals as goal
 pub invariant_of-self-in-Ok : goal.invariant_of-self-in-Ok
 invariant_of-self-in-Ok g c =
     let i = c.self.inside in
-    let first = g.T.Target.writer in
+    let first = g.T.GivenWriter.writer in
     let new = c.write_message.new.self in
     let formed = c.well_formed in
     let fits : FitsMessage c.args.message = record { dest = omega arith; dist = omega arith } in
@@ -23,7 +23,7 @@ invariant_of-self-in-Ok g c =
 pub returns-in-Ok : goal.returns-in-Ok
 returns-in-Ok g c =
     let i = c.self.inside in
-    let first = g.T.Target.writer in
+    let first = g.T.GivenWriter.writer in
     let new = c.write_message.new.self in
     let message = c.args.message in
     let formed = c.well_formed in

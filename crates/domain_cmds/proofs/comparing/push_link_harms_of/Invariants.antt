@@ -1,0 +1,12 @@
+use Rattle.std.proofs.Common.{◌≡◌}
+use Rattle.domain_cmds.specs.Comparing.{AddsHarms, link_of_either}
+use Rattle.domain_cmds.specs.Failures.{lists_below}
+use Rattle.domain_cmds.proofs.comparing.push_link_harms_of.Given as goal
+
+-- those of the links to lesser nodes than this were added, and both domains are as they were
+abbrev pub invariant-loop-w : goal.invariant-loop-w
+invariant-loop-w l = record {
+  added : AddsHarms l.fn.old l.fn.new l.before l.after (lists_below l.w (link_of_either l.fn.old l.fn.new l.u)) l.fn.found.items l.found.items;
+  old : l.old ≡ l.fn.old;
+  new : l.new ≡ l.fn.new;
+}

@@ -1,0 +1,4 @@
+-- What callers cite.
+pub mod Views
+pub mod Reports
+pub mod Pages

@@ -1,3 +1,0 @@
-mod Notes
-mod Queues
-pub mod Waking

@@ -1,6 +1,0 @@
-use Rattle.std.proofs.Common.{◌≡◌, map, take}
-use Rattle.link_board.specs.Steps.{link_to}
-use Rattle.link_board.proofs.board.links_to.Given as goal
-
-abbrev pub invariant-loop-node : goal.invariant-loop-node
-invariant-loop-node l = l.links.items ≡ map link_to (take l.node-index l.nodes)

@@ -1,5 +1,0 @@
-use Rattle.link_board.proofs.Queues.{never_overlooked}
-use Rattle.link_board.proofs.laws.no_queue_is_overlooked.Goals as goal
-
-pub returns : goal.returns
-returns c = never_overlooked

@@ -1,7 +1,0 @@
-use Rattle.router_daemon.proofs.Waiting.{is_owed}
-use Rattle.router_daemon.proofs.settling.enter_again.Goals as goal
-
-pub returns-in-Err-clause-settled : goal.returns-in-Err-clause-settled
-returns-in-Err-clause-settled g c =
-    is_owed c.args.shared.now.router g.J.Naming.router c.in-Err.field-0 c.args.pass.now c.call.new.pass c.args.shared.now.is_named
-    c.in-Err.ensures.refused

@@ -1,8 +1,0 @@
-use Rattle.std.proofs.Common.{take}
-use Rattle.router_script.specs.State.{script_of}
-use Rattle.script_runs.specs.Naming.{GetNames}
-use Rattle.script_runs.proofs.naming.name_filters.Given as goal
-
--- the filters so far have got their names
-abbrev pub invariant-loop-index : goal.invariant-loop-index
-invariant-loop-index l = GetNames l.size (take l.index l.filters) (script_of l.fn.script) (script_of l.script)
