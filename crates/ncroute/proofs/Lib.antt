@@ -4,6 +4,7 @@ pub mod Unreported
 mod Beside
 mod Chained
 mod ComparedOff
+mod DomainIncluded
 mod FileNames
 mod FilePlaces
 mod FiltersRead
