@@ -76,6 +76,43 @@ def entries_in(history):
     return [entry.decode() for segment in segments_of(history) for entry in entries_of(segment.read_bytes())]
 
 
+# The file of a domain of eight nodes, of which node 0 is the router and has links to nodes 1 and 2; and the filters that it includes.
+DOMAIN = ["domain 8", "include near near.filter", "include far far.filter", "link 0 1", "link 0 2", "import 0 1 near", "import 0 2 far", "export 0 2 near"]
+FILTERS = {"near": "filter near { accept; }", "far": "filter far { if rip_metric > 5 then reject; accept; }"}
+FARTHER = "filter far {\n  rip_metric = rip_metric + 2;\n  accept;\n}"
+DIGEST = r" \| until a restart greetings say the digest [0-9a-f]{16}"
+
+# What a reload refuses: the file that is written anew, and what is said of it.
+REFUSED = [
+    ("far.filter", "filter far {\n  accept\n}", r"\S*far\.filter:3:1: .*"),
+    ("far.filter", "filter far { if rip_metric > net.len then accept; metric = 2; }", r"\S*far\.filter:1:\d+: .*"),
+    ("the.domain", "\n".join([*DOMAIN[:2], "include far none.filter", *DOMAIN[3:]]), r"\S*none\.filter: No such file or directory \(E1\)"),
+    ("the.domain", "\n".join([*DOMAIN, "import 0 1 nobody"]), r"\S*the\.domain:9:12: .*"),
+    ("the.domain", "\n".join(["domain 9", *DOMAIN[1:]]), r"needs a restart: the domain has 9 nodes, and not 8"),
+    ("the.domain", "\n".join([DOMAIN[0], "prefix 3 192.0.2.0/24", *DOMAIN[1:3], DOMAIN[4], "link 3 0", *DOMAIN[6:]]),
+     r"needs a restart: node 3 has the prefix 192\.0\.2\.0/24, and not 10\.3\.0\.0/16 \| the link to node 3 is new \| the link to node 1 is gone"),
+]
+
+
+class DomainFiles:
+    """The files of a domain, in a folder."""
+
+    def __init__(self, folder):
+        self.folder = folder
+        self.write("the.domain", "\n".join(DOMAIN))
+        for name, text in FILTERS.items():
+            self.write(f"{name}.filter", text)
+
+    def path(self, name):
+        return os.path.join(self.folder, name)
+
+    def write(self, name, text):
+        pathlib.Path(self.path(name)).write_text(text + "\n", encoding="utf-8")
+
+    def read(self, name):
+        return pathlib.Path(self.path(name)).read_text(encoding="utf-8").rstrip("\n")
+
+
 class Speaker:
     """An operator who puts filters of node W in force, in both directions, and asks in between. Their calls are known by that node."""
 
@@ -650,6 +687,109 @@ class Rows(RunRows):
             self.judge("prefixes", [route["prefix"] for route in found] == [f"10.{node}.0.0/16" for node in range(8)], found)
             self.judge("reachable", [route["reachable"] for route in found] == [True, False, True] + [False] * 5, found)
             self.end(run)
+
+    def begin_of(self, run):
+        """What is to stay where nothing changes: the sessions, the routes and the history."""
+        return run.ask("neighbours"), run.ask("routes"), run.entries()
+
+    @contextlib.contextmanager
+    def in_domain(self, *more):
+        """A router that is started from the file of its domain, both neighbours of which are up and say that they are there; an operator of it; and
+        the files."""
+        with tempfile.TemporaryDirectory() as folder:
+            files, control = DomainFiles(folder), Control(folder, "one")
+            with Run(self.program, size=None, more=["--domain", files.path("the.domain"), *more, *control.option()]) as run, control:
+                for node, neighbour in run.neighbours.items():
+                    neighbour.come()
+                    neighbour.say(b"%d 0\n" % node)
+                    self.judge(f"{node} is served", run.routes_until(node, f"1:{node}"))
+                yield run, control, files
+                answer = control.ask("quit")
+                self.judge("quit", answer == "ok", answer)
+                self.ends_well(run)
+
+    def row_reload(self):
+        """One of the filters changes, and one of the uses goes: these alone are set, by events, and no session ends."""
+        with self.in_domain() as (run, control, files):
+            before = self.begin_of(run)
+            answer = control.ask("reload")
+            self.judge("nothing changed", answer == "reloaded" and self.begin_of(run) == before, answer)
+            files.write("far.filter", FARTHER)
+            answer = control.ask("reload check")
+            self.judge("check", re.fullmatch(r"reload \| import 2 far" + DIGEST, answer) and self.begin_of(run) == before, answer)
+            answer = control.ask("reload")
+            self.judge("reload", re.fullmatch(r"reloaded \| import 2 far" + DIGEST, answer), answer)
+            neighbours, routes, entries = self.begin_of(run)
+            self.judge("sessions", neighbours == before[0], (neighbours, before[0]))
+            self.judge("routes", " 1:1:1 2:3:2 " in routes, routes)
+            more = [entry.split()[1:3] for entry in entries[len(before[2]):]]
+            self.judge("entries", entries[:len(before[2])] == before[2] and more[0] == ["import", "2"] and ["import", "1"] not in more, more)
+            answer = control.ask("import 1 far")
+            self.judge("its names", answer == "done 1", answer)
+            answer = control.ask("reload")
+            self.judge("as the file says", re.fullmatch(r"reloaded \| import 1 near" + DIGEST, answer), answer)
+            files.write("the.domain", "\n".join(line for line in DOMAIN if line != "import 0 2 far"))
+            answer = control.ask("reload")
+            self.judge("a use is gone", re.fullmatch(r"reloaded \| import 2 -" + DIGEST, answer), answer)
+            self.judge("routes again", run.routes_until(2, "1:2"))
+            self.judge("sessions again", run.ask("neighbours") == before[0])
+
+    def row_refused_reload(self):
+        """Something is wrong with the files, or the running router cannot take it: it is told in words, and nothing changes."""
+        with self.in_domain() as (run, control, files):
+            before = self.begin_of(run)
+            for name, text, wanted in REFUSED:
+                was = files.read(name)
+                files.write(name, text)
+                for line in ("reload check", "reload"):
+                    answer = control.ask(line)
+                    self.judge(f"{line}: {wanted}", re.fullmatch(rf"refused O12 \d+ {wanted}", answer), answer)
+                self.judge(f"nothing changed: {wanted}", self.begin_of(run) == before)
+                files.write(name, was)
+            answer = control.ask("reload")
+            self.judge("right again", answer == "reloaded" and self.begin_of(run) == before, answer)
+
+    def row_reload_with_options(self):
+        """A line of the file of options that is another one, new or gone is refused, and a comment is not."""
+        with tempfile.TemporaryDirectory() as folder:
+            files, control = DomainFiles(folder), Control(folder, "one")
+            options = ["node 0", "stay", "domain the.domain", "hold 9"]
+            files.write("r.conf", "\n".join(options))
+            with Run(self.program, size=None, node=None, more=["--config", files.path("r.conf"), *control.option()]) as run, control:
+                files.write("r.conf", "\n".join([*options, "# a comment"]))
+                answer = control.ask("reload")
+                self.judge("comment", answer == "reloaded", answer)
+                files.write("r.conf", "\n".join([*options[:3], "hold 12", "retry 1"]))
+                answer = control.ask("reload")
+                wanted = r"refused O12 2 needs a restart: \S*r\.conf: `hold 12` is new \| \S*r\.conf: `retry 1` is new \| \S*r\.conf: `hold 9` is gone"
+                self.judge("lines", re.fullmatch(wanted, answer), answer)
+                files.write("r.conf", "\n".join([*options, "hodl 1"]))
+                answer = control.ask("reload")
+                self.judge("wrong line", re.fullmatch(r"refused O12 3 \S*r\.conf:5:1: no option has this name", answer), answer)
+                answer = control.ask("quit")
+                self.judge("quit", answer == "ok" and run.process.wait(timeout=PATIENCE) == 0, answer)
+
+    def row_read(self):
+        """A name gets the filter of a file beside the domain's; a file that is refused leaves the name its filter, and each use its own."""
+        with self.in_domain() as (run, control, files):
+            files.write("more.filter", FARTHER)
+            answer = control.ask("read near more.filter")
+            self.judge("read", re.fullmatch(r"verified \d+ \d+", answer), answer)
+            self.judge("not in use yet", run.routes_until(1, "1:1"))
+            answer = control.ask("import 1 near")
+            self.judge("in use", answer == "done 1" and run.routes_until(1, "3:1"), answer)
+            files.write("more.filter", "filter near {\n  if net.len > then accept;\n}")
+            before = self.begin_of(run)
+            answer = control.ask("read near more.filter")
+            self.judge("refused", re.fullmatch(r"refused O12 \d+ \S*more\.filter:2:\d+: .*", answer), answer)
+            self.judge("nothing changed", self.begin_of(run) == before)
+            answer = control.ask("import 2 near")
+            self.judge("the name keeps its filter", answer == "done 1" and run.routes_until(2, "3:2"), answer)
+            answer = control.ask("read near /no/such.filter")
+            self.judge("not there", re.fullmatch(r"refused O12 \d+ /no/such\.filter: No such file or directory \(E1\)", answer), answer)
+            for line in ("read", "read near", "read 1near more.filter", "read near more.filter more", "reload it", "reload check it"):
+                answer = control.ask(line)
+                self.judge(line, re.fullmatch(r"refused O1 \d+", answer), answer)
 
     def ctl(self, config, *words, text=None):
         ran = subprocess.run([CTL, "-c", config, *words], input=text, capture_output=True, text=True, check=False)

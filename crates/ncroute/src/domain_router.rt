@@ -19,6 +19,7 @@ use crate::domain_words::{DomainFault, find_unfit, said_beside, with_domain};
 use crate::ending::{FAILED, fault_line};
 use crate::folders::HistoryFolders;
 use crate::planning::{PlanFault, is_memory, plan_of};
+use crate::reloading::RouterFiles;
 use crate::routing::{
     Outlets, SetupFault, Unreported, WRONG_WORDS, end_by_line, end_unset, make_save, run_setting,
     serve_words, surroundings_of,
@@ -139,7 +140,11 @@ where
 {
     match make_folder(rt, alloc, words, console) {
         Ok(Some(save)) => {
-            let Outlets { voice, pipe } = outlets;
+            let Outlets {
+                voice,
+                pipe,
+                origins,
+            } = outlets;
             let setting = Setting {
                 plan,
                 filters,
@@ -149,6 +154,7 @@ where
                 rt,
                 alloc,
                 &words.save,
+                RouterFiles::new(*rt, origins),
                 setting,
                 surroundings_of(words, pipe),
                 console,
@@ -341,6 +347,7 @@ where
     let Ok(all) = with_domain(alloc, words, &file, &node) else {
         return end_by_program(&mut console.errors, ProgramFault::MEMORY);
     };
+    let outlets = outlets.in_domain(alloc, words, &file, me, &node);
     serve_said::<R, FI, FO, T, I, W, E>(rt, alloc, file, &node, &all, origin, console, outlets)
 }
 
@@ -473,6 +480,7 @@ where
     ensures unreported { IfErr result (λ unreported. spec.CutsInDomain (R.opens rt.now) (R.makes rt.now) (R.keeps rt.now) (stream_fault unreported.why)
         (origin_of origin.entry) words.now console.old console.new unreported.status) }
 {
+    let outlets = outlets.by_options(alloc, origin);
     match &words.domain {
         Some(name) => serve_beside::<R, FI, FO, T, I, W, E>(
             rt,

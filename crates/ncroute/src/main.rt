@@ -29,6 +29,7 @@ mod network;
 mod paging;
 mod placed;
 mod planning;
+mod reloading;
 mod replay;
 mod requests;
 mod respond;
@@ -46,6 +47,7 @@ mod wrong_words;
 use command_line::{Invocation, Terminals, tell_that_input_is_read, waits_for_people};
 use console::Console;
 use ending::FAILED;
+use reloading::Origins;
 use respond::respond;
 use router_daemon::{InputPipe, StandardInput};
 use routing::Outlets;
@@ -93,6 +95,7 @@ fn main(rt: HostRuntime) -> ExitCode {
     let outlets = Outlets {
         voice: rt.stderr(),
         pipe,
+        origins: Origins::none(),
     };
     let status = respond(&rt, rt.alloc(), words, &mut console, outlets);
     ExitCode::from(status)
