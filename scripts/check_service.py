@@ -1,20 +1,24 @@
 #!/usr/bin/env python3
 """Installs the program with its systemd units in a temporary folder, has systemd's own tools judge them, and runs two routers as services by the
-commands of the units, each as a process of this script (lib/units.py): they find each other over TCP, are killed and hang, and end in order. Prints
-what is wrong, and at last 'N passed, M failed'. What needs a program that is not there is not run: a line says so, and it counts as skipped.
+commands of the units, each as a process of this script (lib/units.py): they find each other over TCP, are killed and hang, and end in order. Their
+files are those that docs/RUNNING.md shows, what it starts is started, and what it has `ncroute-ctl` say is answered as it shows. Prints what is
+wrong, and at last 'N passed, M failed'. What needs a program that is not there is not run: a line says so, and it counts as skipped.
 
 usage: NCROUTE=PATH scripts/check_service.py     (PATH: the program as it is built)
 """
 import os
 import pathlib
 import re
+import resource
 import signal
 import subprocess
 import tempfile
 import traceback
 
+from lib import documents
+from lib.controls import Control
 from lib.counts import Counts, lack_of
-from lib.histories import entries_of, replayed, segments_of
+from lib.histories import entries_of, open_sessions, replayed, segments_of
 from lib.processes import PATIENCE, awaited
 from lib.program import TOP, built
 from lib.terminals import free_port
@@ -29,6 +33,16 @@ UP = 240.0
 # What is there when both routers are up, in a domain of four nodes.
 ROUTES = {"north": "routes 0:0 1:1:1 2:4 3:4", "east": "routes 0:1:0 1:0 2:4 3:4"}
 INSTALLS = "route append 10.1.0.0/16 via 192.0.2.2 dev eth1 proto 77 metric 201 table 254"
+
+
+# Options of routers that do not go on as the two of the document.
+FILES = {
+    "refused.conf": "size 4\nnode 0\nhodl 3\n",
+    "full.conf": "size 4\nnode 0\ncontrol /run/ncroute/full/in /run/ncroute/full/out\n",
+    "mute.conf": "size 4\nnode 0\ncontrol /run/ncroute/mute/in /run/ncroute/mute/out\n",
+}
+# Bytes that a file may have where a disk is full.
+MOST_BYTES = 4096
 
 
 def ran(*words, **more):
@@ -133,32 +147,78 @@ CHECKS = (
 # ---- two routers by the commands of the units
 
 
+class Guide:
+    """What docs/RUNNING.md shows of two machines: their files, and the commands that are typed on each with what they print."""
+
+    def __init__(self):
+        text, self.files, self.commands = documents.read("docs/RUNNING.md"), {}, []
+        for paragraph, block in re.findall(r"(?m)^((?:\S.*\n)+)\n((?: {4}(?!\w+[$#>:] ).*\n)+)", text):
+            if names := re.findall(r"`/etc/ncroute/([\w.]+)`|`(commands)`", paragraph):
+                self.files["".join(names[-1])] = re.sub("(?m)^ {4}", "", block)
+        shown = None
+        for line in text.split("\n"):
+            if found := re.fullmatch(r" {4}(north|east)# (.*)", line):
+                shown = []
+                self.commands.append((*found.groups(), shown))
+            elif line.startswith("    ") and shown is not None:
+                shown.append(line[4:])
+            else:
+                shown = None
+
+    def starts(self):
+        """The services that are started, by their unit and the name behind `@`."""
+        return [tuple(word.split("@")) for _, command, _ in self.commands if "systemctl enable --now" in command
+                for word in command.rpartition("--now ")[2].split()]
+
+    def runs(self, program):
+        """The commands that begin with a program, and what they print, in order."""
+        return [(name, command.partition(" && ")[0], shown) for name, command, shown in self.commands if command.startswith(f"{program} ")]
+
+
 class Lab:
     """The routers `north` and `east`, the line between them, and who installs the routes of `north`: services below a folder."""
 
     def __init__(self, program, prefix, folder, counts):
-        self.program, self.folder, self.counts, self.services = program, folder, counts, {}
+        self.program, self.prefix, self.folder, self.counts, self.services = program, prefix, folder, counts, {}
         self.units = {path.name.partition("@")[0]: Unit(path) for path in units_in(prefix)}
         for place in PLACES:
             os.makedirs(folder + place)
-        port = free_port()
-        for name, text in {
-            "north.conf": f"size 4\nnode 0\nretry 1\nlink 1 {folder}/run/ncroute/link-east/tty {folder}/run/ncroute/link-east/tty\n",
-            "east.conf": f"size 4\nnode 1\nretry 1\nlink 0 {folder}/run/ncroute/link-north/tty {folder}/run/ncroute/link-north/tty\n",
-            "refused.conf": "size 4\nnode 0\nhodl 3\n",
-            "east.link": f"STREAM=TCP-LISTEN:{port},bind=127.0.0.1,reuseaddr\n",
-            "north.link": f"STREAM=TCP:127.0.0.1:{port},connect-timeout=3,forever,interval=1\n",
-            "north.kernel": "# As it is tried\nOPTIONS=--dry-run --via 1=192.0.2.2%eth1\n",
-        }.items():
-            pathlib.Path(f"{folder}/etc/ncroute/{name}").write_text(text, encoding="utf-8")
+        self.guide, self.port = Guide(), free_port()
+        for name, text in {**self.guide.files, **FILES}.items():
+            pathlib.Path(f"{folder}/etc/ncroute/{name}").write_text(self.placed(text), encoding="utf-8")
+
+    def placed(self, text):
+        """A text of the guide, with the folders, the address and the port that are taken here. Nothing is done to the kernel."""
+        for place in PLACES:
+            text = text.replace(place, self.folder + place)
+        text = re.sub(r"192\.0\.2\.\d(?=[:,])|(?<=bind=)192\.0\.2\.\d", "127.0.0.1", text)
+        return text.replace(":17900", f":{self.port}").replace("/usr/local/", f"{self.prefix}/").replace("--close", "--dry-run")
 
     def judge(self, what, holds, told=""):
         self.counts.expect(f"services: {what}", holds, told)
 
-    def start(self, unit, name):
-        service = self.services[unit, name] = Service(self.units[unit], name, self.folder)
+    def start(self, unit, name, prepare=None):
+        service = self.services[unit, name] = Service(self.units[unit], name, self.folder, prepare)
         service.start()
         return service
+
+    def types(self, command):
+        """What a command of the document prints here, and its status."""
+        environment = {**os.environ, "PATH": f"{self.prefix}/bin{os.pathsep}{os.environ['PATH']}", "LC_ALL": "C"}
+        status, said = ran("bash", "-o", "pipefail", "-c", self.placed(command), cwd=f"{self.folder}/etc/ncroute", env=environment)
+        return status, said.splitlines()
+
+    def looks_as_shown(self, what, command, shown):
+        """Whether a command prints what the document shows, if it shows something; one that is given while its router begins is given again."""
+        found = awaited(lambda: self.types(command), lambda it: it == (0, shown or it[1]), UP, 0.2)
+        self.judge(f"{what}: {command}", found == (0, shown or found[1]), found)
+
+    def operate(self, name, *lines):
+        """What the router of a service answers to an operator at the FIFOs of its unit, once they are there."""
+        folder = f"{self.folder}/run/ncroute/{name}"
+        if not awaited(lambda: os.path.exists(f"{folder}/out"), bool, PATIENCE):
+            raise TimeoutError(f"{folder}/out is not there")
+        return Control(folder, "", is_made=True).asked(*lines)
 
     def say(self, name, text):
         """Writes to the FIFO of a router's commands, as its operators do, once it is there."""
@@ -191,9 +251,8 @@ class Lab:
         """A router that was stopped: its status, and that the session which was open is closed by the last entry of its history."""
         status, seconds = result
         segments = segments_of(self.histories(name)[-1])
-        entries = [line.decode().split(" ", 1)[1] for segment in segments for line in entries_of(segment.read_bytes())]
-        opened = [entry.rpartition(" ")[2] for entry in entries if re.match(r"up \d+ opened ", entry)]
-        is_closed = bool(opened) and re.match(rf"down {opened[-1]} done ", entries[-1])
+        entries = [line.decode() for segment in segments for line in entries_of(segment.read_bytes())]
+        is_closed = re.match(r"\d+ down \d+ done ", entries[-1]) and not open_sessions(entries)
         self.judge(f"{what}: {name} ends", status == 0 and is_closed, f"{status} after {seconds:.1f} s: {entries[-3:]}")
         said, _ = replayed(self.program, segments)
         self.judge(f"{what}: history of {name}", said.startswith("replay ok "), said)
@@ -201,13 +260,21 @@ class Lab:
         self.judge(f"{what}: FIFOs of {name}", not os.path.exists(path), f"{path} is still there")
 
     def begun(self):
-        """In any order: the routers come before their lines."""
-        for unit, names in (("ncroute", ROUTES), ("ncroute-kernel", ["north"]), ("ncroute-link", ROUTES)):
-            for name in names:
-                self.start(unit, name)
+        """In any order: here the routers come before their lines. What an operator types then is answered as the document shows."""
+        for _, command, shown in self.guide.runs("ncroute router"):
+            self.looks_as_shown("begun", command, shown)
+        for unit, name in sorted(self.guide.starts()):
+            self.start(unit, name)
+        self.judge("what is started", len(self.services) == 5, sorted(self.services))
         self.are_up("begun")
         installer = self.services["ncroute-kernel", "north"]
         self.judge("routes are installed", INSTALLS in awaited(installer.lines, lambda it: INSTALLS in it, PATIENCE), installer.lines())
+        commands = [(command, shown) for name, command, shown in self.guide.runs("ncroute-ctl") if name == "north"]
+        for command, shown in commands:
+            self.looks_as_shown("north", command, shown)
+        self.judge("what is typed", len(commands) > 3 and sum(bool(shown) for _, shown in commands) > 2, commands)
+        log = pathlib.Path(f"{self.folder}/var/log/ncroute/north.log").read_text(encoding="utf-8")
+        self.judge("log", re.fullmatch(r"(\S+Z .*\n)*\S+Z link 1: up in session 1\n(\S+Z .*\n)*", log), log)
 
     def lines_end(self):
         """A line that is killed: its terminal's name goes, and it is started again."""
@@ -225,9 +292,28 @@ class Lab:
         self.judge("a router is started again", len(awaited(lambda: self.histories("north"), lambda it: len(it) == 2, PATIENCE)) == 2)
         self.are_up("a router is started again")
         self.judge("a router was killed", self.services["ncroute", "north"].results == [-signal.SIGKILL], self.services["ncroute", "north"].results)
+        self.ends_asked_for()
         refused = self.start("ncroute", "refused")
         self.judge("refused options", refused.is_over() and refused.results == [2], f"{refused.results}: {refused.lines()}")
         self.judge("refused options are told", "refused.conf:3:1: no option has this name" in "\n".join(refused.lines()), refused.lines())
+
+    def ends_asked_for(self):
+        """One whose disk is full and one whose standard output is: each has a status of its own when an operator ends it, and stays down."""
+        def fill():
+            signal.signal(signal.SIGXFSZ, signal.SIG_IGN)
+            resource.setrlimit(resource.RLIMIT_FSIZE, (MOST_BYTES, MOST_BYTES))
+
+        def mute():
+            os.dup2(os.open("/dev/full", os.O_WRONLY), 1)
+        full, mute = self.start("ncroute", "full", fill), self.start("ncroute", "mute", mute)
+        answers = self.operate("full", *["show 0"] * MOST_BYTES, "quit")
+        self.judge("a full disk", answers[-1] == "ok" and full.is_over() and full.results == [4], (answers[-1], full.results))
+        self.judge("a full disk is told", "its end is not saved" in "\n".join(full.lines()), full.lines())
+        self.operate("mute", "neighbours")
+        self.say("mute", "neighbours\n")
+        told = awaited(mute.lines, lambda it: any("operator: E2" in line for line in it), PATIENCE)
+        answers = self.operate("mute", "quit")
+        self.judge("no standard output", answers == ["ok"] and mute.is_over() and mute.results == [3], (answers, mute.results, told))
 
     def stopped(self):
         """Each router is stopped: one whose operator has left half a line, and one that hangs. One that has ended is stopped at once."""

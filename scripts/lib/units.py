@@ -15,7 +15,9 @@ import time
 from lib.processes import PATIENCE, awaited
 
 # Where a unit's files are, each of them a folder of this name below the script's.
-PLACES = ("/run/ncroute", "/var/lib/ncroute", "/etc/ncroute")
+PLACES = ("/run/ncroute", "/var/lib/ncroute", "/var/log/ncroute", "/etc/ncroute")
+# The program as the units of the sources name it.
+INSTALLED = "/usr/local/bin/ncroute "
 SECONDS = {"ms": 0.001, "s": 1.0}
 # What systemd takes for a clean end, where nothing asked for it.
 CLEAN = (0, -signal.SIGTERM, -signal.SIGINT, -signal.SIGHUP, -signal.SIGPIPE)
@@ -24,11 +26,12 @@ PART = re.compile(r"""(?P<quote>["'])(?P<quoted>.*?)(?P=quote)|(?P<plain>[^\s"']
 
 
 class Unit:
-    """A template of units, as its file has it: the values of each setting, in order."""
+    """A template of units, as its file has it: the values of each setting, in order. Of the sources' own one `program` is what it runs."""
 
-    def __init__(self, path):
+    def __init__(self, path, program=None):
         self.name, self.settings = os.path.basename(path), collections.defaultdict(list)
-        for line in pathlib.Path(path).read_text(encoding="utf-8").splitlines():
+        text = pathlib.Path(path).read_text(encoding="utf-8")
+        for line in (text.replace(INSTALLED, f"{program} ") if program else text).splitlines():
             if not re.match(r"$|[#;]|\[\w+\]$", line):
                 key, value = re.fullmatch(r"(\w+)=(.*[^\\]|)", line).groups()
                 self.settings[key].append(value)
@@ -59,10 +62,10 @@ def words_of(line):
 
 
 class Service:
-    """A service of a unit, by the name behind `@`. Whatever it writes is in `log`, as in a journal."""
+    """A service of a unit, by the name behind `@`. Whatever it writes is in `log`, as in a journal. `prepare` is what its main process does first."""
 
-    def __init__(self, unit, name, root):
-        self.unit, self.name, self.root = unit, name, root
+    def __init__(self, unit, name, root, prepare=None):
+        self.unit, self.name, self.root, self.prepare = unit, name, root, prepare
         self.log = os.path.join(root, f"{unit.name}.{name}.log")
         self.process, self.results, self.is_stopped, self.starting = None, [], threading.Event(), threading.Lock()
         self.thread = threading.Thread(target=self.run, daemon=True)
@@ -122,7 +125,7 @@ class Service:
     def run_once(self):
         """The status of its main process, or the number of the signal that ended it, with a minus; none where there was no such process."""
         runtime = self.folders("RuntimeDirectory", "/run")
-        for path in [*runtime, *self.folders("StateDirectory", "/var/lib")]:
+        for path in [*runtime, *self.folders("StateDirectory", "/var/lib"), *self.folders("LogsDirectory", "/var/log")]:
             os.makedirs(path, exist_ok=True)
         with open(self.log, "ab") as log:
             status = self.process.wait() if self.do("ExecStartPre", log) and self.begin(log) else None
@@ -135,7 +138,8 @@ class Service:
         words, environment = self.command(self.unit.last("ExecStart")), {**os.environ, **self.environment()}
         with self.starting:
             if not self.is_stopped.is_set():
-                self.process = subprocess.Popen(words, stdin=subprocess.DEVNULL, stdout=log, stderr=log, start_new_session=True, env=environment)
+                self.process = subprocess.Popen(words, stdin=subprocess.DEVNULL, stdout=log, stderr=log, start_new_session=True, env=environment,
+                                                preexec_fn=self.prepare)
             return not self.is_stopped.is_set()
 
     def stop(self):

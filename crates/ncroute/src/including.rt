@@ -172,7 +172,7 @@ pub(crate) fn path_beside(alloc: Global, by: &str, name: &str) -> Result<String,
 }
 
 /// The path of a file that another one includes by this name.
-fn included_path(alloc: Global, by: &Source, name: &str) -> Result<String, AllocError>
+pub(crate) fn included_path(alloc: Global, by: &Source, name: &str) -> Result<String, AllocError>
     ensures { IfOk result (λ path. IsIncludedPath (path_of by.now) name.now (string_bytes path)) }
 {
     match by {

@@ -1,0 +1,5 @@
+-- what callers cite
+pub mod Files
+pub mod Including
+pub mod Nodes
+pub mod PlanTexts

@@ -1,0 +1,5 @@
+mod Counting
+mod Growing
+mod Filling
+mod Floats
+mod Telling
