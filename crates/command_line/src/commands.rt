@@ -7,10 +7,8 @@ ghost use Rattle.command_line.specs.Parameters as spec;
 use crate::help::help_of;
 use crate::options::{Choices, Parameter, ParameterKind, arg_of};
 use clap::{Arg, Command};
+use program_words::VERSION;
 use std::alloc::{AllocError, Global};
-
-/// The version of the project, and the logic that it is proved in, as `rt version` names it: several kits have it.
-const VERSION: &str = "0.1.0 (Rattle logic dac8208d650f15bf)";
 
 /// The program, with all commands. Options that are one of some words take these.
 pub(crate) fn program<'a>(alloc: Global, choices: Choices<'a>) -> Result<Command<'a>, AllocError>
@@ -100,7 +98,7 @@ fn args_of<'a>(
 }
 
 /// The commands and what each does, in the order in which the help shows them.
-static COMMANDS: [(&str, &str); 15] = [
+static COMMANDS: [(&str, &str); 14] = [
     ("check", "Compile a filter, and verify its code"),
     (
         "diff",
@@ -111,10 +109,6 @@ static COMMANDS: [(&str, &str); 15] = [
         "Explain a refusal code, with an example and a fix",
     ),
     ("filter", "Verify a filter, and take routes through it"),
-    (
-        "import",
-        "Take a configuration of BIRD apart, and verify each filter of it",
-    ),
     (
         "lint",
         "Warn of what is plainly wrong in filters, such as a command that no route reaches",
@@ -158,7 +152,7 @@ static COMMANDS: [(&str, &str); 15] = [
 ];
 
 /// The options and arguments of each command, in the order in which its help shows them.
-static PARAMETERS: [(&str, Parameter); 69] = [
+static PARAMETERS: [(&str, Parameter); 66] = [
     ("check", SIZE),
     ("check", CODE),
     ("check", NAMES),
@@ -179,9 +173,6 @@ static PARAMETERS: [(&str, Parameter); 69] = [
     ("filter", COVERAGE),
     ("filter", EXPLAIN),
     ("filter", TRIED),
-    ("import", SIZE),
-    ("import", OUT),
-    ("import", IMPORTED),
     ("lint", SIZE),
     ("lint", LIMIT),
     ("lint", ALLOW),
@@ -228,6 +219,18 @@ static PARAMETERS: [(&str, Parameter); 69] = [
     ("run", STOP),
     ("run", EXPLAIN),
     ("run", SCRIPTS),
+];
+
+/// The options that take a number.
+pub(crate) static NUMBERED: [&str; 8] = [
+    "--size",
+    "--limit",
+    "--node",
+    "--queue",
+    "--retry",
+    "--hold",
+    "--segments",
+    "--settle",
 ];
 
 /// The number of nodes of the domain.
@@ -398,24 +401,6 @@ const LINTED: Parameter = Parameter {
     value: "FILE",
     help: "The file of a filter in place of standard input; - is standard input",
     kind: ParameterKind::Arguments,
-    is_required: false,
-};
-
-/// The folder of imported filters.
-const OUT: Parameter = Parameter {
-    name: "out",
-    value: "FOLDER",
-    help: "Write each filter into a new file of this folder, which has to be there",
-    kind: ParameterKind::Text,
-    is_required: false,
-};
-
-/// The configuration that is imported.
-const IMPORTED: Parameter = Parameter {
-    name: "file",
-    value: "FILE",
-    help: "The configuration, in place of standard input; - is standard input",
-    kind: ParameterKind::Argument,
     is_required: false,
 };
 

@@ -1,12 +1,11 @@
+pub mod Checked
 pub mod CommandsFit
-pub mod Cut
 pub mod FileLength
 pub mod InstructionsFit
 pub mod LexemeLimits
+mod LineRows
 pub mod Listings
 pub mod Printed
-mod ReportRows
-pub mod Reports
 pub mod Rewritten
 pub mod Saying
 pub mod SetMembers

@@ -1,20 +1,8 @@
-pub mod Sources
-pub mod Tested
-pub mod Unreported
-mod Beside
 mod Chained
 mod ComparedOff
-mod FileNames
-mod FilePlaces
 mod FiltersRead
-mod Gathered
-mod HostBits
-mod Imported
 mod JoinedRead
-mod Linted
 mod Loaded
-mod ResultTexts
-mod NotedTexts
 mod PlanAdded
 mod Routed
 mod Taken

@@ -3,16 +3,17 @@ ghost use Rattle.std.specs.Option.{option_map};
 ghost use Rattle.std.specs.Prelude.{◌≡◌, [], ◌∷◌, ◌++◌, IfErr, IfOk, OnOk, slice_get};
 ghost use Rattle.filter_reports.specs.Faults.{stream_fault};
 ghost use Rattle.router_script.specs.declared.filter_naming.NamedFilter.{NamedFilter as TheFilter};
-ghost use Rattle.ncroute.specs.Filters.{AreLoaded, IsCutFilter, IsCutUnfit, LeavesFilter, ReadsFilter};
+ghost use Rattle.ncroute.specs.Filters.{AreLoaded, IsCutFilter, IsCutUnfit, IsFilterNotice, LeavesFilter, ReadsFilter};
 ghost use Rattle.ncroute.specs.Filters.{ReadsFilters, StopsAtFilter, TellsOfFilter, TellsUnfit};
 
-use crate::console::Console;
-use crate::texts::{Folder, Unread, name_of, read_source, tell_unread};
-use command_line::{NamedFile, Source};
-use filter_reports::{ProgramFault, tell};
+use command_line::NamedFile;
+use filter_reports::ProgramFault;
 use filter_source::{Diagnosis, SOURCE_LIMIT};
+use program_console::{Console, Folder, Unread, name_of, read_source, tell_unread, write_line};
+use program_words::Source;
+use refusal_words::explain;
 use router_script::{NamedFilter, Unfit};
-use std::alloc::Global;
+use std::alloc::{AllocError, Global};
 use std::io::{Read, Write};
 
 /// The source of a filter that was not read, and why.
@@ -150,6 +151,23 @@ fn filter_at(filters: &[NamedFilter], index: usize) -> Option<&NamedFilter>
     }
 }
 
+/// What people are told of a filter that is refused.
+fn filter_notice(
+    alloc: Global,
+    filter: Option<&NamedFilter>,
+    diagnosis: &Diagnosis,
+) -> Result<Vec<u8>, AllocError>
+    ensures { IfOk result (λ text. IsFilterNotice (option_map (λ filter. filter.now) filter.entry) diagnosis.now text.items) }
+{
+    match filter {
+        Some(filter) => {
+            let (origin, text) = (filter.origin.as_slice(), filter.text.as_slice());
+            explain(alloc, origin, text, diagnosis)
+        }
+        None => Ok(Vec::new(alloc)),
+    }
+}
+
 /// Tells why this filter is refused.
 fn tell_filter<E: Write>(
     alloc: Global,
@@ -162,12 +180,9 @@ fn tell_filter<E: Write>(
     ensures err { IfErr result (λ fault. IsCutFilter (stream_fault fault) (option_map (λ filter. filter.now) filter.entry) diagnosis.now
         (E.contents errors.old) (E.contents errors.new)) }
 {
-    match filter {
-        Some(filter) => {
-            let (origin, text) = (filter.origin.as_slice(), filter.text.as_slice());
-            tell(alloc, errors, origin, text, diagnosis)
-        }
-        None => Ok(()),
+    match filter_notice(alloc, filter, diagnosis) {
+        Ok(text) => write_line(errors, text.as_slice()),
+        Err(_) => Err(ProgramFault::MEMORY),
     }
 }
 

@@ -6,41 +6,32 @@
 //! ends with the status alone.
 #![tactic(auto)]
 
-mod check_reports;
-mod checking;
+mod commands;
 mod comparing;
 mod configured;
-mod console;
 mod domains;
-mod ending;
 mod filters;
 mod folders;
-mod importing;
-mod including;
 mod joined;
-mod lines;
-mod linting;
 mod loading;
 mod network;
 mod paging;
-mod placed;
 mod planning;
-mod replay;
+mod replaying;
 mod requests;
 mod respond;
 mod routing;
 mod running;
 mod script;
-mod segments;
 mod testing;
-mod texts;
 mod trying;
 mod watcher;
 mod wrong_lines;
 mod wrong_words;
 
-use command_line::{Invocation, Terminals, tell_that_input_is_read, waits_for_people};
-use console::Console;
+use command_line::{Terminals, waits_for_people};
+use program_console::Console;
+use program_words::tell_that_input_is_read;
 use respond::respond;
 use std::fs;
 use std::io::{self, IsTerminal};
@@ -71,7 +62,7 @@ fn main(rt: HostRuntime) -> ExitCode {
         .as_ref()
         .is_ok_and(|words| waits_for_people(words, terminals))
     {
-        tell_that_input_is_read(&rt);
+        tell_that_input_is_read(&rt, "ncroute");
     }
     let status = respond(&rt, rt.alloc(), words, &mut console, rt.stderr());
     ExitCode::from(status)

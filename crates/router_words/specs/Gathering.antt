@@ -5,8 +5,8 @@ use Rattle.std.specs.List.{flat_map, list_any}
 use Rattle.std.specs.Option.{option_map}
 use Rattle.std.specs.Str.{bytes_eq}
 use Rattle.command_line.specs.declared.filter_words.NamedFile.{NamedFile}
-use Rattle.command_line.specs.declared.requests.Source.{Source}
-use Rattle.command_line.specs.declared.requests.Source.TheVariants.{Input, File}
+use Rattle.program_words.specs.declared.source.Source.{Source}
+use Rattle.program_words.specs.declared.source.Source.TheVariants.{Input, File}
 use Rattle.command_line.specs.declared.router_words.RouterWords.{RouterWords}
 use Rattle.operator_cmds.specs.Names.{is_name}
 use Rattle.router_files.specs.Again.{IsAgain, NoneAgain}

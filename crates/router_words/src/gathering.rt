@@ -9,8 +9,9 @@ ghost use Rattle.router_files.specs.Files.{statement_of};
 ghost use Rattle.router_words.specs.Gathering as spec;
 
 use crate::stated::{is_of, nth_stated};
-use command_line::{NamedFile, RouterWords, Source};
+use command_line::{NamedFile, RouterWords};
 use operator_cmds::is_name;
+use program_words::Source;
 use router_files::{RouterOption, Said, Statement, find_again};
 use std::alloc::{AllocError, Global};
 
