@@ -187,7 +187,7 @@ fn is_call(around: Around) -> bool {
 pub(crate) fn in_place_of_found(expected: Expected, around: Around) -> Option<&'static str> {
     if is_call(around) {
         return Some(
-            "there are no functions: write the commands in place, as `ncroute import` does",
+            "there are no functions: write the commands in place, as `ncimport` does",
         );
     }
     match expected {
