@@ -14,6 +14,9 @@ each step it is looked at that
 Then nothing is lost any more, and no end begins by itself: all that is on its way is heard, in any order; where nothing is, an end without a
 session greets again. Both come up, after at most two such greetings. It is told how many greetings were heard at most until none was left, for
 each number of them that was on its way.
+
+Some ends have the digest of a domain, which they say in their greetings until they hear one without, and some are of a version that knows no digests,
+and takes a greeting with one for a part of a line. Where both meet, a greeting that says again what is not understood counts as none.
 """
 import random
 import sys
@@ -31,20 +34,36 @@ def need(holds, text):
         raise Fault(text)
 
 
-class End:
-    """One end, and what it wrote: lines are ("greeting", number, heard), ("message", number, count), ("empty",) and ("broken",)."""
+GREETINGS = ("greeting", "digest")
 
-    def __init__(self, draw):
-        self.draw, self.way, self.left = draw, deque(), Counter()
+# What an end is: of a version before digests; without a digest; with one.
+KINDS = ("older", "plain", "digest")
+
+
+class End:
+    """One end, and what it wrote: lines are ("greeting", number, heard), ("digest", number, heard), which is a greeting with a digest,
+    ("message", number, count), ("empty",) and ("broken",)."""
+
+    def __init__(self, draw, kind):
+        self.draw, self.kind, self.way, self.left = draw, kind, deque(), Counter()
         self.begin(0)
 
     def begin(self, heard):
-        """Begins an attempt, and greets."""
+        """Begins an attempt, and greets. One that heard nothing before is started anew, and says its digest."""
+        if not heard:
+            self.is_plain = False
         self.number, self.heard, self.is_up, self.told = self.draw(), heard, False, 0
         self.greet()
 
+    def says_digest(self):
+        return self.kind == "digest" and not self.is_plain
+
     def greet(self):
-        self.way.append(("greeting", self.number, self.heard))
+        self.way.append(("digest" if self.says_digest() else "greeting", self.number, self.heard))
+
+    def understands(self, line):
+        """Whether a line that it hears says something to it."""
+        return line[0] != "broken" and (line[0] != "digest" or self.kind != "older")
 
     def tell(self):
         self.told += 1
@@ -60,15 +79,17 @@ class End:
     def hear(self, other):
         """Hears the first line of the other end."""
         line = other.way.popleft()
-        if line[0] == "greeting":
+        if not self.understands(line):
+            if self.is_up:
+                self.begin(self.heard)
+        elif line[0] in GREETINGS:
+            self.is_plain = line[0] == "greeting"
             self.hear_greeting(other, line[1], line[2])
         elif line[0] == "message":
             other.left[line[1]] += 1
             if self.is_up:
                 need(line[1] == self.heard, "a message of another attempt was taken")
                 need(line[2] == other.left[line[1]], "a message was left out, or taken twice")
-        elif line[0] == "broken" and self.is_up:
-            self.begin(self.heard)
 
     def hear_greeting(self, other, number, repeats):
         if self.is_up:
@@ -82,7 +103,7 @@ class End:
 
 
 def greetings(ends):
-    return sum(line[0] == "greeting" for end in ends for line in end.way)
+    return sum(line[0] in GREETINGS for end in ends for line in end.way)
 
 
 def look(ends):
@@ -100,9 +121,9 @@ def step(random_from, ends):
     if what < 0.45 and other.way:
         before = greetings(ends)
         was_up = end.is_up
-        broken = other.way[0][0] == "broken"
+        unheard = not end.understands(other.way[0])
         end.hear(other)
-        need(greetings(ends) <= before + (broken and was_up), "hearing made greetings")
+        need(greetings(ends) <= before + (unheard and was_up), "hearing made greetings")
     elif what < 0.65 and end.is_up:
         end.tell()
     elif what < 0.72 and not end.is_up:
@@ -123,27 +144,30 @@ def step(random_from, ends):
 
 def settle(random_from, ends, most):
     """Nothing is lost any more, and no end begins by itself: both come up."""
-    for again in range(3):
+    again = 0
+    for _ in range(100):
         count, steps = greetings(ends), 0
         while ends[0].way or ends[1].way:
             end, other = ends if random_from.random() < 0.5 else ends[::-1]
             if other.way:
-                steps += other.way[0][0] == "greeting"
+                steps += other.way[0][0] in GREETINGS
                 need(steps <= 4 * (count + 1) ** 2, "hearing what is on its way does not end")
                 end.hear(other)
                 look(ends)
         most[count] = max(most[count], steps)
         if ends[0].is_up and ends[1].is_up:
             return again
-        waiting = [end for end in ends if not end.is_up]
-        random_from.choice(waiting).greet()
-    raise Fault("two greetings more did not bring both up")
+        end, other = random_from.choice([pair for pair in (ends, ends[::-1]) if not pair[0].is_up])
+        end.greet()
+        again += other.is_up or other.understands(end.way[-1])
+        need(again < 3, "two greetings more did not bring both up")
+    raise Fault("no greeting was understood")
 
 
 def play(random_from, most):
     """One run: how many greetings more it took, and what is wrong."""
     numbers = iter(random_from.sample(range(1, 2**32), 400))
-    ends = (End(lambda: next(numbers)), End(lambda: next(numbers)))
+    ends = tuple(End(lambda: next(numbers), random_from.choice(KINDS)) for _ in range(2))
     try:
         for _ in range(random_from.randrange(60)):
             step(random_from, ends)

@@ -160,8 +160,8 @@ def fish_differs(prefix):
 
 
 def programs_missing(prefix):
-    """Both programs run, and tell how they are called."""
-    for name in ("ncroute", "ncroute-kernel"):
+    """The programs run, and tell how they are called."""
+    for name in ("ncroute", "ncroute-ctl", "ncroute-kernel"):
         ran = subprocess.run([os.path.join(prefix, "bin", name), "--help"], capture_output=True, text=True, check=False)
         if ran.returncode or f"usage: {name} " not in ran.stdout.replace("Usage", "usage"):
             return f"{name}: {ran}"

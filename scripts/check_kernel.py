@@ -15,7 +15,8 @@ Each node is a namespace with the address 10.NODE.0.1, a router and an `ncroute-
   4. has an interface go down and up for some seconds: no kernel hears of a route whose way does not go over it;
   5. kills an `ncroute-kernel` (SIGKILL), starts it again, and compares: no route is gone meanwhile, or afterwards;
   6. replaces a filter, and compares;
-  7. kills a router (SIGKILL), starts it again, and compares: of its kernel's routes those that are right before and after are there at any time;
+  7. kills a router (SIGKILL), compares, starts it again, and compares; has it quit, starts it again at once, and compares. The folder of its feed
+     goes with it and is made anew, as by its unit. Of its kernel's routes those that are right before and after are there at any time;
   8. ends each `ncroute-kernel`: its routes stay, or go with `--flush`, nothing of it runs on, and a route of somebody else's is still there.
 
 The last line is 'N passed, M failed', and ', K skipped' behind it where the kernel or a program lets nothing be run: a line says 'not run: WHY'.
@@ -27,6 +28,7 @@ import os
 import pathlib
 import random
 import re
+import shutil
 import signal
 import subprocess
 import sys
@@ -52,6 +54,10 @@ PATIENCE, LOST = 240.0, 1
 # longer: what takes ten times as long has failed. A neighbour is found silent after two thirds of its HOLD at the earliest, so a cut is not taken for
 # a silence where the HOLD is 9.
 AFTER_A_CUT, AFTER_A_SILENCE, TIMES_LONGER = 0.5, 1.0, 10
+
+# Seconds: for so long the feed of a router that has ended is still there, as with systemd; a feed is followed within a second or two, and at least so
+# soon on a machine with much else to do.
+FEED_STAYS, FOLLOWED = 0.1, 60.0
 
 # Seconds: an installer that is started anew has closed its feed for a while where it came into the midst of it.
 BEGINS = 8.0
@@ -107,6 +113,7 @@ class Alone:
         self.judge("dry run", found == (0, lines, "", []), found)
         self.refusals(whole)
         self.fifos(whole, there)
+        self.follows(whole, there)
         self.closes()
 
     def refusals(self, whole):
@@ -146,6 +153,56 @@ class Alone:
                 one.process.send_signal(signal.SIGTERM)
                 self.judge("ends", one.process.wait(timeout=BEGINS) == 0)
             self.judge("its routes stay", self.routes() == there, self.routes())
+
+    def feeding(self, path, text):
+        """Makes a FIFO in a folder of its own, and writes to it, as a router does once somebody reads there: what it was opened as."""
+        def opened():
+            try:
+                return os.open(path, os.O_WRONLY | os.O_NONBLOCK)
+            except OSError:
+                return None
+        os.mkdir(os.path.dirname(path))
+        os.mkfifo(path)
+        if (feed := awaited(opened, lambda it: it is not None, FOLLOWED)) is not None:
+            os.write(feed, text.encode())
+        return feed
+
+    def follows(self, whole, there):
+        """A router ends, and its FIFO with it: what the kernel has stays, and what the next one says is installed. Each end is told in one line."""
+        path, feeds, told = os.path.join(f"{self.fifo}.d", "routes"), [], []
+        ended, absent = "the router has ended: what the kernel has stays until it is back", "No such file or directory"
+        changed = [(net, address, 207 if metric == 201 else metric) for net, address, metric in there]
+        texts, tables = (whole, whole.replace("metric 1", "metric 7")), (there, changed)
+
+        def lines():
+            return [line.rpartition(f"{path}: ")[2] for line in pathlib.Path(errors.name).read_text(encoding="utf-8").splitlines()]
+        with tempfile.NamedTemporaryFile() as errors, Process([*self.inside, INSTALLER, *self.VIA, path], errors=errors) as one:
+            told.append(absent)
+            for at, (what, pause, ends) in enumerate((
+                ("comes later than who reads", 0, True), ("is there again at once", 0, True), ("is there again after a while", 2.5, True),
+                ("is removed while its router goes on", 0, False), ("is there after that", 0, True),
+            )):
+                if told[-1] == absent:
+                    awaited(lines, lambda it: it == told, FOLLOWED)
+                before = self.routes()
+                time.sleep(pause)
+                self.judge(f"a FIFO that {what}: the routes stay", self.routes() == before, self.routes())
+                feeds.append(self.feeding(path, texts[at % 2]))
+                found = awaited(self.routes, lambda it, at=at: it == tables[at % 2], FOLLOWED)
+                self.judge(f"a FIFO that {what} is read", found == tables[at % 2], found)
+                if ends and feeds[-1] is not None:
+                    os.close(feeds.pop())
+                told.append(ended if ends else absent)
+                if ends:
+                    # Who reads sees the end, and opens it again.
+                    awaited(lines, lambda it: it == told, FOLLOWED)
+                    time.sleep(FEED_STAYS)
+                shutil.rmtree(os.path.dirname(path))
+            one.process.send_signal(signal.SIGTERM)
+            self.judge("ends while it waits", one.process.wait(timeout=FOLLOWED) == 0)
+            self.judge("each end is told once", lines() == told, lines())
+        for feed in filter(None, feeds):
+            os.close(feed)
 
     def drops(self, there):
         """What the kernel drops, or somebody takes out, is put in again."""
@@ -200,8 +257,7 @@ class Node:
     def __init__(self, net, number):
         self.net, self.number = net, number
         self.hops, self.router, self.installer = {}, None, None
-        self.feed = os.path.join(net.folder, f"{number}.routes")
-        os.mkfifo(self.feed)
+        self.feed = os.path.join(net.folder, f"{number}.feed", "routes")
         self.ip("link", "set", "lo", "up")
         self.ip("addr", "add", f"10.{number}.0.1/32", "dev", "lo")
         settings = ("ip_forward=1", "conf.all.rp_filter=0", "conf.default.rp_filter=0")
@@ -216,6 +272,8 @@ class Node:
         self.net.spaces.ip(self.number, *words)
 
     def start_router(self):
+        os.mkdir(os.path.dirname(self.feed))
+        os.mkfifo(self.feed)
         topology = self.net.topology
         words = [self.net.program, "router", "--size", str(topology.size), "--node", str(self.number), "--retry", "1", "--routes", self.feed]
         words += ["--settle", "70", "--hold", str(self.net.asked.hold)]
@@ -230,11 +288,24 @@ class Node:
                 words += ["--link", f"{wire.ends[1 - end]}={wire.files[end]},{wire.files[end]}"]
         self.router = Process(self.inside(*words), errors=subprocess.DEVNULL)
 
+    def end_router(self, quits):
+        """Has its router quit, or kills it. A moment later its feed is gone, with its folder."""
+        if quits:
+            self.router.ask("quit")
+            self.router.end()
+        self.router.close()
+        time.sleep(FEED_STAYS)
+        shutil.rmtree(os.path.dirname(self.feed))
+
     def start_installer(self, *more):
         words = [INSTALLER, "--metric-base", str(BASE), "--protocol", PROTOCOL, "--close", *more]
         for other, (address, device) in self.hops.items():
             words += ["--via", f"{other}={address}%{device}"]
         self.installer = Process(self.inside(*words, self.feed), errors=self.net.errors)
+
+    def is_read(self):
+        """Whether its router has somebody who reads its feed: it has that open once it has come to rest."""
+        return any(os.path.realpath(it) == self.feed for it in pathlib.Path(f"/proc/{self.router.process.pid}/fd").iterdir())
 
     def routes(self, protocol=PROTOCOL):
         """The routes of the kernel: the next hop of each prefix, and its metric."""
@@ -342,7 +413,8 @@ class Net:
         self.flap(wire)
         self.kill_installer(wire)
         more = self.filter(u, w)
-        self.kill_router(w, more)
+        self.end_router("a router killed", w, more, quits=False)
+        self.end_router("a router that quit", w, more, quits=True)
         self.end_installers()
 
     def add_foreign(self):
@@ -421,21 +493,23 @@ class Net:
         self.ping_all("filtered")
         return more
 
-    def kill_router(self, number, more):
+    def end_router(self, what, number, more, quits):
         node = self.nodes[number]
         before = node.routes()
-        node.router.kill()
-        node.router.close()
-        others = self.topology.neighbours(number)
-        self.compare("a router killed", more + [f"cut {min(number, w)} {max(number, w)}" for w in others], without=number)
+        node.end_router(quits)
+        if not quits:
+            others = self.topology.neighbours(number)
+            self.compare(what, more + [f"cut {min(number, w)} {max(number, w)}" for w in others], without=number)
         node.start_router()
         until, missing = time.monotonic() + 3, []
         while time.monotonic() < until:
             now = node.routes()
             missing += [route for route in before if route not in now]
-        self.judge("a router started again: its kernel's routes stay", not missing, missing[:3])
-        self.compare("a router started again", more)
-        self.ping_all("a router started again")
+        self.judge(f"{what}, started again: its kernel's routes stay", not missing, missing[:3])
+        # What its kernel has may be right before the router says anything.
+        self.judge(f"{what}, started again: its feed is read", awaited(node.is_read, bool, PATIENCE))
+        self.compare(f"{what}, started again", more)
+        self.ping_all(f"{what}, started again")
 
     def end_installers(self):
         for node in self.nodes:

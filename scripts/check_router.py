@@ -39,7 +39,7 @@ STACK, BESIDE = 8 << 20, 4 << 20
 
 
 def memory_of(links, messages, entries):
-    """How many kilobytes the entries and the queues of a router have at most, by the formula of RUNNING.md."""
+    """How many kilobytes the entries and the queues of a router have at most, by the formula of DAEMON.md."""
     return (24 * entries + 4 * 16 * entries + 8 * links * (messages + 3 * entries // 8)) // 1024
 
 

@@ -11,7 +11,7 @@ import subprocess
 from lib.counts import Counts, lack_of
 from lib.program import TOP
 
-PYTHON = ("scripts/**/*.py", "bench/*.py", "bindings/**/*.py", "examples/**/*.py", "tests/**/*.py", "tools/ncroute-kernel")
+PYTHON = ("scripts/**/*.py", "docs/*.py", "bench/*.py", "bindings/**/*.py", "examples/**/*.py", "tests/**/*.py", "tools/ncroute-*")
 SHELL = ("scripts/*.sh", "bench/*.sh", ".ci/run")
 
 # What each linter is called by, and the files that it reads. It begins a line with the name of the file in which it finds something.

@@ -1,24 +1,29 @@
 #!/usr/bin/env python3
 """Installs the program with its systemd units in a temporary folder, has systemd's own tools judge them, and runs two routers as services by the
-commands of the units, each as a process of this script (lib/units.py): they find each other over TCP, are killed and hang, and end in order. Prints
-what is wrong, and at last 'N passed, M failed'. What needs a program that is not there is not run: a line says so, and it counts as skipped.
+commands of the units, each as a process of this script (lib/units.py): they find each other over TCP, are killed and hang, and end in order. Their
+files are those that docs/RUNNING.md shows, what it starts is started, and what it has `ncroute-ctl` say is answered as it shows. Prints what is
+wrong, and at last 'N passed, M failed'. What needs a program that is not there is not run: a line says so, and it counts as skipped.
 
 usage: NCROUTE=PATH scripts/check_service.py     (PATH: the program as it is built)
 """
 import os
 import pathlib
 import re
+import resource
 import signal
 import subprocess
 import tempfile
+import time
 import traceback
 
+from lib import documents
+from lib.controls import Control
 from lib.counts import Counts, lack_of
-from lib.histories import entries_of, replayed, segments_of
+from lib.histories import entries_of, open_sessions, replayed, segments_of
 from lib.processes import PATIENCE, awaited
 from lib.program import TOP, built
 from lib.terminals import free_port
-from lib.units import PLACES, Service, Unit
+from lib.units import PLACES, Service, Unit, words_of
 
 # How much systemd finds a service exposed to, in tenths: 0 is nothing, 100 all. Who changes the kernel's table is exposed to more than the others.
 MOST_EXPOSED = {"ncroute@.service": 10, "ncroute-link@.service": 15, "ncroute-kernel@.service": 20}
@@ -29,6 +34,20 @@ UP = 240.0
 # What is there when both routers are up, in a domain of four nodes.
 ROUTES = {"north": "routes 0:0 1:1:1 2:4 3:4", "east": "routes 0:1:0 1:0 2:4 3:4"}
 INSTALLS = "route append 10.1.0.0/16 via 192.0.2.2 dev eth1 proto 77 metric 201 table 254"
+AWAY = "the router has ended: what the kernel has stays until it is back"
+
+
+# Options of routers that do not go on as the two of the document, and of one that it has within a sentence.
+FILES = {
+    "refused.conf": "size 4\nnode 0\nhodl 3\n",
+    "full.conf": "size 4\nnode 0\ncontrol /run/ncroute/full/in /run/ncroute/full/out\n",
+    "east.kernel": "# As it is tried\nOPTIONS=--dry-run --via 0=192.0.2.1%eth1\n",
+    "mute.conf": "size 4\nnode 0\ncontrol /run/ncroute/mute/in /run/ncroute/mute/out\n",
+}
+# Seconds for which a router is away: whoever waits for it has looked for it meanwhile.
+AWAY_FOR = 2.5
+# Bytes that a file may have where a disk is full.
+MOST_BYTES = 4096
 
 
 def ran(*words, **more):
@@ -66,14 +85,23 @@ def is_elsewhere(prefix):
         return None if "exec /usr/bin/ncroute router" in unit and root not in unit else "a unit has another path of the program"
 
 
+def made_by(unit):
+    """The FIFOs that a unit makes before it starts."""
+    return [word for line in unit.settings["ExecStartPre"] if "mkfifo" in line for word in words_of(line)[3:]]
+
+
 def parts_missing(prefix):
     """The user, the folders and the man pages that the units name are made by the other files, and installed."""
-    users = re.findall(r"(?m)^u (\S+) ", pathlib.Path(prefix, "lib/sysusers.d/ncroute.conf").read_text(encoding="utf-8"))
+    text = pathlib.Path(prefix, "lib/sysusers.d/ncroute.conf").read_text(encoding="utf-8")
+    users, groups = (re.findall(rf"(?m)^{kind} (\S+) ", text) for kind in "ug")
     folders = re.findall(r"(?m)^d (\S+) ", pathlib.Path(prefix, "lib/tmpfiles.d/ncroute.conf").read_text(encoding="utf-8"))
     for path in units_in(prefix):
         unit = Unit(path)
         if unit.settings["User"] != users:
             return f"{unit.name}: it runs as {unit.settings['User']}"
+        given = [words_of(line) for line in unit.settings["ExecStartPre"] if "chgrp" in line]
+        if any(words[2] not in groups or not all(map(made_by(unit).count, words[3:])) for words in given):
+            return f"{unit.name}: {given} are not of {groups}, or not FIFOs of its own"
         named = [*unit.settings["EnvironmentFile"], *(f"/run/{it}" for it in unit.settings["RuntimeDirectory"])]
         if not named or any(os.path.dirname(it) not in folders for it in named):
             return f"{unit.name}: {named} are not all in a folder of {folders}"
@@ -102,8 +130,9 @@ def user_missing(prefix):
     with tempfile.TemporaryDirectory() as root:
         os.mkdir(f"{root}/etc")
         found = ran("systemd-sysusers", f"--root={root}", f"{prefix}/lib/sysusers.d/ncroute.conf")
-        lines = pathlib.Path(root, "etc/passwd").read_text(encoding="utf-8") if found[0] == 0 else ""
-        return None if re.fullmatch(r"ncroute:x:\d+:\d+:[^:]*:/var/lib/ncroute:\S*/nologin\n", lines) else f"{found}: {lines!r}"
+        lines = "".join(pathlib.Path(root, "etc", name).read_text(encoding="utf-8") for name in ("passwd", "group")) if found[0] == 0 else ""
+        wanted = r"ncroute:x:\d+:\d+:[^:]*:/var/lib/ncroute:\S*/nologin\n((ncroute|ncroute-look):x:\d+:\n){2}"
+        return None if re.fullmatch(wanted, lines) else f"{found}: {lines!r}"
 
 
 def folders_missing(prefix):
@@ -116,7 +145,7 @@ def folders_missing(prefix):
         pathlib.Path(root, "lines.conf").write_text(lines.replace(" root ncroute ", " - - ") if os.geteuid() else lines, encoding="utf-8")
         found = ran("systemd-tmpfiles", "--create", f"--root={root}", f"{root}/lines.conf")
         modes = [oct(os.stat(f"{root}{path}").st_mode) for path in ("/run/ncroute", "/etc/ncroute") if os.path.isdir(root + path)]
-        return None if (found, modes) == ((0, ""), ["0o40750"] * 2) else f"{users}, {found}: {modes}"
+        return None if (found, modes) == ((0, ""), ["0o40751", "0o40750"]) else f"{users}, {found}: {modes}"
 
 
 CHECKS = (
@@ -133,32 +162,88 @@ CHECKS = (
 # ---- two routers by the commands of the units
 
 
+class Guide:
+    """What docs/RUNNING.md shows of two machines: their files, and the commands that are typed on each with what they print."""
+
+    def __init__(self):
+        text, self.files, self.commands = documents.read("docs/RUNNING.md"), {}, []
+        for paragraph, block in re.findall(r"(?m)^((?:\S.*\n)+)\n((?: {4}(?!\w+[$#>:] ).*\n)+)", text):
+            if names := re.findall(r"`/etc/ncroute/([\w.]+)`", paragraph):
+                self.files[names[-1]] = re.sub("(?m)^ {4}", "", block)
+        # What is added to the file of the domain.
+        self.added = "".join(it + "\n" for it in re.findall(r"(?m)^ {4}(include nearer .*|import \d \d nearer)$", text))
+        shown = None
+        for line in text.split("\n"):
+            if found := re.fullmatch(r" {4}(north|east)# (.*)", line):
+                shown = []
+                self.commands.append((*found.groups(), shown))
+            elif line.startswith("    ") and shown is not None:
+                shown.append(line[4:])
+            else:
+                shown = None
+
+    def starts(self):
+        """The services that are started, by their unit and the name behind `@`."""
+        return [tuple(word.split("@")) for _, command, _ in self.commands if "systemctl enable --now" in command
+                for word in command.rpartition("--now ")[2].split()]
+
+    def runs(self, program):
+        """The commands that begin with a program, and what they print, in order."""
+        return [(name, command.partition(" && ")[0], shown) for name, command, shown in self.commands if command.startswith(f"{program} ")]
+
+
 class Lab:
     """The routers `north` and `east`, the line between them, and who installs the routes of `north`: services below a folder."""
 
     def __init__(self, program, prefix, folder, counts):
-        self.program, self.folder, self.counts, self.services = program, folder, counts, {}
+        self.program, self.prefix, self.folder, self.counts, self.services = program, prefix, folder, counts, {}
         self.units = {path.name.partition("@")[0]: Unit(path) for path in units_in(prefix)}
         for place in PLACES:
             os.makedirs(folder + place)
-        port = free_port()
-        for name, text in {
-            "north.conf": f"size 4\nnode 0\nretry 1\nlink 1 {folder}/run/ncroute/link-east/tty {folder}/run/ncroute/link-east/tty\n",
-            "east.conf": f"size 4\nnode 1\nretry 1\nlink 0 {folder}/run/ncroute/link-north/tty {folder}/run/ncroute/link-north/tty\n",
-            "refused.conf": "size 4\nnode 0\nhodl 3\n",
-            "east.link": f"STREAM=TCP-LISTEN:{port},bind=127.0.0.1,reuseaddr\n",
-            "north.link": f"STREAM=TCP:127.0.0.1:{port},connect-timeout=3,forever,interval=1\n",
-            "north.kernel": "# As it is tried\nOPTIONS=--dry-run --via 1=192.0.2.2%eth1\n",
-        }.items():
-            pathlib.Path(f"{folder}/etc/ncroute/{name}").write_text(text, encoding="utf-8")
+        self.guide, self.port = Guide(), free_port()
+        for name, text in {**self.guide.files, **FILES}.items():
+            pathlib.Path(f"{folder}/etc/ncroute/{name}").write_text(self.placed(text), encoding="utf-8")
+
+    def placed(self, text):
+        """A text of the guide, with the folders, the address and the port that are taken here. Nothing is done to the kernel."""
+        for place in PLACES:
+            text = text.replace(place, self.folder + place)
+        text = re.sub(r"192\.0\.2\.\d(?=[:,])|(?<=bind=)192\.0\.2\.\d", "127.0.0.1", text)
+        return text.replace(":17900", f":{self.port}").replace("/usr/local/", f"{self.prefix}/").replace("--close", "--dry-run")
 
     def judge(self, what, holds, told=""):
         self.counts.expect(f"services: {what}", holds, told)
 
-    def start(self, unit, name):
-        service = self.services[unit, name] = Service(self.units[unit], name, self.folder)
+    def start(self, unit, name, prepare=None):
+        service = self.services[unit, name] = Service(self.units[unit], name, self.folder, prepare)
         service.start()
         return service
+
+    def types(self, command):
+        """What a command of the document prints here, and its status."""
+        environment = {**os.environ, "PATH": f"{self.prefix}/bin{os.pathsep}{os.environ['PATH']}", "LC_ALL": "C"}
+        status, said = ran("bash", "-o", "pipefail", "-c", self.placed(command), cwd=f"{self.folder}/etc/ncroute", env=environment)
+        return status, said.splitlines()
+
+    def looks_as_shown(self, what, command, shown):
+        """Whether a command prints what the document shows, if it shows something; one that is given while its router begins is given again. A status
+        has other numbers each time, and tells of the end of a link's last session if there was one."""
+        def is_right(found):
+            status, lines = found
+            if command.endswith(" status"):
+                fronts = [re.escape(line.partition(" ended ")[0].partition(" (")[0]) for line in shown]
+                wanted = [re.sub(r"\d+", r"\\d+", front) + r"( \(.*\)| ended .*)?" for front in fronts]
+                return status == 0 and len(lines) == len(wanted) > 0 and all(map(re.fullmatch, wanted, lines))
+            return status == 0 and (not shown or lines == shown)
+        found = awaited(lambda: self.types(command), is_right, UP, 0.2)
+        self.judge(f"{what}: {command}", is_right(found), found)
+
+    def operate(self, name, *lines):
+        """What the router of a service answers to an operator at the FIFOs of its unit, once they are there."""
+        folder = f"{self.folder}/run/ncroute/{name}"
+        if not awaited(lambda: os.path.exists(f"{folder}/out"), bool, PATIENCE):
+            raise TimeoutError(f"{folder}/out is not there")
+        return Control(folder, "", is_made=True).asked(*lines)
 
     def say(self, name, text):
         """Writes to the FIFO of a router's commands, as its operators do, once it is there."""
@@ -191,9 +276,8 @@ class Lab:
         """A router that was stopped: its status, and that the session which was open is closed by the last entry of its history."""
         status, seconds = result
         segments = segments_of(self.histories(name)[-1])
-        entries = [line.decode().split(" ", 1)[1] for segment in segments for line in entries_of(segment.read_bytes())]
-        opened = [entry.rpartition(" ")[2] for entry in entries if re.match(r"up \d+ opened ", entry)]
-        is_closed = bool(opened) and re.match(rf"down {opened[-1]} done ", entries[-1])
+        entries = [line.decode() for segment in segments for line in entries_of(segment.read_bytes())]
+        is_closed = re.match(r"\d+ down \d+ done ", entries[-1]) and not open_sessions(entries)
         self.judge(f"{what}: {name} ends", status == 0 and is_closed, f"{status} after {seconds:.1f} s: {entries[-3:]}")
         said, _ = replayed(self.program, segments)
         self.judge(f"{what}: history of {name}", said.startswith("replay ok "), said)
@@ -201,13 +285,33 @@ class Lab:
         self.judge(f"{what}: FIFOs of {name}", not os.path.exists(path), f"{path} is still there")
 
     def begun(self):
-        """In any order: the routers come before their lines."""
-        for unit, names in (("ncroute", ROUTES), ("ncroute-kernel", ["north"]), ("ncroute-link", ROUTES)):
-            for name in names:
-                self.start(unit, name)
+        """In any order: here the routers come before their lines. What an operator types then is answered as the document shows."""
+        for _, command, shown in self.guide.runs("ncroute router"):
+            self.looks_as_shown("begun", command, shown)
+        for unit, name in sorted(self.guide.starts()):
+            self.start(unit, name)
+        self.judge("what is started", len(self.services) == 6, sorted(self.services))
         self.are_up("begun")
+        self.installs("begun", 0)
+        commands = [(command, shown) for name, command, shown in self.guide.runs("ncroute-ctl") if name == "north"]
+        for command, shown in commands:
+            self.looks_as_shown("north", command, shown)
+        answers = Control(f"{self.folder}/run/ncroute/north", "look", is_made=True).asked("routes", "import 1 near")
+        self.judge("who may look", answers == [ROUTES["north"], "refused O11 2"], answers)
+        self.judge("what is typed", len(commands) > 3 and sum(bool(shown) for _, shown in commands) > 2, commands)
+        log = pathlib.Path(f"{self.folder}/var/log/ncroute/north.log").read_text(encoding="utf-8")
+        self.judge("log", re.fullmatch(r"(\S+Z .*\n)*\S+Z link 1: up in session 1\n(\S+Z .*\n)*", log), log)
+
+    def installs(self, what, ends):
+        """Who installs the routes of `north` has said so of each of its router's ends, and installs what it says since the last one."""
         installer = self.services["ncroute-kernel", "north"]
-        self.judge("routes are installed", INSTALLS in awaited(installer.lines, lambda it: INSTALLS in it, PATIENCE), installer.lines())
+
+        def parts():
+            """What it says up to its router's first end, from there to the second, and so on; how often it says that a FIFO is not there."""
+            text = "\n".join(installer.lines())
+            return text.split(AWAY), text.count("No such file")
+        found = awaited(parts, lambda it: INSTALLS in it[0][-1] and len(it[0]) == ends + 1, PATIENCE)
+        self.judge(f"{what}: routes are installed", INSTALLS in found[0][-1] and len(found[0]) == ends + 1 and found[1] <= 1, installer.lines())
 
     def lines_end(self):
         """A line that is killed: its terminal's name goes, and it is started again."""
@@ -225,9 +329,29 @@ class Lab:
         self.judge("a router is started again", len(awaited(lambda: self.histories("north"), lambda it: len(it) == 2, PATIENCE)) == 2)
         self.are_up("a router is started again")
         self.judge("a router was killed", self.services["ncroute", "north"].results == [-signal.SIGKILL], self.services["ncroute", "north"].results)
+        self.installs("a router is started again", 1)
+        self.ends_asked_for()
         refused = self.start("ncroute", "refused")
         self.judge("refused options", refused.is_over() and refused.results == [2], f"{refused.results}: {refused.lines()}")
         self.judge("refused options are told", "refused.conf:3:1: no option has this name" in "\n".join(refused.lines()), refused.lines())
+
+    def ends_asked_for(self):
+        """One whose disk is full and one whose standard output is: each has a status of its own when an operator ends it, and stays down."""
+        def fill():
+            signal.signal(signal.SIGXFSZ, signal.SIG_IGN)
+            resource.setrlimit(resource.RLIMIT_FSIZE, (MOST_BYTES, MOST_BYTES))
+
+        def mute():
+            os.dup2(os.open("/dev/full", os.O_WRONLY), 1)
+        full, mute = self.start("ncroute", "full", fill), self.start("ncroute", "mute", mute)
+        answers = self.operate("full", *["show 0"] * MOST_BYTES, "quit")
+        self.judge("a full disk", answers[-1] == "ok" and full.is_over() and full.results == [4], (answers[-1], full.results))
+        self.judge("a full disk is told", "its end is not saved" in "\n".join(full.lines()), full.lines())
+        self.operate("mute", "neighbours")
+        self.say("mute", "neighbours\n")
+        told = awaited(mute.lines, lambda it: any("operator: E2" in line for line in it), PATIENCE)
+        answers = self.operate("mute", "quit")
+        self.judge("no standard output", answers == ["ok"] and mute.is_over() and mute.results == [3], (answers, mute.results, told))
 
     def stopped(self):
         """Each router is stopped: one whose operator has left half a line, and one that hangs. One that has ended is stopped at once."""
@@ -235,8 +359,14 @@ class Lab:
         north = self.services["ncroute", "north"]
         self.ended_in_order("stopped", "north", north.stop())
         self.judge("is stopped once", len(north.results) == 2, north.results)
+        time.sleep(AWAY_FOR)
         north = self.start("ncroute", "north")
         self.are_up("started anew")
+        self.installs("started anew", 2)
+        self.ended_in_order("restarted", "north", north.stop())
+        north = self.start("ncroute", "north")
+        self.are_up("restarted")
+        self.installs("restarted", 3)
         self.services["ncroute", "east"].signal(signal.SIGSTOP)
         self.ended_in_order("hangs", "east", self.services["ncroute", "east"].stop())
         self.say("north", "quit\n")
@@ -246,13 +376,25 @@ class Lab:
             service = self.services[unit, "north"]
             service.stop()
             self.judge(f"{unit} is stopped", service.is_over() and not service.is_running(), service.results)
+            self.judge(f"{unit} has not failed", service.is_clean(service.results[-1]), service.results)
         self.judge("ncroute-kernel ends", service.results == [0], service.results)
+
+    def filter_stays(self):
+        """With the lines that the document adds to the file of the domain a router would be started."""
+        lines = self.guide.added
+        folder = pathlib.Path(f"{self.folder}/etc/ncroute")
+        (folder / "nearer.filter").write_text("filter nearer { if rip_metric > 1 then reject; accept; }\n", encoding="utf-8")
+        with open(folder / "net.domain", "a", encoding="utf-8") as domain:
+            domain.write(lines)
+        found = [self.types(f"ncroute router --config {name}.conf --check") for name in ROUTES]
+        self.judge("a filter stays", lines.count("\n") == 2 and found == [(0, [])] * 2, (lines, found))
 
     def run(self):
         self.begun()
         self.lines_end()
         self.routers_end()
         self.stopped()
+        self.filter_stays()
 
     def close(self):
         for service in self.services.values():

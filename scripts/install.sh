@@ -1,5 +1,5 @@
 #!/usr/bin/env bash
-# Proves, builds and installs `ncroute` and `ncroute-kernel` with their man pages, completions for bash, zsh and fish, and the syntax files of
+# Proves, builds and installs `ncroute`, `ncroute-ctl` and `ncroute-kernel` with their man pages, completions for bash, zsh and fish, and the syntax files of
 # `editors/`.
 #
 # usage: scripts/install.sh [--unproved] [--service] [PREFIX]     (PREFIX: /usr/local; --unproved: builds without proving anything, as
@@ -38,17 +38,21 @@ if [ -z "${NCROUTE:-}" ]; then
     "$top/scripts/build.sh" "${how[@]}" "$NCROUTE"
 fi
 install -D -m 755 "$NCROUTE" "$prefix/bin/ncroute"
-install -D -m 755 "$top/tools/ncroute-kernel" "$prefix/bin/ncroute-kernel"
+for program in ncroute-ctl ncroute-kernel; do
+    install -D -m 755 "$top/tools/$program" "$prefix/bin/$program"
+done
+install -D -m 755 "$top/docs/monitor.py" "$prefix/share/ncroute/monitor.py"
 # Where this runs as root, it leaves no folder of its own in the sources.
 PYTHONDONTWRITEBYTECODE=1 "$top/scripts/make_manual.py" "$prefix/bin/ncroute" "$prefix"
 for part in syntax ftdetect; do
     install -D -m 644 "$top/editors/vim/$part/ncroute.vim" "$prefix/share/vim/vimfiles/$part/ncroute.vim"
 done
 (cd "$top/editors/vscode" && find . -type f -exec install -D -m 644 {} "$prefix/share/ncroute/vscode/{}" \;)
-echo "installed in $prefix: bin/ncroute, bin/ncroute-kernel, man pages, completions, and syntax files for vim; those for Visual Studio Code are in share/ncroute/vscode"
+echo "installed in $prefix: bin/ncroute, bin/ncroute-ctl, bin/ncroute-kernel, man pages, completions, and syntax files for vim; those for Visual Studio Code are in share/ncroute/vscode, a script for Prometheus is share/ncroute/monitor.py"
 if [ -n "$has_units" ]; then
     (cd "$top/packaging" && find . -type f -exec install -D -m 644 {} "$prefix/lib/{}" \;)
     # The units name the programs where they will be.
     sed -i "s|/usr/local/|${prefix#"$root"}/|" "$prefix"/lib/systemd/system/ncroute*.service
     echo "units in lib/systemd, a user in lib/sysusers.d, folders in lib/tmpfiles.d: systemd-sysusers; systemd-tmpfiles --create; systemctl daemon-reload"
+    echo "for the logs of routers: cp $prefix/lib/logrotate.d/ncroute /etc/logrotate.d/"
 fi

@@ -64,6 +64,8 @@ def calls(source, names):
             owner = None if of_trait else re.match(NAME, words)
             owner = owner[0] if owner else None
             is_open = line.startswith(("pub trait", "trait"))
+        elif of_lines := re.match(rf"> ({NAME})(?:<.*>)? \{{$", line):
+            owner = of_lines[1]
         elif line.startswith("}"):
             owner, is_open = None, False
         if line.lstrip().startswith("///"):

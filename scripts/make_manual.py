@@ -14,11 +14,15 @@ import tempfile
 from lib.manual import NAME, documents, reference, roff
 
 
-class Option:
-    """An option of a command: its names, the name and the possible values of its value, and what it does."""
+# A line of help that tells of an option.
+OPTION = re.compile(r"\s*((?:-\w, )?--[\w-]+)(?: <([\w=,\[\]]+)>)?\s{2,}(.*)")
 
-    def __init__(self, names, value, text):
-        self.names, self.value = names, value
+
+class Option:
+    """An option of a command: its names, the name and the possible values of its value, what it does, and the heading that it stands under."""
+
+    def __init__(self, names, value, text, heading):
+        self.names, self.value, self.heading = names, value, heading
         values = re.search(r" \[possible values: (.*)\]", text)
         self.values = values[1].split(", ") if values else []
         self.text = text[: values.start()] if values else text
@@ -27,8 +31,8 @@ class Option:
         return self.names[-1]
 
     def may_come_again(self):
-        """Whether the option may be given more than once: one whose value names what it is for, as NAME=FILE, may."""
-        return bool(self.value) and "=" in self.value
+        """Whether the option may be given more than once: one whose value names what it is for, as NAME=FILE, or has parts, may."""
+        return bool(self.value) and ("=" in self.value or "," in self.value)
 
 
 class Command:
@@ -49,8 +53,8 @@ class Command:
                 self.commands = [tuple(re.split(r"\s{2,}", line.strip(), maxsplit=1)) for line in lines]
             elif title == "Arguments:":
                 self.arguments = [tuple(re.split(r"\s{2,}", line.strip(), maxsplit=1)) for line in lines]
-            elif title == "Options:":
-                self.options = [option_of(line) for line in lines]
+            elif all(map(OPTION.fullmatch, lines)):
+                self.options += [option_of(line, "" if title == "Options:" else title.removesuffix(":")) for line in lines]
             else:
                 self.rest = [section]
 
@@ -58,9 +62,9 @@ class Command:
         return any(re.search("FILE|OLD|NEW", argument) for argument, _ in self.arguments)
 
 
-def option_of(line):
-    names, value, text = re.fullmatch(r"\s*((?:-\w, )?--[\w-]+)(?: <([\w=,]+)>)?\s{2,}(.*)", line).groups()
-    return Option(names.split(", "), value, text)
+def option_of(line, heading):
+    names, value, text = OPTION.fullmatch(line).groups()
+    return Option(names.split(", "), value, text, heading)
 
 
 def commands_of(ncroute):
@@ -94,7 +98,9 @@ def of_command(command, is_documented):
     if command.arguments:
         lines += [".SH ARGUMENTS"] + [line for name, about in command.arguments for line in (".TP", f".I {roff(name)}", roff(about))]
     lines.append(".SH OPTIONS")
-    for option in command.options:
+    for before, option in zip([None] + command.options, command.options):
+        if option.heading and option.heading != before.heading:
+            lines.append(f".SS {roff(option.heading)}")
         value = f" \\fI{option.value}\\fR" if option.value else ""
         lines += [".TP", f"\\fB{roff(', '.join(option.names))}\\fR{value}", roff(option.text)]
     if command.rest and not is_documented:

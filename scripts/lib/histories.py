@@ -1,5 +1,6 @@
 """Histories that are saved in segments: their files, and what `ncroute replay` says of them."""
 import pathlib
+import re
 import subprocess
 
 # What ends the state that a segment begins with: its entries come behind it.
@@ -40,3 +41,12 @@ def replay_ok(count, first=0):
 def wrong_of(found, said, status=1):
     """What is wrong with what it said and its exit status, if anything is. The status is that of what is cut or refused, if no other is named."""
     return None if found == (said, status) else f"{found!r} in place of {(said, status)!r}"
+
+
+def open_sessions(entries):
+    """The sessions that entries open, and of which they have no Down, by the words that a history has for them."""
+    found = set()
+    for entry in entries:
+        if match := re.match(r"\d+ (?:up \d+ opened (\d+)|down (\d+) done )", entry):
+            found = found | {match[1]} if match[1] else found - {match[2]}
+    return found

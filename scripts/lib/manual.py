@@ -18,12 +18,12 @@ NAME = "ncroute"
 PAGES = {
     "CHECK": ("ncroute-check", 1), "DIFF": ("ncroute-diff", 1), "DOMAIN": ("ncroute-domain", 1),
     "FILTER": ("ncroute-filter", 1), "IMPORT": ("ncroute-import", 1), "LINT": ("ncroute-lint", 1), "LIST": ("ncroute-list", 1),
-    "RUNNING": ("ncroute-router", 1), "TESTING": ("ncroute-test", 1),
-    "KERNEL": ("ncroute-kernel", 8),
+    "DAEMON": ("ncroute-router", 1), "TESTING": ("ncroute-test", 1),
+    "CONTROL": ("ncroute-ctl", 8), "KERNEL": ("ncroute-kernel", 8),
     "CODE_FILE": ("ncroute-code-file", 5), "HISTORY": ("ncroute-history", 5), "SCRIPT": ("ncroute-script", 5),
     "CI": ("ncroute-ci", 7), "LANGUAGE": ("ncroute-language", 7), "LINES": ("ncroute-lines", 7),
     "MACHINE": ("ncroute-machine", 7), "NETWORK": ("ncroute-network", 7), "OPERATORS": ("ncroute-operators", 7),
-    "ROUTER": ("ncroute-tables", 7), "SESSIONS": ("ncroute-sessions", 7), "VERIFIER": ("ncroute-verifier", 7),
+    "ROUTER": ("ncroute-tables", 7), "RUNNING": ("ncroute-running", 7), "SESSIONS": ("ncroute-sessions", 7), "VERIFIER": ("ncroute-verifier", 7),
 }
 # Those for people who change the program or build on it.
 NO_PAGES = {"ARCHITECTURE", "CALLS", "DECISIONS", "EMBEDDING", "LOCK", "PROMISES"}

@@ -116,11 +116,12 @@ class Process:
 
 
 class Router(Process):
-    """A process of `ncroute router`. `links` has the files that it reads and writes for each neighbour, `history` is the folder where it saves."""
+    """A process of `ncroute router`. `links` has the files that it reads and writes for each neighbour, `history` is the folder where it saves. Where
+    no size is given here, the file of its domain says it."""
 
     def __init__(self, program, size, node, links, history=None, options=(), **more):
         self.program, self.history = program, history
-        words = [program, "router", "--size", str(size), "--node", str(node), *options]
+        words = [program, "router", *(["--size", str(size)] if size else []), "--node", str(node), *options]
         if history:
             words += ["--save", history]
         for other, (there, back) in links.items():

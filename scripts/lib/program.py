@@ -44,7 +44,7 @@ with open(answer + ".status") as it:
 
 
 class Program:
-    """The command `ncroute`, in a folder that is the first of the PATH of what `shell` runs."""
+    """The command `ncroute`, and `ncroute-ctl`, in a folder that is the first of the PATH of what `shell` runs."""
 
     def __init__(self):
         # It goes when the script ends, however that is.
@@ -56,6 +56,7 @@ class Program:
         # Some examples make files where they run. In the repository those of a run that was ended would be in the way of the next one.
         for name in READ:
             (self.here / name).symlink_to(TOP / name)
+        (self.bin / "ncroute-ctl").symlink_to(TOP / "tools" / "ncroute-ctl")
         command = self.bin / "ncroute"
         if path := named():
             command.symlink_to(path)

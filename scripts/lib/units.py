@@ -15,20 +15,25 @@ import time
 from lib.processes import PATIENCE, awaited
 
 # Where a unit's files are, each of them a folder of this name below the script's.
-PLACES = ("/run/ncroute", "/var/lib/ncroute", "/etc/ncroute")
+PLACES = ("/run/ncroute", "/var/lib/ncroute", "/var/log/ncroute", "/etc/ncroute")
+# The program as the units of the sources name it.
+INSTALLED = "/usr/local/bin/ncroute "
 SECONDS = {"ms": 0.001, "s": 1.0}
-# What systemd takes for a clean end, where nothing asked for it.
+# What systemd takes for a clean end, beside what a unit says.
 CLEAN = (0, -signal.SIGTERM, -signal.SIGINT, -signal.SIGHUP, -signal.SIGPIPE)
+# Seconds from the end of a service's main process to that of its folder.
+PAUSE = 0.1
 # What systemd takes in a setting: a word in quotes may have blanks.
 PART = re.compile(r"""(?P<quote>["'])(?P<quoted>.*?)(?P=quote)|(?P<plain>[^\s"']+)|(?P<blank>\s+)""")
 
 
 class Unit:
-    """A template of units, as its file has it: the values of each setting, in order."""
+    """A template of units, as its file has it: the values of each setting, in order. Of the sources' own one `program` is what it runs."""
 
-    def __init__(self, path):
+    def __init__(self, path, program=None):
         self.name, self.settings = os.path.basename(path), collections.defaultdict(list)
-        for line in pathlib.Path(path).read_text(encoding="utf-8").splitlines():
+        text = pathlib.Path(path).read_text(encoding="utf-8")
+        for line in (text.replace(INSTALLED, f"{program} ") if program else text).splitlines():
             if not re.match(r"$|[#;]|\[\w+\]$", line):
                 key, value = re.fullmatch(r"(\w+)=(.*[^\\]|)", line).groups()
                 self.settings[key].append(value)
@@ -59,10 +64,10 @@ def words_of(line):
 
 
 class Service:
-    """A service of a unit, by the name behind `@`. Whatever it writes is in `log`, as in a journal."""
+    """A service of a unit, by the name behind `@`. Whatever it writes is in `log`, as in a journal. `prepare` is what its main process does first."""
 
-    def __init__(self, unit, name, root):
-        self.unit, self.name, self.root = unit, name, root
+    def __init__(self, unit, name, root, prepare=None):
+        self.unit, self.name, self.root, self.prepare = unit, name, root, prepare
         self.log = os.path.join(root, f"{unit.name}.{name}.log")
         self.process, self.results, self.is_stopped, self.starting = None, [], threading.Event(), threading.Lock()
         self.thread = threading.Thread(target=self.run, daemon=True)
@@ -101,9 +106,9 @@ class Service:
         return [self.root + os.path.join(place, self.named(path)) for value in self.unit.settings[key] for path in value.split()]
 
     def do(self, key, log):
-        """Runs the commands of a setting, one after another: whether all went well."""
+        """Runs the commands of a setting, one after another: whether all went well. Those that root is to run whatever comes of them are left out."""
         return all(subprocess.run(self.command(line), stdin=subprocess.DEVNULL, stdout=log, stderr=log, timeout=PATIENCE, check=False).returncode == 0
-                   for line in self.unit.settings[key])
+                   for line in self.unit.settings[key] if not line.startswith("-+"))
 
     def run(self):
         """Runs it until it is stopped, or ends so that it is not to be started again."""
@@ -114,18 +119,24 @@ class Service:
             if self.is_stopped.wait(self.unit.seconds("RestartSec", "100ms")):
                 return
 
+    def is_clean(self, status):
+        """Whether systemd takes a result for a clean end. After another one that ends a service it calls it failed."""
+        return status in CLEAN or str(status) in self.unit.last("SuccessExitStatus").split()
+
     def begins_again(self, status):
         if str(status) in self.unit.last("RestartPreventExitStatus").split():
             return False
-        return {"always": True, "on-failure": status not in CLEAN}[self.unit.last("Restart")]
+        return {"always": True, "on-failure": not self.is_clean(status)}[self.unit.last("Restart")]
 
     def run_once(self):
         """The status of its main process, or the number of the signal that ended it, with a minus; none where there was no such process."""
         runtime = self.folders("RuntimeDirectory", "/run")
-        for path in [*runtime, *self.folders("StateDirectory", "/var/lib")]:
+        for path in [*runtime, *self.folders("StateDirectory", "/var/lib"), *self.folders("LogsDirectory", "/var/log")]:
             os.makedirs(path, exist_ok=True)
         with open(self.log, "ab") as log:
             status = self.process.wait() if self.do("ExecStartPre", log) and self.begin(log) else None
+        # As with systemd whoever read a FIFO of it has seen its end by then, and may have opened that again.
+        time.sleep(PAUSE)
         for path in runtime:
             shutil.rmtree(path)
         return status
@@ -135,7 +146,8 @@ class Service:
         words, environment = self.command(self.unit.last("ExecStart")), {**os.environ, **self.environment()}
         with self.starting:
             if not self.is_stopped.is_set():
-                self.process = subprocess.Popen(words, stdin=subprocess.DEVNULL, stdout=log, stderr=log, start_new_session=True, env=environment)
+                self.process = subprocess.Popen(words, stdin=subprocess.DEVNULL, stdout=log, stderr=log, start_new_session=True, env=environment,
+                                                preexec_fn=self.prepare)
             return not self.is_stopped.is_set()
 
     def stop(self):

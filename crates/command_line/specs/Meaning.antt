@@ -161,6 +161,8 @@ pub record IsRunning (given : List Row) (terminals : Terminals) (has_files : Boo
 pub record IsRouting (given : List Row) (words : RouterWords) : Type 0 where
   pub config : option_map (λ copy. string_bytes copy) words.config ≡ word_of (codes "config") given
   pub checks : words.checks ≡ is_set (codes "check") given
+  pub domain : option_map (λ copy. string_bytes copy) words.domain ≡ word_of (codes "domain") given
+  pub allows_other : words.allows_other ≡ is_set (codes "allow-other-domain") given
   pub size : words.size ≡ number_of 32 (codes "size") given
   pub node : words.node ≡ number_of 32 (codes "node") given
   pub limit : words.limit ≡ number_of 32 (codes "limit") given
@@ -171,12 +173,14 @@ pub record IsRouting (given : List Row) (words : RouterWords) : Type 0 where
   pub segments : words.segments ≡ number_of 32 (codes "segments") given
   pub routes : option_map (λ copy. string_bytes copy) words.routes ≡ word_of (codes "routes") given
   pub settle : words.settle ≡ number_of 32 (codes "settle") given
+  pub log : option_map (λ copy. string_bytes copy) words.log ≡ word_of (codes "log") given
   pub stays : words.stays ≡ is_set (codes "stay") given
   pub prefixes : map (λ copy. string_bytes copy) words.prefixes.items ≡ words_of (codes "prefix") given
   pub filters : AreFilters given words.filters.items
   pub imports : map (λ copy. string_bytes copy) words.imports.items ≡ words_of (codes "import") given
   pub exports : map (λ copy. string_bytes copy) words.exports.items ≡ words_of (codes "export") given
   pub links : map (λ copy. string_bytes copy) words.links.items ≡ words_of (codes "link") given
+  pub controls : map (λ copy. string_bytes copy) words.controls.items ≡ words_of (codes "control") given
 
 -- `domain` is asked for a page and for a comparison, of which there is none on a page
 abbrev pub pages_a_comparison : List Row → Bool

@@ -91,12 +91,14 @@ all_taken =
     ∷ takes command.Domain (codes "explain") When ∷ takes command.Domain (codes "file") Argument
     ∷ takes command.Replay (codes "file") Arguments
     ∷ takes command.Router (codes "config") Text ∷ takes command.Router (codes "check") Flag
-    ∷ takes command.Router (codes "size") Number ∷ takes command.Router (codes "node") Number ∷ takes command.Router (codes "limit") Number
-    ∷ takes command.Router (codes "queue") Number ∷ takes command.Router (codes "retry") Number ∷ takes command.Router (codes "hold") Number
-    ∷ takes command.Router (codes "prefix") Texts
+    ∷ takes command.Router (codes "domain") Text ∷ takes command.Router (codes "allow-other-domain") Flag
+    ∷ takes command.Router (codes "size") Number ∷ takes command.Router (codes "node") Number ∷ takes command.Router (codes "prefix") Texts
+    ∷ takes command.Router (codes "link") Texts ∷ takes command.Router (codes "hold") Number
+    ∷ takes command.Router (codes "retry") Number ∷ takes command.Router (codes "queue") Number
     ∷ takes command.Router (codes "filter") Texts ∷ takes command.Router (codes "import") Texts ∷ takes command.Router (codes "export") Texts
-    ∷ takes command.Router (codes "link") Texts ∷ takes command.Router (codes "save") Text ∷ takes command.Router (codes "segments") Number
-    ∷ takes command.Router (codes "routes") Text ∷ takes command.Router (codes "settle") Number ∷ takes command.Router (codes "stay") Flag
+    ∷ takes command.Router (codes "control") Texts ∷ takes command.Router (codes "stay") Flag
+    ∷ takes command.Router (codes "limit") Number ∷ takes command.Router (codes "save") Text ∷ takes command.Router (codes "segments") Number
+    ∷ takes command.Router (codes "routes") Text ∷ takes command.Router (codes "settle") Number ∷ takes command.Router (codes "log") Text
     ∷ takes command.Run (codes "filter") Texts ∷ takes command.Run (codes "save") Text ∷ takes command.Run (codes "stop") Flag
     ∷ takes command.Run (codes "explain") When ∷ takes command.Run (codes "file") Arguments ∷ []
 

@@ -4,13 +4,14 @@ ghost use Rattle.std.specs.List.{All};
 ghost use Rattle.clap.specs.Words.{app_of, new_app, rule_of, shape_of};
 ghost use Rattle.command_line.specs.Parameters as spec;
 
+use crate::headings::heading_of;
 use crate::help::help_of;
 use crate::options::{Choices, Parameter, ParameterKind, arg_of};
 use clap::{Arg, Command};
 use std::alloc::{AllocError, Global};
 
 /// The version of the project, and the logic that it is proved in, as `rt version` names it: several kits have it.
-const VERSION: &str = "0.1.0 (Rattle logic dac8208d650f15bf)";
+pub const VERSION: &str = "0.1.0 (Rattle logic dac8208d650f15bf)";
 
 /// The program, with all commands. Options that are one of some words take these.
 pub(crate) fn program<'a>(alloc: Global, choices: Choices<'a>) -> Result<Command<'a>, AllocError>
@@ -93,7 +94,8 @@ fn args_of<'a>(
     let mut args = Vec::new(alloc);
     for (name, parameter) in all_parameters() {
         if *name == command {
-            args.push(arg_of(alloc, parameter, choices))?;
+            let heading = heading_of(command, parameter.name);
+            args.push(arg_of(alloc, parameter, heading, choices))?;
         }
     }
     Ok(args)
@@ -158,7 +160,7 @@ static COMMANDS: [(&str, &str); 15] = [
 ];
 
 /// The options and arguments of each command, in the order in which its help shows them.
-static PARAMETERS: [(&str, Parameter); 69] = [
+static PARAMETERS: [(&str, Parameter); 73] = [
     ("check", SIZE),
     ("check", CODE),
     ("check", NAMES),
@@ -207,22 +209,26 @@ static PARAMETERS: [(&str, Parameter); 69] = [
     ("replay", REPLAYED),
     ("router", CONFIG),
     ("router", CHECK),
+    ("router", WHOLE_DOMAIN),
+    ("router", OTHER_DOMAIN),
     ("router", ROUTER_SIZE),
     ("router", NODE),
-    ("router", ROOM),
-    ("router", QUEUE),
-    ("router", RETRY),
-    ("router", HOLD),
     ("router", PREFIX),
+    ("router", LINK),
+    ("router", HOLD),
+    ("router", RETRY),
+    ("router", QUEUE),
     ("router", NAMED_FILTER),
     ("router", IMPORT),
     ("router", EXPORT),
-    ("router", LINK),
+    ("router", CONTROL),
+    ("router", STAY),
+    ("router", ROOM),
     ("router", SEGMENT_FOLDER),
     ("router", SEGMENTS),
     ("router", ROUTES),
     ("router", SETTLE),
-    ("router", STAY),
+    ("router", LOG),
     ("run", FILTER),
     ("run", SAVE),
     ("run", STOP),
@@ -509,6 +515,24 @@ const CHECK: Parameter = Parameter {
     is_required: false,
 };
 
+/// The file of a router's whole domain.
+const WHOLE_DOMAIN: Parameter = Parameter {
+    name: "domain",
+    value: "FILE",
+    help: "Take size, prefixes, links and filters from FILE, a script of `ncroute domain`",
+    kind: ParameterKind::Text,
+    is_required: false,
+};
+
+/// A neighbour's domain may have been set up by another file.
+const OTHER_DOMAIN: Parameter = Parameter {
+    name: "allow-other-domain",
+    value: "",
+    help: "Speak with neighbours that were started from another file of the domain, too",
+    kind: ParameterKind::Flag,
+    is_required: false,
+};
+
 /// The number of nodes of a router's domain.
 const ROUTER_SIZE: Parameter = Parameter {
     name: "size",
@@ -605,6 +629,24 @@ const LINK: Parameter = Parameter {
     value: "W=IN,OUT",
     help: "Read what neighbour W says from IN, and write what it is told to OUT",
     kind: ParameterKind::Texts,
+    is_required: false,
+};
+
+/// Where a router's operators are served.
+const CONTROL: Parameter = Parameter {
+    name: "control",
+    value: "IN,OUT[,look]",
+    help: "Serve an operator at two FIFOs, who may look alone by `look`; may be given many times",
+    kind: ParameterKind::Texts,
+    is_required: false,
+};
+
+/// Where a router keeps its log.
+const LOG: Parameter = Parameter {
+    name: "log",
+    value: "FILE",
+    help: "Add a line to FILE for each event, with its time; FILE may be renamed at any time",
+    kind: ParameterKind::Text,
     is_required: false,
 };
 

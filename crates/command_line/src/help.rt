@@ -248,6 +248,7 @@ The input is commands, one a line. Empty lines and lines that begin with # are s
   domain N               a domain of N nodes (2 to 250), without links
   prefix V P             P is the prefix of node V; otherwise it is 10.V.0.0/16
   load NAME TEXT         name a filter: the rest of the line is its text
+  include NAME FILE      name the filter of FILE, beside the file that the commands are in
   code NAME HEX          name a filter by its code file in hexadecimal
   link U W, cut U W      U and W are neighbours from now on, or no more
   import U W NAME        the filter of what U hears from W
@@ -344,11 +345,19 @@ D. When its stream ends, or it is silent for its HOLD, it is down, and standard 
 
 Standard input has the operator's commands, as `ncroute run` answers them, without
 `network`, `prefix`, `recv` and `take`. `up`, and `down` of a node with a link, are refused
-as O9. `quit` ends the router, and so does the end of standard input without --stay.
+as O9. `status` and `status json` tell of the router and its links, and `routes json` the
+routes. `quit` ends the router, and so does the end of standard input without --stay. Each
+--control serves one operator more, to whom `ncroute-ctl` speaks.
 
 A line of the FILE of --config says an option without its dashes, with blanks between its
-parts: `size 4`, `link 1 in out`, `filter near near.filter`, `stay`. Names of files count from
+parts: `size 4`, `link 1 in out`, `control in out look`, `stay`. Names of files count from
 the folder of FILE. A word that begins with # begins a comment.
+
+--domain takes size, prefixes, links and filters of node ME from the script by which
+`ncroute domain` predicts the routes of the whole domain; --link says where the streams of
+each of its links are. A line `include NAME FILE` there is `load NAME` with the text of FILE.
+A digest of the domain goes with each greeting: two routers that were started from different
+domains say so, and are not up with one another, unless --allow-other-domain is given.
 
 The last entries of the history are kept in memory. With --save all of them are in FOLDER, or
 the last ones with --segments, and one that is not saved yet is not forgotten.

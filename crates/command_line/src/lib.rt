@@ -11,6 +11,7 @@ mod environment;
 mod filter_words;
 mod format_words;
 mod given;
+mod headings;
 mod help;
 mod lint_words;
 mod numbers;
@@ -24,6 +25,7 @@ mod test_words;
 mod trying_words;
 mod words;
 
+pub use commands::VERSION;
 pub use diff_words::Comparing;
 pub use filter_words::{NamedFile, WrongFilter, filters_in};
 pub use lint_words::Linting;

@@ -67,14 +67,24 @@ pub struct Choices<'a> {
     pub test_formats: &'a [&'a str],
 }
 
-/// A parameter as the parser of words knows it, where options that are one of some words take these.
-pub(crate) fn arg_of<'a>(alloc: Global, parameter: &Parameter, choices: Choices<'a>) -> Arg<'a>
+/// A parameter as the parser of words knows it, where options that are one of some words take these. The help shows it under this heading, if it
+/// has one.
+pub(crate) fn arg_of<'a>(
+    alloc: Global,
+    parameter: &Parameter,
+    heading: Option<&'static str>,
+    choices: Choices<'a>,
+) -> Arg<'a>
     ensures rule { rule_of result ≡ record (written choices.entry parameter.now.name.now parameter.now.kind) { required = parameter.now.is_required } }
     ensures local { result.global ≡ false }
 {
-    written(alloc, parameter, choices)
+    let arg = written(alloc, parameter, choices)
         .help(parameter.help)
-        .required(parameter.is_required)
+        .required(parameter.is_required);
+    match heading {
+        Some(heading) => arg.help_heading(heading),
+        None => arg,
+    }
 }
 
 /// A parameter as it is written.

@@ -17,6 +17,10 @@ pub struct RouterWords {
     pub config: Option<String>,
     /// The options are looked at, and nothing is started.
     pub checks: bool,
+    /// The file of the whole domain.
+    pub domain: Option<String>,
+    /// A neighbour's domain may have been set up by another file.
+    pub allows_other: bool,
     /// The number of nodes of the domain.
     pub size: Option<u32>,
     /// The node that the router is.
@@ -37,6 +41,8 @@ pub struct RouterWords {
     pub routes: Option<String>,
     /// How many seconds the first table waits at most.
     pub settle: Option<u32>,
+    /// The file of the log.
+    pub log: Option<String>,
     /// The router goes on where its standard input ends.
     pub stays: bool,
     /// The prefixes of nodes, `V=PREFIX`.
@@ -49,6 +55,8 @@ pub struct RouterWords {
     pub exports: Vec<String>,
     /// The links, `W=IN,OUT`.
     pub links: Vec<String>,
+    /// Where operators are served, `IN,OUT` or `IN,OUT,look`.
+    pub controls: Vec<String>,
 }
 
 /// What the words of `router` say, which name these filters.
@@ -63,6 +71,8 @@ fn routing_in(
     Ok(RouterWords {
         config: text_in(alloc, matches, "config")?,
         checks: is_given(matches, "check"),
+        domain: text_in(alloc, matches, "domain")?,
+        allows_other: is_given(matches, "allow-other-domain"),
         size: number_given(matches, "size"),
         node: number_given(matches, "node"),
         limit: number_given(matches, "limit"),
@@ -73,12 +83,14 @@ fn routing_in(
         segments: number_given(matches, "segments"),
         routes: text_in(alloc, matches, "routes")?,
         settle: number_given(matches, "settle"),
+        log: text_in(alloc, matches, "log")?,
         stays: is_given(matches, "stay"),
         prefixes: values_of(alloc, matches, "prefix")?,
         filters,
         imports: values_of(alloc, matches, "import")?,
         exports: values_of(alloc, matches, "export")?,
         links: values_of(alloc, matches, "link")?,
+        controls: values_of(alloc, matches, "control")?,
     })
 }
 

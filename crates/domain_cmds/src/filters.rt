@@ -86,6 +86,13 @@ impl Filters {
         &self.named
     }
 
+    /// All of them, with which nothing else is done.
+    pub(crate) fn into_all(self) -> NamedFilters
+        ensures { result.entries ≡ self.named }
+    {
+        self.named
+    }
+
     /// What is told of the last filter that was refused.
     pub(crate) fn diagnosis(&self) -> Option<Diagnosis> {
         self.diagnosis

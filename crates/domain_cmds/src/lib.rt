@@ -47,4 +47,5 @@ pub use engine::{run_domain, run_watched_domain};
 pub use laws::{failures_stand_still_as_cuts, marks_are_of_a_plan};
 pub use left::{Left, LeftDomain, compare_domains, leave_domain};
 pub use paged::{Paged, run_paged_domain};
+pub use planning::Planning;
 pub use read::read_command;

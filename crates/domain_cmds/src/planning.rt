@@ -31,7 +31,7 @@ use std::sync::Arc;
 
 /// A domain that is set up. A contract sees it as a `PlanningView`.
 #[derive(Drop)]
-pub(crate) struct Planning {
+pub struct Planning {
     /// Its prefixes, links and filters.
     domain: RestingPlan,
     /// The filter of each name.
@@ -180,7 +180,7 @@ impl Planning {
     ghost use Rattle.domain_cmds.specs.CommandView.{view_of};
 
     /// A domain of so many nodes without links, with the default prefixes.
-    pub(crate) fn new(alloc: Global, size: DomainSize) -> Result<Planning, AllocError>
+    pub fn new(alloc: Global, size: DomainSize) -> Result<Planning, AllocError>
         ensures { IfOk result (λ planning. planning ≡ spec.new_planning size.nodes) }
     {
         let prefixes = default_prefixes(alloc, size.nodes)?;
@@ -200,27 +200,48 @@ impl Planning {
     }
 
     /// The number of nodes.
-    pub(crate) fn size(&self) -> u16
+    pub fn size(&self) -> u16
         ensures value { result ≡ self.now.plan.size }
         ensures limits { IsPlan self.now.plan }
     {
         self.domain.size()
     }
 
+    /// Its prefixes, links and filters.
+    pub fn plan(&self) -> &Plan
+        ensures { result.now ≡ self.now.plan }
+    {
+        self.domain.plan()
+    }
+
+    /// Prefixes stay from now on, as after a question.
+    pub fn begin(&mut self)
+        ensures { self.new ≡ spec.begin self.old }
+    {
+        self.begun = true;
+    }
+
     /// The filters that have names.
-    pub(crate) fn filters(&self) -> &NamedFilters
+    pub fn filters(&self) -> &NamedFilters
         ensures { result.now.entries ≡ self.now.filters }
     {
         self.filters.all()
     }
 
+    /// The filters that have names, where no more is asked of the domain.
+    pub fn into_filters(self) -> NamedFilters
+        ensures { result.entries ≡ self.filters }
+    {
+        self.filters.into_all()
+    }
+
     /// What is told of the last filter that was refused.
-    pub(crate) fn diagnosis(&self) -> Option<Diagnosis> {
+    pub fn diagnosis(&self) -> Option<Diagnosis> {
         self.filters.diagnosis()
     }
 
     /// Carries out a command, and answers it.
-    pub(crate) fn carry_out(
+    pub fn carry_out(
         &mut self,
         alloc: Global,
         number: u32,

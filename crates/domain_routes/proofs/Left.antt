@@ -155,6 +155,28 @@ own_left now v before w short =
 pub own_done : (n v : ℕ) → v < n → is_done (slice_set (replicate n false) v true) v ≡ true
 own_done n v short = get_or-set_same (replicate n false) v true true (omega (arith, short, length-replicate n false))
 
+-- a route that is read is that of the node
+pub route_read : (size : ℕ) (routes : List Best) (k u : ℕ) (d : Best) → k ≡ u → u < length routes → slice_index_or routes k d ≡ route_at size routes u
+route_read size routes k u d is short =
+    ap (λ j. slice_index_or routes j d) is ∙ sym (get_or_default routes u (nowhere size) d short)
+
+-- ---- routes that are all left
+
+abbrev pub all : ℕ → Bool
+all u = true
+
+-- one more of them
+pub left_below_more : (plan : PlanView) (before : List Best) (k u : ℕ) (d : Best) → k ≡ u → u < length before
+    → ((x : ℕ) → x < u → IsLeft (is_linked plan) all x (route_at plan.size before x).via) → IsLeft (is_linked plan) all u (slice_index_or before k d).via
+    → (x : ℕ) → x < u + 1 → IsLeft (is_linked plan) all x (route_at plan.size before x).via
+left_below_more plan before k u d is short so_far here x less =
+    ⊎_elim
+    (λ (same : x ≡ u). subst (λ (r : Best). IsLeft (is_linked plan) all x r.via)
+    (route_read plan.size before k u d is short ∙ ap (route_at plan.size before) (sym same))
+    (subst (λ n. IsLeft (is_linked plan) all n (slice_index_or before k d).via) (sym same) here))
+    (λ (other : x ≢ u). so_far x (omega (arith, less, other)))
+    (cases_eq x u)
+
 -- a next hop that is read is a node
 pub hop_read : (size : ℕ) (before : List Best) (k u w : ℕ) (d : Best) → HasHops size before → k ≡ u → u < size → length before ≡ size
     → (slice_index_or before k d).via ≡ Node w → w < size
@@ -372,3 +394,12 @@ module _ (m : Topology) (to : ℕ) (routes : List Best) (done : ℕ → Bool) (a
         (λ (other : u ≢ to). goes_on u (routed u).via short other refl (b.best u short other (inr short)).found)
         (cases_eq u to);
   }
+
+-- routes that are all left are those at rest
+pub all_left : (now : PlanView) (before : List Best) → ((u : ℕ) → u < now.size → IsLeft (is_linked now) all u (route_at now.size before u).via)
+    → (v : ℕ) → v < now.size → WereRoutes now v before → AreRoutes (topology now v) v before
+all_left now before left v short w =
+    let best : AreBestBefore (topology now v) v (route_at now.size before) all 0 = were_best now v before w short all (λ u within _. left u within) in
+    all_at_rest (topology now v) v before all (λ u _. refl)
+    (record { own = best.own; bounded = best.bounded; best = λ u within other _. best.best u within other (inl refl) })
+    (one_each now v before w)

@@ -1,7 +1,8 @@
 //! The routes of all nodes to one destination, once links were cut, by the routes before.
 //!
 //! **Most routes are left.** A route is left if it leads over a link that is, to a node whose route is left. Only the other nodes look for a way
-//! again: first the best one through nodes whose routes are left, and then in Dijkstra's order.
+//! again: first the best one through nodes whose routes are left, and then in Dijkstra's order. Where all routes lead over links that are, they are
+//! what they were.
 //!
 //! **A node whose route is left may gain by another's loss**, where a filter makes less of a greater distance. So it is offered each new way, too.
 //! Once one of these would come before its route, all routes are found from nothing: what was found may lead through that node.
@@ -93,6 +94,9 @@ fn offered(plan: &Plan, v: u16, u: u16, w: u16, dist: u16, route: Best) -> Best
     requires reachable { dist ≤ plan.now.size }
     ensures { IsOffered (topology plan.now v) w dist u route result }
 {
+    if !comes_before(route, dist, w) {
+        return route;
+    }
     if plan.is_linked(u, w) {
         better(route, plan.filtered(v, u, w, dist), w)
     } else {
@@ -184,6 +188,9 @@ fn stays(plan: &Plan, v: u16, u: u16, w: u16, dist: u16, route: Best) -> bool
     requires reachable { dist ≤ plan.now.size }
     ensures { IsTrue result → IsOffered (topology plan.now v) w dist u route route }
 {
+    if !comes_before(route, dist, w) {
+        return true;
+    }
     if !plan.is_linked(u, w) {
         return true;
     }
@@ -257,6 +264,30 @@ fn complete(plan: &Plan, v: u16, routes: &mut [Best], done: &mut [bool]) -> bool
     true
 }
 
+/// Whether a route leads over a link that there is, or is the destination's own, or none.
+fn keeps_route(plan: &Plan, u: u16, route: Best) -> bool
+    requires { u < plan.now.size }
+    ensures { IsTrue result → IsLeft (is_linked plan.now) (λ x. true) u route.via }
+{
+    match route.via {
+        Via::Node(w) => w < plan.size() && plan.is_linked(u, w),
+        Via::Local | Via::Nowhere => true,
+    }
+}
+
+/// Whether each of these routes leads over a link that there is. If they were the routes to a destination before links were cut, they are it still.
+fn keeps_routes(plan: &Plan, before: &[Best]) -> bool
+    requires { length before.now ≡ plan.now.size }
+    ensures { IsTrue result → (v : ℕ) → v < plan.now.size → WereRoutes plan.now v before.now → AreRoutes (topology plan.now v) v before.now }
+{
+    for u in 0..plan.size() {
+        if !keeps_route(plan, u, before[usize::from(u)]) {
+            return false;
+        }
+    }
+    true
+}
+
 /// The nodes whose routes are left, the destination among them.
 fn kept(alloc: Global, plan: &Plan, v: u16, before: &[Best]) -> Result<Vec<bool>, AllocError>
     requires v { v < plan.now.size }
@@ -284,6 +315,9 @@ impl Plan {
         requires before { WereRoutes self.now v before.now }
         ensures { IfOk result (λ routes. AreRoutes (topology self.now v) v routes.items) }
     {
+        if keeps_routes(self, before) {
+            return Ok(Vec::from_slice(alloc, before)?);
+        }
         let mut done = kept(alloc, self, v, before)?;
         let mut routes = Vec::from_slice(alloc, before)?;
         take_ways(self, v, &mut routes, &done);

@@ -13,6 +13,7 @@ ghost use Rattle.domain_routes.specs.Edits.{exporting, importing, linking, unfil
 ghost use Rattle.domain_routes.specs.PlanView.{IsPlan, IsSize, is_linked, opening_of, peer, stranger};
 ghost use Rattle.domain_routes.specs.Still.{HasFewerLinks};
 ghost use Rattle.domain_routes.specs.Topology.{filtered};
+ghost use Rattle.netchange_core.specs.Kept.{filter_of};
 
 use crate::peer::Peer;
 use crate::row::Row;
@@ -197,6 +198,24 @@ impl Plan {
         ensures { self.new ≡ exporting filter.value u w self.old }
     {
         self.rows[usize::from(u)].set_exports(w, filter);
+    }
+
+    /// The filter of what the first node receives from the second, if there is one.
+    pub fn import(&self, u: u16, w: u16) -> &Option<Arc<Verified>>
+        requires u { u < self.now.size }
+        requires w { w < self.now.size }
+        ensures { filter_of result.now ≡ (peer self.now u w).imports }
+    {
+        self.peer(u, w).imports()
+    }
+
+    /// The filter of what the first node tells the second, if there is one.
+    pub fn export(&self, u: u16, w: u16) -> &Option<Arc<Verified>>
+        requires u { u < self.now.size }
+        requires w { w < self.now.size }
+        ensures { filter_of result.now ≡ (peer self.now u w).exports }
+    {
+        self.peer(u, w).exports()
     }
 
     /// What the first node receives from the second passes no filter from now on, neither that of the first nor that of the second.

@@ -3,8 +3,8 @@
 //! **Of the nodes that are not done the nearest is found by looking at each**, and not by a heap. There are at most 250, and a heap would need
 //! memory, and a rule of its own for distances that fall.
 //!
-//! **A node that is done is offered ways too.** None comes before its route, since no filter makes a distance less; that is part of the proof, and
-//! a test for it would save runs of filters only where there are filters.
+//! **A node that is done is offered ways too.** None comes before its route, since no filter makes a distance less. For the same reason a filter is run
+//! only for a way that would come before a route without it.
 
 ghost use Rattle.std.specs.Prelude.{◌≡◌, ◌≢◌, ◌<◌, ◌≤◌, ℕ, IfOk, MatchOption, length, slice_index_or};
 ghost use Rattle.domain_routes.specs.PlanView.{is_linked, stranger};
@@ -12,7 +12,7 @@ ghost use Rattle.domain_routes.specs.Routes.{AreRoutes, route_at};
 ghost use Rattle.domain_routes.specs.Solving.{AreAllDone, AreBestSoFar, AreOffered, IsNearest, IsOffered, is_done};
 ghost use Rattle.domain_routes.specs.Topology.{topology};
 
-use crate::best::{Best, better};
+use crate::best::{Best, better, comes_before};
 use crate::plan::Plan;
 use crate::row::Row;
 use netchange_core::Via;
@@ -51,8 +51,11 @@ fn offer_one(plan: &Plan, row: &Row, v: u16, w: u16, dist: u16, u: u16, routes: 
     ensures offered { IsOffered (topology plan.now v) w dist u (route_at plan.now.size routes.old u) (route_at plan.now.size routes.new u) }
     ensures others { (x : ℕ) → x ≢ u → route_at plan.now.size routes.new x ≡ route_at plan.now.size routes.old x }
 {
+    let k = usize::from(u);
+    if !comes_before(routes[k], dist, w) {
+        return;
+    }
     if row.peer(u).is_linked() {
-        let k = usize::from(u);
         routes[k] = better(routes[k], plan.filtered(v, u, w, dist), w);
     }
 }

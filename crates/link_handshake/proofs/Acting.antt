@@ -6,7 +6,7 @@ use Rattle.std.proofs.lemmas.Bool.{cases_Bool}
 use Rattle.netchange_core.specs.declared.message.Message.{Message}
 use Rattle.link_handshake.specs.Ends.{begun, greeted_by, greeting_of, is_answered, ready}
 use Rattle.link_handshake.specs.Events.{Action, AreFresh, ChoosesFresh, Event, acts, run}
-use Rattle.link_handshake.specs.Events.Action.{Begins, Breaks, Greets, Hears, Idles, Loses, Restarts, Tells}
+use Rattle.link_handshake.specs.Events.Action.{Begins, Breaks, Greets, Hears, Idles, Loses, Restarts, Speaks, Tells}
 use Rattle.link_handshake.specs.Events.Event.{Here, There}
 use Rattle.link_handshake.specs.Links.{IsFresh, IsOpening, IsUntold, Line, Link, Opening, begins, greets_if, greets_there, hears_first, hears_one}
 use Rattle.link_handshake.specs.Links.{opened, turned, way, without, writes, written}
@@ -175,6 +175,7 @@ acting_orderly l Breaks o fresh = record {
   back = reply_written l.here l.there l.back l.forth.coming broken o.back (λ other. tt);
 }
 acting_orderly l (Loses count) o fresh = losing_orderly l count l.forth.gone l.forth.coming o
+acting_orderly l (Speaks speaker) o fresh = record { forth = o.forth; back = o.back }
 
 -- ---- runs
 

@@ -12,6 +12,12 @@ place_joined text head a b = spaced_on (text ++ head) a (b ++ 32 ∷ []) ∙ app
 pub attempt_joined : (text a b d : List ℕ) → ((text ++ (a ++ 32 ∷ [])) ++ (b ++ 32 ∷ [])) ++ d ≡ text ++ (a ++ 32 ∷ (b ++ 32 ∷ d))
 attempt_joined text a b d = spaced_on (text ++ (a ++ 32 ∷ [])) b d ∙ spaced_on text a (b ++ 32 ∷ d)
 
+-- the same, and what follows it
+pub attempt_on : (text a b d rest : List ℕ) → (text ++ (a ++ 32 ∷ (b ++ 32 ∷ d))) ++ rest ≡ text ++ (a ++ 32 ∷ (b ++ 32 ∷ (d ++ rest)))
+attempt_on text a b d rest =
+    append_assoc text (a ++ 32 ∷ (b ++ 32 ∷ d)) rest
+    ∙ ap (λ l. text ++ l) (append_assoc a (32 ∷ (b ++ 32 ∷ d)) rest ∙ ap (λ l. a ++ 32 ∷ l) (append_assoc b (32 ∷ d) rest))
+
 place_on : (head a b rest : List ℕ) → (head ++ (a ++ 32 ∷ (b ++ 32 ∷ []))) ++ rest ≡ head ++ (a ++ 32 ∷ (b ++ 32 ∷ rest))
 place_on head a b rest =
     append_assoc head (a ++ 32 ∷ (b ++ 32 ∷ [])) rest

@@ -34,6 +34,6 @@ heard_line e (said.Greeting g) next = record {
 heard_line e (said.Message m) next = record { end = e; answers = false; taken = cond e.is_up (Some m) None }
 heard_line e said.Nothing next = record { end = ready e next; answers = e.is_up; taken = None }
 
--- the greeting that an end writes: it says its own number, and repeats the last one that it heard
+-- the greeting that an end writes: it says its own number, repeats the last one that it heard, and tells its domain's digest if it has one
 abbrev pub greeting_of : Speaker → End → Greeting
-greeting_of s e = record { size = s.size; node = s.node; hold = s.hold; number = e.number; heard = e.heard }
+greeting_of s e = record { size = s.size; node = s.node; hold = s.hold; number = e.number; heard = e.heard; digest = s.digest }

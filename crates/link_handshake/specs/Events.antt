@@ -3,10 +3,12 @@ use Rattle.std.specs.Prelude.{◌≡◌, ℕ, ◌+◌, cond, true, List, [], ◌
 use Rattle.netchange_core.specs.declared.message.Message.{Message}
 use Rattle.link_handshake.specs.Links.{IsFresh, IsOpening, Line, Link, Opening, begins, greets_there, hears_first, opened, turned, without, writes}
 use Rattle.link_handshake.specs.Links.Line.{broken, greets, idles, tells}
+use Rattle.link_handshake.specs.declared.ends.Speaker.{Speaker}
 
 -- What an end does, or is done to what it wrote: it ends and is started again, which remembers nothing; it begins anew by itself; it hears
 -- the first line on its way to it, with a number for an attempt that may begin there; it writes a message, if it is in session, and its
--- greeting again, if it is not; it writes an empty line, and a part of a line; and the first lines of what it wrote, so many, are lost.
+-- greeting again, if it is not; it writes an empty line, and a part of a line; the first lines of what it wrote, so many, are lost; and its
+-- greetings say something else of it from now on, as another digest or none.
 pub data Action : Type 0 where
   Restarts : (number : ℕ) → Action
   Begins : (number : ℕ) → Action
@@ -16,6 +18,7 @@ pub data Action : Type 0 where
   Idles : Action
   Breaks : Action
   Loses : (count : ℕ) → Action
+  Speaks : (speaker : Speaker) → Action
 
 -- it does so at this end
 abbrev pub acts : Link → Action → Link
@@ -27,6 +30,7 @@ acts l Greets = cond l.here.is_up l (greets_there l)
 acts l Idles = writes l idles
 acts l Breaks = writes l broken
 acts l (Loses count) = record l { forth = without count l.forth.gone l.forth.coming }
+acts l (Speaks speaker) = record l { speaker = speaker }
 
 -- at this end or at the other
 pub data Event : Type 0 where
@@ -52,6 +56,7 @@ ChoosesFresh Greets l = ⊤
 ChoosesFresh Idles l = ⊤
 ChoosesFresh Breaks l = ⊤
 ChoosesFresh (Loses count) l = ⊤
+ChoosesFresh (Speaks speaker) l = ⊤
 
 abbrev pub ChoosesFreshAt : Event → Link → Type 0
 ChoosesFreshAt (Here a) l = ChoosesFresh a l

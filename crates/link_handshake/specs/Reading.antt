@@ -1,5 +1,7 @@
 -- What a line of version 2 says. (This project's own choice.)
-use Rattle.std.specs.Prelude.{ℕ, ◌==◌, if◌then◌else◌, List, [], ◌∷◌, length, take, drop, Option, Some, None, bytes_eq, decimal}
+use Rattle.std.specs.Prelude.{ℕ, ◌==◌, if◌then◌else◌, List, [], ◌∷◌, length, take, drop, Option, Some, None, Result, Ok, Err, bytes_eq, decimal}
+use Rattle.hex.specs.Hex.{decode_sized, encode_lower}
+use Rattle.hex.specs.declared.error.FromHexError.{FromHexError}
 use Rattle.message_streams.specs.Reading.{message_in}
 use Rattle.netchange_core.specs.declared.message.Message.{Message}
 use Rattle.prefix_patterns.specs.Reading.{◌>>=◌, number_in, parts_at}
@@ -25,16 +27,50 @@ first_number most text = do
 abbrev pub after_mark : List ℕ → Option (List ℕ)
 after_mark line = if bytes_eq (take (length mark) line) mark then Some (drop (length mark) line) else None
 
+-- the digest that a word writes, with small letters
+abbrev pub if_written : List ℕ → Result (List ℕ) FromHexError → Option (List ℕ)
+if_written word (Ok digest) = if bytes_eq (encode_lower digest) word then Some digest else None
+if_written word (Err why) = None
+
+unfoldable pub digest_in : List ℕ → Option (List ℕ)
+digest_in word = if_written word (decode_sized word 8)
+
+-- the last words of a greeting: the last number that it heard, and the digest of its domain, if it says one
+abbrev pub with_digest : List ℕ × List ℕ → Option (ℕ × Option (List ℕ))
+with_digest parts = do
+  heard ← exact_number 4294967295 parts.0
+  digest ← digest_in parts.1
+  Some (heard, Some digest)
+
+abbrev pub without_digest : List ℕ → Option (ℕ × Option (List ℕ))
+without_digest text = do
+  heard ← exact_number 4294967295 text
+  Some (heard, None)
+
+abbrev pub last_of : List ℕ → Option (List ℕ × List ℕ) → Option (ℕ × Option (List ℕ))
+last_of text None = without_digest text
+last_of text (Some parts) = with_digest parts
+
+unfoldable pub last_words : List ℕ → Option (ℕ × Option (List ℕ))
+last_words text = last_of text (parts_at 32 text)
+
 -- the greeting that a line says
 unfoldable pub greeting_in : List ℕ → Option Greeting
 greeting_in line = do
   rest ← after_mark line
-  size ← first_number 65535 rest
-  node ← first_number 65535 size.1
+  size ← first_number 250 rest
+  node ← first_number 250 size.1
   hold ← first_number 3600 node.1
   number ← first_number 4294967295 hold.1
-  heard ← exact_number 4294967295 number.1
-  if number.0 == 0 then None else Some (record { size = size.0; node = node.0; hold = hold.0; number = number.0; heard = heard })
+  last ← last_words number.1
+  if number.0 == 0 then None else Some (record {
+    size = size.0;
+    node = node.0;
+    hold = hold.0;
+    number = number.0;
+    heard = last.0;
+    digest = last.1;
+  })
 
 -- a greeting that was found, or else nothing
 abbrev pub greeting_or_nothing : Option Greeting → Said

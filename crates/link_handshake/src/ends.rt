@@ -15,6 +15,8 @@ pub struct Speaker {
     pub node: u16,
     /// How many seconds it may be silent before it is dead, at most 3,600; 0 for any time.
     pub hold: u16,
+    /// The digest of its domain, where it says one.
+    pub digest: Option<[u8; 8]>,
 }
 
 /// One end of a link, in an attempt.
@@ -63,6 +65,7 @@ impl End {
             hold: speaker.hold,
             number: self.number,
             heard: self.heard,
+            digest: speaker.digest,
         }
     }
 

@@ -2,9 +2,11 @@
 ghost use Rattle.std.specs.Prelude.{◌≡◌, ◌≤◌, ◌++◌, [], IfSome, OnErr, OnOk, decimal};
 ghost use Rattle.std.specs.Option.{option_map};
 ghost use Rattle.std.specs.Io.{StartsWith};
-ghost use Rattle.link_handshake.specs.Lines.{greeting_line, mark, spaced};
+ghost use Rattle.hex.specs.Hex.{encode_lower};
+ghost use Rattle.link_handshake.specs.Lines.{digest_part, greeting_line, mark, spaced};
 ghost use Rattle.link_handshake.specs.Reading as spec;
 
+use hex::{decode_to_slice, encode_to_slice};
 use itoa::Buffer;
 use line_protocol::push_decimal;
 use prefix_patterns::{cut_at, read_number};
@@ -12,6 +14,9 @@ use std::alloc::AllocError;
 
 /// What a greeting begins with: the name of the form, and its version.
 const MARK: &[u8] = b"netchange 2 ";
+
+/// The size and the node of a greeting are at most so much, as many nodes as a domain has. With larger ones the line of a greeting would be too long.
+const MOST_NODES: u32 = 250;
 
 /// What an end of a link says of itself when it begins an attempt, and whenever it has to be heard anew.
 #[derive(Clone, Copy, Debug, PartialEq, Eq)]
@@ -26,6 +31,8 @@ pub struct Greeting {
     pub number: u32,
     /// The number of the last greeting that it heard from the other end; 0 before.
     pub heard: u32,
+    /// The digest of its domain, where it says one.
+    pub digest: Option<[u8; 8]>,
 }
 
 /// Adds a number and a space.
@@ -60,13 +67,29 @@ fn push_attempt(out: &mut Vec<u8>, hold: u16, number: u32, heard: u32) -> Result
     Ok(())
 }
 
-/// Adds the line of a greeting, `netchange 2 SIZE NODE HOLD NUMBER HEARD` and a line feed.
+/// Adds the digest of a domain, as a word behind the others, if there is one.
+fn push_digest(out: &mut Vec<u8>, digest: Option<[u8; 8]>) -> Result<(), AllocError>
+    ensures ok { OnOk result (out.new.items ≡ out.old.items ++ digest_part digest) }
+    ensures err { OnErr result (StartsWith out.new.items out.old.items) }
+{
+    match digest {
+        Some(digest) => {
+            let digits = digest_digits(digest);
+            out.push(b' ')?;
+            out.extend_from_slice(&digits)
+        }
+        None => Ok(()),
+    }
+}
+
+/// Adds the line of a greeting, `netchange 2 SIZE NODE HOLD NUMBER HEARD`, with the digest of the domain where it says one, and a line feed.
 pub fn push_greeting(out: &mut Vec<u8>, greeting: Greeting) -> Result<(), AllocError>
     ensures ok { OnOk result (out.new.items ≡ out.old.items ++ greeting_line greeting) }
     ensures err { OnErr result (StartsWith out.new.items out.old.items) }
 {
     push_place(out, greeting.size, greeting.node)?;
     push_attempt(out, greeting.hold, greeting.number, greeting.heard)?;
+    push_digest(out, greeting.digest)?;
     out.push(b'\n')?;
     Ok(())
 }
@@ -103,16 +126,54 @@ fn read_first_number(text: &[u8], most: u32) -> Option<(u32, &[u8])>
     Some((number, rest))
 }
 
+/// The 16 digits of a domain's digest, with small letters.
+pub fn digest_digits(digest: [u8; 8]) -> [u8; 16]
+    ensures { result ≡ encode_lower digest }
+{
+    let mut digits = [0; 16];
+    // There are as many places as digits.
+    let _ = encode_to_slice(digest, &mut digits);
+    digits
+}
+
+/// The digest that a word writes, with small letters.
+#[tactic(auto, unfolding(crate::specs::Reading::digest_in))]
+fn read_digest(word: &[u8]) -> Option<[u8; 8]>
+    ensures { result ≡ spec.digest_in word.now }
+{
+    let mut digest = [0; 8];
+    decode_to_slice(word, &mut digest).ok()?;
+    if digest_digits(digest).as_slice() != word {
+        return None;
+    }
+    Some(digest)
+}
+
+/// The last words of a greeting: what it heard last, and the digest of its domain if it says one.
+#[tactic(auto, unfolding(crate::specs::Reading::last_words))]
+fn read_last_words(text: &[u8]) -> Option<(u32, Option<[u8; 8]>)>
+    ensures exact { result ≡ spec.last_words text.now }
+    ensures within { IfSome result (λ last. last.0 ≤ 4294967295) }
+{
+    match cut_at(text, b' ') {
+        Some((heard, digest)) => Some((
+            read_exact_number(heard, u32::MAX)?,
+            Some(read_digest(digest)?),
+        )),
+        None => Some((read_exact_number(text, u32::MAX)?, None)),
+    }
+}
+
 /// The greeting that a line says, which is given without its line feed. None if it is not the line of a greeting of version 2.
 #[tactic(auto, unfolding(crate::specs::Reading::greeting_in))]
 pub fn read_greeting(line: &[u8]) -> Option<Greeting>
     ensures { result ≡ spec.greeting_in line.now }
 {
-    let (size, rest) = read_first_number(after_mark(line)?, 65_535)?;
-    let (node, rest) = read_first_number(rest, 65_535)?;
+    let (size, rest) = read_first_number(after_mark(line)?, MOST_NODES)?;
+    let (node, rest) = read_first_number(rest, MOST_NODES)?;
     let (hold, rest) = read_first_number(rest, 3_600)?;
     let (number, rest) = read_first_number(rest, u32::MAX)?;
-    let heard = read_exact_number(rest, u32::MAX)?;
+    let (heard, digest) = read_last_words(rest)?;
     if number == 0 {
         return None;
     }
@@ -122,5 +183,6 @@ pub fn read_greeting(line: &[u8]) -> Option<Greeting>
         hold: hold as u16,
         number,
         heard,
+        digest,
     })
 }

@@ -3,10 +3,10 @@
 //!
 //! # The lines
 //!
-//! A greeting is `netchange 2 SIZE NODE HOLD NUMBER HEARD`: the number of nodes of the domain and the node that speaks;
+//! A greeting is `netchange 2 SIZE NODE HOLD NUMBER HEARD`: the number of nodes of the domain and the node that speaks, both at most 250;
 //! how many seconds this end may be silent before it is dead, at most 3,600, or 0 for any time; a number of this attempt, chosen at random,
 //! 1 to 4,294,967,295; and the number of the greeting that was heard last from the other end, or 0. Numbers are decimal, with no zero
-//! before them. A message is `V D`: the node V is at the distance D. An empty line says that its writer is there. No line has more than 64 bytes.
+//! before them. Where the speaker's domain has a digest, it is one more word, of 16 hexadecimal digits with small letters. A message is `V D`: the node V is at the distance D. An empty line says that its writer is there. No line has more than 64 bytes.
 //!
 //! # The protocol
 //!
@@ -67,7 +67,7 @@ mod said;
 
 pub use clocks::{Clocks, LOOK_LIMIT};
 pub use ends::{End, Heard, SKIP_LIMIT, Speaker, skip};
-pub use greeting::{Greeting, push_greeting, read_greeting};
+pub use greeting::{Greeting, digest_digits, push_greeting, read_greeting};
 pub use laws::{empty_lines_change_nothing, greetings_are_short, one_line, silence_lasts};
 pub use post::{CameUp, Post, Unheard};
 pub use runs::{

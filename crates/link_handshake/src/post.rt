@@ -52,6 +52,18 @@ pub struct Post {
     pub clocks: Clocks,
     /// Its greeting is to be written, since it began anew or has to answer.
     pub owes_greeting: bool,
+    /// The last greeting that it heard says no digest. Then its own say none either, as a neighbour may know no digests.
+    pub is_plain: bool,
+}
+
+/// Whether the last greeting that was heard says no digest, once this line was heard.
+fn plain_after(line: Said, is_plain: bool) -> bool
+    ensures { result ≡ spec.plain_after line is_plain }
+{
+    match line {
+        Said::Greeting(greeting) => greeting.digest.is_none(),
+        Said::Message(_) | Said::Alive | Said::Nothing => is_plain,
+    }
 }
 
 impl Post {
@@ -61,12 +73,14 @@ impl Post {
         ensures end { result.end ≡ begun number 0 }
         ensures owes { result.owes_greeting ≡ true }
         ensures speaker { result.speaker ≡ speaker }
+        ensures plain { result.is_plain ≡ false }
     {
         Post {
             speaker,
             end: End::begin(number, 0),
             clocks: Clocks::start(speaker.hold, now),
             owes_greeting: true,
+            is_plain: false,
         }
     }
 
@@ -77,6 +91,7 @@ impl Post {
         ensures clocks { self.new.clocks ≡ after_line self.old.clocks line }
         ensures owes { self.new.owes_greeting ≡ (self.old.owes_greeting || (heard_line self.old.end line next).answers) }
         ensures speaker { self.new.speaker ≡ self.old.speaker }
+        ensures plain { self.new.is_plain ≡ spec.plain_after line self.old.is_plain }
         ensures meets { IfSome result (λ m. (line ≡ said.Greeting m.greeting) × (m.number ≡ self.new.end.number)
             × (m.greeting.heard ≡ m.number) × (self.new.end.is_up ≡ true)) }
     {
@@ -84,6 +99,7 @@ impl Post {
         self.end = heard.end;
         self.clocks = self.clocks.hear(line);
         self.owes_greeting = self.owes_greeting || heard.answers;
+        self.is_plain = plain_after(line, self.is_plain);
         match line {
             Said::Greeting(greeting) if greeting.heard == heard.end.number => Some(CameUp {
                 greeting,
@@ -131,10 +147,27 @@ impl Post {
         self.owes_greeting || (!self.end.is_up && self.clocks.is_due())
     }
 
+    /// Who speaks in its next greeting: with the digest of its domain, unless the last greeting that it heard says none.
+    fn speaking(&self) -> Speaker
+        ensures { result ≡ spec.speaking self.now }
+    {
+        let digest = if self.is_plain {
+            None
+        } else {
+            self.speaker.digest
+        };
+        Speaker {
+            size: self.speaker.size,
+            node: self.speaker.node,
+            hold: self.speaker.hold,
+            digest,
+        }
+    }
+
     /// The greeting that it has to write now, if it has to: it owes one; or it has no session, and wrote nothing for a third of its HOLD. It
     /// counts as written.
     pub fn take_greeting(&mut self) -> Option<Greeting>
-        ensures some { IfSome result (λ g. spec.HasToGreet self.old × (g ≡ greeting_of self.old.speaker self.old.end)
+        ensures some { IfSome result (λ g. spec.HasToGreet self.old × (g ≡ greeting_of (spec.speaking self.old) self.old.end)
             × (self.new ≡ record self.old { owes_greeting = false; clocks = after_writing self.old.clocks })) }
         ensures none { IfNone result ((self.new ≡ self.old) × (spec.HasToGreet self.old → ⊥)) }
     {
@@ -143,7 +176,7 @@ impl Post {
         }
         self.owes_greeting = false;
         self.clocks = self.clocks.write();
-        Some(self.end.greeting(self.speaker))
+        Some(self.end.greeting(self.speaking()))
     }
 
     /// Whether it has to write something: a greeting, or an empty line where it wrote nothing for a third of its HOLD.

@@ -4,9 +4,12 @@ pub mod Unreported
 mod Beside
 mod Chained
 mod ComparedOff
+mod DomainIncluded
+mod DomainSizes
 mod FileNames
 mod FilePlaces
 mod FiltersRead
+mod FolderMade
 mod Gathered
 mod HostBits
 mod Imported

@@ -15,7 +15,7 @@ use Rattle.router_files.specs.declared.reading.WrongLine.{WrongLine}
 use Rattle.router_files.specs.declared.said.LineFault.TheVariants as line
 use Rattle.command_line.specs.declared.requests.Source.{Source}
 use Rattle.command_line.specs.declared.router_words.RouterWords.{RouterWords}
-use Rattle.ncroute.specs.Checked.{CutsWords, ServesWords}
+use Rattle.ncroute.specs.DomainRouter.{CutsInDomain, ServesInDomain}
 use Rattle.ncroute.specs.Ending.{fault_line}
 use Rattle.router_words.specs.Gathering.{Fit, Gathers, IsClash, path_of}
 use Rattle.ncroute.specs.Inclusions.{IsBeside}
@@ -64,11 +64,11 @@ module _ (opens : List ℕ → Result (Option (List ℕ)) Error → Type 0) wher
 
     unfoldable pub ServesStatements : OriginView → RouterWords → Streams → Streams → ℕ → Type 0
     ServesStatements origin words before after status =
-        DoesStatements (ServesWords opens makes keeps) Appends origin words before after status
+        DoesStatements (ServesInDomain opens makes keeps) Appends origin words before after status
 
     unfoldable pub CutsStatements : StreamFault → OriginView → RouterWords → Streams → Streams → ℕ → Type 0
     CutsStatements cut origin words before after status =
-        DoesStatements (CutsWords opens makes keeps cut) (IsCut cut) origin words before after status
+        DoesStatements (CutsInDomain opens makes keeps cut) (IsCut cut) origin words before after status
 
     -- The lines of the text of a file say these options, the names of files counting from the folder of the file; or the first line is told that
     -- is refused by itself.
@@ -106,11 +106,11 @@ module _ (opens : List ℕ → Result (Option (List ℕ)) Error → Type 0) wher
 
     -- The words name no file, or one.
     abbrev pub ServesBy : Option (String Global) → RouterWords → Streams → Streams → ℕ → Type 0
-    ServesBy None words before after status = ServesWords opens makes keeps no_file words before after status
+    ServesBy None words before after status = ServesInDomain opens makes keeps no_file words before after status
     ServesBy (Some name) words before after status = ServesFile (string_bytes name) words before after status
 
     abbrev pub CutsBy : StreamFault → Option (String Global) → RouterWords → Streams → Streams → ℕ → Type 0
-    CutsBy cut None words before after status = CutsWords opens makes keeps cut no_file words before after status
+    CutsBy cut None words before after status = CutsInDomain opens makes keeps cut no_file words before after status
     CutsBy cut (Some name) words before after status = CutsFile cut (string_bytes name) words before after status
 
     -- A router was run as its words say, with those of the file that they name, or what these say was looked at alone; or nothing was started,

@@ -2,7 +2,6 @@
 use Rattle.std.specs.Prelude.{◌≡◌, ◌≢◌, ◌⊎◌, ℕ, Bool, List, [], ◌∷◌, Option, Some, None, Result, codes}
 use Rattle.std.specs.Io.KnownBytes.{Appends}
 use Rattle.std.specs.declared.io.Error.{Error}
-use Rattle.line_protocol.specs.Limits.{input_limit}
 use Rattle.line_protocol.specs.Runs.{AppendsFront}
 use Rattle.report_formats.specs.declared.format.Format.{Format}
 use Rattle.domain_routes.specs.PlanView.{PlanView}
@@ -11,8 +10,9 @@ use Rattle.domain_cmds.specs.Left.{Compares, Leaves, text_of}
 use Rattle.domain_cmds.specs.declared.left.Left.{Left}
 use Rattle.domain_cmds.specs.declared.left.Left.TheVariants as left
 use Rattle.command_line.specs.declared.requests.Source.{Source}
+use Rattle.ncroute.specs.DomainLoading.{ReadsScript, SkipsScript}
 use Rattle.ncroute.specs.Ending.{status_of_found}
-use Rattle.ncroute.specs.Reading.{Reads, SkipsUnread, name_of, notice_line}
+use Rattle.ncroute.specs.Reading.{name_of, notice_line}
 use Rattle.ncroute.specs.Scripts.{IsQuiet}
 use Rattle.ncroute.specs.Streaming.{Streams, Tells}
 
@@ -60,9 +60,9 @@ module _ (opens : List ℕ → Result (Option (List ℕ)) Error → Type 0) wher
   -- A script was read and carried out; or it was not read, and leaves no domain behind.
   unfoldable pub LeftBy : Source → Bool → Streams → Streams → Option PlanView → Type 0
   LeftBy source is_explained before after plan =
-      ((script : List ℕ) × (mid : Streams) × Reads opens input_limit source script before mid
+      ((script : List ℕ) × (mid : Streams) × ReadsScript opens source script before mid
       × LeavesPlan (name_of source) script is_explained mid after plan)
-      ⊎ (SkipsUnread opens input_limit source before after × (plan ≡ None))
+      ⊎ (SkipsScript opens source before after × (plan ≡ None))
 
   -- The domain after a change was set up, and that before it compared with it; or it is not there.
   unfoldable pub ComparesNewer : Format → PlanView → Source → Bool → Streams → Streams → ℕ → Type 0

@@ -4,6 +4,10 @@ pub mod Checked
 pub mod Checking
 pub mod Comparing
 pub mod Configured
+pub mod DomainLines
+pub mod DomainLoading
+pub mod DomainRouter
+pub mod DomainWords
 pub mod Domains
 pub mod Ending
 pub mod Filters

@@ -2,13 +2,13 @@
 use Rattle.std.specs.Prelude.{◌≡◌, ◌⊎◌, ℕ, Bool, true, false, List, Option, Some, None, Result, Ok, Err}
 use Rattle.std.specs.Io.KnownBytes.{Appends}
 use Rattle.std.specs.declared.io.Error.{Error}
-use Rattle.line_protocol.specs.Limits.{input_limit}
 use Rattle.domain_cmds.specs.Paging.{PagesDomain}
 use Rattle.domain_cmds.specs.declared.paged.Paged.{Paged}
 use Rattle.command_line.specs.declared.requests.Source.{Source}
 use Rattle.command_line.specs.declared.requests.Source.TheVariants.{Input, File}
+use Rattle.ncroute.specs.DomainLoading.{ReadsScript, SkipsScript}
 use Rattle.ncroute.specs.Ending.{status_of}
-use Rattle.ncroute.specs.Reading.{Reads, SkipsUnread, name_of, uncreated_line, unwritten_line}
+use Rattle.ncroute.specs.Reading.{name_of, uncreated_line, unwritten_line}
 use Rattle.ncroute.specs.Scripts.{IsQuiet, TakesLines}
 use Rattle.ncroute.specs.Streaming.{Streams, Tells}
 
@@ -31,9 +31,9 @@ pub record RunsPaged (name page : List ℕ) (is_explained : Bool) (text kept kee
 module _ (opens : List ℕ → Result (Option (List ℕ)) Error → Type 0) where
   abbrev pub PagesFile : Source → List ℕ → Bool → Option (List ℕ) → Option (List ℕ) → Streams → Streams → ℕ → Type 0
   PagesFile source page is_explained kept keeps before after status =
-      ((script : List ℕ) × (mid : Streams) × Reads opens input_limit source script before mid
+      ((script : List ℕ) × (mid : Streams) × ReadsScript opens source script before mid
       × RunsPaged (name_of source) page is_explained (Some script) kept keeps mid after status)
-      ⊎ (SkipsUnread opens input_limit source before after × (keeps ≡ kept) × (status ≡ 3))
+      ⊎ (SkipsScript opens source before after × (keeps ≡ kept) × (status ≡ 3))
 
   -- The script of a source, line by line as standard input has it, or from a file.
   abbrev pub PagesLines : Source → List ℕ → Bool → Option (List ℕ) → Option (List ℕ) → Streams → Streams → ℕ → Type 0

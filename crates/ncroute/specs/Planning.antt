@@ -7,8 +7,8 @@ use Rattle.command_line.specs.declared.router_words.RouterWords.{RouterWords}
 use Rattle.router_files.specs.declared.options.RouterOption.{RouterOption}
 use Rattle.router_files.specs.declared.options.RouterOption.TheVariants as option
 use Rattle.router_options.specs.PlanView.{PlanView}
-use Rattle.router_options.specs.Plans.{AddsExport, AddsFilter, AddsImport, AddsLink, AddsPrefix, RefusesExport, RefusesImport, RefusesLink}
-use Rattle.router_options.specs.Plans.{RefusesNumbers, RefusesPrefix, are_numbers, new_plan}
+use Rattle.router_options.specs.Plans.{AddsControl, AddsExport, AddsFilter, AddsImport, AddsLink, AddsPrefix, RefusesExport, RefusesImport, RefusesLink}
+use Rattle.router_options.specs.Plans.{RefusesControl, RefusesNumbers, RefusesPrefix, are_numbers, new_plan}
 use Rattle.router_options.specs.declared.fault.NumberFault.TheVariants as number
 use Rattle.router_options.specs.declared.fault.OptionFault.{OptionFault}
 use Rattle.router_options.specs.declared.fault.OptionFault.TheVariants as fault
@@ -33,6 +33,7 @@ Adds kind.Filter plan text after = AddsFilter plan text after
 Adds kind.Import plan text after = AddsImport plan text after
 Adds kind.Export plan text after = AddsExport plan text after
 Adds kind.Link plan text after = AddsLink plan text after
+Adds kind.Control plan text after = AddsControl plan text after
 
 -- it is refused; a filter's name never is, but that memory may be
 abbrev pub Refuses : OptionKind → PlanView → List ℕ → OptionFault → Type 0
@@ -41,6 +42,7 @@ Refuses kind.Filter plan text why = why ≡ fault.Memory
 Refuses kind.Import plan text why = RefusesImport plan text why
 Refuses kind.Export plan text why = RefusesExport plan text why
 Refuses kind.Link plan text why = RefusesLink plan text why
+Refuses kind.Control plan text why = RefusesControl plan text why
 
 -- The first n of some options of a kind were added to a plan, in order. `text_of option` is what an option says.
 unfoldable pub AddsFirst : {A : Type 0} → OptionKind → (A → List ℕ) → List A → ℕ → PlanView → PlanView → Type 0
@@ -151,8 +153,14 @@ abbrev pub LacksExporting : RouterWords → PlanFault → Type 0
 LacksExporting words = OrStops (IsImporting words) (LacksImporting words) kind.Export text_of words.exports.items
 
 -- the plan that words tell, and the first fault of words that tell none
+abbrev pub IsLinking : RouterWords → PlanView → Type 0
+IsLinking words = ThenAdds (IsExporting words) kind.Link text_of words.links.items
+
+abbrev pub LacksLinking : RouterWords → PlanFault → Type 0
+LacksLinking words = OrStops (IsExporting words) (LacksExporting words) kind.Link text_of words.links.items
+
 abbrev pub IsPlanOf : RouterWords → PlanView → Type 0
-IsPlanOf words = ThenAdds (IsExporting words) kind.Link text_of words.links.items
+IsPlanOf words = ThenAdds (IsLinking words) kind.Control text_of words.controls.items
 
 abbrev pub LacksPlan : RouterWords → PlanFault → Type 0
-LacksPlan words = OrStops (IsExporting words) (LacksExporting words) kind.Link text_of words.links.items
+LacksPlan words = OrStops (IsLinking words) (LacksLinking words) kind.Control text_of words.controls.items

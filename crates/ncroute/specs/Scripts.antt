@@ -1,13 +1,12 @@
 -- What the program does for the script of a domain, and its exit status. (This project's own choice.)
 use Rattle.std.specs.Prelude.{◌≡◌, ◌⊎◌, ℕ, Bool, true, List, Option, None, Some, IfSome, Result}
 use Rattle.std.specs.declared.io.Error.{Error}
-use Rattle.line_protocol.specs.Limits.{input_limit}
 use Rattle.line_protocol.specs.declared.faults.StreamFault.{StreamFault}
 use Rattle.domain_cmds.specs.Running.{IsBrokenOff, IsCarriedOut}
 use Rattle.command_line.specs.declared.requests.Source.{Source}
 use Rattle.command_line.specs.declared.requests.Source.TheVariants.{Input, File}
+use Rattle.ncroute.specs.DomainLoading.{CutsScript, ReadsScript, SkipsScript}
 use Rattle.ncroute.specs.Ending.{status_of}
-use Rattle.ncroute.specs.Reading.{Reads, SkipsUnread, StopsReading}
 use Rattle.ncroute.specs.Streaming.{Streams}
 use Rattle.ncroute.specs.declared.script.Lines.{Lines}
 use Rattle.ncroute.specs.declared.script.Lines.TheVariants as lines
@@ -41,17 +40,17 @@ pub record StopsScript (fault : StreamFault) (is_explained : Bool) (text : Optio
 
 -- `opens name` says what may come of opening a file of this name.
 module _ (opens : List ℕ → Result (Option (List ℕ)) Error → Type 0) where
-  -- The script of a file was read to its end, or to the limit, and carried out; or it was not read.
+  -- The script of a file was read to its end, or to the limit, with the filters that it includes in their places, and carried out; or it was not read.
   abbrev pub RunsFile : Source → Bool → Streams → Streams → ℕ → Type 0
   RunsFile source is_explained before after status =
-      ((script : List ℕ) × (mid : Streams) × Reads opens input_limit source script before mid
+      ((script : List ℕ) × (mid : Streams) × ReadsScript opens source script before mid
       × RunsScript is_explained (Some script) mid after status)
-      ⊎ (SkipsUnread opens input_limit source before after × (status ≡ 3))
+      ⊎ (SkipsScript opens source before after × (status ≡ 3))
 
   -- A fault ended it.
   abbrev pub StopsFile : StreamFault → Source → Bool → Streams → Streams → Type 0
-  StopsFile fault source is_explained before after = StopsReading opens fault input_limit source before after
-      ⊎ ((script : List ℕ) × (mid : Streams) × Reads opens input_limit source script before mid
+  StopsFile fault source is_explained before after = CutsScript opens fault source before after
+      ⊎ ((script : List ℕ) × (mid : Streams) × ReadsScript opens source script before mid
       × StopsScript fault is_explained (Some script) mid after)
 
   -- A script was carried out: line by line as standard input has it, or from a file.

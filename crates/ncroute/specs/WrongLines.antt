@@ -26,6 +26,7 @@ byte_of line (fault.Form option) = first_byte line
 byte_of line fault.Number = second_byte line
 byte_of line fault.Node = second_byte line
 byte_of line fault.Comma = third_byte line
+byte_of line fault.CommaOfControl = second_byte line
 byte_of line fault.Memory = 0
 
 abbrev pub form_words : RouterOption → List ℕ
@@ -38,6 +39,7 @@ why_words (fault.Form option) = form_words option
 why_words fault.Number = codes "a number is 0 to 4294967295"
 why_words fault.Node = codes "this is no number of a node"
 why_words fault.Comma = codes "IN has a comma in its name, or in that of the folder"
+why_words fault.CommaOfControl = codes "IN or OUT has a comma in its name, or in that of the folder"
 why_words fault.Memory = codes "out of memory"
 
 -- the line that tells of it, in the file of this name

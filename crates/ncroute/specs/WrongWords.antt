@@ -28,6 +28,7 @@ option_name kind.Filter = codes "--filter"
 option_name kind.Import = codes "--import"
 option_name kind.Export = codes "--export"
 option_name kind.Link = codes "--link"
+option_name kind.Control = codes "--control"
 
 abbrev pub option_form : OptionKind → List ℕ
 option_form kind.Prefix = codes "the form is V=PREFIX, with the number of a node and a prefix as 10.0.0.0/8"
@@ -35,6 +36,7 @@ option_form kind.Filter = codes "the form is NAME=FILE"
 option_form kind.Import = codes "the form is W=NAME, with the number of a neighbour and the name of a filter"
 option_form kind.Export = codes "the form is W=NAME, with the number of a neighbour and the name of a filter"
 option_form kind.Link = codes "the form is W=IN,OUT, with the number of a neighbour and two files"
+option_form kind.Control = codes "the form is IN,OUT or IN,OUT,look, with two files"
 
 -- ---- why an option is refused
 
@@ -153,6 +155,7 @@ option_of kind.Filter = said.Filter
 option_of kind.Import = said.Import
 option_of kind.Export = said.Export
 option_of kind.Link = said.Link
+option_of kind.Control = said.Control
 
 -- the first line that says an option
 abbrev pub first_stated : Option RouterOption → List StatementView → Option StatementView

@@ -12,10 +12,11 @@ ghost use Rattle.ncroute.specs.Configured as spec;
 ghost use Rattle.router_words.specs.Stated.{origin_of};
 
 use crate::console::Console;
+use crate::domain_router::serve_in_domain;
 use crate::ending::{FAILED, fault_line};
 use crate::folders::HistoryFolders;
 use crate::including::{path_beside, read_config};
-use crate::routing::{Unreported, end_by_line, serve_words};
+use crate::routing::{Outlets, Unreported, end_by_line};
 use crate::texts::Folder;
 use crate::wrong_lines::{clash_line, refused_line};
 use command_line::{RouterWords, Source};
@@ -111,7 +112,7 @@ fn serve_statements<
     words: &RouterWords,
     origin: Origin<'_>,
     console: &mut Console<I, W, E>,
-    voice: T,
+    outlets: Outlets<T>,
 ) -> Result<u8, Unreported>
 where
     R::Segments: Send + 'static,
@@ -124,7 +125,9 @@ where
         return end_by_clash(alloc, &mut console.errors, origin.name, clash);
     }
     match gather(alloc, words, origin.statements) {
-        Ok(all) => serve_words::<R, FI, FO, T, I, W, E>(rt, alloc, &all, origin, console, voice),
+        Ok(all) => serve_in_domain::<R, FI, FO, T, I, W, E>(
+            rt, alloc, &all, origin, console, outlets,
+        ),
         Err(_) => end_by_memory(&mut console.errors),
     }
 }
@@ -156,7 +159,7 @@ fn serve_text<
     name: &str,
     text: &[u8],
     console: &mut Console<I, W, E>,
-    voice: T,
+    outlets: Outlets<T>,
 ) -> Result<u8, Unreported>
 where
     R::Segments: Send + 'static,
@@ -174,7 +177,7 @@ where
         Ok(statements) => {
             let statements = statements.as_slice();
             let origin = Origin { name, statements };
-            serve_statements::<R, FI, FO, T, I, W, E>(rt, alloc, words, origin, console, voice)
+            serve_statements::<R, FI, FO, T, I, W, E>(rt, alloc, words, origin, console, outlets)
         }
         Err(wrong) => end_by_wrong(alloc, &mut console.errors, name, &wrong),
     }
@@ -206,7 +209,7 @@ fn serve_file<
     words: &RouterWords,
     name: &str,
     console: &mut Console<I, W, E>,
-    voice: T,
+    outlets: Outlets<T>,
 ) -> Result<u8, Unreported>
 where
     R::Segments: Send + 'static,
@@ -227,15 +230,15 @@ where
             name,
             text.as_slice(),
             console,
-            voice,
+            outlets,
         ),
         Ok(None) => Ok(FAILED),
         Err(fault) => end_by_line(&mut console.errors, FAILED, fault_line(fault).as_bytes()),
     }
 }
 
-/// Does what the words of `router` ask for, with those of the file that they name, if they name one: the exit status. `voice` is where people are
-/// told of links.
+/// Does what the words of `router` ask for, with those of the file that they name, if they name one: the exit status. `outlets` is what
+/// a router has besides the console.
 pub(crate) fn serve_router<
     R: Threads
         + Wait
@@ -260,7 +263,7 @@ pub(crate) fn serve_router<
     alloc: Global,
     words: &RouterWords,
     console: &mut Console<I, W, E>,
-    voice: T,
+    outlets: Outlets<T>,
 ) -> Result<u8, Unreported>
 where
     R::Segments: Send + 'static,
@@ -270,8 +273,15 @@ where
 {
     match &words.config {
         Some(name) => {
-            serve_file::<R, FI, FO, T, I, W, E>(rt, alloc, words, name.as_str(), console, voice)
+            serve_file::<R, FI, FO, T, I, W, E>(rt, alloc, words, name.as_str(), console, outlets)
         }
-        None => serve_words::<R, FI, FO, T, I, W, E>(rt, alloc, words, no_file(), console, voice),
+        None => serve_in_domain::<R, FI, FO, T, I, W, E>(
+            rt,
+            alloc,
+            words,
+            no_file(),
+            console,
+            outlets,
+        ),
     }
 }

@@ -10,13 +10,14 @@ ghost use Rattle.ncroute.specs.Reading.{notice_line};
 ghost use Rattle.ncroute.specs.Scripts.{IsQuiet};
 
 use crate::console::{Console, Loaded};
+use crate::domain_loading::read_script;
 use crate::ending::{FAULT, status_of_found};
 use crate::texts::{Folder, name_of, tell_of};
 use crate::watcher::Teller;
 use command_line::Source;
 use domain_cmds::{Left, LeftDomain, compare_domains, leave_domain};
 use filter_reports::ProgramFault;
-use line_protocol::{INPUT_LIMIT, StreamFault};
+use line_protocol::StreamFault;
 use operator_cmds::NoWatcher;
 use report_formats::Format;
 use std::alloc::Global;
@@ -125,7 +126,7 @@ fn left_by<F: Folder, R: Read, W: Write, E: Write>(
     ensures left { IfOk result (spec.LeftBy (F.opens files.now) source.now is_explained console.old console.new) }
     ensures unwritten { console.new.holds ≡ console.old.holds }
 {
-    match console.read(files, alloc, source, INPUT_LIMIT) {
+    match read_script(files, alloc, source, console) {
         Loaded::Text(script) => {
             let (name, script) = (name_of(source), script.as_slice());
             leave_text(alloc, name, script, is_explained, console)

@@ -1,8 +1,10 @@
 //! The filters that a script is started with: they are read before its first line is answered, and people are told if one is refused.
 ghost use Rattle.std.specs.Option.{option_map};
-ghost use Rattle.std.specs.Prelude.{◌≡◌, [], ◌∷◌, ◌++◌, IfErr, IfOk, OnOk, slice_get};
+ghost use Rattle.std.specs.Prelude.{◌≡◌, [], ◌∷◌, ◌++◌, IfErr, IfOk, OnOk, Some, slice_get};
 ghost use Rattle.filter_reports.specs.Faults.{stream_fault};
+ghost use Rattle.filter_reports.specs.Telling.{Explains, IsCutExplanation};
 ghost use Rattle.router_script.specs.declared.filter_naming.NamedFilter.{NamedFilter as TheFilter};
+ghost use Rattle.ncroute.specs.Reading.{name_of as source_name};
 ghost use Rattle.ncroute.specs.Filters.{AreLoaded, IsCutFilter, IsCutUnfit, LeavesFilter, ReadsFilter};
 ghost use Rattle.ncroute.specs.Filters.{ReadsFilters, StopsAtFilter, TellsOfFilter, TellsUnfit};
 
@@ -148,6 +150,21 @@ fn filter_at(filters: &[NamedFilter], index: usize) -> Option<&NamedFilter>
     } else {
         None
     }
+}
+
+/// Tells why the filter of this source is refused.
+pub(crate) fn tell_source<E: Write>(
+    alloc: Global,
+    errors: &mut E,
+    source: &Source,
+    text: &[u8],
+    diagnosis: &Diagnosis,
+) -> Result<(), ProgramFault>
+    ensures ok { OnOk result (Explains (source_name source.now) text.now (Some diagnosis.now) (E.contents errors.old) (E.contents errors.new)) }
+    ensures err { IfErr result (λ fault. IsCutExplanation (stream_fault fault) (source_name source.now) text.now diagnosis.now
+        (E.contents errors.old) (E.contents errors.new)) }
+{
+    tell(alloc, errors, name_of(source), text, diagnosis)
 }
 
 /// Tells why this filter is refused.

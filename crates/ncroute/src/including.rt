@@ -172,7 +172,7 @@ pub(crate) fn path_beside(alloc: Global, by: &str, name: &str) -> Result<String,
 }
 
 /// The path of a file that another one includes by this name.
-fn included_path(alloc: Global, by: &Source, name: &str) -> Result<String, AllocError>
+pub(crate) fn included_path(alloc: Global, by: &Source, name: &str) -> Result<String, AllocError>
     ensures { IfOk result (λ path. IsIncludedPath (path_of by.now) name.now (string_bytes path)) }
 {
     match by {
@@ -331,6 +331,7 @@ fn tell_long_config<R: Read, W: Write, E: Write>(
 ) -> Result<(), ProgramFault>
     ensures told { OnOk result (Tells (long_config_line source.now) console.old console.new) }
     ensures cut { IfErr result (λ fault. CutsTelling (stream_fault fault) (long_config_line source.now) console.old console.new) }
+    ensures unwritten { console.new.holds ≡ console.old.holds }
 {
     tell_of(
         alloc,
@@ -350,6 +351,7 @@ fn take_within<R: Read, W: Write, E: Write>(
 ) -> Result<Option<Vec<u8>>, ProgramFault>
     ensures taken { IfOk result (λ found. TakesWithin source.now text.items (option_map (λ text. text.items) found) console.old console.new) }
     ensures cut { IfErr result (λ fault. CutsWithin (stream_fault fault) source.now text.items console.old console.new) }
+    ensures unwritten { console.new.holds ≡ console.old.holds }
 {
     if text.len() <= INPUT_LIMIT {
         return Ok(Some(text));
@@ -367,6 +369,7 @@ pub(crate) fn read_config<F: Folder, R: Read, W: Write, E: Write>(
 ) -> Result<Option<Vec<u8>>, ProgramFault>
     ensures read { IfOk result (λ found. IsText (F.opens files.now) source.now (option_map (λ text. text.items) found) console.old console.new) }
     ensures stopped { IfErr result (λ fault. StopsText (F.opens files.now) (stream_fault fault) source.now console.old console.new) }
+    ensures unwritten { console.new.holds ≡ console.old.holds }
 {
     match console.read(files, alloc, source, INPUT_LIMIT) {
         Loaded::Text(text) => take_within(alloc, source, text, console),

@@ -11,6 +11,10 @@ mod checking;
 mod comparing;
 mod configured;
 mod console;
+mod domain_lines;
+mod domain_loading;
+mod domain_router;
+mod domain_words;
 mod domains;
 mod ending;
 mod filters;
@@ -41,10 +45,14 @@ mod wrong_words;
 
 use command_line::{Invocation, Terminals, tell_that_input_is_read, waits_for_people};
 use console::Console;
+use ending::FAILED;
 use respond::respond;
+use router_daemon::{InputPipe, StandardInput};
+use routing::Outlets;
 use std::fs;
 use std::io::{self, IsTerminal};
 use std::process::ExitCode;
+use std::sync::Arc;
 
 /// What stands for a standard stream with which the program was not started: a folder, which can be opened, and neither read nor written.
 const NO_STREAM: &str = "/";
@@ -57,8 +65,14 @@ fn main(rt: HostRuntime) -> ExitCode {
         fs::open(&rt, NO_STREAM),
         fs::open(&rt, NO_STREAM),
     ];
+    let Ok(pipe) = Arc::new(rt.alloc(), InputPipe::new()) else {
+        return ExitCode::from(FAILED);
+    };
+    let Ok(shared) = Arc::try_clone(&pipe) else {
+        return ExitCode::from(FAILED);
+    };
     let mut console = Console {
-        reader: rt.stdin(),
+        reader: StandardInput::new(rt, rt.stdin(), shared),
         writer: io::writer(&rt),
         errors: rt.stderr(),
     };
@@ -67,12 +81,19 @@ fn main(rt: HostRuntime) -> ExitCode {
         errors: rt.stderr().is_terminal(),
     };
     let words = command_line::read(&rt, terminals);
+    if let Ok(Invocation::Router(_)) = &words {
+        console.reader.share();
+    }
     if words
         .as_ref()
         .is_ok_and(|words| waits_for_people(words, terminals))
     {
         tell_that_input_is_read(&rt);
     }
-    let status = respond(&rt, rt.alloc(), words, &mut console, rt.stderr());
+    let outlets = Outlets {
+        voice: rt.stderr(),
+        pipe,
+    };
+    let status = respond(&rt, rt.alloc(), words, &mut console, outlets);
     ExitCode::from(status)
 }

@@ -7,6 +7,7 @@ ghost use Rattle.ncroute.specs.Paging as spec;
 ghost use Rattle.ncroute.specs.Scripts.{IsQuiet, TakesLines, text_of};
 
 use crate::console::{Console, Loaded};
+use crate::domain_loading::read_script;
 use crate::ending::{FAILED, FAULT, status_of};
 use crate::script::Lines;
 use crate::texts::{Folder, name_of, tell_uncreated, tell_unwritten};
@@ -14,7 +15,7 @@ use crate::watcher::Teller;
 use command_line::Source;
 use domain_cmds::{Paged, run_paged_domain};
 use filter_reports::ProgramFault;
-use line_protocol::{INPUT_LIMIT, StreamFault};
+use line_protocol::StreamFault;
 use operator_cmds::NoWatcher;
 use std::alloc::Global;
 use std::io::{Read, Write};
@@ -128,7 +129,7 @@ fn page_file<F: Folder, R: Read, W: Write, E: Write, P: Write>(
     ensures { IfOk result (spec.PagesFile (F.opens files.now) source.now page_name.now is_explained (P.contents page.old) (P.contents page.new)
         console.old console.new) }
 {
-    match console.read(files, alloc, source, INPUT_LIMIT) {
+    match read_script(files, alloc, source, console) {
         Loaded::Text(text) => carry_out(
             alloc,
             name_of(source),

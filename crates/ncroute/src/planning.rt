@@ -28,6 +28,8 @@ pub enum OptionKind {
     Export,
     /// A link.
     Link,
+    /// Where an operator is served.
+    Control,
 }
 
 /// What is wrong with the words of `router`.
@@ -88,6 +90,7 @@ fn add(
         OptionKind::Import => plan.add_import(alloc, text),
         OptionKind::Export => plan.add_export(alloc, text),
         OptionKind::Link => plan.add_link(alloc, text),
+        OptionKind::Control => plan.add_control(alloc, text),
     }
 }
 
@@ -241,6 +244,17 @@ fn exporting_plan<'a>(alloc: Global, words: &'a RouterWords) -> Result<RouterPla
     Ok(plan)
 }
 
+/// The same with the links.
+fn linking_plan<'a>(alloc: Global, words: &'a RouterWords) -> Result<RouterPlan, PlanFault<'a>>
+    ensures made { IfOk result (spec.IsLinking words.now) }
+    ensures refused { IfErr result (spec.LacksLinking words.now) }
+{
+    let mut plan = exporting_plan(alloc, words)?;
+    let texts = words.links.as_slice();
+    add_options(alloc, &mut plan, OptionKind::Link, texts)?;
+    Ok(plan)
+}
+
 /// The plan that words tell; or the first that is wrong with them.
 pub(crate) fn plan_of<'a>(
     alloc: Global,
@@ -249,8 +263,8 @@ pub(crate) fn plan_of<'a>(
     ensures made { IfOk result (spec.IsPlanOf words.now) }
     ensures refused { IfErr result (spec.LacksPlan words.now) }
 {
-    let mut plan = exporting_plan(alloc, words)?;
-    let texts = words.links.as_slice();
-    add_options(alloc, &mut plan, OptionKind::Link, texts)?;
+    let mut plan = linking_plan(alloc, words)?;
+    let texts = words.controls.as_slice();
+    add_options(alloc, &mut plan, OptionKind::Control, texts)?;
     Ok(plan)
 }

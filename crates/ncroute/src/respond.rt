@@ -14,6 +14,7 @@ use crate::ending::{FAILED, end_by_fault};
 use crate::folders::HistoryFolders;
 use crate::network::serve_network;
 use crate::requests::{fault_status, serve};
+use crate::routing::Outlets;
 use crate::texts::Folder;
 use command_line::{Invocation, Request, RouterWords};
 use filter_reports::ProgramFault;
@@ -76,13 +77,19 @@ fn status_of_router<
     I: Read,
     W: Write,
     E: Write,
->(rt: &R, alloc: Global, words: &RouterWords, console: &mut Console<I, W, E>, voice: T) -> u8
+>(
+    rt: &R,
+    alloc: Global,
+    words: &RouterWords,
+    console: &mut Console<I, W, E>,
+    outlets: Outlets<T>,
+) -> u8
 where
     R::Segments: Send + 'static,
     ensures { ServesConfigured (R.opens rt.now) (R.makes rt.now) (R.keeps rt.now) words.now console.old console.new result
         ⊎ ((cut : StreamFault) × CutsConfigured (R.opens rt.now) (R.makes rt.now) (R.keeps rt.now) cut words.now console.old console.new result) }
 {
-    match serve_router::<R, FI, FO, T, I, W, E>(rt, alloc, words, console, voice) {
+    match serve_router::<R, FI, FO, T, I, W, E>(rt, alloc, words, console, outlets) {
         Ok(status) => status,
         Err(unreported) => unreported.status,
     }
@@ -99,7 +106,7 @@ fn status_of_fault<R: Read, W: Write, E: Write>(
     end_by_fault(&mut console.errors, ProgramFault::Stream(fault))
 }
 
-/// Does what the words of the command line ask for, and returns the exit status. `voice` is where people are told of a router's links.
+/// Does what the words of the command line ask for, and returns the exit status. `outlets` is what a router has besides the console.
 pub(crate) fn respond<
     R: Threads
         + Wait
@@ -124,7 +131,7 @@ pub(crate) fn respond<
     alloc: Global,
     words: Result<Invocation, StreamFault>,
     console: &mut Console<I, W, E>,
-    voice: T,
+    outlets: Outlets<T>,
 ) -> u8
 where
     R::Segments: Send + 'static,
@@ -133,7 +140,7 @@ where
     match words {
         Ok(Invocation::Asked(request)) => status_of_request(rt, alloc, &request, console),
         Ok(Invocation::Router(words)) => {
-            status_of_router::<R, FI, FO, T, I, W, E>(rt, alloc, &words, console, voice)
+            status_of_router::<R, FI, FO, T, I, W, E>(rt, alloc, &words, console, outlets)
         }
         Ok(Invocation::Network) => status_of_network(rt, alloc, console),
         Ok(Invocation::Shown(status)) => status,

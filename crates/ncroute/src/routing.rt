@@ -29,12 +29,14 @@ use crate::loading::load_filters;
 use crate::planning::{PlanFault, is_memory, plan_of};
 use crate::texts::{Folder, tell_uncreated, write_line};
 use crate::wrong_words::wrong_line;
-use command_line::RouterWords;
+use command_line::{RouterWords, VERSION};
 use filter_reports::ProgramFault;
 use history_saver::{SaveFault, SegmentSaver};
 use line_protocol::StreamFault;
 use route_history::CallFault;
-use router_daemon::{DaemonFault, FeedFile, LinkFolder, Setting, run_router};
+use router_daemon::{
+    DaemonFault, FeedFile, InputPipe, LinkFolder, Setting, Surroundings, run_router,
+};
 use router_options::RouterPlan;
 use router_words::Origin;
 use slot_lock::LockFault;
@@ -42,14 +44,14 @@ use std::alloc::Global;
 use std::io::{Read, Write};
 use std::random::RandomSource;
 use std::rt::Clock;
-use std::sync::Wait;
+use std::sync::{Arc, Wait};
 use std::thread::Threads;
 
 /// For how many seconds the first table of routes waits at most, if no word says otherwise.
 const SETTLE: u32 = 10;
 
 /// The exit status where the words are wrong.
-const WRONG_WORDS: u8 = 2;
+pub const WRONG_WORDS: u8 = 2;
 
 /// The exit status where the operator's lines could not be read or answered.
 const BROKEN_OFF: u8 = 3;
@@ -57,9 +59,18 @@ const BROKEN_OFF: u8 = 3;
 /// The exit status where the end of the history is not saved.
 const UNSAVED: u8 = 4;
 
+/// What a router has besides the console.
+#[derive(Drop)]
+pub struct Outlets<T> {
+    /// Where people are told of links.
+    pub voice: T,
+    /// Where standard input is ended.
+    pub pipe: Arc<InputPipe>,
+}
+
 /// What kept a router from being set up.
 #[derive(Clone, Copy)]
-enum SetupFault<'a> {
+pub enum SetupFault<'a> {
     /// The words are wrong.
     Words(PlanFault<'a>),
     /// A fault of the program.
@@ -113,7 +124,7 @@ fn end_by_words<E: Write>(
 }
 
 /// Tells people what kept a router from being set up: the exit status.
-fn end_unset<E: Write>(
+pub(crate) fn end_unset<E: Write>(
     alloc: Global,
     errors: &mut E,
     origin: Origin<'_>,
@@ -181,7 +192,7 @@ fn end_by_fault<E: Write>(errors: &mut E, fault: DaemonFault) -> Result<u8, Unre
 }
 
 /// Makes the folder in which the history is saved, if one is named. There is none where it is not made, which people are told.
-fn make_save<F: HistoryFolders, E: Write>(
+pub(crate) fn make_save<F: HistoryFolders, E: Write>(
     files: &F,
     alloc: Global,
     save: &Option<String>,
@@ -224,6 +235,20 @@ fn feed_of(words: &RouterWords) -> Option<FeedFile<'_>>
             settle: words.settle.unwrap_or(SETTLE),
         }),
         None => None,
+    }
+}
+
+/// What is around the router that words ask for.
+pub(crate) fn surroundings_of(words: &RouterWords, pipe: Arc<InputPipe>) -> Surroundings<'_> {
+    let log = match &words.log {
+        Some(name) => Some(name.as_str()),
+        None => None,
+    };
+    Surroundings {
+        version: VERSION,
+        feed: feed_of(words),
+        log,
+        pipe: Some(pipe),
     }
 }
 
@@ -373,7 +398,7 @@ fn leave_save<F: HistoryFolders>(
 }
 
 /// Runs a router that is set up: the exit status. The folder of its history is left at last.
-fn run_setting<
+pub(crate) fn run_setting<
     R: Threads
         + Wait
         + Clock
@@ -397,7 +422,7 @@ fn run_setting<
     alloc: Global,
     save: &Option<String>,
     setting: Setting<R::Segments>,
-    feed: Option<FeedFile<'_>>,
+    surroundings: Surroundings<'_>,
     console: &mut Console<I, W, E>,
     voice: T,
 ) -> Result<u8, Unreported>
@@ -414,7 +439,7 @@ where
         alloc,
         *rt,
         setting,
-        feed,
+        surroundings,
         voice,
         &mut console.reader,
         &mut console.writer,
@@ -428,7 +453,7 @@ where
 }
 
 /// Runs the router that words ask for, of which `origin` says some, and returns the exit status. Its filters are verified, and the folder of
-/// its history is made, before any link is opened. `voice` is where people are told of links.
+/// its history is made, before any link is opened. `outlets` is what it has besides the console.
 #[tactic(auto, unfolding(crate::specs::Routing::ServesRouter, crate::specs::Routing::CutsRouter))]
 fn run_words<
     R: Threads
@@ -455,7 +480,7 @@ fn run_words<
     words: &RouterWords,
     origin: Origin<'_>,
     console: &mut Console<I, W, E>,
-    voice: T,
+    outlets: Outlets<T>,
 ) -> Result<u8, Unreported>
 where
     R::Segments: Send + 'static,
@@ -464,13 +489,14 @@ where
     ensures unreported { IfErr result (λ unreported. spec.CutsRouter (R.opens rt.now) (R.makes rt.now) (R.keeps rt.now) (stream_fault unreported.why)
         (origin_of origin.entry) words.now console.old console.new unreported.status) }
 {
+    let Outlets { voice, pipe } = outlets;
     match set_up(rt, alloc, words, console) {
         Ok(Some(setting)) => run_setting::<R, FI, FO, T, I, W, E>(
             rt,
             alloc,
             &words.save,
             setting,
-            feed_of(words),
+            surroundings_of(words, pipe),
             console,
             voice,
         ),
@@ -505,7 +531,7 @@ pub(crate) fn serve_words<
     words: &RouterWords,
     origin: Origin<'_>,
     console: &mut Console<I, W, E>,
-    voice: T,
+    outlets: Outlets<T>,
 ) -> Result<u8, Unreported>
 where
     R::Segments: Send + 'static,
@@ -517,6 +543,6 @@ where
     if words.checks {
         check_router(rt, alloc, words, origin, console)
     } else {
-        run_words::<R, FI, FO, T, I, W, E>(rt, alloc, words, origin, console, voice)
+        run_words::<R, FI, FO, T, I, W, E>(rt, alloc, words, origin, console, outlets)
     }
 }

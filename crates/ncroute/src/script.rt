@@ -6,13 +6,14 @@ ghost use Rattle.ncroute.specs.Scripts.{IsQuiet, RunsFile, RunsScript, RunsSourc
 ghost use Rattle.ncroute.specs.Scripts.{TakesLines, text_of};
 
 use crate::console::{Console, Loaded};
+use crate::domain_loading::read_script;
 use crate::ending::{FAULT, status_of};
 use crate::texts::{Folder, name_of};
 use crate::watcher::Teller;
 use command_line::Source;
 use domain_cmds::{run_domain, run_watched_domain};
 use filter_reports::ProgramFault;
-use line_protocol::{INPUT_LIMIT, StreamFault};
+use line_protocol::StreamFault;
 use std::alloc::Global;
 use std::io::{Read, Write};
 
@@ -98,7 +99,7 @@ fn carry_out<R: Read, W: Write, E: Write>(
     Ok(status_of(refused))
 }
 
-/// Carries out the script of a file, and returns the exit status.
+/// Carries out the script of a file, with the filters that it includes in their places, and returns the exit status.
 fn run_file<F: Folder, R: Read, W: Write, E: Write>(
     files: &F,
     alloc: Global,
@@ -110,7 +111,7 @@ fn run_file<F: Folder, R: Read, W: Write, E: Write>(
     ensures stopped { IfErr result (λ fault. StopsFile (F.opens files.now) (stream_fault fault) source.now is_explained
         console.old console.new) }
 {
-    match console.read(files, alloc, source, INPUT_LIMIT) {
+    match read_script(files, alloc, source, console) {
         Loaded::Text(text) => carry_out(
             alloc,
             name_of(source),

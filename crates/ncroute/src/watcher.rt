@@ -27,7 +27,7 @@ impl<'a, E: Write> Watch for Teller<'a, E> {
 }
 
 /// Tells why a line is refused, if there is memory for the words.
-fn tell_refused<E: Write>(
+pub(crate) fn tell_refused<E: Write>(
     alloc: Global,
     kind: ScriptKind,
     name: &[u8],

@@ -18,7 +18,7 @@ fn byte_of(line: &[u8], why: LineFault) -> usize
     match why {
         LineFault::NotText | LineFault::Memory => 0,
         LineFault::Unknown | LineFault::Form(_) => first_byte(line),
-        LineFault::Number | LineFault::Node => second_byte(line),
+        LineFault::Number | LineFault::Node | LineFault::CommaOfControl => second_byte(line),
         LineFault::Comma => third_byte(line),
     }
 }
@@ -44,6 +44,9 @@ fn push_why(out: &mut Vec<u8>, why: LineFault) -> Result<(), AllocError>
         LineFault::Node => out.extend_from_slice(b"this is no number of a node"),
         LineFault::Comma => {
             out.extend_from_slice(b"IN has a comma in its name, or in that of the folder")
+        }
+        LineFault::CommaOfControl => {
+            out.extend_from_slice(b"IN or OUT has a comma in its name, or in that of the folder")
         }
         LineFault::Memory => out.extend_from_slice(b"out of memory"),
     }

@@ -25,6 +25,7 @@ fn option_name(kind: OptionKind) -> &'static [u8]
         OptionKind::Import => b"--import",
         OptionKind::Export => b"--export",
         OptionKind::Link => b"--link",
+        OptionKind::Control => b"--control",
     }
 }
 
@@ -41,6 +42,7 @@ fn option_form(kind: OptionKind) -> &'static [u8]
             b"the form is W=NAME, with the number of a neighbour and the name of a filter"
         }
         OptionKind::Link => b"the form is W=IN,OUT, with the number of a neighbour and two files",
+        OptionKind::Control => b"the form is IN,OUT or IN,OUT,look, with two files",
     }
 }
 
@@ -282,6 +284,7 @@ fn option_of(kind: OptionKind) -> RouterOption
         OptionKind::Import => RouterOption::Import,
         OptionKind::Export => RouterOption::Export,
         OptionKind::Link => RouterOption::Link,
+        OptionKind::Control => RouterOption::Control,
     }
 }
 

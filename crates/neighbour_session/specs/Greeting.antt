@@ -1,5 +1,6 @@
 -- Two neighbours greet one another. (This project's own choice.)
-use Rattle.std.specs.Prelude.{◌≡◌, ◌⊎◌, ℕ, List, ◌++◌, Option, Some, None}
+use Rattle.std.specs.Prelude.{◌≡◌, ◌⊎◌, ℕ, List, ◌++◌, Option, Some, None, if◌then◌else◌}
+use Rattle.std.specs.Str.{bytes_eq}
 use Rattle.std.specs.Io.KnownBytes.{Consumes}
 use Rattle.link_handshake.specs.Reading.{said_by}
 use Rattle.link_handshake.specs.declared.greeting.Greeting.{Greeting}
@@ -16,15 +17,26 @@ use Rattle.neighbour_session.specs.declared.ends.SessionEnd.{SessionEnd}
 use Rattle.neighbour_session.specs.declared.ends.SessionEnd.TheVariants as end
 use Rattle.neighbour_session.specs.declared.greeting.Domain.{Domain}
 
+-- a greeting says another digest than the router's domain has, if both say one
+abbrev pub unless_same : List ℕ → List ℕ → Option GreetingFault
+unless_same said own = if bytes_eq said own then None else Some (fault.OtherDomain said own)
+
+abbrev pub digest_fault : Option (List ℕ) → Option (List ℕ) → Option GreetingFault
+digest_fault (Some said) (Some own) = unless_same said own
+digest_fault _ _ = None
+
 -- the greeting is that of this node of the router's domain
 pub record IsOf (d : Domain) (neighbour : ℕ) (g : Greeting) : Type 0 where
   pub size : g.size ≡ d.size
   pub node : g.node ≡ neighbour
+  pub digest : digest_fault g.digest d.digest ≡ None
 
--- or it is one from a domain of another size; or from one of this size, by another node
+-- or it is one from a domain of another size; or from one of this size, by another node; or by this node, from one of another file
 abbrev pub IsOfOther : Domain → ℕ → Greeting → GreetingFault → Type 0
 IsOfOther d neighbour g (fault.OtherSize size) = (size ≡ g.size) × (g.size ≡ d.size → ⊥)
 IsOfOther d neighbour g (fault.OtherNode node) = (node ≡ g.node) × (g.size ≡ d.size) × (g.node ≡ neighbour → ⊥)
+IsOfOther d neighbour g (fault.OtherDomain said own) =
+    (g.size ≡ d.size) × (g.node ≡ neighbour) × (digest_fault g.digest d.digest ≡ Some (fault.OtherDomain said own))
 
 -- a line was heard that says this; or 64 bytes without a line feed, which say nothing
 pub record HearsLine (heard : Said) (input i : ReaderView) : Type 0 where

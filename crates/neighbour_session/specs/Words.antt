@@ -1,5 +1,6 @@
 -- Why a session is over, in words. (This project's own choice.)
 use Rattle.std.specs.Prelude.{ℕ, Bool, true, false, not, Option, Some, None, List, ◌++◌, codes, decimal}
+use Rattle.hex.specs.Hex.{encode_lower}
 use Rattle.link_handshake.specs.declared.said.Said.{Said}
 use Rattle.link_handshake.specs.declared.said.Said.TheVariants as said
 use Rattle.message_streams.specs.Ends.{is_lasting}
@@ -10,10 +11,15 @@ use Rattle.neighbour_session.specs.declared.ends.GreetingFault.TheVariants as fa
 use Rattle.neighbour_session.specs.declared.ends.SessionEnd.{SessionEnd}
 use Rattle.neighbour_session.specs.declared.ends.SessionEnd.TheVariants as end
 
+-- the digests of both domains
+abbrev pub domain_words : List ℕ → List ℕ → List ℕ
+domain_words said own = codes "the neighbour's domain has the digest " ++ encode_lower said ++ codes ", and this one " ++ encode_lower own
+
 -- why a line is not the greeting that is expected
 abbrev pub greeting_words : GreetingFault → List ℕ
 greeting_words (fault.OtherSize size) = codes "the neighbour's domain has " ++ decimal size ++ codes " nodes"
 greeting_words (fault.OtherNode node) = codes "the neighbour is node " ++ decimal node
+greeting_words (fault.OtherDomain said own) = domain_words said own
 
 -- why a stream ended, at a line
 abbrev pub stream_words : StreamEnd → ℕ → List ℕ

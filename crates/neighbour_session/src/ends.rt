@@ -1,10 +1,11 @@
 //! Why a session is over.
 ghost use Rattle.std.specs.Prelude.{◌≡◌, ◌++◌, OnErr, OnOk, decimal, string_bytes};
 ghost use Rattle.std.specs.Io.{StartsWith};
+ghost use Rattle.hex.specs.Hex.{encode_lower};
 ghost use Rattle.neighbour_session.specs.Words as spec;
 
 use itoa::Buffer;
-use link_handshake::{Greeting, Said};
+use link_handshake::{Greeting, Said, digest_digits};
 use message_streams::StreamEnd;
 use std::alloc::AllocError;
 
@@ -15,6 +16,13 @@ pub enum GreetingFault {
     OtherSize(u16),
     /// It is from this other node.
     OtherNode(u16),
+    /// It is from a domain that was set up by another file.
+    OtherDomain {
+        /// The digest that it says.
+        said: [u8; 8],
+        /// That of the router's own domain.
+        own: [u8; 8],
+    },
 }
 
 /// Why a session with a neighbour is over, or why none began.
@@ -80,6 +88,29 @@ fn push_numbered(
     text.push_str(after)
 }
 
+/// Adds a text, and a digest behind it.
+fn push_with_digest(text: &mut String, before: &str, digest: [u8; 8]) -> Result<(), AllocError>
+    ensures ok { OnOk result (string_bytes text.new ≡ string_bytes text.old ++ (before.now ++ encode_lower digest)) }
+    ensures err { OnErr result (StartsWith (string_bytes text.new) (string_bytes text.old)) }
+{
+    text.push_str(before)?;
+    let digits = digest_digits(digest);
+    match str::from_utf8(&digits) {
+        Ok(digits) => text.push_str(digits),
+        // Digits are text, so this never comes.
+        Err(_) => Err(AllocError),
+    }
+}
+
+/// Adds that the neighbour's domain has another digest.
+fn push_other_domain(text: &mut String, said: [u8; 8], own: [u8; 8]) -> Result<(), AllocError>
+    ensures ok { OnOk result (string_bytes text.new ≡ string_bytes text.old ++ spec.domain_words said own) }
+    ensures err { OnErr result (StartsWith (string_bytes text.new) (string_bytes text.old)) }
+{
+    push_with_digest(text, "the neighbour's domain has the digest ", said)?;
+    push_with_digest(text, ", and this one ", own)
+}
+
 /// Adds why a line is not the greeting that is expected.
 fn push_greeting_fault(text: &mut String, fault: GreetingFault) -> Result<(), AllocError>
     ensures ok { OnOk result (string_bytes text.new ≡ string_bytes text.old ++ spec.greeting_words fault) }
@@ -97,6 +128,7 @@ fn push_greeting_fault(text: &mut String, fault: GreetingFault) -> Result<(), Al
         GreetingFault::OtherNode(node) => {
             push_with_number(text, "the neighbour is node ", u64::from(node))
         }
+        GreetingFault::OtherDomain { said, own } => push_other_domain(text, said, own),
     }
 }
 

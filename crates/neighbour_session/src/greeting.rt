@@ -18,6 +18,8 @@ pub struct Domain {
     pub size: u16,
     /// The node that the router is.
     pub me: u16,
+    /// The digest that a neighbour's domain has to have, where the neighbour says one; any where this says none.
+    pub digest: Option<[u8; 8]>,
 }
 
 /// Who hears what a neighbour says while there is no session.
@@ -33,7 +35,17 @@ pub trait Ears {
     fn is_open<R: Wait>(&self, rt: &R) -> bool;
 }
 
-/// Whether a greeting is that of a node of a domain of this size.
+/// What is wrong with the digest that a greeting says, if something is, where this one is wanted. A greeting without one fits any.
+fn digest_fault(said: Option<[u8; 8]>, own: Option<[u8; 8]>) -> Option<GreetingFault>
+    ensures { result ≡ spec.digest_fault said own }
+{
+    match (said, own) {
+        (Some(said), Some(own)) if said != own => Some(GreetingFault::OtherDomain { said, own }),
+        _ => None,
+    }
+}
+
+/// Whether a greeting is that of a node of this domain.
 fn check_greeting(greeting: Greeting, domain: Domain, neighbour: u16) -> Result<(), GreetingFault>
     ensures ok { OnOk result (spec.IsOf domain neighbour greeting) }
     ensures err { IfErr result (spec.IsOfOther domain neighbour greeting) }
@@ -43,6 +55,9 @@ fn check_greeting(greeting: Greeting, domain: Domain, neighbour: u16) -> Result<
     }
     if greeting.node != neighbour {
         return Err(GreetingFault::OtherNode(greeting.node));
+    }
+    if let Some(fault) = digest_fault(greeting.digest, domain.digest) {
+        return Err(fault);
     }
     Ok(())
 }

@@ -2,7 +2,7 @@
 use crate::page::Page;
 
 /// A page for each code.
-pub static RUN_PAGES: [Page; 35] = [
+pub static RUN_PAGES: [Page; 36] = [
     Page {
         code: "O1",
         text: "\
@@ -126,6 +126,18 @@ Place: the first position whose entry is not
     refused O10 1024
 
 A router keeps the last entries alone in memory. Ask from that position on; or start the router with `--save FOLDER`, which then has them all.
+",
+    },
+    Page {
+        code: "O11",
+        text: "\
+O11: the operator may look alone
+Place: the number of the line
+
+    $ mkfifo in out; ncroute router --size 4 --node 0 --stay --control in,out,look < /dev/null 2> /dev/null & sleep 0.2; echo quit > in; head -n 1 out; kill $!
+    refused O11 1
+
+A control with `look` answers `routes`, `neighbours`, `told`, `history` and `status`. Say the rest at standard input, or at a control without it.
 ",
     },
     Page {

@@ -1,3 +1,4 @@
+pub mod RequestGate
 mod EmptyQueues
 pub mod Entering
 pub mod FullCalls

@@ -1,6 +1,6 @@
 -- How the parts of a run make the whole.
 use Rattle.std.proofs.Common.{◌≡◌, ◌∙◌, sym, ap, subst, refl, ℕ, List, [], map, Option, Some, None, Result, Ok, Err}
-use Rattle.std.specs.Prelude.{IfErr, IfOk, IfSome, IsOkAnd, MatchResult, OnErr}
+use Rattle.std.specs.Prelude.{IfErr, IfOk, IfSome, IsErrAnd, IsOkAnd, MatchResult, OnErr}
 use Rattle.std.specs.declared.alloc.AllocError.{AllocError}
 use Rattle.history_saver.specs.Folders.{FolderView}
 use Rattle.history_saver.specs.Segments.{SegmentsView}
@@ -53,6 +53,18 @@ early_fails operates untouched (fault.Save why) early left = absurd early
 early_fails operates untouched (fault.NotBegun why) early left = left
 early_fails operates untouched fault.NotStarted early left = left
 early_fails operates untouched fault.Memory early left = left
+
+-- the exit of a `?` with such a fault, where the streams are as they were
+module _ {T X Y : Type 0} (plan : PlanView) (names : Names) (remaining : X → Option (List ℕ)) (contents : Y → Option (List ℕ)) (reader : X) (writer : Y) where
+  pub exits_early : (r : Result T DaemonFault) (why : DaemonFault) → IsErrAnd r (λ given. given ≡ why) → IsEarly why →
+      IfErr r (Fails (λ answered. IfSome (remaining reader) (λ input. Operated plan names answered input (remaining reader) (contents writer)
+      (contents writer))) ((reader ≡ reader) × (writer ≡ writer)))
+  exits_early (Ok x) why is early = absurd is
+  exits_early (Err given) why is early =
+      let operates = λ (answered : Result ℕ StreamFault).
+      IfSome (remaining reader) (λ input. Operated plan names answered input (remaining reader) (contents writer) (contents writer)) in
+      subst (λ (w : DaemonFault). Fails operates ((reader ≡ reader) × (writer ≡ writer)) w) (sym is)
+      (early_fails operates ((reader ≡ reader) × (writer ≡ writer)) why early (refl, refl))
 
 -- how a run that began fails
 ran_fails : (operates : Result ℕ StreamFault → Type 0) (untouched : Type 0) (answered : Result ℕ StreamFault) (why : DaemonFault) →

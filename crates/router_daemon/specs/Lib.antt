@@ -6,6 +6,7 @@ pub mod Running
 pub mod StatesView
 pub mod Steps
 -- what only bodies are proved against
+pub mod RequestGate
 pub mod Forgetting
 pub mod Links
 pub mod Passes

@@ -1,5 +1,5 @@
 -- How a router is run. (This project's own choice.)
-use Rattle.std.specs.Prelude.{◌≡◌, ℕ, false, true, List, [], length, map, Option, Some, None, Result, Ok, Err, ⊤}
+use Rattle.std.specs.Prelude.{◌≡◌, ℕ, false, true, List, [], length, map, Option, Some, None, Result, Ok, Err, ⊤, option_and_then, if◌then◌else◌}
 use Rattle.std.specs.Option.{option_map}
 use Rattle.history_saver.specs.Folders.{FolderView}
 use Rattle.history_saver.specs.Looking.{seen_by}
@@ -11,11 +11,19 @@ use Rattle.route_history.specs.declared.entry.Entry.{Entry}
 use Rattle.router_operator.specs.OperatorView.{Names, OperatorView}
 use Rattle.router_operator.specs.Running.{IsBrokenOff, IsServed}
 use Rattle.router_options.specs.PlanView.{PlanView}
+use Rattle.router_options.specs.declared.plan.DomainMark.{DomainMark}
 use Rattle.slot_lock.specs.Passes.{PassView, RouterView}
 use Rattle.router_daemon.specs.Passes.{IsLegalPass}
 use Rattle.router_daemon.specs.Uses.{BeginsWithFilters}
 use Rattle.router_daemon.specs.declared.fault.DaemonFault.{DaemonFault}
 use Rattle.router_daemon.specs.declared.fault.DaemonFault.TheVariants as fault
+
+-- the digest that the domain of a neighbour has to have, where the router's was set up by a file, and no other is allowed
+abbrev pub wanted_of : DomainMark → Option (List ℕ)
+wanted_of mark = if mark.allows_other then None else Some mark.digest
+
+abbrev pub wanted_digest : Option DomainMark → Option (List ℕ)
+wanted_digest domain = option_and_then wanted_of domain
 
 -- the operator of a router, before their first line
 abbrev pub operator_of : RouterView → PassView → Names → List ℕ → OperatorView

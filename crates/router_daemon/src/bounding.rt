@@ -13,7 +13,7 @@ use crate::retrying::next_wait;
 use crate::router_passes::RouterPass;
 use crate::shared::Shared;
 use crate::signals::Closing;
-use crate::telling::{tell_saved, tell_unsaved};
+use crate::telling::Event;
 use history_saver::{SaveFault, SegmentFolder};
 use router_operator::Naming;
 use slot_lock::Pass;
@@ -99,7 +99,7 @@ fn await_turn<R: Wait + Clock, J: Naming, E: Write>(
 }
 
 /// Tells people that saving failed, where it did not before, or works again.
-fn state_after<R: Wait, J: Naming, E: Write>(
+fn state_after<R: Wait + Clock, J: Naming, E: Write>(
     rt: &R,
     alloc: Global,
     shared: &Shared<J, E>,
@@ -109,13 +109,11 @@ fn state_after<R: Wait, J: Naming, E: Write>(
     match (before, turned) {
         (BoundingState::Bounded(_), Ok(looked)) => BoundingState::Bounded(looked),
         (BoundingState::Failing { .. }, Ok(looked)) => {
-            let mut errors = shared.errors.lock(rt);
-            tell_saved(alloc, &mut *errors);
+            shared.tell(rt, alloc, Event::Saved);
             BoundingState::Bounded(looked)
         }
         (BoundingState::Bounded(_), Err(fault)) => {
-            let mut errors = shared.errors.lock(rt);
-            tell_unsaved(alloc, &mut *errors, fault);
+            shared.tell(rt, alloc, Event::Unsaved(fault));
             BoundingState::Failing {
                 wait: REST,
                 left: REST,
@@ -128,8 +126,20 @@ fn state_after<R: Wait, J: Naming, E: Write>(
     }
 }
 
+/// Notes how many entries are saved, where the history is.
+fn note_saved<R: Wait, J: Naming, E: Write>(
+    rt: &R,
+    shared: &Shared<J, E>,
+    saves: bool,
+    turned: Result<u64, SaveFault>,
+) {
+    if let (true, Ok(count)) = (saves, turned) {
+        *shared.signals.saved.lock(rt) = Some(count);
+    }
+}
+
 /// Saves and forgets the history, if it is time to, or the router is being closed.
-fn turn<R: Wait, F: SegmentFolder + Drop, J: Naming, E: Write>(
+fn turn<R: Wait + Clock, F: SegmentFolder + Drop, J: Naming, E: Write>(
     rt: &R,
     alloc: Global,
     shared: &Shared<J, E>,
@@ -147,6 +157,7 @@ fn turn<R: Wait, F: SegmentFolder + Drop, J: Naming, E: Write>(
             },
         _ => {
             let turned = forgetter.turn(rt, alloc, shared);
+            note_saved(rt, shared, forgetter.saves(), turned);
             state_after(rt, alloc, shared, state, turned)
         }
     }

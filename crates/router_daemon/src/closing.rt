@@ -21,7 +21,7 @@ fn close<R: Wait, J: Naming, E: Write>(rt: &R, shared: &Shared<J, E>) -> usize {
 }
 
 /// Ends the session of a link, if one is there and nobody else ended it. Its Down is owed then.
-fn end_session<R: Wait, J: Naming, E: Write>(rt: &R, shared: &Shared<J, E>, link: usize) {
+fn end_session<R: Wait + Clock, J: Naming, E: Write>(rt: &R, shared: &Shared<J, E>, link: usize) {
     let Some(session) = shared.signals.session(rt, link) else {
         return;
     };
@@ -32,7 +32,7 @@ fn end_session<R: Wait, J: Naming, E: Write>(rt: &R, shared: &Shared<J, E>, link
 }
 
 /// Ends the sessions of the first `count` links, and waits for those who are entering an Up or a Down.
-fn end_sessions<R: Wait, J: Naming, E: Write>(rt: &R, shared: &Shared<J, E>, count: usize) {
+fn end_sessions<R: Wait + Clock, J: Naming, E: Write>(rt: &R, shared: &Shared<J, E>, count: usize) {
     for link in 0..count {
         end_session(rt, shared, link);
     }
@@ -83,7 +83,8 @@ fn close_link<R: Wait + Clock, J: Naming, E: Write>(
     }
 }
 
-/// Closes the links: no session begins any more, each that is there ends, and its Down is entered, by whoever ended it.
+/// Closes the links, once no operator's line is answered any more: no session begins any more, each that is there ends, and its Down is entered, by
+/// whoever ended it.
 pub(crate) fn close_links<R: Wait + Clock, J: Naming, E: Write>(
     rt: &R,
     shared: &Shared<J, E>,
@@ -92,6 +93,7 @@ pub(crate) fn close_links<R: Wait + Clock, J: Naming, E: Write>(
     requires { IsLegalPass J.router pass.old }
     ensures { IsLegalPass J.router pass.new }
 {
+    shared.signals.request_gate.close(rt);
     let count = close(rt, shared);
     end_sessions(rt, shared, count);
     for link in 0..count {

@@ -9,7 +9,7 @@ use crate::router_passes::RouterPass;
 use crate::shared::Shared;
 use crate::signals::Closing;
 use crate::starting::take_part;
-use line_protocol::write_text;
+use crate::telling::{Event, OpenFault, shown_of};
 use neighbour_session::pause;
 use netchange_core::Opening;
 use route_feed::{Feed, FeedFault};
@@ -74,18 +74,17 @@ impl<J: Naming> Feeding<J> {
 }
 
 /// Tells that the routes are not told, since a file could not be opened.
-fn tell_unfed<E: Write>(alloc: Global, errors: &mut E, name: &str, why: &io::Error) {
-    if let Ok(line) = format!(in alloc; "routes: {name}: {why}\n") {
-        let _ = write_text(errors, line.as_bytes());
+fn tell_unfed<R: Wait + Clock, J: Naming, E: Write>(
+    rt: &R,
+    alloc: Global,
+    shared: &Shared<J, E>,
+    name: &str,
+    why: &io::Error,
+) {
+    if let Ok(shown) = shown_of(alloc, why) {
+        let shown = shown.as_str();
+        shared.tell(rt, alloc, Event::Unfed(OpenFault { name, shown }));
     }
-}
-
-/// Tells that the routes are not told, since a thread was not started.
-fn tell_unfed_at_all<E: Write>(errors: &mut E) {
-    let _ = write_text(
-        errors,
-        b"routes: a thread was not started (X2): they are not told\n",
-    );
 }
 
 /// For how many milliseconds a name rests that could not be opened, or whose stream ended.
@@ -153,7 +152,7 @@ fn tell_stream<R: Wait + Clock, O: Write + Drop, J: Naming, E: Write>(
 }
 
 /// Opens the file that the routes are told to. Where it cannot be opened, people are told, unless they were.
-fn open_feed<R: Wait, I: Read, O: Write, D: LinkFolder<I, O>, J: Naming, E: Write>(
+fn open_feed<R: Wait + Clock, I: Read, O: Write, D: LinkFolder<I, O>, J: Naming, E: Write>(
     rt: &R,
     alloc: Global,
     folder: &D,
@@ -168,8 +167,7 @@ fn open_feed<R: Wait, I: Read, O: Write, D: LinkFolder<I, O>, J: Naming, E: Writ
         }
         Err(why) => {
             if !*is_reported {
-                let mut errors = shared.errors.lock(rt);
-                tell_unfed(alloc, &mut *errors, name, &why);
+                tell_unfed(rt, alloc, shared, name, &why);
             }
             *is_reported = true;
             None
@@ -260,8 +258,7 @@ pub(crate) fn start_feeding<
         feed_routes::<R, I, O, D, J, E>(handle, alloc, folder, shared_with, feeding, router_pass)
     });
     if started.is_err() {
-        let mut errors = shared.errors.lock(rt);
-        tell_unfed_at_all(&mut *errors);
+        shared.tell(rt, alloc, Event::NoFeed);
     }
     Ok(())
 }

@@ -29,6 +29,9 @@ pub trait LinkFolder<I: Read, O: Write> {
     /// Opens the file that the routes are told to. What a file that keeps what is written had is gone.
     fn open_feed(&self, name: &str) -> io::Result<O>;
 
+    /// Opens the file of the log, to add to it. It is made where there is none.
+    fn open_log(&self, name: &str) -> io::Result<O>;
+
     /// Whether a file keeps what is written to it, as a FIFO does not.
     fn is_kept(&self, name: &str) -> bool;
 }
@@ -46,6 +49,13 @@ impl<R: Files<File = File>> LinkFolder<File, File> for R {
         OpenOptions::new()
             .write(true)
             .truncate(true)
+            .open(self, name)
+    }
+
+    fn open_log(&self, name: &str) -> io::Result<File> {
+        OpenOptions::new()
+            .append(true)
+            .create(true)
             .open(self, name)
     }
 

@@ -105,10 +105,15 @@ impl<'a> Gate for LinkGuard<'a> {
         await_queued(rt, self.signals, self.link, self.session)
     }
 
-    fn answered<R: Wait + Clock>(&self, rt: &R, _job: u32, answer: &Answer) {
+    fn answered<R: Wait + Clock>(&self, rt: &R, job: u32, answer: &Answer) {
+        if job == READER {
+            self.signals.records.note_received(rt, self.link);
+        }
         if let Reply::Messages(messages) = &answer.reply {
-            if !messages.as_slice().is_empty() {
+            let count = messages.as_slice().len();
+            if count > 0 {
                 self.signals.stations.note_written(rt, self.link);
+                self.signals.records.note_sent(rt, self.link, count);
             }
         }
         self.signals.note_served(rt, self.link, answer);

@@ -3,12 +3,11 @@ ghost use Rattle.std.specs.Prelude.{◌≡◌, [], IfSome};
 ghost use Rattle.router_operator.specs.OperatorView.{IsAt, OperatorView};
 ghost use Rattle.router_daemon.specs.Running.{HasOperator, Operates, operator_of};
 
-use crate::closing::stay;
 use crate::router_passes::{LegalPass, RouterPass};
 use crate::setting::VerifiedFilters;
 use crate::shared::Shared;
 use crate::signals::Signals;
-use crate::telling::tell_deaf;
+use crate::telling::Event;
 use line_protocol::StreamFault;
 use router_operator::{Naming, Operator};
 use slot_lock::Pass;
@@ -38,15 +37,14 @@ pub(crate) struct OperatorEnd<J: Naming> {
 }
 
 /// Tells people that a router that goes on takes no line of its operator any more, where a fault broke the lines off.
-fn tell_if_broken_off<R: Wait, J: Naming, E: Write>(
+fn tell_if_broken_off<R: Wait + Clock, J: Naming, E: Write>(
     rt: &R,
     alloc: Global,
     shared: &Shared<J, E>,
     answered: &Result<u32, StreamFault>,
 ) {
     if let Err(why) = answered {
-        let mut errors = shared.errors.lock(rt);
-        tell_deaf(alloc, &mut *errors, *why);
+        shared.tell(rt, alloc, Event::Deaf(*why));
     }
 }
 
@@ -79,7 +77,7 @@ pub(crate) fn serve_operator<'a, R: Wait + Clock, I: Read, W: Write, J: Naming, 
     let answered = operator.run(alloc, reader, writer);
     if figures.stays && !operator.has_quit() {
         tell_if_broken_off(rt, alloc, shared, &answered);
-        stay(rt, shared);
+        shared.signals.request_gate.await_quit(rt);
     }
     OperatorEnd {
         answered,

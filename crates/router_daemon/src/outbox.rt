@@ -3,12 +3,13 @@
 //! **Nobody waits for standard error but one thread, which writes there and does nothing else.** A pipe that nobody reads, and a terminal that is
 //! stopped, take nothing for as long as they like; meanwhile neighbours fall silent, and the history has to be saved. What there is no room for is
 //! left out, and people are told how many lines that were, once they are told again.
-ghost use Rattle.std.specs.Prelude.{◌≡◌, ◌++◌, take};
+ghost use Rattle.std.specs.Prelude.{◌≡◌, ◌≤◌, ◌++◌, length, take};
 ghost use Rattle.line_protocol.specs.Runs.{AppendsFront};
 ghost use Rattle.rtrb.specs.Ring.{received};
-ghost use Rattle.router_daemon.specs.Notices.{unwritten_count_line};
+ghost use Rattle.router_daemon.specs.Notices.{event_line};
+ghost use Rattle.router_daemon.specs.declared.telling.Event.TheVariants.{Unwritten};
 
-use crate::telling::tell_unwritten_count;
+use crate::telling::{Event, tell_event};
 use line_protocol::write_text;
 use rtrb::{Consumer, Producer, RingBuffer};
 use std::alloc::{AllocError, Global};
@@ -24,7 +25,7 @@ use std::time::Duration;
 const ROOM: usize = 65_536;
 
 /// How many of them are written at once.
-const PIECE: usize = 4_096;
+pub(crate) const PIECE: usize = 4_096;
 
 /// Milliseconds for which who closes a router waits at most until people are told all.
 const LAST: u32 = 1_000;
@@ -39,7 +40,7 @@ pub(crate) struct Counts {
     /// How many lines there was no room for, of which people were not told yet.
     unwritten: AtomicU64,
     /// Who writes sleeps on it.
-    condvar: Parker,
+    pub(crate) condvar: Parker,
 }
 
 impl Counts {
@@ -60,7 +61,7 @@ impl Counts {
     }
 
     /// So many of them were taken, and written if they could be.
-    fn note_written(&self, count: usize) {
+    pub(crate) fn note_written(&self, count: usize) {
         self.written.fetch_add(count as u64, Ordering::SeqCst);
     }
 
@@ -71,12 +72,12 @@ impl Counts {
     }
 
     /// How many lines there was no room for, of which people were not told yet.
-    fn unwritten(&self) -> u64 {
+    pub(crate) fn unwritten(&self) -> u64 {
         self.unwritten.load(Ordering::SeqCst)
     }
 
     /// People were told of so many lines that there was no room for.
-    fn note_reported(&self, count: u64) {
+    pub(crate) fn note_reported(&self, count: u64) {
         self.unwritten.fetch_sub(count, Ordering::SeqCst);
     }
 
@@ -135,6 +136,16 @@ pub(crate) struct Inbox {
     pub(crate) counts: Arc<Counts>,
 }
 
+impl Inbox {
+    /// Takes what waits, as far as there is place for it in a piece: how many bytes that is.
+    pub(crate) fn take(&mut self, piece: &mut [u8]) -> usize
+        ensures taken { received self.new.lines ≡ received self.old.lines ++ take result piece.new }
+        ensures within { result ≤ length piece.new }
+    {
+        self.lines.pop_partial_slice(piece)
+    }
+}
+
 /// Both ends, where nothing waits.
 pub(crate) fn open_outbox(alloc: Global) -> Result<(Outbox, Inbox), AllocError> {
     let (put, taken) = RingBuffer::new(alloc, ROOM)?;
@@ -153,7 +164,7 @@ fn tell_piece<E: Write>(errors: &mut E, inbox: &mut Inbox, piece: &mut [u8]) -> 
     ensures taken { received inbox.new.lines ≡ received inbox.old.lines ++ take result piece.new }
     ensures written { AppendsFront (E.contents errors.old) (E.contents errors.new) (take result piece.new) }
 {
-    let count = inbox.lines.pop_partial_slice(piece);
+    let count = inbox.take(piece);
     // Where standard error takes no text, people are not told.
     let _ = write_text(errors, &piece[..count]);
     inbox.counts.note_written(count);
@@ -162,10 +173,10 @@ fn tell_piece<E: Write>(errors: &mut E, inbox: &mut Inbox, piece: &mut [u8]) -> 
 
 /// Tells people how many lines there was no room for, if there were any.
 fn tell_if_unwritten<E: Write>(alloc: Global, errors: &mut E, unwritten: u64)
-    ensures { AppendsFront (E.contents errors.old) (E.contents errors.new) (unwritten_count_line unwritten) }
+    ensures { AppendsFront (E.contents errors.old) (E.contents errors.new) (event_line (Unwritten unwritten)) }
 {
     if unwritten > 0 {
-        tell_unwritten_count(alloc, errors, unwritten);
+        tell_event(alloc, errors, Event::Unwritten(unwritten));
     }
 }
 

@@ -11,13 +11,14 @@ ghost use Rattle.router_daemon.specs.Queues as spec;
 use crate::ending::SessionEnding;
 use crate::owed_downs::try_owed_down;
 use crate::shared::Shared;
-use crate::telling::tell_long;
+use crate::telling::{CloseReason, Event};
 use netchange_core::Tables;
 use route_history::LongJournal;
 use router_operator::Naming;
 use slot_lock::{Observer, Pass};
 use std::alloc::Global;
 use std::io::Write;
+use std::rt::Clock;
 use std::sync::Wait;
 
 /// How many entries are made at most from one look at the queues to the next.
@@ -100,7 +101,7 @@ impl Observer for LongQueueSearch<'_> {
 
 /// Ends the session of the first link, from one on, for whose neighbour more messages wait than may, if there is one. The states of the links say whether
 /// nobody ended it before.
-fn end_first<R: Wait, J: Naming, E: Write>(
+fn end_first<R: Wait + Clock, J: Naming, E: Write>(
     rt: &R,
     shared: &Shared<J, E>,
     pass: &mut Pass,
@@ -126,7 +127,7 @@ fn end_first<R: Wait, J: Naming, E: Write>(
 
 /// Ends the session of the first such link, tells people why, and enters its Down: which link it is. Where the Down is refused, it is owed,
 /// and entered later. Nobody waits for the link's writer, which may hang in a write until the neighbour reads.
-fn close_first<R: Wait, J: Naming, E: Write>(
+fn close_first<R: Wait + Clock, J: Naming, E: Write>(
     rt: &R,
     alloc: Global,
     shared: &Shared<J, E>,
@@ -145,14 +146,14 @@ fn close_first<R: Wait, J: Naming, E: Write>(
     }
     try_owed_down(rt, shared, pass, long.link);
     if ending.is_first() {
-        let mut errors = shared.errors.lock(rt);
-        tell_long(alloc, &mut *errors, long.node, long.waiting);
+        let (node, why) = (long.node, CloseReason::Long(long.waiting));
+        shared.tell(rt, alloc, Event::Closed { node, why });
     }
     Some(long.link)
 }
 
 /// Closes each link for whose neighbour more messages wait than may.
-pub(crate) fn close_long_queues<R: Wait, J: Naming, E: Write>(
+pub(crate) fn close_long_queues<R: Wait + Clock, J: Naming, E: Write>(
     rt: &R,
     alloc: Global,
     shared: &Shared<J, E>,

@@ -10,23 +10,28 @@ ghost use Rattle.router_daemon.specs.declared.fault.DaemonFault.TheVariants as f
 
 use crate::bounding::MostInMemory;
 use crate::closing::close_links;
+use crate::controls::{Controls, start_controls};
 use crate::fault::DaemonFault;
 use crate::feeding::{FeedFile, Feeding, start_feeding};
 use crate::folder::LinkFolder;
 use crate::forgetting::Forgetter;
+use crate::logging::{LogWriter, open_log, start_log};
 use crate::opening::open_router;
 use crate::operating::{Figures, OperatorEnd, serve_lines};
 use crate::outbox::{Counts, Outbox};
 use crate::router_passes::{LegalPass, RouterPass};
 use crate::setting::{RouterEnd, Setting, VerifiedFilters};
 use crate::shared::{Shared, shared_of};
+use crate::signals::Beginning;
+use crate::standard_input::InputPipe;
 use crate::starting::{Bounding, Links, start_bounding, start_links, start_telling, take_part};
-use crate::telling::{tell_lost, tell_unkept};
+use crate::telling::{Event, tell_event};
 use history_saver::{SaveFault, SegmentFolder, SegmentSaver};
 use line_protocol::StreamFault;
 use neighbour_session::Domain;
+use netchange_core::Opening;
 use router_operator::Naming;
-use router_options::{LinkFiles, RouterPlan};
+use router_options::{ControlFiles, DomainMark, LinkFiles, RouterPlan};
 use slot_lock::{Pass, Right, Router};
 use std::alloc::{AllocError, Global};
 use std::io::{Read, Write};
@@ -35,6 +40,32 @@ use std::random::RandomSource;
 use std::rt::Clock;
 use std::sync::{Arc, Wait};
 use std::thread::Threads;
+
+/// What is around a router, besides its links and operators.
+#[derive(Drop)]
+pub struct Surroundings<'a> {
+    /// The version of the program.
+    pub version: &'static str,
+    /// Where the routes are told, if they are.
+    pub feed: Option<FeedFile<'a>>,
+    /// The file of the log, if one is kept.
+    pub log: Option<&'a str>,
+    /// Where standard input is ended, if it can be.
+    pub pipe: Option<Arc<InputPipe>>,
+}
+
+/// What a router that was opened has around it.
+#[derive(Drop)]
+struct OpenedSurroundings<J: Naming> {
+    /// Where its routes are told.
+    feeding: Option<Feeding<J>>,
+    /// Where its log is kept.
+    log_writer: Option<LogWriter>,
+    /// Where operators are served, besides standard input.
+    controls: Vec<ControlFiles>,
+    /// Where standard input is ended.
+    pipe: Option<Arc<InputPipe>>,
+}
 
 /// Who saves and forgets the history of a router that was just opened. The first segment is made, if there is a folder.
 fn begin_forgetting<S: SegmentFolder + Drop, J: Naming>(
@@ -56,6 +87,29 @@ fn begin_forgetting<S: SegmentFolder + Drop, J: Naming>(
     }
 }
 
+/// The digest that the domain of a neighbour has to have, where it says one.
+fn wanted_digest(mark: Option<DomainMark>) -> Option<[u8; 8]>
+    ensures { result ≡ spec.wanted_digest mark }
+{
+    match mark {
+        Some(mark) if !mark.allows_other => Some(mark.digest),
+        _ => None,
+    }
+}
+
+/// A router's place in its domain, and the digest that a neighbour's domain has to have.
+fn domain_of(opening: &Opening, mark: Option<DomainMark>) -> Domain
+    ensures size { result.size ≡ opening.now.size }
+    ensures me { result.me ≡ opening.now.me }
+    ensures digest { result.digest ≡ spec.wanted_digest mark }
+{
+    Domain {
+        size: opening.size(),
+        me: opening.me(),
+        digest: wanted_digest(mark),
+    }
+}
+
 /// Tells people first, if the history is not saved, that it is not.
 fn tell_if_unkept<R: Clock>(
     rt: &R,
@@ -65,13 +119,13 @@ fn tell_if_unkept<R: Clock>(
     saves: bool,
 ) {
     if !saves {
-        tell_unkept(alloc, outbox);
+        tell_event(alloc, outbox, Event::Unkept);
         counts.await_written(rt);
     }
 }
 
 /// Saves the end of the history, if it is saved, at least as far as a pass has seen it. People are told where that fails.
-fn end_saving<R: Wait, S: SegmentFolder + Drop, J: Naming, E: Write>(
+fn end_saving<R: Wait + Clock, S: SegmentFolder + Drop, J: Naming, E: Write>(
     rt: &R,
     alloc: Global,
     shared: &Shared<J, E>,
@@ -82,8 +136,7 @@ fn end_saving<R: Wait, S: SegmentFolder + Drop, J: Naming, E: Write>(
 {
     let saved = forgetter.finish(rt, alloc, shared, router_pass);
     if let Err(fault) = &saved {
-        let mut errors = shared.errors.lock(rt);
-        tell_lost(alloc, &mut *errors, *fault);
+        shared.tell(rt, alloc, Event::Lost(*fault));
     }
     saved
 }
@@ -106,7 +159,7 @@ fn serve_all<
     pass: &mut Pass,
     links: Vec<LinkFiles>,
     common: Links,
-    feeding: Option<Feeding<J>>,
+    around: OpenedSurroundings<J>,
     figures: Figures,
     filters: VerifiedFilters,
     reader: &mut I,
@@ -127,8 +180,19 @@ fn serve_all<
     }
     let operators = LegalPass::new(shared.router.split(pass, 1));
     let folder = Arc::new(alloc, folder)?;
+    let OpenedSurroundings {
+        feeding,
+        log_writer,
+        controls: files,
+        pipe,
+    } = around;
+    start_log::<R, FI, FO, D, J, E>(rt, alloc, &folder, shared, log_writer)?;
     start_links::<R, FI, FO, D, J, E>(rt, alloc, &folder, shared, pass, links, common)?;
     start_feeding::<R, FI, FO, D, J, E>(rt, alloc, &folder, shared, pass, feeding)?;
+    let controls = Controls::new(figures, pipe);
+    start_controls::<R, FI, FO, D, J, E>(
+        rt, alloc, &folder, shared, pass, files, &filters, controls,
+    )?;
     Ok(serve_lines(
         rt, alloc, shared, operators, figures, filters, reader, writer,
     ))
@@ -151,7 +215,7 @@ fn end_of<S: SegmentFolder + Drop>(
 }
 
 /// What a router came to that ran, once its history is saved.
-fn end_run<R: Threads + Wait, S: SegmentFolder + Drop, J: Naming, E: Write>(
+fn end_run<R: Threads + Wait + Clock, S: SegmentFolder + Drop, J: Naming, E: Write>(
     rt: &R,
     alloc: Global,
     shared: &Shared<J, E>,
@@ -177,6 +241,13 @@ fn end_run<R: Threads + Wait, S: SegmentFolder + Drop, J: Naming, E: Write>(
     }
 }
 
+/// Waits until the log is written, if one is kept, for a second at most.
+fn await_logged<R: Clock>(rt: &R, logged: &Option<Arc<Counts>>) {
+    if let Some(counts) = logged {
+        counts.await_written(rt);
+    }
+}
+
 /// Runs a router that was opened, until the operator quits or their lines end.
 fn run_named<
     J: Naming + Send + Sync + 'static,
@@ -193,7 +264,7 @@ fn run_named<
     alloc: Global,
     folder: D,
     setting: Setting<S>,
-    feed: Option<FeedFile<'_>>,
+    surroundings: Surroundings<'_>,
     errors: E,
     reader: &mut I,
     writer: &mut W,
@@ -229,6 +300,8 @@ fn run_named<
         retry,
         hold,
         stays,
+        controls,
+        domain,
         ..
     } = plan;
     let figures = Figures {
@@ -237,18 +310,31 @@ fn run_named<
         stays,
     };
     let common = Links {
-        domain: Domain {
-            size: figures.size,
-            me: opening.me(),
-        },
+        domain: domain_of(&opening, domain),
+        digest: domain.map(|mark| mark.digest),
         retry,
         hold,
     };
+    let Surroundings {
+        version,
+        feed,
+        log,
+        pipe,
+    } = surroundings;
     let feeding = Feeding::<J>::new(alloc, feed, &opening)?;
+    let (log, log_writer, logged) = open_log(alloc, log)?;
+    let beginning = Beginning::now(rt, version);
     let shared: Arc<Shared<J, E>> = Arc::new(
         alloc,
-        shared_of(alloc, router, links.as_slice(), errors)?,
+        shared_of(alloc, router, links.as_slice(), beginning, log, errors)?,
     )?;
+    shared.tell(rt, alloc, Event::Begins(version));
+    let around = OpenedSurroundings {
+        feeding,
+        log_writer,
+        controls,
+        pipe,
+    };
     let router_pass = take_part(&shared, &mut pass, 1)?;
     let most = MostInMemory {
         entries: limit,
@@ -256,16 +342,19 @@ fn run_named<
     };
     let bounding = start_bounding(rt, alloc, &shared, forgetter, router_pass, most)?;
     let ran = serve_all::<R, FI, FO, D, J, E, I, W>(
-        rt, alloc, folder, &shared, &mut pass, links, common, feeding, figures, filters, reader,
+        rt, alloc, folder, &shared, &mut pass, links, common, around, figures, filters, reader,
         writer,
     );
     close_links(rt, &shared, &mut pass);
-    end_run(rt, alloc, &shared, bounding, ran)
+    let ended = end_run(rt, alloc, &shared, bounding, ran);
+    shared.tell(rt, alloc, Event::Ends);
+    await_logged(rt, &logged);
+    ended
 }
 
-/// Runs a router: its links, its operator and its history, until the operator quits or their lines end. The folder in which its history is to be
-/// saved has no segments before. Its routes are told, if a file is named for them. People are told by a thread of their own, so that nobody else waits
-/// for `errors`.
+/// Runs a router: its links, its operators and its history, until one of them quits or the lines of `reader` end. The folder in which its history is
+/// to be saved has no segments before. Its routes are told, if a file is named for them, and its log is kept, if one is. People are told by a thread of
+/// their own, so that nobody else waits for `errors`.
 pub fn run_router<
     R: Threads + Wait + Clock + RandomSource + Copy + Send + Drop + 'static,
     FI: Read + Send + Drop + 'static,
@@ -280,7 +369,7 @@ pub fn run_router<
     alloc: Global,
     folder: D,
     setting: Setting<S>,
-    feed: Option<FeedFile<'_>>,
+    surroundings: Surroundings<'_>,
     errors: E,
     reader: &mut I,
     writer: &mut W,
@@ -298,7 +387,17 @@ pub fn run_router<
     let (mut outbox, counts) = start_telling(rt, alloc, errors)?;
     tell_if_unkept(rt, alloc, &mut outbox, &counts, setting.save.is_some());
     let ran = run_named::<Brand, R, FI, FO, D, S, Outbox, I, W>(
-        rt, alloc, folder, setting, feed, outbox, reader, writer, router, pass, right,
+        rt,
+        alloc,
+        folder,
+        setting,
+        surroundings,
+        outbox,
+        reader,
+        writer,
+        router,
+        pass,
+        right,
     );
     counts.await_written(rt);
     ran

@@ -2,14 +2,17 @@
 ghost use Rattle.std.specs.Prelude.{◌≡◌, IfOk, map};
 ghost use Rattle.router_daemon.specs.Sets.{RouterView-set};
 
-use crate::signals::Signals;
+use crate::logging::Log;
+use crate::signals::{Beginning, Signals};
+use crate::telling::{Event, is_for_people, reason_words, tell_event};
 use router_operator::Naming;
 use router_options::LinkFiles;
 use slot_lock::Router;
 use std::alloc::{AllocError, Global};
 use std::io::Write;
 use std::marker::PhantomData;
-use std::sync::Mutex;
+use std::rt::Clock;
+use std::sync::{Mutex, Wait};
 
 /// What all threads of a router share: the router, what they know together, and where people are told things.
 #[derive(Drop)]
@@ -24,6 +27,21 @@ pub(crate) struct Shared<J: Naming, E: Write> {
     pub(crate) errors: Mutex<E>,
     of: PhantomData<J>,
     pub(crate) ghost is_named: { router ≡ J.router } by { RouterView-set router J.router },
+}
+
+impl<J: Naming, E: Write> Shared<J, E> {
+    /// Tells people of an event, if it is for them, and the log, if there is one; and notes why a link is closed.
+    pub(crate) fn tell<R: Wait + Clock>(&self, rt: &R, alloc: Global, event: Event<'_>) {
+        if is_for_people(event) {
+            let mut errors = self.errors.lock(rt);
+            tell_event(alloc, &mut *errors, event);
+        }
+        self.signals.log(rt, event);
+        if let Event::Closed { node, why } = event {
+            self.signals
+                .note_ended(rt, node, reason_words(alloc, why).ok());
+        }
+    }
 }
 
 /// The nodes of links.
@@ -42,13 +60,15 @@ pub(crate) fn shared_of<J: Naming, E: Write + Drop>(
     alloc: Global,
     router: Router,
     links: &[LinkFiles],
+    beginning: Beginning,
+    log: Option<Log>,
     errors: E,
 ) -> Result<Shared<J, E>, AllocError>
     requires { router ≡ J.router }
     ensures { IfOk result (λ shared. shared.nodes.items ≡ map (λ link. link.node) links.now) }
 {
     let nodes = nodes_of(alloc, links)?;
-    let signals = Signals::new(alloc, nodes.as_slice())?;
+    let signals = Signals::new(alloc, nodes.as_slice(), beginning, log)?;
     Ok(Shared {
         router,
         nodes,

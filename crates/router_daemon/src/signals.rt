@@ -3,10 +3,18 @@ ghost use Rattle.std.specs.Prelude.{◌≡◌, IfOk, is_some};
 ghost use Rattle.router_daemon.specs.StatesView.{AllAwake};
 
 use crate::ending::SessionEnding;
+use crate::link_records::LinkRecords;
+use crate::logging::Log;
 use crate::news::News;
+use crate::request_gate::RequestGate;
 use crate::states::LinkStates;
 use crate::stations::Stations;
+use crate::status::status_of;
+use crate::telling::Event;
+use crate::watching::now;
+use operator_cmds::Direction;
 use router_operator::Listener;
+use router_status::Status;
 use slot_lock::Answer;
 use std::alloc::{AllocError, Global};
 use std::rt::Clock;
@@ -40,6 +48,37 @@ pub(crate) struct Signals {
     room_condvar: Condvar,
     /// What the thread that tells the routes waits for.
     pub(crate) news: News,
+    /// Where operators at files of their own are attended to.
+    pub(crate) request_gate: RequestGate,
+    /// The nodes that have links, in the order of the links.
+    pub(crate) nodes: Vec<u16>,
+    /// What is counted of the links.
+    pub(crate) records: LinkRecords,
+    /// How many entries of the history are saved, if it is.
+    pub(crate) saved: Mutex<Option<u64>>,
+    /// The version of the program.
+    pub(crate) version: &'static str,
+    /// The log, if one is kept.
+    log: Option<Log>,
+}
+
+/// What is known of a router when it begins.
+#[derive(Clone, Copy)]
+pub(crate) struct Beginning {
+    /// The version of the program.
+    version: &'static str,
+    /// The time, in milliseconds of a clock that never goes back.
+    time: u64,
+}
+
+impl Beginning {
+    /// A router of this version begins now.
+    pub(crate) fn now<R: Clock>(rt: &R, version: &'static str) -> Beginning {
+        Beginning {
+            version,
+            time: now(rt).unwrap_or(0),
+        }
+    }
 }
 
 /// Shows that the router is being closed, if the states of the links say so.
@@ -98,8 +137,13 @@ fn notify_writers(states: &mut LinkStates, condvars: &[Condvar])
 }
 
 impl Signals {
-    /// The signals of a router with links to these nodes.
-    pub(crate) fn new(alloc: Global, nodes: &[u16]) -> Result<Signals, AllocError> {
+    /// The signals of a router with links to these nodes, of which this is known when it begins.
+    pub(crate) fn new(
+        alloc: Global,
+        nodes: &[u16],
+        beginning: Beginning,
+        log: Option<Log>,
+    ) -> Result<Signals, AllocError> {
         Ok(Signals {
             states: Mutex::new(LinkStates::new(alloc, nodes)?),
             stations: Stations::new(alloc, nodes.len())?,
@@ -110,7 +154,32 @@ impl Signals {
             room_end: Mutex::new(None),
             room_condvar: Condvar::new(),
             news: News::new(alloc, nodes.len())?,
+            request_gate: RequestGate::new(),
+            nodes: Vec::from_slice(alloc, nodes)?,
+            records: LinkRecords::new(alloc, nodes.len(), beginning.time)?,
+            saved: Mutex::new(None),
+            version: beginning.version,
+            log,
         })
+    }
+
+    /// Puts an event into the log, if one is kept.
+    pub(crate) fn log<R: Wait + Clock>(&self, rt: &R, event: Event<'_>) {
+        if let Some(log) = &self.log {
+            log.put(rt, event);
+        }
+    }
+
+    /// Notes why the link to a node is closed.
+    pub(crate) fn note_ended<R: Wait>(&self, rt: &R, node: u16, why: Option<String>) {
+        if let Some(link) = self
+            .nodes
+            .as_slice()
+            .iter()
+            .position(|other| *other == node)
+        {
+            self.records.note_ended(rt, link, why);
+        }
     }
 
     /// Wakes the threads that the states of the links name, and unlocks the states.
@@ -249,8 +318,17 @@ impl Signals {
         }
     }
 
+    /// Notes that a session of a link began.
+    fn note_up<R: Wait + Clock>(&self, rt: &R, link: usize, session: u32) {
+        self.records.note_begun(rt, link);
+        if let Some(node) = self.nodes.get(link) {
+            let node = *node;
+            self.log(rt, Event::Up { node, session });
+        }
+    }
+
     /// Begins a session of a link, whose Up has this answer. False where one is there already or the router is being closed.
-    pub(crate) fn begin<R: Wait>(
+    pub(crate) fn begin<R: Wait + Clock>(
         &self,
         rt: &R,
         link: usize,
@@ -260,6 +338,9 @@ impl Signals {
         let mut states = self.states.lock(rt);
         let begins = states.begin(link, session, answer.at);
         self.wake(states);
+        if begins {
+            self.note_up(rt, link, session);
+        }
         self.news.note(rt, answer.at);
         self.news.note_there(rt, link);
         begins
@@ -267,7 +348,7 @@ impl Signals {
 
     /// Ends a session of a link. The answer says whether this caller is the first to end it: then it must enter the Down, and say when that is done,
     /// and the end of the link begins anew. `by_line`: the reader ends it for a line, which the new beginning hears first.
-    pub(crate) fn end<R: Wait>(
+    pub(crate) fn end<R: Wait + Clock>(
         &self,
         rt: &R,
         link: usize,
@@ -278,6 +359,9 @@ impl Signals {
     {
         let mut states = self.states.lock(rt);
         let ending = states.end(link, session);
+        if ending.is_first() {
+            self.records.note_over(rt, link);
+        }
         if ending.is_first() && !states.is_closing() {
             self.stations.begin_anew(rt, link, by_line);
         }
@@ -309,5 +393,22 @@ impl Listener for Signals {
         states.note_exported(node, answer.at, &answer.reply);
         self.wake(states);
         self.news.note(rt, answer.at);
+    }
+
+    fn replaced<R: Wait + Clock>(&self, rt: &R, direction: Direction, node: u16, name: &[u8]) {
+        if let Ok(name) = str::from_utf8(name) {
+            self.log(
+                rt,
+                Event::Replaced {
+                    direction,
+                    node,
+                    name,
+                },
+            );
+        }
+    }
+
+    fn status<R: Wait + Clock>(&self, rt: &R, alloc: Global) -> Result<Status, AllocError> {
+        status_of(rt, alloc, self)
     }
 }

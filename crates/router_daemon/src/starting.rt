@@ -12,7 +12,7 @@ use crate::outbox::{Counts, Outbox, open_outbox, tell_people};
 use crate::router_passes::RouterPass;
 use crate::shared::Shared;
 use crate::supervisor::{RouterLink, keep_link};
-use crate::telling::tell_unstarted;
+use crate::telling::{CloseReason, Event};
 use crate::watching::watch_links;
 use crate::writer::write_link;
 use history_saver::SegmentFolder;
@@ -40,6 +40,8 @@ const SHARES: u32 = 100;
 pub(crate) struct Links {
     /// The router's place in its domain.
     pub(crate) domain: Domain,
+    /// The digest of its domain, which neighbours are told.
+    pub(crate) digest: Option<[u8; 8]>,
     /// How long a closed link waits before it is opened again, in seconds.
     pub(crate) retry: Option<u32>,
     /// How many seconds the router may be silent before it is dead; 0 for any time.
@@ -187,12 +189,13 @@ pub(crate) fn start_links<
             files,
             domain: common.domain,
             retry: common.retry,
+            digest: common.digest,
             hold,
         };
         let router_pass = take_part(shared, pass, SHARES)?;
         if !start_link::<R, I, O, D, J, E>(rt, alloc, folder, shared, link, router_pass)? {
-            let mut errors = shared.errors.lock(rt);
-            tell_unstarted(alloc, &mut *errors, node);
+            let why = CloseReason::Unstarted;
+            shared.tell(rt, alloc, Event::Closed { node, why });
         }
     }
     Ok(())

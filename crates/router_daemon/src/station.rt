@@ -9,6 +9,7 @@
 ghost use Rattle.std.specs.Prelude.{◌≡◌, ◌<◌, ◌+◌, ◌↔◌, IfNone, IfSome, IsTrue, cond, false, true, max, min};
 ghost use Rattle.link_handshake.specs.Clocks.{IsSilent, after_writing, looked};
 ghost use Rattle.link_handshake.specs.Ends.{begun, greeting_of, heard_line};
+ghost use Rattle.link_handshake.specs.Posts.{plain_after, speaking};
 ghost use Rattle.link_handshake.specs.declared.said.Said.TheVariants.{Greeting as greets};
 ghost use Rattle.router_daemon.specs.Stations as spec;
 
@@ -68,6 +69,7 @@ impl Station {
         ensures greets { self.new.is_to_hear ≡ false }
         ensures wait { self.new.wait ≡ self.old.wait }
         ensures looks { self.new.looks ≡ 0 }
+        ensures plain { self.new.post.is_plain ≡ plain_after line self.old.post.is_plain }
         ensures meets { IfSome result (λ m. (line ≡ greets m.greeting) × (m.greeting.heard ≡ m.number)) }
     {
         self.is_to_hear = false;
@@ -106,7 +108,7 @@ impl Station {
 
     /// The greeting that it has to write now, if it has to. It counts as written; and if it is said again, the next time is later.
     pub(crate) fn take_greeting(&mut self) -> Option<Greeting>
-        ensures greeting { IfSome result (λ g. g ≡ greeting_of self.old.post.speaker self.old.post.end) }
+        ensures greeting { IfSome result (λ g. g ≡ greeting_of (speaking self.old.post) self.old.post.end) }
         ensures some { IfSome result (λ _. spec.Greets self.old) }
         ensures none { IfNone result ((self.new ≡ self.old) × (spec.Greets self.old → ⊥)) }
         ensures written { IfSome result (λ _. (self.new.post.owes_greeting ≡ false)

@@ -74,6 +74,15 @@ impl Stations {
         }
     }
 
+    /// For how many seconds no line was heard on a link, if it is open.
+    pub(crate) fn unheard<R: Wait>(&self, rt: &R, link: usize) -> Option<u64> {
+        let guard = self.stations.get(link)?.lock(rt);
+        match &*guard {
+            Some(station) => Some(u64::from(station.post.clocks.unheard / 1_000)),
+            None => None,
+        }
+    }
+
     /// The end of a link hears a line, without a session: what it came up on, if it did.
     pub(crate) fn hear<R: Wait + RandomSource>(
         &self,

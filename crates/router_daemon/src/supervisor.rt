@@ -18,7 +18,7 @@ use crate::retrying::{reopening, seconds, wait_before, was_long};
 use crate::router_passes::{FreshPass, RouterPass};
 use crate::shared::Shared;
 use crate::signals::Closing;
-use crate::telling::{tell_end, tell_unopened};
+use crate::telling::{CloseReason, Event, OpenFault, shown_of};
 use crate::watching::now;
 use link_handshake::{Said, Speaker};
 use message_streams::{MessageReader, MessageWriter};
@@ -47,6 +47,8 @@ pub(crate) struct RouterLink {
     pub(crate) retry: Option<u32>,
     /// How many seconds this router may be silent before it is dead; 0 for any time.
     pub(crate) hold: u16,
+    /// The digest of its domain, which the neighbour is told.
+    pub(crate) digest: Option<[u8; 8]>,
 }
 
 /// The streams of a link that is open.
@@ -126,7 +128,7 @@ fn open_streams<'a, I: Read + Drop, O: Write + Drop, D: LinkFolder<I, O>>(
 }
 
 /// Tells people why a session is over, unless another thread tells it or the router is being closed.
-pub(crate) fn tell_unless_closed<R: Wait, J: Naming, E: Write>(
+pub(crate) fn tell_unless_closed<R: Wait + Clock, J: Naming, E: Write>(
     rt: &R,
     alloc: Global,
     shared: &Shared<J, E>,
@@ -136,12 +138,12 @@ pub(crate) fn tell_unless_closed<R: Wait, J: Naming, E: Write>(
     if why == SessionEnd::Closed || shared.signals.is_closing(rt) {
         return;
     }
-    let mut errors = shared.errors.lock(rt);
-    tell_end(alloc, &mut *errors, node, why);
+    let why = CloseReason::Ended(why);
+    shared.tell(rt, alloc, Event::Closed { node, why });
 }
 
 /// Closes a link whose ends did not meet, and tells people why, unless another thread closed it.
-pub(crate) fn close_unmet<R: Wait, J: Naming, E: Write>(
+pub(crate) fn close_unmet<R: Wait + Clock, J: Naming, E: Write>(
     rt: &R,
     alloc: Global,
     shared: &Shared<J, E>,
@@ -155,15 +157,20 @@ pub(crate) fn close_unmet<R: Wait, J: Naming, E: Write>(
 }
 
 /// Tells people that a file of a link was not opened.
-fn tell_of_file<R: Wait, J: Naming, E: Write>(
+fn tell_of_file<R: Wait + Clock, J: Naming, E: Write>(
     rt: &R,
     alloc: Global,
     shared: &Shared<J, E>,
     node: u16,
     unopened: &Unopened<'_>,
 ) {
-    let mut errors = shared.errors.lock(rt);
-    tell_unopened(alloc, &mut *errors, node, unopened.name, &unopened.why);
+    if let Ok(shown) = shown_of(alloc, &unopened.why) {
+        let why = CloseReason::Unopened(OpenFault {
+            name: unopened.name,
+            shown: shown.as_str(),
+        });
+        shared.tell(rt, alloc, Event::Closed { node, why });
+    }
 }
 
 /// A stream of a session that is over, if it goes on; otherwise it is closed.
@@ -345,6 +352,7 @@ fn open_station<R: Wait + Clock + RandomSource, J: Naming, E: Write>(
         size: link.domain.size,
         node: link.domain.me,
         hold: link.hold,
+        digest: link.digest,
     };
     let now = now(rt).unwrap_or(0);
     shared.signals.stations.open(rt, link.index, speaker, now);

@@ -11,7 +11,7 @@ use crate::owed_downs::enter_owed_down;
 use crate::router_passes::RouterPass;
 use crate::shared::Shared;
 use crate::supervisor::{close_unmet, tell_unless_closed};
-use crate::telling::tell_left_out;
+use crate::telling::Event;
 use link_handshake::{Greeting, push_greeting};
 use message_streams::MessageWriter;
 use neighbour_session::{SessionEnd, end_session, serve_writer};
@@ -149,7 +149,7 @@ fn await_work<R: Wait, O: Write + Drop, J: Naming, E: Write>(
 }
 
 /// Tells people how many messages of a session were left out, if there were any.
-fn tell_if_left_out<R: Wait, J: Naming, E: Write>(
+fn tell_if_left_out<R: Wait + Clock, J: Naming, E: Write>(
     rt: &R,
     alloc: Global,
     shared: &Shared<J, E>,
@@ -157,8 +157,7 @@ fn tell_if_left_out<R: Wait, J: Naming, E: Write>(
     count: u64,
 ) {
     if count > 0 {
-        let mut errors = shared.errors.lock(rt);
-        tell_left_out(alloc, &mut *errors, node, count);
+        shared.tell(rt, alloc, Event::LeftOut { node, count });
     }
 }
 

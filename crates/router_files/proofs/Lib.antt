@@ -1,4 +1,5 @@
 mod FirstLine
+pub mod Indexes
 mod Repeats
 mod Rows
 mod Statements

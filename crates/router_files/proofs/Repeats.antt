@@ -1,19 +1,12 @@
 -- Statements that are looked through for one that says again what an earlier one says.
-use Rattle.std.proofs.Common.{◌≡◌, ℕ, ◌+◌, ◌<◌, ◌⊎◌, List, Option, Some, None, ap, inl, inr, length, map, refl, subst, sym, take, ◌∙◌, arith}
+use Rattle.std.proofs.Common.{◌≡◌, ℕ, ◌+◌, ◌<◌, List, Option, Some, None, ap, inl, inr, length, map, subst, sym, take, ◌∙◌}
 use Rattle.std.proofs.lemmas.List.{take-map}
-use Rattle.std.proofs.lemmas.Option.{slice_get-map, slice_get_read}
 use Rattle.std.specs.Prelude.{find, get_or, slice_get}
-use Rattle.std.specs.Option.{option_map}
 use Rattle.router_files.specs.Again.{IsAgain, NoneBefore, first_said, says_again}
 use Rattle.router_files.specs.Files.{StatementView, statement_of}
+use Rattle.router_files.proofs.Indexes.{below_or_at, same_there, view_at}
 use Rattle.router_files.specs.declared.again.Again.{Again}
 use Rattle.router_files.specs.declared.reading.Statement.{Statement}
-
--- the statement of an index, as it is seen
-view_at : (statements : List Statement) (n : ℕ) (one : Statement) → one ≡ get_or statements n one → n < length statements
-    → slice_get (map statement_of statements) n ≡ Some (statement_of one)
-view_at statements n one is inside =
-    slice_get-map statement_of statements n ∙ ap (option_map statement_of) (slice_get_read statements (length statements) n one refl inside is)
 
 -- what it says again
 first_of : (statements : List Statement) (n : ℕ) (one : Statement) (found : Option StatementView)
@@ -33,12 +26,6 @@ is_again statements n again is inside none found = record {
   first = none;
 }
 
-below_or_at : (k n : ℕ) → k < n + 1 → (k < n) ⊎ (k ≡ n)
-below_or_at k n h = grind arith
-
-same_view : (one other : StatementView) → Some one ≡ Some other → one ≡ other
-same_view one other is = cc
-
 -- it says nothing again
 pub none_more : (statements : List Statement) (n : ℕ) (later : Statement) → later ≡ get_or statements n later → n < length statements
     → NoneBefore (map statement_of statements) n
@@ -48,7 +35,7 @@ none_more statements n later is inside none found k one below got =
       | inl earlier ↦ none k one earlier got
       | inr same ↦
           let here : slice_get (map statement_of statements) n ≡ Some one = subst (λ (m : ℕ). slice_get (map statement_of statements) m ≡ Some one) same got in
-          let one_is : statement_of later ≡ one = same_view _ _ (sym (view_at statements n later is inside) ∙ here) in
+          let one_is : statement_of later ≡ one = same_there statements n later one is inside here in
           subst (λ (m : ℕ). first_said (map statement_of statements) m one ≡ None) (sym same)
           (subst (λ (s : StatementView). first_said (map statement_of statements) n s ≡ None) one_is (first_of statements n later None found))
     ]

@@ -1,7 +1,9 @@
 -- What a line of a router's file says of its option, and why it is refused. (This project's own choice.)
-use Rattle.std.specs.Prelude.{◌≡◌, ◌≢◌, ℕ, Bool, false, ◌==◌, ◌++◌, List, [], ◌∷◌, Option, Some, None, Result, Ok, Err}
-use Rattle.std.specs.Prelude.{if◌then◌else◌, is_some, string_bytes}
+use Rattle.std.specs.Prelude.{◌≡◌, ◌≢◌, ℕ, Bool, false, ◌==◌, ◌||◌, ◌++◌, List, [], ◌∷◌, Option, Some, None, Result, Ok, Err}
+use Rattle.std.specs.Prelude.{String, codes, if◌then◌else◌, is_some, string_bytes}
 use Rattle.std.specs.List.{list_any}
+use Rattle.std.specs.Str.{bytes_eq}
+use Rattle.std.specs.declared.alloc.Global.{Global}
 use Rattle.line_protocol.specs.Limits.{number_limit}
 use Rattle.prefix_patterns.specs.Reading.{number_in}
 use Rattle.router_files.specs.Options.{shape_of}
@@ -106,6 +108,34 @@ abbrev pub files_said : List ℕ → RouterOption → List (List ℕ) → Readin
 files_said folder option (node ∷ input ∷ output ∷ []) = link_of folder node input output
 files_said folder option _ = Err (fault.Form option)
 
+-- `IN,OUT` and `IN,OUT,look`, neither file with a comma in its name
+abbrev pub Ends : Type 0
+Ends = Result (List ℕ) LineFault
+
+abbrev pub ends_over : List ℕ → List ℕ → Ends
+ends_over input output =
+    if list_any is_comma input || list_any is_comma output then Err fault.CommaOfControl else Ok (both input output)
+
+abbrev pub ends_of : List ℕ → List ℕ → List ℕ → Ends
+ends_of folder input output = ends_over (path_of folder input) (path_of folder output)
+
+abbrev pub IsText : Result (String Global) LineFault → Ends → Type 0
+IsText (Ok text) found = found ≡ Ok (string_bytes text)
+IsText (Err why) found = IsFault found why
+
+abbrev pub as_text : List ℕ → Ends → Reading
+as_text right (Ok ends) = Ok (Text (ends ++ right))
+as_text right (Err why) = Err why
+
+abbrev pub looking_of : List ℕ → List ℕ → List ℕ → Reading
+looking_of folder input output = as_text (codes ",look") (ends_of folder input output)
+
+abbrev pub ends_said : List ℕ → RouterOption → List (List ℕ) → Reading
+ends_said folder option (input ∷ output ∷ []) = as_text [] (ends_of folder input output)
+ends_said folder option (input ∷ output ∷ right ∷ []) =
+    if bytes_eq right (codes "look") then looking_of folder input output else Err (fault.Form option)
+ends_said folder option _ = Err (fault.Form option)
+
 abbrev pub said_as : Shape → List ℕ → RouterOption → List (List ℕ) → Reading
 said_as shape.Alone folder option values = given_said option values
 said_as shape.Number folder option values = number_said option values
@@ -113,6 +143,7 @@ said_as shape.Path folder option values = path_said folder option values
 said_as shape.Pair folder option values = pair_said option values
 said_as shape.Named folder option values = named_said folder option values
 said_as shape.Files folder option values = files_said folder option values
+said_as shape.Ends folder option values = ends_said folder option values
 
 abbrev pub said_of : List ℕ → RouterOption → List (List ℕ) → Reading
 said_of folder option values = said_as (shape_of option) folder option values

@@ -16,6 +16,7 @@ mod said;
 mod words;
 
 pub use again::{Again, find_again};
+pub use lines::cut_line;
 pub use options::RouterOption;
 pub use places::{first_byte, second_byte, third_byte};
 pub use reading::{Statement, WrongLine, read_statements};

@@ -13,7 +13,7 @@ fn find_line_feed(text: &[u8]) -> Option<usize>
 }
 
 /// The first line of a text, and what follows it.
-pub(crate) fn cut_line(text: &[u8]) -> Option<(&[u8], &[u8])>
+pub fn cut_line(text: &[u8]) -> Option<(&[u8], &[u8])>
     ensures none { IfNone result (lines text.now ≡ []) }
     ensures found { IfSome result (λ cut. lines text.now ≡ cut.0.now ∷ lines cut.1.now) }
     ensures shorter { IfSome result (λ cut. length cut.1.now < length text.now) }

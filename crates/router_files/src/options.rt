@@ -27,6 +27,10 @@ pub enum RouterOption {
     Routes,
     /// `stay`
     Stay,
+    /// `domain FILE`
+    Domain,
+    /// `allow-other-domain`
+    AllowOtherDomain,
     /// `prefix V PREFIX`
     Prefix,
     /// `filter NAME FILE`
@@ -37,6 +41,10 @@ pub enum RouterOption {
     Export,
     /// `link W IN OUT`
     Link,
+    /// `control IN OUT` or `control IN OUT look`
+    Control,
+    /// `log FILE`
+    Log,
 }
 
 /// What stands behind the name of an option.
@@ -54,10 +62,12 @@ pub enum Shape {
     Named,
     /// A node, and the names of two files.
     Files,
+    /// The names of two files, and maybe a right.
+    Ends,
 }
 
 /// All of them.
-static OPTIONS: [RouterOption; 16] = [
+static OPTIONS: [RouterOption; 20] = [
     RouterOption::Size,
     RouterOption::Node,
     RouterOption::Limit,
@@ -69,11 +79,15 @@ static OPTIONS: [RouterOption; 16] = [
     RouterOption::Save,
     RouterOption::Routes,
     RouterOption::Stay,
+    RouterOption::Domain,
+    RouterOption::AllowOtherDomain,
     RouterOption::Prefix,
     RouterOption::Filter,
     RouterOption::Import,
     RouterOption::Export,
     RouterOption::Link,
+    RouterOption::Control,
+    RouterOption::Log,
 ];
 
 impl RouterOption {
@@ -95,11 +109,15 @@ impl RouterOption {
             RouterOption::Save => "save",
             RouterOption::Routes => "routes",
             RouterOption::Stay => "stay",
+            RouterOption::Domain => "domain",
+            RouterOption::AllowOtherDomain => "allow-other-domain",
             RouterOption::Prefix => "prefix",
             RouterOption::Filter => "filter",
             RouterOption::Import => "import",
             RouterOption::Export => "export",
             RouterOption::Link => "link",
+            RouterOption::Control => "control",
+            RouterOption::Log => "log",
         }
     }
 
@@ -119,11 +137,15 @@ impl RouterOption {
             RouterOption::Save => "save FOLDER",
             RouterOption::Routes => "routes FILE",
             RouterOption::Stay => "stay",
+            RouterOption::Domain => "domain FILE",
+            RouterOption::AllowOtherDomain => "allow-other-domain",
             RouterOption::Prefix => "prefix V PREFIX",
             RouterOption::Filter => "filter NAME FILE",
             RouterOption::Import => "import W NAME",
             RouterOption::Export => "export W NAME",
             RouterOption::Link => "link W IN OUT",
+            RouterOption::Control => "control IN OUT [look]",
+            RouterOption::Log => "log FILE",
         }
     }
 
@@ -140,11 +162,13 @@ impl RouterOption {
             | RouterOption::Hold
             | RouterOption::Segments
             | RouterOption::Settle => Shape::Number,
-            RouterOption::Save | RouterOption::Routes => Shape::Path,
-            RouterOption::Stay => Shape::Alone,
+            RouterOption::Save | RouterOption::Routes | RouterOption::Log | RouterOption::Domain =>
+                Shape::Path,
+            RouterOption::Stay | RouterOption::AllowOtherDomain => Shape::Alone,
             RouterOption::Prefix | RouterOption::Import | RouterOption::Export => Shape::Pair,
             RouterOption::Filter => Shape::Named,
             RouterOption::Link => Shape::Files,
+            RouterOption::Control => Shape::Ends,
         }
     }
 

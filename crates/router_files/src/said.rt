@@ -48,6 +48,9 @@ pub enum LineFault {
     /// The file that a link reads has a comma in its name, by which the command line ends it.
     #[error("a comma stands in the name of this file, or in that of its folder")]
     Comma,
+    /// One of the files of a control has a comma in its name.
+    #[error("a comma stands in the name of one of these files, or in that of the folder")]
+    CommaOfControl,
     /// Memory was refused.
     #[error("out of memory")]
     Memory,
@@ -247,6 +250,50 @@ fn files_said(
     }
 }
 
+/// Two files of a control, whose paths these are, as the command line has them.
+fn ends_over(alloc: Global, input: &str, output: &str) -> Result<String, LineFault>
+    ensures { spec.IsText result (spec.ends_over input.now output.now) }
+{
+    if has_comma(input) || has_comma(output) {
+        return Err(LineFault::CommaOfControl);
+    }
+    Ok(both(alloc, input, output)?)
+}
+
+/// Two files of a control.
+fn ends_in(alloc: Global, folder: &str, input: &str, output: &str) -> Result<String, LineFault>
+    ensures { spec.IsText result (spec.ends_of folder.now input.now output.now) }
+{
+    let input = path_of(alloc, folder, input)?;
+    let output = path_of(alloc, folder, output)?;
+    ends_over(alloc, input.as_str(), output.as_str())
+}
+
+/// Two files of a control whose operator may look alone, as the command line has them.
+fn looking_in(alloc: Global, folder: &str, input: &str, output: &str) -> Result<Said, LineFault>
+    ensures { spec.IsSaid result (spec.looking_of folder.now input.now output.now) }
+{
+    let mut text = ends_in(alloc, folder, input, output)?;
+    text.push_str(",look")?;
+    Ok(Said::Text(text))
+}
+
+/// Two files, and maybe that their operator may look alone.
+fn ends_said(
+    alloc: Global,
+    folder: &str,
+    option: RouterOption,
+    values: &[&str],
+) -> Result<Said, LineFault>
+    ensures { spec.IsSaid result (spec.ends_said folder.now option (map (λ value. value.now) values.now)) }
+{
+    match values {
+        [input, output] => Ok(Said::Text(ends_in(alloc, folder, input, output)?)),
+        [input, output, right] if *right == "look" => looking_in(alloc, folder, input, output),
+        _ => Err(LineFault::Form(option)),
+    }
+}
+
 /// What these words say of an option, in a file of this folder.
 pub(crate) fn said_of(
     alloc: Global,
@@ -263,5 +310,6 @@ pub(crate) fn said_of(
         Shape::Pair => pair_said(alloc, option, values),
         Shape::Named => named_said(alloc, folder, option, values),
         Shape::Files => files_said(alloc, folder, option, values),
+        Shape::Ends => ends_said(alloc, folder, option, values),
     }
 }

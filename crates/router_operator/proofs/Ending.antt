@@ -16,8 +16,11 @@ use Rattle.operator_cmds.specs.Looks.{can_look, history_text, look_text}
 use Rattle.operator_cmds.specs.Script as script
 use Rattle.operator_cmds.specs.Stages.{Open, session_in, session_number}
 use Rattle.router_operator.specs.OperatorView.{OperatorView, filter_of, journal_seen, journal_with, script_of}
-use Rattle.router_operator.specs.Operators.{AnswersCommand, AnswersEvent, AnswersLine, AnswersRead, AnswersUse}
-use Rattle.router_operator.specs.Operators.{BreaksOff, Enters, IsFull, has_link, is_quit}
+use Rattle.router_operator.specs.Operators.{AnswersAsked, AnswersCommand, AnswersEvent, AnswersLine, AnswersRead, AnswersUse}
+use Rattle.router_operator.specs.Operators.{BreaksOff, Enters, IsFull, has_link}
+use Rattle.router_operator.specs.Questions.{question_in}
+use Rattle.router_operator.specs.declared.questions.Question.{Question}
+use Rattle.router_operator.specs.declared.questions.Question.TheVariants as question
 use Rattle.router_operator.specs.Running.{IsBrokenOff, IsServed, input_limit}
 use Rattle.router_operator.proofs.Staying.{by_front, by_reach, by_run, stays_then}
 use Rattle.operator_cmds.proofs.Unended.{GoesOn, either, given, like, replied, source}
@@ -68,9 +71,16 @@ read before answer after number (Err why) h = like answer _ h.0 refl
 -- a line whose answer is the last is `quit`
 quits : (before : OperatorView) (number : ℕ) (line : List ℕ) (answer : Answer) (after : OperatorView)
     → AnswersLine before number line answer after → is_end answer.reply ≡ true → after.has_quit ≡ true
-quits before number line answer after h ends =
-    either (is_quit line) _ _ (λ p. ap (λ (o : OperatorView). o.has_quit) p.1)
-    (λ q. let on : is_end answer.reply ≡ false = read before answer after number (command_in line) q in cc) h
+quits before number line answer after h ends = asked (question_in line) h
+  where
+    goes_on : is_end answer.reply ≡ false → after.has_quit ≡ true
+    goes_on on = cc
+
+    asked : (q : Option Question) → AnswersAsked before number line q answer after → after.has_quit ≡ true
+    asked None h = goes_on (read before answer after number (command_in line) h)
+    asked (Some question.Quit) h = ap (λ (o : OperatorView). o.has_quit) h.1
+    asked (Some (question.Status form)) h = goes_on (like answer _ h.1.1 refl)
+    asked (Some question.Routes) h = goes_on (like answer _ h.1 refl)
 
 over_next : (b : Bool) (before mid after : OperatorView) (line : ℕ × List ℕ) (lines : List (ℕ × List ℕ)) (a : Answer) (more : List Answer)
     → is_end a.reply ≡ b → AnswersLine before line.0 line.1 a mid

@@ -53,12 +53,12 @@ module _ (before : OperatorView) (happened : Event) (a : CallAnswer) (pass : Pas
   legal : IsLegal before.router.opening (h.log ++ entry happened a.reply ∷ [])
   legal = subst (λ (es : List Entry). IsLegal before.router.opening es) h.seen h.legal
 
-  query_answer : told_of (journal_with before.router h.log) happened ≡ a.reply
-  query_answer = last_reply (opened before.router.opening) h.log (entry happened a.reply) legal
+  reply_is : told_of (journal_with before.router h.log) happened ≡ a.reply
+  reply_is = last_reply (opened before.router.opening) h.log (entry happened a.reply) legal
 
   enters : (answer : Answer) → answer ≡ reply_answer a.at a.reply → Enters before h.log happened answer (record before { pass = pass })
   enters answer e =
-      let reply_is = query_answer in record {
+      record {
         answers = e ∙ ap (λ (n : ℕ). reply_answer n a.reply) h.position ∙ ap (λ (r : Reply). reply_answer (length h.log) r) (sym reply_is);
         seen = ap (λ (es : List Entry). journal_with before.router es)
             (h.seen ∙ ap (λ (r : Reply). h.log ++ entry happened r ∷ []) (sym reply_is));
@@ -138,9 +138,9 @@ module _ (before : OperatorView) (happened : Event) (pass : PassView) (shares : 
 told_by : (is_notified : Option ℕ → CallAnswer → Type 0) (r : RouterView) (old new : PassView) (happened : Event) (called : Result CallAnswer CallFault) →
     IfOk called (λ a. Answered r old happened a new) → IfErr called (λ f. Refused f r old new) →
     IfOk called (λ a. is_notified (exported_by happened) a) → IsNotified is_notified r old happened new
-told_by is_notified r old new happened (Ok a) good bad query_answer = inr (a, good, query_answer)
-told_by is_notified r old new happened (Err call_fault.Full) good bad query_answer = inl bad.mine
-told_by is_notified r old new happened (Err call_fault.Memory) good bad query_answer = inl (ap (λ (p : PassView). p.fragment.mine) bad.1)
+told_by is_notified r old new happened (Ok a) good bad notified = inr (a, good, notified)
+told_by is_notified r old new happened (Err call_fault.Full) good bad notified = inl bad.mine
+told_by is_notified r old new happened (Err call_fault.Memory) good bad notified = inl (ap (λ (p : PassView). p.fragment.mine) bad.1)
 
 -- the same of an operator whose fields are these; `old` is how they were
 module _ (old : OperatorView) (router : RouterView) (was pass : PassView) (names : Names) (links : List ℕ) (quit : Bool) (size limit : ℕ)
@@ -160,6 +160,6 @@ module _ (old : OperatorView) (router : RouterView) (was pass : PassView) (names
 
   pub call_told : (is_notified : Option ℕ → CallAnswer → Type 0) (exported : Option ℕ) → exported ≡ exported_by happened →
       IfOk r (λ a. is_notified exported a) → IsNotified is_notified old.router old.pass happened pass
-  call_told is_notified exported by query_answer =
+  call_told is_notified exported by notified =
       subst (λ (o : OperatorView). IsNotified is_notified o.router o.pass happened pass) is
-      (told_by is_notified router was pass happened r good bad (subst (λ node. IfOk r (λ a. is_notified node a)) by query_answer))
+      (told_by is_notified router was pass happened r good bad (subst (λ node. IfOk r (λ a. is_notified node a)) by notified))

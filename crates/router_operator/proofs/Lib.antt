@@ -5,3 +5,4 @@ mod Showing
 mod NamingFilters
 mod Staying
 mod Ending
+mod LookingAlone

@@ -16,13 +16,16 @@ use Rattle.operator_cmds.specs.Stages.{Open, session_in, session_number}
 use Rattle.route_history.specs.Beginning.{Begins}
 use Rattle.route_history.specs.JournalView.{JournalView}
 use Rattle.router_operator.specs.OperatorView.{OperatorView, filter_of, journal_seen}
-use Rattle.router_operator.specs.Operators.{AnswersCommand, AnswersDown, AnswersEvent, AnswersLine, AnswersRead, AnswersUse}
-use Rattle.router_operator.specs.Operators.{AsScript, BreaksOff, Enters, IsFull, Looks, OnlyPass, Quits, has_link, is_quit}
+use Rattle.router_operator.specs.Operators.{AnswersAsked, AnswersCommand, AnswersDown, AnswersEvent, AnswersLine, AnswersRead, AnswersUse}
+use Rattle.router_operator.specs.Operators.{AsScript, BreaksOff, Enters, IsFull, Looks, OnlyPass, Quits, has_link}
+use Rattle.router_operator.specs.Questions.{question_in}
+use Rattle.router_operator.specs.declared.questions.Question.{Question}
+use Rattle.router_operator.specs.declared.questions.Question.TheVariants as question
 use Rattle.router_operator.specs.Running.{Stays}
 use Rattle.router_operator.proofs.Entering.{begins_more, begins_same, begins_then}
 use Rattle.operator_cmds.proofs.Unended.{either}
 
-by_same : (before after : OperatorView) → after ≡ before → Stays before after
+pub by_same : (before after : OperatorView) → after ≡ before → Stays before after
 by_same before after e = record {
   router = ap (λ (o : OperatorView). o.router) e;
   links = ap (λ (o : OperatorView). o.links) e;
@@ -56,7 +59,7 @@ by_event before happened answer after h = by_pass before after h.only (grown h.d
         begins_then before.pass.fragment.seen h.log after.pass.fragment.seen h.found.begins
         (begins_same h.log after.pass.fragment.seen (ap (λ (j : JournalView). j.entries) e.seen))
 
-by_look : (before after : OperatorView) → Looks before after → Stays before after
+pub by_look : (before after : OperatorView) → Looks before after → Stays before after
 by_look before after h = by_pass before after h.only h.found.begins
 
 by_script : (before : OperatorView) (number : ℕ) (command : CommandView) (answer : Answer) (after : OperatorView)
@@ -111,8 +114,13 @@ by_quit before answer after h = record {
 
 by_line : (before : OperatorView) (number : ℕ) (line : List ℕ) (answer : Answer) (after : OperatorView)
     → AnswersLine before number line answer after → Stays before after
-by_line before number line answer after h =
-    either (is_quit line) _ _ (λ p. by_quit before answer after p) (λ q. by_read before number (command_in line) answer after q) h
+by_line before number line answer after h = asked (question_in line) h
+  where
+    asked : (q : Option Question) → AnswersAsked before number line q answer after → Stays before after
+    asked None h = by_read before number (command_in line) answer after h
+    asked (Some question.Quit) h = by_quit before answer after h
+    asked (Some (question.Status form)) h = by_look before after h.1.0
+    asked (Some question.Routes) h = by_look before after h.0
 
 pub by_run : (before : OperatorView) (lines : List (ℕ × List ℕ)) (given : List Answer) (after : OperatorView)
     → Runs AnswersLine before lines given after → Stays before after

@@ -1,6 +1,8 @@
 -- what callers cite
+pub mod Lookers
 pub mod OperatorView
 pub mod Operators
+pub mod Questions
 pub mod Running
 pub mod Telling
 -- what only bodies are proved against

@@ -3,12 +3,10 @@
 use Rattle.std.specs.Prelude.{◌≡◌, ◌⊎◌, ◌==◌, ℕ, ◌+◌, ◌≤◌, Bool, false, true, MatchBool, List, [], ◌∷◌, ◌++◌, length, Option, Some, None, Ok, Err}
 use Rattle.std.specs.Prelude.{codes}
 use Rattle.std.specs.List.{list_any}
-use Rattle.std.specs.Str.{bytes_eq}
 use Rattle.std.specs.declared.sync.Arc.{Arc}
 use Rattle.std.specs.declared.alloc.Global.{Global}
 use Rattle.filter_verifier.specs.VerifiedView.{VerifiedView}
 use Rattle.line_protocol.specs.Answers.{Answer}
-use Rattle.line_protocol.specs.Words.{words}
 use Rattle.line_protocol.specs.declared.answers.LineReply.TheVariants.{Ended}
 use Rattle.netchange_core.specs.declared.event.Event.{Event}
 use Rattle.netchange_core.specs.declared.event.Event.TheVariants as event
@@ -20,7 +18,6 @@ use Rattle.operator_cmds.specs.Replies.{answered, refused, reply_answer}
 use Rattle.operator_cmds.specs.Script as script
 use Rattle.operator_cmds.specs.Script.{entered, tables_of, told_of}
 use Rattle.operator_cmds.specs.Stages.{Open, session_in, session_number}
-use Rattle.operator_cmds.specs.WordLists.{one_of}
 use Rattle.operator_cmds.specs.declared.fault.CommandFault.TheVariants as fault
 use Rattle.operator_cmds.specs.declared.filter.FilterSource.{FilterSource}
 use Rattle.operator_cmds.specs.declared.filter.FilterSource.TheVariants as source
@@ -31,16 +28,14 @@ use Rattle.route_history.specs.Long.{IsWithin}
 use Rattle.route_history.specs.declared.entry.Entry.{Entry}
 use Rattle.slot_lock.specs.Passes.{bounds_of}
 use Rattle.router_operator.specs.OperatorView.{OperatorView, filter_of, journal_seen, journal_with, script_of}
+use Rattle.router_operator.specs.Questions.{question_in, status_words}
+use Rattle.router_operator.specs.declared.questions.Question.{Question}
+use Rattle.router_operator.specs.declared.questions.Question.TheVariants as question
+use Rattle.router_status.specs.Objects.{routes_json}
+use Rattle.router_status.specs.Status.{StatusView, completed}
+use Rattle.router_status.specs.declared.form.Form.{Form}
 
 -- ---- what a line asks for
-
--- the only word of a line, if it has just one, is `quit`
-abbrev pub says_quit : Option (List ℕ) → Bool
-says_quit None = false
-says_quit (Some word) = bytes_eq word (codes "quit")
-
-abbrev pub is_quit : List ℕ → Bool
-is_quit line = says_quit (one_of (words line))
 
 -- the node has a link
 abbrev pub has_link : List ℕ → ℕ → Bool
@@ -127,6 +122,15 @@ pub record Looks (before after : OperatorView) : Type 0 where
 abbrev pub AnswersLook : (ℕ → JournalView → Answer) → OperatorView → Answer → OperatorView → Type 0
 AnswersLook look before answer after = Looks before after × (answer ≡ look after.pass.fragment.forgot (journal_seen after))
 
+-- what the router is about is answered from that one history, and from what is known beside it, of which nothing is said here
+abbrev pub AnswersStatus : OperatorView → Form → Answer → OperatorView → Type 0
+AnswersStatus before form answer after = (known : StatusView) × AnswersLook
+    (λ first journal. answered (status_words form (completed first journal known))) before answer after
+
+-- and so are the routes, for a program
+abbrev pub AnswersRoutes : OperatorView → Answer → OperatorView → Type 0
+AnswersRoutes before answer after = AnswersLook (λ first journal. answered (routes_json (tables_of journal))) before answer after
+
 -- a look for the node's present session, and then its Down
 abbrev pub AnswersDown : ℕ → OperatorView → Answer → OperatorView → Type 0
 AnswersDown node before answer after = (mid : OperatorView) × Looks before mid
@@ -164,12 +168,22 @@ abbrev pub Quits : OperatorView → Answer → OperatorView → Type 0
 Quits before answer after =
     (answer ≡ record { text = (answered (codes "ok")).text; reply = Ended }) × (after ≡ record before { has_quit = true })
 
+-- a question is answered as such, and any other line is a command
+abbrev pub AnswersAsked : OperatorView → ℕ → List ℕ → Option Question → Answer → OperatorView → Type 0
+AnswersAsked before number line None answer after = AnswersRead before number (command_in line) answer after
+AnswersAsked before number line (Some question.Quit) answer after = Quits before answer after
+AnswersAsked before number line (Some (question.Status form)) answer after = AnswersStatus before form answer after
+AnswersAsked before number line (Some question.Routes) answer after = AnswersRoutes before answer after
+
 -- the operator may be given this answer to the line of this number, and is then the later operator
 abbrev pub AnswersLine : OperatorView → ℕ → List ℕ → Answer → OperatorView → Type 0
-AnswersLine before number line answer after = MatchBool (is_quit line)
-    (Quits before answer after) (AnswersRead before number (command_in line) answer after)
+AnswersLine before number line answer after = AnswersAsked before number line (question_in line) answer after
 
 -- ---- refused memory
+
+-- nothing was seen, or more of the history was, and nothing is entered
+abbrev pub SeesMore : OperatorView → OperatorView → Type 0
+SeesMore before after = (after ≡ before) ⊎ Looks before after
 
 -- at most one entry more is the operator's
 abbrev pub GrowsByOne : List ℕ → List ℕ → Type 0

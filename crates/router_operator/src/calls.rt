@@ -46,7 +46,7 @@ pub(crate) fn answer_call<R: Wait + Clock, L: Listener>(
 ) -> Result<LineReply, AllocError>
     ensures ok { IfOk result (Answers (AnswersCall limit called) out.old.items out.new.items) }
     ensures err { OnErr result (StartsWith out.new.items out.old.items) }
-    ensures query_answer { IfOk called (λ answer. L.is_notified exported answer) }
+    ensures notified { IfOk called (λ answer. L.is_notified exported answer) }
 {
     match called {
         Ok(answer) => {

@@ -4,11 +4,13 @@
 
 mod calls;
 mod listener;
+mod looker;
 mod looking;
 mod naming;
 mod operator;
 mod questions;
 
 pub use listener::Listener;
+pub use looker::Looker;
 pub use naming::Naming;
 pub use operator::{INPUT_LIMIT, Operator};

@@ -1,10 +1,14 @@
 //! Who is told of an operator's calls.
 
+use operator_cmds::Direction;
+use router_status::Status;
 use slot_lock::Answer;
+use std::alloc::{AllocError, Global};
 use std::rt::Clock;
 use std::sync::Wait;
 
-/// Who is told of the answers to an operator's calls, so that they can wake those who have something to do now.
+/// Who is told of the answers to an operator's calls, so that they can wake those who have something to do now; and who knows what the router is
+/// about beside its history.
 ///
 /// A contract sees what a listener says of what it was told: it can be had only by telling it.
 pub trait Listener {
@@ -21,4 +25,10 @@ pub trait Listener {
     /// A call that set the export filter of a node was answered. If the node is up, its queue has all distances again.
     fn exported<R: Wait + Clock>(&self, rt: &R, node: u16, answer: &Answer)
         ensures { is_notified (Some node) answer.now };
+
+    /// The filter of this name is the one of a node in a direction from now on.
+    fn replaced<R: Wait + Clock>(&self, rt: &R, direction: Direction, node: u16, name: &[u8]);
+
+    /// What the router is about, but for what its history says.
+    fn status<R: Wait + Clock>(&self, rt: &R, alloc: Global) -> Result<Status, AllocError>;
 }

@@ -3,9 +3,11 @@ ghost use Rattle.std.specs.Prelude.{◌≡◌, false, IfErr, IfOk, IfSome, OnErr
 ghost use Rattle.std.specs.Io.{StartsWith};
 ghost use Rattle.netchange_core.specs.declared.event.Event.TheVariants as event;
 ghost use Rattle.operator_cmds.specs.CommandView.{view_of};
+ghost use Rattle.operator_cmds.specs.Commands.{command_in};
 ghost use Rattle.operator_cmds.specs.Replies.{Answers};
 ghost use Rattle.operator_cmds.specs.Script as script;
 ghost use Rattle.router_operator.specs.Looking.{query_answer};
+ghost use Rattle.router_operator.specs.Lookers as looker;
 ghost use Rattle.router_operator.specs.OperatorView.{IsAt, filter_of};
 ghost use Rattle.router_operator.specs.Operators as spec;
 ghost use Rattle.router_operator.specs.Running.{IsBrokenOff, IsServed};
@@ -14,9 +16,9 @@ ghost use Rattle.slot_lock.specs.Passes.{IsPassOf};
 
 use crate::calls::{answer_call, exported_by};
 use crate::listener::Listener;
-use crate::looking::{FindingSession, Looking, Query};
+use crate::looking::{FindingSession, Looking, Query, StatusQuery};
 use crate::naming::Naming;
-use crate::questions::{has_link, is_quit};
+use crate::questions::{Question, has_link, question_in};
 use filter_verifier::Verified;
 use line_protocol::{LineReply, Service, StreamFault, answer_lines_within};
 use netchange_core::Event;
@@ -24,6 +26,7 @@ use operator_cmds::{
     Command, CommandFault, Direction, FilterSource, confirm, name_source, read_command, refuse,
     session_number,
 };
+use router_status::Form;
 use slot_lock::{Pass, Router};
 use std::alloc::{AllocError, Global};
 use std::collections::BTreeMap;
@@ -44,6 +47,9 @@ const UNKNOWN_FILTER: &str = "O6";
 
 /// The code of an `up`, and of a `down` of a node that has a link: a link alone brings its node up and down.
 const LINK_DOES_IT: &str = "O9";
+
+/// The code of what changes the router, or ends it, where an operator may look alone.
+pub(crate) const LOOKS_ALONE: &str = "O11";
 
 /// The operator of a router that others call too. A contract sees it as an `OperatorView`.
 #[derive(Drop)]
@@ -89,13 +95,11 @@ impl<'a, R: Wait + Clock, L: Listener, J: Naming> Service for Operator<'a, R, L,
         line: &[u8],
         out: &mut Vec<u8>,
     ) -> Result<LineReply, AllocError> {
-        if is_quit(line) {
-            return self.quit(out);
-        }
-        match read_command(alloc, line) {
-            Ok(command) => self.carry_out(alloc, number, command, out),
-            Err(CommandFault::Memory) => Err(AllocError),
-            Err(why) => refuse(out, why.code(), u64::from(number)),
+        match question_in(line) {
+            Some(Question::Quit) => self.quit(out),
+            Some(Question::Status(form)) => self.status(alloc, number, form, out),
+            Some(Question::Routes) => self.routes(alloc, number, out),
+            None => self.command(alloc, number, line, out),
         }
     }
 }
@@ -161,6 +165,36 @@ impl<'a, R: Wait + Clock, L: Listener, J: Naming> Operator<'a, R, L, J> {
             IsBrokenOff fault self.old self.new input (I.remaining reader.new) (W.contents writer.old) (W.contents writer.new))) }
     {
         answer_lines_within(alloc, INPUT_LIMIT, reader, writer, self)
+    }
+
+    /// The pass by which the operator called the router, and the filters that have names.
+    pub fn parts(self) -> (Pass, BTreeMap<Vec<u8>, Arc<Verified>>)
+        ensures same { result.0 ≡ self.entry.pass }
+        ensures of { IsPassOf J.router result.0 }
+        ensures names { result.1.entries ≡ self.entry.names }
+    {
+        let Operator { pass, filters, .. } = self;
+        (pass, filters)
+    }
+
+    /// Answers a line that is no question: a command.
+    fn command(
+        &mut self,
+        alloc: Global,
+        number: u32,
+        line: &[u8],
+        out: &mut Vec<u8>,
+    ) -> Result<LineReply, AllocError>
+        ensures ok { IfOk result (Answers (λ answer. spec.AnswersRead self.old number (command_in line.now) answer self.new)
+            out.old.items out.new.items) }
+        ensures err { OnErr result (StartsWith out.new.items out.old.items) }
+        ensures left { OnErr result (spec.BreaksOff self.old self.new) }
+    {
+        match read_command(alloc, line) {
+            Ok(command) => self.carry_out(alloc, number, command, out),
+            Err(CommandFault::Memory) => Err(AllocError),
+            Err(why) => refuse(out, why.code(), u64::from(number)),
+        }
     }
 
     /// Answers `quit`.
@@ -234,7 +268,7 @@ impl<'a, R: Wait + Clock, L: Listener, J: Naming> Operator<'a, R, L, J> {
         ensures err { OnErr result (StartsWith out.new.items out.old.items) }
         ensures left { OnErr result (self.new ≡ self.old) }
     {
-        let mut query_answer = None;
+        let mut diagnosis = None;
         name_source(
             alloc,
             &mut self.filters,
@@ -242,7 +276,7 @@ impl<'a, R: Wait + Clock, L: Listener, J: Naming> Operator<'a, R, L, J> {
             name,
             source,
             self.size,
-            &mut query_answer,
+            &mut diagnosis,
             out,
         )
     }
@@ -265,7 +299,11 @@ impl<'a, R: Wait + Clock, L: Listener, J: Naming> Operator<'a, R, L, J> {
             return refuse(out, UNKNOWN_FILTER, u64::from(number));
         };
         let event = direction.event(node, Arc::try_clone(filter)?);
-        self.enter(event, out)
+        let reply = self.enter(event, out)?;
+        if reply == LineReply::Answered {
+            self.listener.replaced(self.rt, direction, node, name);
+        }
+        Ok(reply)
     }
 
     /// Answers `down`. The link of a node takes it down itself.
@@ -296,11 +334,68 @@ impl<'a, R: Wait + Clock, L: Listener, J: Naming> Operator<'a, R, L, J> {
         ensures ok { IfOk result (Answers (λ answer. spec.AnswersEvent self.old event answer self.new) out.old.items out.new.items) }
         ensures err { OnErr result (StartsWith out.new.items out.old.items) }
         ensures left { OnErr result (spec.BreaksOff self.old self.new) }
-        ensures query_answer { IsNotified L.is_notified self.old.router self.old.pass event self.new.pass }
+        ensures notified { IsNotified L.is_notified self.old.router self.old.pass event self.new.pass }
     {
         let exported = exported_by(&event);
         let called = self.router.call(self.rt, &mut self.pass, event);
         answer_call(self.rt, self.listener, self.limit, exported, called, out)
+    }
+
+    /// Answers `status` and `status json`.
+    pub(crate) fn status(
+        &mut self,
+        alloc: Global,
+        number: u32,
+        form: Form,
+        out: &mut Vec<u8>,
+    ) -> Result<LineReply, AllocError>
+        ensures ok { IfOk result (Answers (λ answer. spec.AnswersStatus self.old form answer self.new) out.old.items out.new.items) }
+        ensures err { OnErr result (StartsWith out.new.items out.old.items) }
+        ensures left { OnErr result (spec.SeesMore self.old self.new) }
+    {
+        let status = self.listener.status(self.rt, alloc)?;
+        let asked = Query::Status(StatusQuery { status, form });
+        self.look(alloc, number, asked, out)
+    }
+
+    /// Answers `routes json`.
+    pub(crate) fn routes(
+        &mut self,
+        alloc: Global,
+        number: u32,
+        out: &mut Vec<u8>,
+    ) -> Result<LineReply, AllocError>
+        ensures ok { IfOk result (Answers (λ answer. spec.AnswersRoutes self.old answer self.new) out.old.items out.new.items) }
+        ensures err { OnErr result (StartsWith out.new.items out.old.items) }
+        ensures left { OnErr result (spec.SeesMore self.old self.new) }
+    {
+        self.look(alloc, number, Query::Routes, out)
+    }
+
+    /// Answers a command that looks, and refuses any other.
+    pub(crate) fn look_alone(
+        &mut self,
+        alloc: Global,
+        number: u32,
+        command: Command<'_>,
+        out: &mut Vec<u8>,
+    ) -> Result<LineReply, AllocError>
+        ensures ok { IfOk result (Answers (λ answer. looker.AnswersCommand self.old number (view_of command.entry) answer self.new)
+            out.old.items out.new.items) }
+        ensures err { OnErr result (StartsWith out.new.items out.old.items) }
+        ensures left { OnErr result (spec.SeesMore self.old self.new) }
+    {
+        match command {
+            Command::Look(look) => {
+                let asked = Query::Tables(look);
+                self.look(alloc, number, asked, out)
+            }
+            Command::History(from) => {
+                let asked = Query::Entries(from);
+                self.look(alloc, number, asked, out)
+            }
+            _ => refuse(out, LOOKS_ALONE, u64::from(number)),
+        }
     }
 
     /// Answers the line of a number that looks at the router.
@@ -314,7 +409,7 @@ impl<'a, R: Wait + Clock, L: Listener, J: Naming> Operator<'a, R, L, J> {
         ensures ok { IfOk result (Answers (λ answer. spec.AnswersLook (query_answer asked number) self.old answer self.new)
             out.old.items out.new.items) }
         ensures err { OnErr result (StartsWith out.new.items out.old.items) }
-        ensures left { OnErr result (spec.BreaksOff self.old self.new) }
+        ensures left { OnErr result (spec.Looks self.old self.new) }
     {
         let mut looking = Looking {
             alloc,

@@ -6,10 +6,11 @@ use Rattle.std.specs.Str.{bytes_eq}
 use Rattle.std.proofs.lemmas.Bool.Decides.{nat_tests}
 use Rattle.std.proofs.lemmas.List.Elements.{All-push, All-weaker}
 use Rattle.netchange_core.specs.OpeningView.{OpeningView}
-use Rattle.router_options.specs.Forms.{IsUse, said_in}
+use Rattle.router_options.specs.Forms.{IsControl, IsUse, said_in}
 use Rattle.router_options.specs.PlanView.{IsPlan, IsUsed, PlanView, has_filter, is_member, is_neighbour}
-use Rattle.router_options.specs.Plans.{AddsExport, AddsFilter, AddsImport, AddsLink, MayLink, MayPlace, MayUse, RefusesUse}
+use Rattle.router_options.specs.Plans.{AddsControl, AddsExport, AddsFilter, AddsImport, AddsLink, MayLink, MayPlace, MayUse, RefusesUse}
 use Rattle.router_options.specs.declared.fault.OptionFault.TheVariants as fault
+use Rattle.router_options.specs.declared.parts.ControlFiles.{ControlFiles}
 use Rattle.router_options.specs.declared.parts.FilterUse.{FilterUse}
 use Rattle.router_options.specs.declared.parts.LinkFiles.{LinkFiles}
 use Rattle.router_options.specs.declared.parts.NodePrefix.{NodePrefix}
@@ -170,6 +171,12 @@ module _ (old v : PlanView) (text : List ℕ) (is : v ≡ old) where
   adds_filter filter filters named e =
       subst (λ (p : PlanView). AddsFilter p text (record v { filters = filters })) is
       (filter, named, ap (λ (l : List (String Global)). record v { filters = l }) e)
+
+  pub adds_control : (files : ControlFiles) (controls : List ControlFiles) → IsControl text files → controls ≡ v.controls ++ files ∷ []
+      → AddsControl old text (record v { controls = controls })
+  adds_control files controls says e =
+      subst (λ (p : PlanView). AddsControl p text (record v { controls = controls })) is
+      (files, says, ap (λ (l : List ControlFiles). record v { controls = l }) e)
 
   pub plan_prefix : (given : NodePrefix) (opening : OpeningView) (placed : List ℕ) (prefixes : List (List Bool)) → IsPlan v
       → MayPlace old text given → opening ≡ record v.opening { prefixes = prefixes } → placed ≡ v.placed ++ given.node ∷ []

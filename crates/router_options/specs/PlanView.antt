@@ -5,13 +5,15 @@ use Rattle.std.specs.Str.{bytes_eq}
 use Rattle.std.specs.declared.alloc.Global.{Global}
 use Rattle.netchange_core.specs.OpeningView.{OpeningView}
 use Rattle.operator_cmds.specs.Limits.{largest_limit}
+use Rattle.router_options.specs.declared.parts.ControlFiles.{ControlFiles}
 use Rattle.router_options.specs.declared.parts.FilterUse.{FilterUse}
 use Rattle.router_options.specs.declared.parts.LinkFiles.{LinkFiles}
+use Rattle.router_options.specs.declared.plan.DomainMark.{DomainMark}
 
 -- the domain, the router's node and the prefixes; the nodes whose prefix was given, in order; how many entries of the history there is room for
--- in memory; the most messages that may wait for a neighbour; the names of the filters; the import and the export filters; the links; the folder
--- in which the history is saved, and how many segments of it are kept there; how long a closed link waits; whether the router goes on where its
--- standard input ends
+-- in memory; the most messages that may wait for a neighbour; the names of the filters; the import and the export filters; the links; where
+-- operators are served besides standard input; the folder in which the history is saved, and how many segments of it are kept there; how long a
+-- closed link waits; whether the router goes on where its standard input ends; and the file by which the domain was set up, if one was
 pub record PlanView : Type 0 where
   pub opening : OpeningView
   pub placed : List ℕ
@@ -21,11 +23,13 @@ pub record PlanView : Type 0 where
   pub imports : List FilterUse
   pub exports : List FilterUse
   pub links : List LinkFiles
+  pub controls : List ControlFiles
   pub save : Option (String Global)
   pub segments : Option ℕ
   pub retry : Option ℕ
   pub hold : ℕ
   pub stays : Bool
+  pub domain : Option DomainMark
 
 -- a node of the domain
 abbrev pub is_member : OpeningView → ℕ → Bool

@@ -7,7 +7,7 @@ use Rattle.netchange_core.specs.OpeningView.{OpeningView}
 use Rattle.operator_cmds.specs.Networks.{is_network}
 use Rattle.operator_cmds.specs.Domain.{default_opening, limit_or}
 use Rattle.operator_cmds.specs.Limits.{largest_limit}
-use Rattle.router_options.specs.Forms.{IsLink, IsPrefix, IsUse, is_link, is_prefix, is_use, node_in, said_in}
+use Rattle.router_options.specs.Forms.{IsControl, IsLink, IsNoForm, IsPrefix, IsUse, is_control, is_link, is_prefix, is_use, node_in, said_in}
 use Rattle.router_options.specs.PlanView.{PlanView, longest_hold, has_filter, has_link, has_prefix, has_use, is_member, is_neighbour, smallest_room}
 use Rattle.router_options.specs.declared.fault.NodeFault.{NodeFault}
 use Rattle.router_options.specs.declared.fault.NodeFault.TheVariants.{Outside, Itself}
@@ -15,6 +15,7 @@ use Rattle.router_options.specs.declared.fault.NumberFault.{NumberFault}
 use Rattle.router_options.specs.declared.fault.NumberFault.TheVariants as number
 use Rattle.router_options.specs.declared.fault.OptionFault.{OptionFault}
 use Rattle.router_options.specs.declared.fault.OptionFault.TheVariants as fault
+use Rattle.router_options.specs.declared.parts.ControlFiles.{ControlFiles}
 use Rattle.router_options.specs.declared.parts.FilterUse.{FilterUse}
 use Rattle.router_options.specs.declared.parts.LinkFiles.{LinkFiles}
 use Rattle.router_options.specs.declared.parts.NodePrefix.{NodePrefix}
@@ -106,11 +107,13 @@ new_plan n save stays = record {
   imports = [];
   exports = [];
   links = [];
+  controls = [];
   save = save;
   segments = n.segments;
   retry = n.retry;
   hold = hold_or n.hold;
   stays = stays;
+  domain = None;
 }
 
 -- ---- an option that is added is the last one of its kind, and all else stays
@@ -153,6 +156,10 @@ pub record MayLink (plan : PlanView) (text : List ℕ) (link : LinkFiles) : Type
 
 abbrev pub AddsLink : PlanView → List ℕ → PlanView → Type 0
 AddsLink plan text after = (link : LinkFiles) × MayLink plan text link × (after ≡ record plan { links = plan.links ++ link ∷ [] })
+
+-- any control may be added
+abbrev pub AddsControl : PlanView → List ℕ → PlanView → Type 0
+AddsControl plan text after = (files : ControlFiles) × IsControl text files × (after ≡ record plan { controls = plan.controls ++ files ∷ [] })
 
 -- ---- Why an option is refused: first its form is judged, then its node, then the name of its filter, and then what is there already. Memory
 -- may be refused before.
@@ -201,3 +208,6 @@ RefusesLink plan text fault.UnknownFilter = ⊥
 RefusesLink plan text (fault.Twice node) = (is_link text ≡ true) × (node_in text ≡ Some node)
     × (is_neighbour plan.opening node ≡ true) × (has_link plan.links node ≡ true)
 RefusesLink plan text fault.Memory = Unit {0}
+
+abbrev pub RefusesControl : PlanView → List ℕ → OptionFault → Type 0
+RefusesControl plan text why = IsNoForm (is_control text) why

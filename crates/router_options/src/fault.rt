@@ -62,7 +62,7 @@ pub enum NodeFault {
 #[derive(Clone, Copy, Debug, Error)]
 pub enum OptionFault {
     /// It is not of its form.
-    #[error("the form is W=IN,OUT of a link, W=NAME of a filter's use, and V=PREFIX of a prefix")]
+    #[error("the form is W=IN,OUT of a link, W=NAME of a filter's use, V=PREFIX of a prefix, and IN,OUT or IN,OUT,look of a control")]
     Form,
     /// Its node is refused.
     #[error("node {node} {why}")]

@@ -6,5 +6,5 @@ mod parts;
 mod plan;
 
 pub use fault::{NodeFault, NumberFault, OptionFault};
-pub use parts::{FilterUse, LinkFiles, NodePrefix};
-pub use plan::{Numbers, RouterPlan, SMALLEST_ROOM, USUAL_QUEUE};
+pub use parts::{ControlFiles, FilterUse, LinkFiles, NodePrefix};
+pub use plan::{DomainMark, Numbers, RouterPlan, SMALLEST_ROOM, USUAL_QUEUE};

@@ -19,6 +19,17 @@ pub struct LinkFiles {
     pub output: String,
 }
 
+/// Where an operator is served: the files that their lines come from and that answers go to, and whether they may look alone.
+#[derive(PartialEq, Eq, Drop)]
+pub struct ControlFiles {
+    /// What the operator says is read here.
+    pub input: String,
+    /// What they are answered is written here.
+    pub output: String,
+    /// They may look, and not change.
+    pub looks: bool,
+}
+
 /// A neighbour whose messages pass a filter.
 #[derive(PartialEq, Eq, Drop)]
 pub struct FilterUse {
@@ -76,6 +87,38 @@ impl LinkFiles {
                 node,
                 input: String::from_str(alloc, input)?,
                 output: String::from_str(alloc, output)?,
+            }),
+            None => Err(OptionFault::Form),
+        }
+    }
+}
+
+/// The output of a control, and whether its operator may look alone: `OUT` or `OUT,look`.
+fn cut_look(text: &str) -> Option<(&str, bool)>
+    ensures { MatchOption result (spec.is_end text.now ≡ false)
+        (λ cut. (spec.is_end text.now ≡ true) × (cut.0.now ≡ spec.end_in text.now) × (cut.1 ≡ spec.looks_in text.now)) }
+{
+    match text.split_once(',') {
+        None if !text.is_empty() => Some((text, false)),
+        Some((output, right)) if !output.is_empty() && right == "look" => Some((output, true)),
+        _ => None,
+    }
+}
+
+impl ControlFiles {
+    /// Reads `IN,OUT` or `IN,OUT,look`.
+    pub fn read(alloc: Global, text: &str) -> Result<ControlFiles, OptionFault>
+        ensures read { IfOk result (spec.IsControl text.now) }
+        ensures refused { IfErr result (spec.IsNoForm (spec.is_control text.now)) }
+    {
+        let Some((input, end)) = cut_files(text) else {
+            return Err(OptionFault::Form);
+        };
+        match cut_look(end) {
+            Some((output, looks)) => Ok(ControlFiles {
+                input: String::from_str(alloc, input)?,
+                output: String::from_str(alloc, output)?,
+                looks,
             }),
             None => Err(OptionFault::Form),
         }

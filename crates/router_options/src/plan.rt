@@ -17,7 +17,7 @@ ghost use Rattle.router_options.specs.Plans as spec;
 ghost use Rattle.router_options.specs.declared.fault.OptionFault.TheVariants as fault;
 
 use crate::fault::{NodeFault, NumberFault, OptionFault};
-use crate::parts::{FilterUse, LinkFiles, NodePrefix};
+use crate::parts::{ControlFiles, FilterUse, LinkFiles, NodePrefix};
 use filter_code::{LARGEST_SIZE, SMALLEST_SIZE};
 use netchange_core::Opening;
 use operator_cmds::default_prefixes;
@@ -57,6 +57,15 @@ pub struct Numbers {
     pub hold: Option<u32>,
 }
 
+/// The file by which the domain of a router was set up.
+#[derive(Clone, Copy, PartialEq, Eq)]
+pub struct DomainMark {
+    /// The digest of the domain.
+    pub digest: [u8; 8],
+    /// A neighbour may have another one.
+    pub allows_other: bool,
+}
+
 /// What a router is told before it begins. A node has at most one prefix that was given, one import filter, one export filter and one link,
 /// and each filter that is used has a name. A contract sees it as a `PlanView`.
 #[derive(Drop)]
@@ -77,6 +86,8 @@ pub struct RouterPlan {
     pub exports: Vec<FilterUse>,
     /// The links.
     pub links: Vec<LinkFiles>,
+    /// Where operators are served, besides standard input.
+    pub controls: Vec<ControlFiles>,
     /// The folder in which the history is saved.
     pub save: Option<String>,
     /// How many segments of it are kept there; all where none is said.
@@ -87,6 +98,8 @@ pub struct RouterPlan {
     pub hold: u16,
     /// The router goes on where its standard input ends.
     pub stays: bool,
+    /// The file by which its domain was set up, if one was.
+    pub domain: Option<DomainMark>,
 }
 
 impl Model for RouterPlan {
@@ -94,9 +107,9 @@ impl Model for RouterPlan {
 
     ghost Value = { PlanView };
 
-    ghost view = { λ p. record { opening = p.opening; placed = p.placed.items; limit = p.limit; queue = p.queue; filters = p.filters.items; imports = p.imports.items; exports = p.exports.items; links = p.links.items; save = p.save; segments = p.segments; retry = p.retry; hold = p.hold; stays = p.stays } };
+    ghost view = { λ p. record { opening = p.opening; placed = p.placed.items; limit = p.limit; queue = p.queue; filters = p.filters.items; imports = p.imports.items; exports = p.exports.items; links = p.links.items; controls = p.controls.items; save = p.save; segments = p.segments; retry = p.retry; hold = p.hold; stays = p.stays; domain = p.domain } };
 
-    ghost invariant = { λ p. IsPlan (record { opening = p.opening; placed = p.placed.items; limit = p.limit; queue = p.queue; filters = p.filters.items; imports = p.imports.items; exports = p.exports.items; links = p.links.items; save = p.save; segments = p.segments; retry = p.retry; hold = p.hold; stays = p.stays }) };
+    ghost invariant = { λ p. IsPlan (record { opening = p.opening; placed = p.placed.items; limit = p.limit; queue = p.queue; filters = p.filters.items; imports = p.imports.items; exports = p.exports.items; links = p.links.items; controls = p.controls.items; save = p.save; segments = p.segments; retry = p.retry; hold = p.hold; stays = p.stays; domain = p.domain }) };
 }
 
 /// Whether a domain has so many nodes.
@@ -259,12 +272,21 @@ impl RouterPlan {
             imports: Vec::new(alloc),
             exports: Vec::new(alloc),
             links: Vec::new(alloc),
+            controls: Vec::new(alloc),
             save,
             segments: numbers.segments,
             retry: numbers.retry,
             hold: hold_or(numbers.hold) as u16,
             stays,
+            domain: None,
         })
+    }
+
+    /// Notes by which file the domain was set up.
+    pub fn set_domain(&mut self, mark: DomainMark)
+        ensures { self.new ≡ record self.old { domain = Some mark } }
+    {
+        self.domain = Some(mark);
     }
 
     /// Reads a prefix, `V=PREFIX`, of a node that was given none.
@@ -376,6 +398,17 @@ impl RouterPlan {
     {
         let link = self.read_link(alloc, text)?;
         self.links.push(link)?;
+        Ok(())
+    }
+
+    /// Adds a control, `IN,OUT` or `IN,OUT,look`.
+    pub fn add_control(&mut self, alloc: Global, text: &str) -> Result<(), OptionFault>
+        ensures added { OnOk result (spec.AddsControl self.old text.now self.new) }
+        ensures refused { IfErr result (spec.RefusesControl self.old text.now) }
+        ensures unchanged { OnErr result (self.new ≡ self.old) }
+    {
+        let files = ControlFiles::read(alloc, text)?;
+        self.controls.push(files)?;
         Ok(())
     }
 }

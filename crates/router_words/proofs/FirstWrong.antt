@@ -1,19 +1,12 @@
 -- Lines of a router's file that are looked through for one that is refused by itself.
-use Rattle.std.proofs.Common.{◌≡◌, ℕ, ◌+◌, ◌<◌, ◌⊎◌, List, Some, None, ap, inl, inr, length, map, refl, subst, sym, ◌∙◌, arith}
-use Rattle.std.proofs.lemmas.Option.{slice_get-map, slice_get_read}
-use Rattle.std.specs.Option.{option_map}
+use Rattle.std.proofs.Common.{◌≡◌, ℕ, ◌+◌, ◌<◌, List, Some, None, inl, inr, length, map, subst, sym}
 use Rattle.std.specs.Prelude.{get_or, slice_get}
 use Rattle.command_line.specs.declared.router_words.RouterWords.{RouterWords}
 use Rattle.router_files.specs.Files.{StatementView, statement_of}
+use Rattle.router_files.proofs.Indexes.{below_or_at, same_there, view_at}
 use Rattle.router_files.specs.declared.reading.Statement.{Statement}
 use Rattle.router_words.specs.Gathering.{NoneWrongBefore, fault_of}
 use Rattle.router_words.specs.declared.gathering.StatementFault.{StatementFault}
-
--- the line of an index, as it is seen
-view_at : (statements : List Statement) (n : ℕ) (one : Statement) → one ≡ get_or statements n one → n < length statements
-    → slice_get (map statement_of statements) n ≡ Some (statement_of one)
-view_at statements n one is inside =
-    slice_get-map statement_of statements n ∙ ap (option_map statement_of) (slice_get_read statements (length statements) n one refl inside is)
 
 -- it is the first that is refused
 pub is_first_wrong : (words : RouterWords) (statements : List Statement) (n : ℕ) (one : Statement) (why : StatementFault)
@@ -22,12 +15,6 @@ pub is_first_wrong : (words : RouterWords) (statements : List Statement) (n : �
     → (m : ℕ) × (slice_get (map statement_of statements) m ≡ Some (statement_of one)) × (fault_of words (statement_of one) ≡ Some why)
     × NoneWrongBefore words (map statement_of statements) m
 is_first_wrong words statements n one why is inside none refused = (n, view_at statements n one is inside, sym refused, none)
-
-below_or_at : (k n : ℕ) → k < n + 1 → (k < n) ⊎ (k ≡ n)
-below_or_at k n h = grind arith
-
-same_view : (one other : StatementView) → Some one ≡ Some other → one ≡ other
-same_view one other is = cc
 
 -- it is not refused
 pub none_more_wrong : (words : RouterWords) (statements : List Statement) (n : ℕ) (one : Statement) → one ≡ get_or statements n one
@@ -38,6 +25,6 @@ none_more_wrong words statements n one is inside none right k other below got =
       | inl earlier ↦ none k other earlier got
       | inr same ↦
           let here : slice_get (map statement_of statements) n ≡ Some other = subst (λ (m : ℕ). slice_get (map statement_of statements) m ≡ Some other) same got in
-          let other_is : statement_of one ≡ other = same_view _ _ (sym (view_at statements n one is inside) ∙ here) in
+          let other_is : statement_of one ≡ other = same_there statements n one other is inside here in
           subst (λ (s : StatementView). fault_of words s ≡ None) other_is (sym right)
     ]

@@ -34,12 +34,16 @@ says words option.Segments = is_some words.segments
 says words option.Settle = is_some words.settle
 says words option.Save = is_some words.save
 says words option.Routes = is_some words.routes
+says words option.Log = is_some words.log
 says words option.Stay = words.stays
+says words option.Domain = is_some words.domain
+says words option.AllowOtherDomain = words.allows_other
 says words option.Prefix = false
 says words option.Filter = false
 says words option.Import = false
 says words option.Export = false
 says words option.Link = false
+says words option.Control = false
 
 -- it gives this name to a filter
 abbrev pub gives_name : RouterWords → List ℕ → Bool
@@ -140,6 +144,9 @@ filters_in statement = filters_said statement.said
 pub record Gathers (words : RouterWords) (statements : List StatementView) (all : RouterWords) : Type 0 where
   pub config : all.config ≡ None
   pub checks : all.checks ≡ words.checks
+  pub domain : option_map (λ text. string_bytes text) all.domain
+      ≡ text_of (option_map (λ text. string_bytes text) words.domain) option.Domain statements
+  pub allows_other : all.allows_other ≡ (words.allows_other || is_some (nth_stated option.AllowOtherDomain 0 statements))
   pub size : all.size ≡ number_of words.size option.Size statements
   pub node : all.node ≡ number_of words.node option.Node statements
   pub limit : all.limit ≡ number_of words.limit option.Limit statements
@@ -152,6 +159,8 @@ pub record Gathers (words : RouterWords) (statements : List StatementView) (all 
   pub routes : option_map (λ text. string_bytes text) all.routes
       ≡ text_of (option_map (λ text. string_bytes text) words.routes) option.Routes statements
   pub settle : all.settle ≡ number_of words.settle option.Settle statements
+  pub log : option_map (λ text. string_bytes text) all.log
+      ≡ text_of (option_map (λ text. string_bytes text) words.log) option.Log statements
   pub stays : all.stays ≡ (words.stays || is_some (nth_stated option.Stay 0 statements))
   pub prefixes : map (λ text. string_bytes text) all.prefixes.items
       ≡ texts_of option.Prefix statements (map (λ text. string_bytes text) words.prefixes.items)
@@ -162,3 +171,5 @@ pub record Gathers (words : RouterWords) (statements : List StatementView) (all 
       ≡ texts_of option.Export statements (map (λ text. string_bytes text) words.exports.items)
   pub links : map (λ text. string_bytes text) all.links.items
       ≡ texts_of option.Link statements (map (λ text. string_bytes text) words.links.items)
+  pub controls : map (λ text. string_bytes text) all.controls.items
+      ≡ texts_of option.Control statements (map (λ text. string_bytes text) words.controls.items)

@@ -2,11 +2,12 @@
 //!
 //! **What may be said once is said in one place.** A value of the command line does not replace that of the file: a router runs as its file says,
 //! and nobody has to look for the words with which it was started. What is said of several neighbours adds up.
-ghost use Rattle.std.specs.Prelude.{◌≡◌, ◌++◌, IfOk, MatchOption, OnOk, map, string_bytes};
+ghost use Rattle.std.specs.Prelude.{◌≡◌, ◌++◌, ◌||◌, IfOk, MatchOption, OnOk, is_some, map, string_bytes};
 ghost use Rattle.std.specs.Option.{option_map};
 ghost use Rattle.std.specs.List.{flat_map};
 ghost use Rattle.router_files.specs.Files.{statement_of};
 ghost use Rattle.router_words.specs.Gathering as spec;
+ghost use Rattle.router_words.specs.Stated.{nth_stated};
 
 use crate::stated::{is_of, nth_stated};
 use command_line::{NamedFile, RouterWords, Source};
@@ -57,12 +58,16 @@ fn says(words: &RouterWords, option: RouterOption) -> bool
         RouterOption::Settle => words.settle.is_some(),
         RouterOption::Save => words.save.is_some(),
         RouterOption::Routes => words.routes.is_some(),
+        RouterOption::Log => words.log.is_some(),
         RouterOption::Stay => words.stays,
+        RouterOption::Domain => words.domain.is_some(),
+        RouterOption::AllowOtherDomain => words.allows_other,
         RouterOption::Prefix
         | RouterOption::Filter
         | RouterOption::Import
         | RouterOption::Export
-        | RouterOption::Link => false,
+        | RouterOption::Link
+        | RouterOption::Control => false,
     }
 }
 
@@ -313,6 +318,13 @@ fn filters_of(
     Ok(filters)
 }
 
+/// Whether an option without a value is said: by the command line, or by the file.
+fn is_stated(given: bool, statements: &[Statement], option: RouterOption) -> bool
+    ensures { result ≡ (given || is_some (nth_stated option 0 (map statement_of statements.now))) }
+{
+    given || nth_stated(statements, option, 0).is_some()
+}
+
 /// What the command line and the file say together.
 pub fn gather(
     alloc: Global,
@@ -324,6 +336,12 @@ pub fn gather(
     Ok(RouterWords {
         config: None,
         checks: words.checks,
+        domain: text_of(alloc, &words.domain, statements, RouterOption::Domain)?,
+        allows_other: is_stated(
+            words.allows_other,
+            statements,
+            RouterOption::AllowOtherDomain,
+        ),
         size: number_of(words.size, statements, RouterOption::Size),
         node: number_of(words.node, statements, RouterOption::Node),
         limit: number_of(words.limit, statements, RouterOption::Limit),
@@ -334,7 +352,8 @@ pub fn gather(
         segments: number_of(words.segments, statements, RouterOption::Segments),
         routes: text_of(alloc, &words.routes, statements, RouterOption::Routes)?,
         settle: number_of(words.settle, statements, RouterOption::Settle),
-        stays: words.stays || nth_stated(statements, RouterOption::Stay, 0).is_some(),
+        log: text_of(alloc, &words.log, statements, RouterOption::Log)?,
+        stays: is_stated(words.stays, statements, RouterOption::Stay),
         prefixes: texts_of(
             alloc,
             statements,
@@ -359,6 +378,12 @@ pub fn gather(
             statements,
             RouterOption::Link,
             words.links.as_slice(),
+        )?,
+        controls: texts_of(
+            alloc,
+            statements,
+            RouterOption::Control,
+            words.controls.as_slice(),
         )?,
     })
 }

@@ -18,14 +18,14 @@ returns-in-Some-clause-unreported g c =
 pub returns-in-Ok-clause-served : goal.returns-in-Ok-clause-served
 unfolding ServesStatements
 returns-in-Ok-clause-served g c =
-    IfOk-weaker c.serve_words.result _ _
-    (λ status does. inl (rw c.in_default.is at c.find_clash.ensures, (c.in-Ok.all, c.in-Ok.ensures, does))) c.serve_words.ensures.served
+    IfOk-weaker c.serve_in_domain.result _ _
+    (λ status does. inl (rw c.in_default.is at c.find_clash.ensures, (c.in-Ok.all, c.in-Ok.ensures, does))) c.serve_in_domain.ensures.served
 
 pub returns-in-Ok-clause-unreported : goal.returns-in-Ok-clause-unreported
 unfolding CutsStatements
 returns-in-Ok-clause-unreported g c =
-    IfErr-weaker c.serve_words.result _ _
-    (λ unreported does. inl (rw c.in_default.is at c.find_clash.ensures, (c.in-Ok.all, c.in-Ok.ensures, does))) c.serve_words.ensures.unreported
+    IfErr-weaker c.serve_in_domain.result _ _
+    (λ unreported does. inl (rw c.in_default.is at c.find_clash.ensures, (c.in-Ok.all, c.in-Ok.ensures, does))) c.serve_in_domain.ensures.unreported
 
 pub returns-in-Err-clause-served : goal.returns-in-Err-clause-served
 unfolding ServesStatements

@@ -12,9 +12,9 @@ returns-clause-ok g c =
     c.call-called.ensures.refused)
     c.answer_call.ensures.ok
 
-pub returns-clause-query_answer : goal.returns-clause-query_answer
-returns-clause-query_answer g c =
+pub returns-clause-notified : goal.returns-clause-notified
+returns-clause-notified g c =
     let i = c.self.inside in
     call_told c.args.self.now i.router.now i.pass c.call-called.new.pass i.filters.entries i.links.now i.has_quit i.size i.limit
     c.self.view_is c.self.invariant.0 c.args.event c.call-called.result c.call-called.ensures.pass.1 c.call-called.ensures.answered
-    c.call-called.ensures.refused g.L.Listener.is_notified c.exported_by-exported.result c.exported_by-exported.ensures c.answer_call.ensures.query_answer
+    c.call-called.ensures.refused g.L.Listener.is_notified c.exported_by-exported.result c.exported_by-exported.ensures c.answer_call.ensures.notified

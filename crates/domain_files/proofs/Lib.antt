@@ -1,0 +1,4 @@
+mod Names
+mod Setting
+mod Taking
+mod Uses

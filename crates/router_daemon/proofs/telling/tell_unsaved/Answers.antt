@@ -1,7 +1,0 @@
-use Rattle.router_daemon.specs.Notices.{unsaved_line}
-use Rattle.router_daemon.proofs.Lines.{tells}
-use Rattle.router_daemon.proofs.telling.tell_unsaved.Goals as goal
-
-pub returns : goal.returns
-returns g c =
-    tells g.E.Write.contents c.args.errors.now c.tell.new.errors c.save_line.result (unsaved_line c.args.why) c.tell.ensures c.save_line.ensures

@@ -1,0 +1,4 @@
+mod Growing
+mod Filling
+mod Floats
+mod Telling

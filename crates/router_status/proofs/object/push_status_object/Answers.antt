@@ -1,0 +1,10 @@
+-- A status has no float.
+use Rattle.std.proofs.Common.{◌∙◌, ap}
+use Rattle.serde_json.specs.Data.{Data}
+use Rattle.serde_json.specs.Written.{has_float}
+use Rattle.router_status.specs.Status.{status_view}
+use Rattle.router_status.proofs.Floats.{status_not}
+use Rattle.router_status.proofs.object.push_status_object.Goals as goal
+
+pub push_line-requires : goal.push_line-requires
+push_line-requires c = ap (λ (d : Data). has_float d) c.in_ok-value.ensures ∙ status_not (status_view c.args.status.now)

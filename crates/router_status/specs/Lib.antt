@@ -1,0 +1,4 @@
+-- what callers cite
+pub mod Lines
+pub mod Objects
+pub mod Status

@@ -1,0 +1,720 @@
+#!/usr/bin/env python3
+"""Has several operators speak to one `ncroute router`, each at FIFOs of their own, and looks at its log and its status. The last line is 'N passed, M
+failed'.
+
+usage: scripts/check_operators.py [--long [TIMES]] [ROW..]        (NCROUTE=PATH: the program, without which nothing is run)
+
+Eight operators change filters and ask at the same time: each answer is one of those that there may be, and the history that is saved replays and has
+each of their calls once, in the order of its operator. In one row sessions come and go meanwhile, and the router is killed and started again and
+again: then each of its histories is such a whole, but for calls that were not answered, which it may have, and for the last second before a kill.
+That row takes a few seconds; with --long it alone is run, for a minute, and so 20 times, or TIMES.
+"""
+import collections
+import concurrent.futures
+import contextlib
+import json
+import os
+import pathlib
+import random
+import re
+import subprocess
+import sys
+import tempfile
+import threading
+import time
+
+from lib.controls import Control, until
+from lib.histories import entries_of, replayed, segments_of
+from lib.processes import PATIENCE, Delays, Router, awaited
+from lib.program import TOP, built
+from lib.routers import Run, RunRows
+
+OPERATORS, SIZE = 8, 16
+
+# Seconds for which they speak, and before a router is killed.
+LONG, SHORT = 4.0, 1.0
+
+# Seconds for which operators speak to routers that are killed, in the gate and by --long, and how often --long has it so; how long a router lives, at
+# least and at most; how long an operator rests then; and what a router has saved that was answered so long before.
+KILLS, MINUTE, TIMES, LIVES, REST, LATE = 6.0, 60.0, 20, (1.0, 4.0), 0.005, 1.0
+
+# A line of the log.
+LOGGED = re.compile(r"(\d{4}-\d\d-\d\dT\d\d:\d\d:\d\dZ) (\S.*)")
+
+# What each of them may be answered.
+ROUTES = re.compile(r"routes( \d+:\d+(:\d+)?){%d}" % SIZE)
+STATUS = re.compile(r"status node 0 size \d+ up \d+ entries \d+ forgotten \d+ room \d+( saved \d+)? version [^|]*"
+                    r"( \| link \d+ (up \d+|open|closed) since \d+ sessions \d+ received \d+ sent \d+ waiting \d+( unheard \d+)?( ended [^|]*)?)*")
+
+CTL = TOP / "tools" / "ncroute-ctl"
+
+
+def codes_of(program):
+    """Codes of filters that differ, as lines of a script have them."""
+    found = []
+    for length in range(33):
+        text = f"filter f {{ if net.len > {length} then reject; accept; }}"
+        ran = subprocess.run([program, "check", "--size", str(SIZE)], input=text, capture_output=True, text=True, check=True)
+        found.append(re.search(r"^code (\S+)$", ran.stdout, re.M)[1])
+    return found
+
+
+def calls_in(entries):
+    """The calls of each operator, who is known by a node, as a history has them."""
+    found = collections.defaultdict(list)
+    for entry in entries:
+        _, kind, node, *more = entry.split(None, 4)
+        if kind in ("import", "export"):
+            found[node].append(f"{kind} {node} {more[1].split()[0]}")
+        elif kind == "show":
+            found[node].append(f"{kind} {node}")
+    return found
+
+
+def entries_in(history):
+    """The entries of a history, as far as their lines are whole."""
+    return [entry.decode() for segment in segments_of(history) for entry in entries_of(segment.read_bytes())]
+
+
+class Speaker:
+    """An operator who puts filters of node W in force, in both directions, and asks in between. Their calls are known by that node."""
+
+    def __init__(self, control, node, codes):
+        self.control, self.node, self.codes = control, node, codes
+        self.calls, self.wrong, self.count = [], [], 0
+
+    def expect(self, line, pattern):
+        answer = self.control.ask(line)
+        if not re.fullmatch(pattern, answer):
+            self.wrong.append((line[:60], answer[:60]))
+        return answer
+
+    def turn(self):
+        code = self.codes[self.count % len(self.codes)]
+        self.count += 1
+        self.expect(f"code mine {code}", r"verified \d+ \d+")
+        for direction in ("import", "export"):
+            if self.expect(f"{direction} {self.node} mine", r"done \d+").startswith("done "):
+                self.calls.append(f"{direction} {self.node} {code}")
+        self.expect("routes", ROUTES)
+        if self.expect(f"show {self.node}", r"route \d+ (local|none|via \d+)"):
+            self.calls.append(f"show {self.node}")
+        self.expect("status", STATUS)
+        self.expect(f"history {self.count}", r"history( .*)?")
+
+    def speak(self, seconds):
+        with self.control:
+            for _ in until(seconds):
+                self.turn()
+        return self
+
+
+class Said:
+    """A call of an operator, as the history has it; when it was answered, if it was."""
+
+    def __init__(self, call):
+        self.call, self.answered = call, None
+
+
+class Visitor:
+    """An operator who speaks to one router after another at the same FIFOs: each of its calls belongs to a life of the router."""
+
+    def __init__(self, lives, control, node, codes):
+        self.lives, self.control, self.node, self.codes = lives, control, node, codes
+        self.said, self.wrong, self.count, self.longest = {}, [], 0, 0.0
+
+    def expect(self, line, pattern, call=None):
+        """Says a line that is answered by a pattern; what it enters is noted before."""
+        if call:
+            said = Said(call)
+            self.said[self.lives.of(self)].append(said)
+        begun = time.monotonic()
+        answer = self.control.ask(line)
+        self.longest = max(self.longest, time.monotonic() - begun)
+        if not answer:
+            raise BrokenPipeError
+        if not re.fullmatch(pattern, answer):
+            self.wrong.append((line[:60], answer[:60]))
+        if call:
+            said.answered = time.monotonic()
+
+    def turn(self):
+        code = self.codes[self.count % len(self.codes)]
+        self.count += 1
+        self.expect(f"code mine {code}", r"verified \d+ \d+")
+        for direction in ("import", "export"):
+            self.expect(f"{direction} {self.node} mine", r"done \d+", f"{direction} {self.node} {code}")
+        self.expect("routes", ROUTES)
+        self.expect(f"show {self.node}", r"route \d+ (local|none|via \d+)", f"show {self.node}")
+        self.expect("status", STATUS)
+        self.expect(f"history {self.count}", r"history( .*)?|refused O10 \d+")
+
+    def visit(self, is_over):
+        """Speaks to one router until it is over, or the router ends."""
+        self.control.open()
+        life = self.lives.enter(self)
+        if life is not None:
+            self.said.setdefault(life, [])
+            while not is_over():
+                self.turn()
+                time.sleep(REST)
+            self.control.finish()
+
+    def speak(self, is_over):
+        while not is_over():
+            try:
+                self.visit(is_over)
+            except (BrokenPipeError, ConnectionResetError):
+                # The router was killed.
+                pass
+            finally:
+                # The next router does not read what was said to this one: it is started once all have closed their FIFOs, and these are cleared.
+                self.control.close()
+                self.lives.leave(self)
+        return self
+
+
+class Lives:
+    """The lives of a router that is killed and started again and again, and who speaks to it in each: nobody does who has anything open of the life
+    before."""
+
+    def __init__(self):
+        self.lock, self.number, self.speakers = threading.Condition(), None, {}
+
+    def enter(self, who):
+        """The life in which somebody speaks; none where the router is about to be killed."""
+        with self.lock:
+            if self.number is not None:
+                self.speakers[who] = self.number
+            return self.number
+
+    def leave(self, who):
+        with self.lock:
+            self.speakers.pop(who, None)
+            self.lock.notify_all()
+
+    def of(self, who):
+        return self.speakers[who]
+
+    def begin(self, number):
+        with self.lock:
+            self.number = number
+
+    def end(self, kill):
+        """Ends a life, and waits until nobody speaks in it any more: when it ended."""
+        with self.lock:
+            self.number = None
+            kill()
+            when = time.monotonic()
+            if not self.lock.wait_for(lambda: not self.speakers, PATIENCE):
+                raise TimeoutError("an operator does not notice that the router ended")
+            return when
+
+
+def reached(said, found):
+    """How far in the calls of an operator the last of these entries may stand, where those before it stand there, too, each once and in order, and
+    none that was answered is left out between them."""
+    places = {0}
+    for entry in found:
+        after = set()
+        for place in places:
+            while place < len(said):
+                if said[place].call == entry:
+                    after.add(place + 1)
+                if said[place].answered is not None:
+                    break
+                place += 1
+        places = after
+    return places
+
+
+def is_whole(said, found, known):
+    """Whether entries are calls of an operator, once each and in order: all that were answered before a time, or all that were answered."""
+    return any(all(it.answered is None or known is not None and it.answered >= known for it in said[place:]) for place in reached(said, found))
+
+
+class Killed:
+    """Two routers with a link, of which the first has a neighbour that comes and goes and eight operators. Each is killed now and then, and started
+    again with another history."""
+
+    def __init__(self, program, folder):
+        self.program, self.folder, self.lives, self.is_over = program, folder, Lives(), threading.Event()
+        self.histories, self.others, self.killed, self.ends, self.sessions = [], [], [], [], 0
+        codes = codes_of(program)
+        self.visitors = [Visitor(self.lives, Control(folder, f"control{at}"), at + 1, codes) for at in range(OPERATORS)]
+        for name in ("there", "back", "2.in", "2.out"):
+            os.mkfifo(self.path(name))
+        self.first = self.second = None
+
+    def path(self, name):
+        return os.path.join(self.folder, name)
+
+    def start(self, node, histories, links, options=()):
+        """A router with another folder for its history."""
+        histories.append(self.path(f"history{node}.{len(histories)}"))
+        return Router(self.program, SIZE, node, links, histories[-1], ["--retry", "1", *options], errors=subprocess.DEVNULL)
+
+    def start_first(self):
+        self.lives.begin(len(self.histories))
+        links = {1: (self.path("back"), self.path("there")), 2: (self.path("2.in"), self.path("2.out"))}
+        self.first = self.start(0, self.histories, links, [word for one in self.visitors for word in one.control.option()])
+
+    def start_second(self):
+        self.second = self.start(1, self.others, {0: (self.path("there"), self.path("back"))})
+
+    def kill_first(self):
+        self.killed.append(self.lives.end(self.first.kill))
+        self.first.close()
+        for visitor in self.visitors:
+            visitor.control.clear()
+
+    def kill_second(self):
+        self.second.kill()
+        self.second.close()
+
+    def come_and_go(self):
+        """A router of its own for each session of the neighbour, which forgets all."""
+        while not self.is_over.is_set():
+            words = [self.program, "router", "--size", str(SIZE), "--node", "2", "--link", f"0={self.path('2.out')},{self.path('2.in')}"]
+            with Router.__new__(Router) as neighbour:
+                neighbour.process = subprocess.Popen(words, stdin=subprocess.PIPE, stdout=subprocess.PIPE, stderr=subprocess.DEVNULL)
+                if awaited(lambda one=neighbour: self.is_over.is_set() or one.ask("neighbours") != "neighbours", bool, PATIENCE, 0.05):
+                    self.sessions += 1
+                self.is_over.wait(SHORT)
+
+    def speak(self, seconds):
+        """Has all of them speak for so many seconds, and the routers end well then."""
+        chosen = random.Random(seconds)
+        self.start_first()
+        self.start_second()
+        with concurrent.futures.ThreadPoolExecutor(OPERATORS + 1) as pool:
+            spoken = [pool.submit(one.speak, self.is_over.is_set) for one in self.visitors]
+            spoken.append(pool.submit(self.come_and_go))
+            try:
+                self.kill_them(time.monotonic() + seconds, chosen)
+            finally:
+                self.is_over.set()
+            for each in spoken:
+                each.result()
+        self.ends = [self.first.quit(), self.second.quit()]
+
+    def kill_them(self, end, chosen):
+        """Kills one of the two after the other, each once it has lived a while, until it is over."""
+        while time.monotonic() < end:
+            time.sleep(chosen.uniform(*LIVES))
+            if chosen.random() < 2 / 3 or not self.killed:
+                self.kill_first()
+                self.start_first()
+            else:
+                self.kill_second()
+                self.start_second()
+        if len(self.others) == 1:
+            self.kill_second()
+            self.start_second()
+        time.sleep(SHORT)
+
+    def __enter__(self):
+        return self
+
+    def __exit__(self, *_):
+        for one in (self.first, self.second):
+            if one:
+                one.close()
+
+
+class Rows(RunRows):
+    """What operators do, and what is to come of it."""
+
+    WAITING = ("eight_operators", "killed_while_operators_speak", "log_that_nobody_reads", "routers_are_killed")
+
+    # How long the operators of `routers_are_killed` speak.
+    KILLS = KILLS
+
+    def speakers(self, folder):
+        codes = codes_of(self.program)
+        return [Speaker(Control(folder, f"control{at}"), at + 1, codes) for at in range(OPERATORS)]
+
+    def row_eight_operators(self):
+        """They speak at the same time, while a neighbour comes and goes; then one of them ends the router, whose standard input stays open."""
+        with tempfile.TemporaryDirectory() as folder:
+            speakers = self.speakers(folder)
+            more = [word for one in speakers for word in one.control.option()]
+            with Run(self.program, nodes=(1, 2), size=SIZE, more=more) as run:
+                two = run.neighbours[2]
+                two.come(SIZE)
+                with concurrent.futures.ThreadPoolExecutor(OPERATORS) as pool:
+                    done = list(pool.map(lambda one: one.speak(LONG), speakers))
+                for one in done:
+                    self.judge(f"answers of {one.node}", not one.wrong and one.count, one.wrong[:3])
+                self.judge("all speak", min(one.count for one in done) > 3, [one.count for one in done])
+                answer = speakers[3].control.asked("quit")
+                self.judge("quit", answer == ["ok"], answer)
+                status = run.process.wait(timeout=PATIENCE)
+                self.judge("status", status == 0, status)
+                self.ends_well(run)
+                calls = calls_in(run.saved())
+                for one in done:
+                    found = calls[str(one.node)]
+                    self.judge(f"calls of {one.node}", found == one.calls, (len(found), len(one.calls)))
+                print(f"eight operators: {sum(one.count for one in done)} turns, {len(run.saved())} entries", file=sys.stderr)
+
+    def row_killed_while_operators_speak(self):
+        """What is saved replays, and is what they did first."""
+        with tempfile.TemporaryDirectory() as folder:
+            speakers = self.speakers(folder)
+            more = [word for one in speakers for word in one.control.option()]
+            with Run(self.program, nodes=(1,), size=SIZE, more=more) as run:
+                with concurrent.futures.ThreadPoolExecutor(OPERATORS) as pool:
+                    spoken = [pool.submit(one.speak, PATIENCE) for one in speakers]
+                    time.sleep(SHORT)
+                    run.kill()
+                    for each in spoken:
+                        with contextlib.suppress(BrokenPipeError, OSError):
+                            each.result()
+                said, _ = replayed(self.program, segments_of(run.history))
+                self.judge("replay", re.fullmatch(r"(replay ok|cut) \d+\n", said), said)
+                calls = calls_in(run.saved())
+                for one in speakers:
+                    found = calls[str(one.node)]
+                    self.judge(f"calls of {one.node}", found == one.calls[:len(found)] or found[:-1] == one.calls, (found[-1:], one.calls[-1:]))
+
+    def row_routers_are_killed(self):
+        """Two routers have a link, and each is killed now and then; eight operators of the first one, and one neighbour that comes and goes."""
+        with tempfile.TemporaryDirectory() as folder:
+            with Delays() as delays, Killed(self.program, folder) as killed:
+                killed.speak(self.KILLS)
+            # The router's threads wait, too, where there is more to do than can be done: for as long as answers took, and sleeps were late.
+            late = LATE + delays.longest + max(visitor.longest for visitor in killed.visitors)
+            for visitor in killed.visitors:
+                self.judge(f"answers of {visitor.node}", not visitor.wrong and visitor.count, visitor.wrong[:3])
+            for number, history in enumerate(killed.histories):
+                self.judge_life(killed, number, history, late)
+            for history in killed.others:
+                self.replays(history, is_killed=history != killed.others[-1])
+            self.judge("quit", killed.ends == [("ok", 0)] * 2, killed.ends)
+            self.judge("lives", len(killed.histories) > 1 and len(killed.others) > 1, (len(killed.histories), len(killed.others)))
+            calls = sum(len(said) for visitor in killed.visitors for said in visitor.said.values())
+            entries = [sum(len(entries_in(history)) for history in histories) for histories in (killed.histories, killed.others)]
+            print(f"routers are killed: {len(killed.histories)} and {len(killed.others)} lives, {killed.sessions} sessions of the neighbour, "
+                  f"{calls} calls, {entries[0]} and {entries[1]} entries, late by {delays.longest:.2f} s at most", file=sys.stderr)
+
+    def replays(self, history, is_killed):
+        said, _ = replayed(self.program, segments_of(history))
+        self.judge("replay", re.fullmatch(r"replay ok \d+\n" + (r"|(file \d+ )?cut \d+\n" if is_killed else ""), said), said)
+
+    def judge_life(self, killed, number, history, late):
+        """A history of the first router: the calls of each operator in it are those of that life."""
+        is_killed = number < len(killed.killed)
+        self.replays(history, is_killed)
+        calls = calls_in(entries_in(history))
+        for visitor in killed.visitors:
+            found, said = calls[str(visitor.node)], visitor.said.get(number, [])
+            holds = is_whole(said, found, killed.killed[number] - late if is_killed else None)
+            self.judge(f"life {number}: calls of {visitor.node}", holds, (len(found), len(said), found[-1:], [it.call for it in said[-1:]]))
+
+    def row_looks_alone(self):
+        """Who may look alone is answered looks, and refused all else; what they say makes no entry."""
+        with tempfile.TemporaryDirectory() as folder:
+            control = Control(folder, "look", looks=True)
+            with Run(self.program, more=control.option()) as run:
+                before = run.rests()
+                with control:
+                    for line in ("routes", "neighbours", "history 0", "status", "status json", "routes json"):
+                        answer = control.ask(line)
+                        self.judge(line, answer and not answer.startswith("refused"), answer)
+                    refused = ("show 1", "import 1 f", "export 1 f", "load f filter f { accept; }", "code f 4e43", "down 3", "quit")
+                    for at, line in enumerate(refused, 7):
+                        answer = control.ask(line)
+                        wanted = f"refused O3 {at}" if line.startswith("code") and answer.startswith("refused O3") else f"refused O11 {at}"
+                        self.judge(line, answer == wanted, answer)
+                    answer = control.ask("jump")
+                    self.judge("jump", answer == "refused O1 14", answer)
+                self.judge("no entry", run.entries() == before, run.entries())
+                self.end(run)
+
+    def row_reader_is_gone(self):
+        """Who says much and reads nothing keeps nobody waiting, nor the router from its end; and is served when they come back."""
+        with tempfile.TemporaryDirectory() as folder:
+            one, other = Control(folder, "one"), Control(folder, "other")
+            with Run(self.program, more=one.option() + other.option()) as run:
+                # Nobody opens what is answered.
+                one.open_output()
+                one.say(b"routes\n" * 100)
+                begun = time.monotonic()
+                answer = other.asked("routes", "show 1")
+                self.judge("another one", answer[0].startswith("routes ") and answer[1].startswith("route "), answer)
+                self.judge("soon", time.monotonic() - begun < 5, time.monotonic() - begun)
+                self.serve_two(run)
+                one.close()
+                # What was said is answered to whoever comes next.
+                with open(one.back, "rb") as it:
+                    lines = it.read().splitlines()
+                self.judge("answers", len(lines) == 100, len(lines))
+                answer = one.asked("neighbours")
+                self.judge("comes back", answer == ["neighbours 2:1"], answer)
+                # One whose answers fill the FIFO, and who does not read.
+                one.open()
+                writer = concurrent.futures.ThreadPoolExecutor(1)
+                full = writer.submit(lambda: one.say(b"history 0\nroutes\n" * 20000))
+                time.sleep(SHORT)
+                answer = other.asked("routes")
+                self.judge("another one again", answer[0].startswith("routes "), answer)
+                answer = run.quit()
+                self.judge("quit", answer == ("ok", 0), answer)
+                self.ends_well(run)
+                one.close()
+                with contextlib.suppress(OSError):
+                    full.result()
+
+    def row_reader_comes_back(self):
+        """A control is opened again each time that it ends, and keeps the names of filters; another one does not have them."""
+        with tempfile.TemporaryDirectory() as folder:
+            one, other = Control(folder, "one"), Control(folder, "other")
+            with Run(self.program, more=one.option() + other.option()) as run:
+                answer = one.asked("load near filter near { accept; }")
+                self.judge("load", answer == ["verified 1 0"], answer)
+                for _ in range(20):
+                    answer = one.asked("routes")
+                    self.judge("asks", answer[0].startswith("routes "), answer)
+                answer = one.asked("import 1 near")
+                self.judge("its name", answer == ["done 0"], answer)
+                answer = other.asked("import 1 near")
+                self.judge("another's name", answer == ["refused O6 1"], answer)
+                self.end(run)
+
+    def row_control_is_made_later(self):
+        """People are told that it is not there, once; it is served as soon as it is."""
+        with tempfile.TemporaryDirectory() as folder:
+            there, back = (os.path.join(folder, name) for name in ("late.in", "late.out"))
+            with Run(self.program, more=["--control", f"{there},{back}"]) as run:
+                wanted = f"control: {there}: No such file or directory (os error 2)\n"
+                self.says(run, wanted)
+                time.sleep(SHORT)
+                self.judge("once", run.said("").count("control: ") == 1, run.said(""))
+                late = Control(folder, "late")
+                answer = late.asked("neighbours")
+                self.judge("served", answer == ["neighbours"], answer)
+                self.end(run)
+
+    def row_file_as_control(self):
+        """A regular file is read once."""
+        with tempfile.TemporaryDirectory() as folder:
+            there, back = pathlib.Path(folder, "commands"), pathlib.Path(folder, "answers")
+            there.write_text("show 1\nneighbours\nload near filter near { accept; }\n", encoding="utf-8")
+            back.touch()
+            with Run(self.program, more=["--control", f"{there},{back}"]) as run:
+                text = awaited(back.read_text, lambda text: text.count("\n") == 3, PATIENCE)
+                time.sleep(SHORT)
+                self.judge("answers", back.read_text() == text == "route 8 none\nneighbours\nverified 1 0\n", text)
+                self.judge("entries", run.entries() == ["0 show 1 route 8 none"], run.entries())
+                self.end(run)
+
+    def row_quit_at_a_control(self):
+        """It ends a router that has no standard input, and one whose standard input is open; what stands there without a line feed counts."""
+        for stays in (True, False):
+            with tempfile.TemporaryDirectory() as folder:
+                control = Control(folder, "one")
+                history = os.path.join(folder, "history")
+                words = [self.program, "router", "--size", "4", "--node", "0", "--save", history, *control.option()] + ["--stay"] * stays
+                with subprocess.Popen(words, stdin=subprocess.DEVNULL if stays else subprocess.PIPE, stdout=subprocess.PIPE) as process:
+                    if not stays:
+                        process.stdin.write(b"neighbours\n")
+                        process.stdin.flush()
+                        line = process.stdout.readline()
+                        self.judge("standard input", line == b"neighbours\n", line)
+                    answer = control.asked("show 1", "quit")
+                    self.judge("quit", answer == ["route 4 none", "ok"], answer)
+                    status = process.wait(timeout=PATIENCE)
+                    self.judge("status", status == 0, status)
+                    said, _ = replayed(self.program, segments_of(history))
+                    self.judge("replay", said == "replay ok 1\n", said)
+
+    def row_log(self):
+        """The log has each event with its time, and goes on in a new file once it was renamed."""
+        with tempfile.TemporaryDirectory() as folder:
+            log, old = pathlib.Path(folder, "log"), pathlib.Path(folder, "log.1")
+            begun = time.time()
+            with Run(self.program, more=["--log", str(log)]) as run:
+                self.serve_two(run)
+                answer = run.ask("load near filter near { accept; }"), run.ask("import 2 near")
+                self.judge("import", answer == ("verified 1 0", "done 0"), answer)
+                text = awaited(log.read_text, lambda text: "import" in text, PATIENCE)
+                lines = [LOGGED.fullmatch(line) for line in text.splitlines()]
+                self.judge("lines", all(lines), text)
+                words = [line[2] for line in lines if line]
+                self.judge("begins", words and words[0].startswith("router: begins, version "), words)
+                self.judge("events", words[1:] == ["link 2: up in session 1", "operator: import 2 near"], words)
+                times = [time.strptime(line[1], "%Y-%m-%dT%H:%M:%SZ") for line in lines if line]
+                seconds = [int(time.mktime(each) - time.timezone) for each in times]
+                self.judge("times", all(begun - 2 <= each <= time.time() + 2 for each in seconds) and seconds == sorted(seconds), seconds)
+                os.rename(log, old)
+                run.neighbours[2].close()
+                text = awaited(lambda: log.read_text() if log.exists() else "", lambda text: "closed\n" in text, PATIENCE)
+                # How many messages are left out depends on how busy the machine is.
+                left_out = r"(link 2: messages left out, since later ones replaced them: \d+\n)?"
+                wanted = left_out + r"link 2: the neighbour ended its stream: closed\n" + left_out
+                self.judge("renamed", re.fullmatch(wanted, LOGGED.sub(r"\2", text)), text)
+                said = run.said("closed\n")
+                self.judge("standard error", re.fullmatch(wanted, said), said)
+                self.end(run)
+                text = log.read_text()
+                self.judge("ends", text.endswith(" router: ends\n"), text)
+
+    def row_log_that_is_not_there(self):
+        with Run(self.program, more=["--log", "/no/such/folder/log"]) as run:
+            self.says(run, "log: /no/such/folder/log: No such file or directory (os error 2)\n")
+            self.serve_two(run)
+            self.end(run)
+
+    def row_log_that_nobody_reads(self):
+        """It is a FIFO: nobody waits; whoever reads it later is told what there was room for, and how much there was none for."""
+        with tempfile.TemporaryDirectory() as folder:
+            log, control = os.path.join(folder, "log"), Control(folder, "one")
+            os.mkfifo(log)
+            with Run(self.program, more=["--log", log, *control.option()]) as run:
+                with control:
+                    control.ask("load near filter near { accept; }")
+                    for _ in range(4000):
+                        answer = control.ask("import 1 near")
+                        if answer != "done 0":
+                            break
+                self.judge("answers", answer == "done 0", answer)
+                self.serve_two(run)
+                reads = os.open(log, os.O_RDONLY | os.O_NONBLOCK)
+                text = b""
+                end = time.monotonic() + PATIENCE
+                while b"left out" not in text and time.monotonic() < end:
+                    try:
+                        text += os.read(reads, 1 << 16)
+                    except BlockingIOError:
+                        pass
+                    time.sleep(0.01)
+                lines = text.decode().splitlines()
+                said = re.search(r" log: lines left out, since too many waited: (\d+)\n", text.decode())
+                self.judge("left out", said and int(said[1]) > 1000, said)
+                self.judge("lines", all(map(LOGGED.fullmatch, lines)), lines[:3])
+                os.close(reads)
+                self.end(run)
+
+    def row_status(self):
+        """The line and the object say the same, and what happened."""
+        with Run(self.program, more=["--retry", "1"]) as run:
+            self.serve_two(run)
+            line, text = run.ask("status"), run.ask("status json")
+            self.judge("line", STATUS.fullmatch(line), line)
+            found = json.loads(text)
+            links = {link["node"]: link for link in found["links"]}
+            self.judge("names", sorted(found) == ["entries", "forgotten", "links", "node", "room", "saved", "size", "up", "version"], sorted(found))
+            self.judge("router", (found["size"], found["node"], found["room"]) == (8, 0, 1000000), found)
+            entries = len(run.entries())
+            self.judge("entries", found["entries"] == entries and found["forgotten"] == 0, (found, entries))
+            self.judge("saved", awaited(lambda: json.loads(run.ask("status json"))["saved"], lambda saved: saved == entries, PATIENCE) == entries)
+            two = links[2]
+            self.judge("up", (two["state"], two["session"], two["sessions"], two["received"]) == ("up", 1, 1, 1), two)
+            self.judge("sent", two["sent"] == 9 and two["waiting"] == 0, two)
+            self.judge("never up", (links[1]["state"], links[1]["sessions"], links[1]["ended"]) == ("closed", 0, None), links[1])
+            words = dict(zip(line.split(" version")[0].split()[1::2], map(int, line.split(" version")[0].split()[2::2])))
+            self.judge("same", all(found[name] == words[name] for name in ("node", "size", "entries", "forgotten", "room")), (words, found))
+            run.neighbours[2].close()
+            self.says(run, "closed")
+            found = awaited(lambda: json.loads(run.ask("status json")), lambda found: found["links"][1]["state"] == "closed", PATIENCE)
+            two = found["links"][1]
+            self.judge("down", (two["state"], two["session"], two["ended"]) == ("closed", None, "the neighbour ended its stream"), two)
+            run.neighbours[2].come()
+            found = awaited(lambda: json.loads(run.ask("status json")), lambda found: found["links"][1]["state"] == "up", PATIENCE)
+            self.judge("up again", (found["links"][1]["session"], found["links"][1]["sessions"]) == (2, 2), found["links"][1])
+            self.end(run)
+
+    def row_monitor(self):
+        """docs/monitor.py tells all numbers of `status json` in the form that Prometheus reads: a name, labels, a number."""
+        with Run(self.program) as run:
+            self.serve_two(run)
+            text = run.ask("status json")
+            said = subprocess.run([sys.executable, TOP / "docs" / "monitor.py"], input=text, capture_output=True, text=True, check=True).stdout
+            found, status = dict(re.findall(r'(?m)^([a-z_]+(?:\{node="\d+"\})?) (\d+)$', said)), json.loads(text)
+            self.judge("lines", len(found) == said.count("\n") == 4 + 5 * 2, said)
+            self.judge("router", all(found[f"ncroute_{name}"] == str(status[name] or 0) for name in ("up", "entries", "forgotten", "saved")), said)
+            for link in status["links"]:
+                wanted = {**{name: link[name] for name in ("sessions", "received", "sent", "waiting")}, "up": int(link["node"] == 2)}
+                told = {name: int(found[f'ncroute_link_{name}{{node="{link["node"]}"}}']) for name in wanted}
+                self.judge(f"link {link['node']}", told == wanted, (told, wanted))
+            self.end(run)
+
+    def row_routes_json(self):
+        with Run(self.program) as run:
+            self.serve_two(run)
+            found = json.loads(run.ask("routes json"))["routes"]
+            line = run.ask("routes")
+            told = [f"{route['node']}:{route['distance']}" + (f":{route['via']}" if route["via"] is not None else "") for route in found]
+            self.judge("same", "routes " + " ".join(told) == line, (told, line))
+            self.judge("prefixes", [route["prefix"] for route in found] == [f"10.{node}.0.0/16" for node in range(8)], found)
+            self.judge("reachable", [route["reachable"] for route in found] == [True, False, True] + [False] * 5, found)
+            self.end(run)
+
+    def ctl(self, config, *words, text=None):
+        ran = subprocess.run([CTL, "-c", config, *words], input=text, capture_output=True, text=True, check=False, timeout=2 * PATIENCE)
+        return ran.returncode, ran.stdout, ran.stderr
+
+    def together(self, config):
+        """Many who speak at the same time are answered what each of them asked."""
+        asked = [(f"show {node}", f"route {0 if node == 0 else 8} {'local' if node == 0 else 'none'}\n") for node in range(8)] * 3
+        with concurrent.futures.ThreadPoolExecutor(OPERATORS) as pool:
+            answers = list(pool.map(lambda each: self.ctl(config, "-w", str(PATIENCE), *each[0].split()), asked))
+        wrong = [(each, answer) for each, answer in zip(asked, answers) if answer != (0, each[1], "")]
+        self.judge("at the same time", not wrong, wrong[:3])
+
+    def row_ncroute_ctl(self):
+        """It finds the control in the router's file, and its answers do not mix."""
+        with tempfile.TemporaryDirectory() as folder:
+            for name in ("look", "all"):
+                Control(folder, name)
+            config = os.path.join(folder, "r.conf")
+            lines = ("# a router", "size 8", "node 0", "stay", "control look.in look.out look", "control all.in all.out   # all")
+            pathlib.Path(config).write_text("\n".join(lines), encoding="utf-8")
+            absent = self.ctl(config, "-w", "0.3", "routes")
+            self.judge("no router", absent == (3, "", "ncroute-ctl: the router does not answer\n"), absent)
+            absent = self.ctl(config, "-w", "0.3", text=f"show {'0' * 100000}\n")
+            self.judge("no router for a long line", absent == (3, "", "ncroute-ctl: the router does not answer\n"), absent)
+            with Router.__new__(Router) as router:
+                router.process = subprocess.Popen([self.program, "router", "--config", config], stdin=subprocess.PIPE, stdout=subprocess.PIPE,
+                                                  stderr=subprocess.DEVNULL)
+                found = self.ctl(config, "routes")
+                self.judge("routes", found == (0, "routes 0:0 1:8 2:8 3:8 4:8 5:8 6:8 7:8\n", ""), found)
+                found = self.ctl(config, "show", "0")
+                self.judge("show", found == (0, "route 0 local\n", ""), found)
+                found = self.ctl(config, "status")
+                self.judge("status", found[0] == 0 and found[1].startswith("status node 0 size 8 "), found)
+                found = self.ctl(config, "status", "json")
+                self.judge("json", found[0] == 0 and json.loads(found[1])["size"] == 8, found)
+                found = self.ctl(config, "jump")
+                self.judge("refused", found == (1, "refused O1 1\n", ""), found)
+                found = self.ctl(config, text="# not said\n\nload near filter near { accept; }\nimport 1 near\nneighbours\n")
+                self.judge("lines", found == (0, "verified 1 0\ndone 0\nneighbours\n", ""), found)
+                self.together(config)
+                found = self.ctl(config, "quit")
+                self.judge("quit", found == (0, "ok\n", ""), found)
+                self.judge("ends", router.process.wait(timeout=PATIENCE) == 0, router.process.returncode)
+            for words, wanted in ((["-c", "/no/such/file", "routes"], "No such file"), (["-c", os.devnull, "routes"], "no line says")):
+                ran = subprocess.run([CTL, *words], capture_output=True, text=True, check=False)
+                self.judge("wrong words", ran.returncode == 2 and wanted in ran.stderr, ran)
+
+
+class LongRows(Rows):
+    """The row whose routers are killed, for a minute."""
+
+    KILLS = MINUTE
+
+
+def main(words):
+    if words[:1] == ["--long"]:
+        rows = LongRows(built())
+        for _ in range(int(words[1]) if words[1:] else TIMES):
+            rows.run(["routers_are_killed"])
+    else:
+        rows = Rows(built())
+        rows.run(words)
+    rows.counts.finish()
+
+
+if __name__ == "__main__":
+    main(sys.argv[1:])
