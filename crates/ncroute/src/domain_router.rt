@@ -21,6 +21,7 @@ use crate::domain_words::{DomainFault, find_unfit, said_beside, with_domain};
 use crate::ending::{FAILED, fault_line};
 use crate::folders::HistoryFolders;
 use crate::planning::{PlanFault, is_memory, plan_of};
+use crate::reloading::RouterFiles;
 use crate::routing::{
     Outlets, SetupFault, Unreported, WRONG_WORDS, end_by_line, end_unset, make_save, run_setting,
     serve_words, surroundings_of,
@@ -192,7 +193,11 @@ where
 {
     match make_folder(rt, alloc, words, console) {
         Ok(Some(save)) => {
-            let Outlets { voice, pipe } = outlets;
+            let Outlets {
+                voice,
+                pipe,
+                origins,
+            } = outlets;
             let setting = Setting {
                 plan,
                 filters,
@@ -202,6 +207,7 @@ where
                 rt,
                 alloc,
                 &words.save,
+                RouterFiles::new(*rt, origins),
                 setting,
                 surroundings_of(words, pipe),
                 console,
@@ -407,9 +413,12 @@ where
         (origin_of origin.entry) console.old console.new unreported.status) }
 {
     match said_to(alloc, words, &file, me) {
-        Ok((node, all)) => serve_said::<R, FI, FO, T, I, W, E>(
-            rt, alloc, file, &node, &all, origin, console, outlets,
-        ),
+        Ok((node, all)) => {
+            let outlets = outlets.in_domain(alloc, words, &file, me, &node);
+            serve_said::<R, FI, FO, T, I, W, E>(
+                rt, alloc, file, &node, &all, origin, console, outlets,
+            )
+        }
         Err(_) => end_by_program(&mut console.errors, ProgramFault::MEMORY),
     }
 }
@@ -554,6 +563,7 @@ where
     ensures unreported { IfErr result (λ unreported. spec.CutsInDomain (R.opens rt.now) (R.makes rt.now) (R.keeps rt.now) (stream_fault unreported.why)
         (origin_of origin.entry) words.now console.old console.new unreported.status) }
 {
+    let outlets = outlets.by_options(alloc, origin);
     match &words.domain {
         Some(name) => serve_beside::<R, FI, FO, T, I, W, E>(
             rt,
