@@ -21,6 +21,5 @@ pub mod Grouping
 pub mod Joining
 pub mod Forgetting
 pub mod Leaving
-pub mod Listed
 pub mod Zipping
 mod FailureRows
