@@ -11,16 +11,14 @@ ghost use Rattle.filter_reports.specs.Faults.{stream_fault};
 ghost use Rattle.ncroute.specs.Configured as spec;
 ghost use Rattle.router_words.specs.Stated.{origin_of};
 
-use crate::console::Console;
 use crate::domain_router::serve_in_domain;
-use crate::ending::{FAILED, fault_line};
 use crate::folders::HistoryFolders;
-use crate::including::{path_beside, read_config};
 use crate::routing::{Outlets, Unreported, end_by_line};
-use crate::texts::Folder;
 use crate::wrong_lines::{clash_line, refused_line};
-use command_line::{RouterWords, Source};
-use filter_reports::ProgramFault;
+use command_line::RouterWords;
+use filter_reports::{FAILED, ProgramFault};
+use program_console::{Console, Folder, Program, fault_line, path_beside, read_config};
+use program_words::Source;
 use router_daemon::LinkFolder;
 use router_files::{LineFault, WrongLine, read_statements};
 use router_words::{Clash, Origin, find_clash, gather, no_file};
@@ -40,7 +38,11 @@ fn end_by_memory<E: Write>(errors: &mut E) -> Result<u8, Unreported>
     ensures cut { IfErr result (λ unreported. spec.EndsByMemory (IsCut (stream_fault unreported.why)) (E.contents errors.old) (E.contents errors.new)
         unreported.status) }
 {
-    end_by_line(errors, FAILED, fault_line(ProgramFault::MEMORY).as_bytes())
+    end_by_line(
+        errors,
+        FAILED,
+        fault_line(Program::Ncroute, ProgramFault::MEMORY).as_bytes(),
+    )
 }
 
 /// Tells people of a line of the file that is refused by itself: the exit status.
@@ -116,6 +118,8 @@ fn serve_statements<
 ) -> Result<u8, Unreported>
 where
     R::Segments: Send + 'static,
+    R::File: Send,
+    R::New: Send,
     ensures served { IfOk result (spec.ServesStatements (R.opens rt.now) (R.makes rt.now) (R.keeps rt.now) (origin_of origin.entry) words.now
         console.old console.new) }
     ensures unreported { IfErr result (λ unreported. spec.CutsStatements (R.opens rt.now) (R.makes rt.now) (R.keeps rt.now) (stream_fault unreported.why)
@@ -163,6 +167,8 @@ fn serve_text<
 ) -> Result<u8, Unreported>
 where
     R::Segments: Send + 'static,
+    R::File: Send,
+    R::New: Send,
     requires { length text.now < 2 ^ 63 }
     ensures served { IfOk result (spec.ServesText (R.opens rt.now) (R.makes rt.now) (R.keeps rt.now) name.now text.now words.now
         console.old console.new) }
@@ -213,6 +219,8 @@ fn serve_file<
 ) -> Result<u8, Unreported>
 where
     R::Segments: Send + 'static,
+    R::File: Send,
+    R::New: Send,
     ensures served { IfOk result (spec.ServesFile (R.opens rt.now) (R.makes rt.now) (R.keeps rt.now) name.now words.now
         console.old console.new) }
     ensures unreported { IfErr result (λ unreported. spec.CutsFile (R.opens rt.now) (R.makes rt.now) (R.keeps rt.now) (stream_fault unreported.why) name.now
@@ -233,7 +241,11 @@ where
             outlets,
         ),
         Ok(None) => Ok(FAILED),
-        Err(fault) => end_by_line(&mut console.errors, FAILED, fault_line(fault).as_bytes()),
+        Err(fault) => end_by_line(
+            &mut console.errors,
+            FAILED,
+            fault_line(Program::Ncroute, fault).as_bytes(),
+        ),
     }
 }
 
@@ -267,6 +279,8 @@ pub(crate) fn serve_router<
 ) -> Result<u8, Unreported>
 where
     R::Segments: Send + 'static,
+    R::File: Send,
+    R::New: Send,
     ensures served { IfOk result (spec.ServesConfigured (R.opens rt.now) (R.makes rt.now) (R.keeps rt.now) words.now console.old console.new) }
     ensures unreported { IfErr result (λ unreported. spec.CutsConfigured (R.opens rt.now) (R.makes rt.now) (R.keeps rt.now) (stream_fault unreported.why)
         words.now console.old console.new unreported.status) }

@@ -14,21 +14,20 @@ ghost use Rattle.ncroute.specs.DomainWords.{SaysDomain, said_beside, unfit_of};
 ghost use Rattle.ncroute.specs.Routing.{IsEmpty};
 ghost use Rattle.router_words.specs.Stated.{origin_of};
 
-use crate::console::Console;
 use crate::domain_lines::domain_line;
 use crate::domain_loading::{DomainRead, load_domain};
 use crate::domain_words::{DomainFault, find_unfit, said_beside, with_domain};
-use crate::ending::{FAILED, fault_line};
 use crate::folders::HistoryFolders;
 use crate::planning::{PlanFault, is_memory, plan_of};
+use crate::reloading::RouterFiles;
 use crate::routing::{
     Outlets, SetupFault, Unreported, WRONG_WORDS, end_by_line, end_unset, make_save, run_setting,
     serve_words, surroundings_of,
 };
-use crate::texts::Folder;
 use command_line::RouterWords;
 use domain_files::{DomainFile, NodeFile, domain_digest};
-use filter_reports::ProgramFault;
+use filter_reports::{FAILED, ProgramFault};
+use program_console::{Console, Folder, Program, fault_line};
 use router_daemon::{LinkFolder, Setting, VerifiedFilters};
 use router_files::RouterOption;
 use router_options::{DomainMark, RouterPlan};
@@ -76,7 +75,11 @@ fn end_by_program<E: Write>(errors: &mut E, fault: ProgramFault) -> Result<u8, U
     ensures cut { IfErr result (λ unreported. spec.EndsByProgram (IsCut (stream_fault unreported.why)) fault
         (E.contents errors.old) (E.contents errors.new) unreported.status) }
 {
-    end_by_line(errors, FAILED, fault_line(fault).as_bytes())
+    end_by_line(
+        errors,
+        FAILED,
+        fault_line(Program::Ncroute, fault).as_bytes(),
+    )
 }
 
 /// Tells people why words are no plan: the exit status.
@@ -186,13 +189,19 @@ fn run_marked<
 ) -> Result<u8, Unreported>
 where
     R::Segments: Send + 'static,
+    R::File: Send,
+    R::New: Send,
     ensures served { IfOk result (spec.RunsMarked (R.makes rt.now) (R.keeps rt.now) filters.entries words.now plan console.old console.new) }
     ensures unreported { IfErr result (λ unreported. spec.CutsMarked (R.makes rt.now) (stream_fault unreported.why) filters.entries words.now plan
         console.old console.new unreported.status) }
 {
     match make_folder(rt, alloc, words, console) {
         Ok(Some(save)) => {
-            let Outlets { voice, pipe } = outlets;
+            let Outlets {
+                voice,
+                pipe,
+                origins,
+            } = outlets;
             let setting = Setting {
                 plan,
                 filters,
@@ -202,6 +211,7 @@ where
                 rt,
                 alloc,
                 &words.save,
+                RouterFiles::new(*rt, origins),
                 setting,
                 surroundings_of(words, pipe),
                 console,
@@ -245,6 +255,8 @@ fn run_plan<
 ) -> Result<u8, Unreported>
 where
     R::Segments: Send + 'static,
+    R::File: Send,
+    R::New: Send,
     ensures served { IfOk result (spec.RunsPlan (R.makes rt.now) (R.keeps rt.now) file words.now plan console.old console.new) }
     ensures unreported { IfErr result (λ unreported. spec.CutsPlan (R.makes rt.now) (stream_fault unreported.why) file words.now plan
         console.old console.new unreported.status) }
@@ -299,6 +311,8 @@ fn serve_plan<
 ) -> Result<u8, Unreported>
 where
     R::Segments: Send + 'static,
+    R::File: Send,
+    R::New: Send,
     ensures served { IfOk result (spec.ServesPlan (R.makes rt.now) (R.keeps rt.now) file node.now words.now plan (origin_of origin.entry)
         console.old console.new) }
     ensures unreported { IfErr result (λ unreported. spec.CutsServedPlan (R.makes rt.now) (stream_fault unreported.why) file node.now words.now plan
@@ -342,6 +356,8 @@ fn serve_said<
 ) -> Result<u8, Unreported>
 where
     R::Segments: Send + 'static,
+    R::File: Send,
+    R::New: Send,
     ensures served { IfOk result (spec.ServesSaid (R.makes rt.now) (R.keeps rt.now) file node.now words.now (origin_of origin.entry)
         console.old console.new) }
     ensures unreported { IfErr result (λ unreported. spec.CutsSaid (R.makes rt.now) (stream_fault unreported.why) file node.now words.now
@@ -401,15 +417,20 @@ fn serve_node<
 ) -> Result<u8, Unreported>
 where
     R::Segments: Send + 'static,
+    R::File: Send,
+    R::New: Send,
     ensures served { IfOk result (spec.ServesNode (R.makes rt.now) (R.keeps rt.now) file me words.now (origin_of origin.entry)
         console.old console.new) }
     ensures unreported { IfErr result (λ unreported. spec.CutsNode (R.makes rt.now) (stream_fault unreported.why) file me words.now
         (origin_of origin.entry) console.old console.new unreported.status) }
 {
     match said_to(alloc, words, &file, me) {
-        Ok((node, all)) => serve_said::<R, FI, FO, T, I, W, E>(
-            rt, alloc, file, &node, &all, origin, console, outlets,
-        ),
+        Ok((node, all)) => {
+            let outlets = outlets.in_domain(alloc, words, &file, me, &node);
+            serve_said::<R, FI, FO, T, I, W, E>(
+                rt, alloc, file, &node, &all, origin, console, outlets,
+            )
+        }
         Err(_) => end_by_program(&mut console.errors, ProgramFault::MEMORY),
     }
 }
@@ -446,6 +467,8 @@ fn serve_file<
 ) -> Result<u8, Unreported>
 where
     R::Segments: Send + 'static,
+    R::File: Send,
+    R::New: Send,
     ensures served { IfOk result (spec.ServesFile (R.opens rt.now) (R.makes rt.now) (R.keeps rt.now) name.now me words.now (origin_of origin.entry)
         console.old console.new) }
     ensures unreported { IfErr result (λ unreported. spec.CutsFile (R.opens rt.now) (R.makes rt.now) (stream_fault unreported.why) name.now me words.now
@@ -506,6 +529,8 @@ fn serve_beside<
 ) -> Result<u8, Unreported>
 where
     R::Segments: Send + 'static,
+    R::File: Send,
+    R::New: Send,
     ensures served { IfOk result (spec.ServesBeside (R.opens rt.now) (R.makes rt.now) (R.keeps rt.now) name.now words.now
         (origin_of origin.entry) console.old console.new) }
     ensures unreported { IfErr result (λ unreported. spec.CutsBeside (R.opens rt.now) (R.makes rt.now) (stream_fault unreported.why) name.now words.now
@@ -549,11 +574,14 @@ pub(crate) fn serve_in_domain<
 ) -> Result<u8, Unreported>
 where
     R::Segments: Send + 'static,
+    R::File: Send,
+    R::New: Send,
     ensures served { IfOk result (spec.ServesInDomain (R.opens rt.now) (R.makes rt.now) (R.keeps rt.now) (origin_of origin.entry) words.now
         console.old console.new) }
     ensures unreported { IfErr result (λ unreported. spec.CutsInDomain (R.opens rt.now) (R.makes rt.now) (R.keeps rt.now) (stream_fault unreported.why)
         (origin_of origin.entry) words.now console.old console.new unreported.status) }
 {
+    let outlets = outlets.by_options(alloc, origin);
     match &words.domain {
         Some(name) => serve_beside::<R, FI, FO, T, I, W, E>(
             rt,

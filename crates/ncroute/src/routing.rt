@@ -22,17 +22,19 @@ ghost use Rattle.ncroute.specs.Routing as spec;
 ghost use Rattle.router_words.specs.Stated.{origin_of};
 ghost use Rattle.ncroute.specs.WrongWords.{wrong_line};
 
-use crate::console::Console;
-use crate::ending::{FAILED, fault_line};
 use crate::folders::HistoryFolders;
 use crate::loading::load_filters;
+use crate::origins::Origins;
 use crate::planning::{PlanFault, is_memory, plan_of};
-use crate::texts::{Folder, tell_uncreated, write_line};
+use crate::reloading::RouterFiles;
 use crate::wrong_words::wrong_line;
-use command_line::{RouterWords, VERSION};
-use filter_reports::ProgramFault;
+use command_line::RouterWords;
+use domain_files::{DomainFile, NodeFile};
+use filter_reports::{FAILED, ProgramFault};
 use history_saver::{SaveFault, SegmentSaver};
 use line_protocol::StreamFault;
+use program_console::{Console, Folder, Program, fault_line, tell_uncreated, write_line};
+use program_words::VERSION;
 use route_history::CallFault;
 use router_daemon::{
     DaemonFault, FeedFile, InputPipe, LinkFolder, Setting, Surroundings, run_router,
@@ -66,6 +68,47 @@ pub struct Outlets<T> {
     pub voice: T,
     /// Where standard input is ended.
     pub pipe: Arc<InputPipe>,
+    /// The files by which it is started.
+    pub origins: Origins,
+}
+
+impl<T> Outlets<T> {
+    /// The same of a router that is started by this file of options.
+    pub(crate) fn by_options(self, alloc: Global, origin: Origin<'_>) -> Outlets<T> {
+        let Outlets {
+            voice,
+            pipe,
+            origins,
+        } = self;
+        let origins = origins.by_options(alloc, origin);
+        Outlets {
+            voice,
+            pipe,
+            origins,
+        }
+    }
+
+    /// The same of a router that is started by the file of its domain, which words name.
+    pub(crate) fn in_domain(
+        self,
+        alloc: Global,
+        words: &RouterWords,
+        file: &DomainFile,
+        me: u32,
+        node: &Option<NodeFile>,
+    ) -> Outlets<T> {
+        let Outlets {
+            voice,
+            pipe,
+            origins,
+        } = self;
+        let origins = origins.in_domain(alloc, words, file, me, node);
+        Outlets {
+            voice,
+            pipe,
+            origins,
+        }
+    }
 }
 
 /// What kept a router from being set up.
@@ -137,7 +180,11 @@ pub(crate) fn end_unset<E: Write>(
 {
     match fault {
         SetupFault::Words(fault) => end_by_words(alloc, errors, origin, fault),
-        SetupFault::Program(fault) => end_by_line(errors, FAILED, fault_line(fault).as_bytes()),
+        SetupFault::Program(fault) => end_by_line(
+            errors,
+            FAILED,
+            fault_line(Program::Ncroute, fault).as_bytes(),
+        ),
     }
 }
 
@@ -146,8 +193,8 @@ fn save_line(fault: SaveFault) -> &'static str
     ensures { result.now ≡ spec.save_line fault }
 {
     match fault {
-        SaveFault::Write => fault_line(ProgramFault::Stream(StreamFault::Write)),
-        SaveFault::Memory => fault_line(ProgramFault::MEMORY),
+        SaveFault::Write => fault_line(Program::Ncroute, ProgramFault::Stream(StreamFault::Write)),
+        SaveFault::Memory => fault_line(Program::Ncroute, ProgramFault::MEMORY),
     }
 }
 
@@ -156,14 +203,14 @@ fn router_line(fault: DaemonFault) -> &'static str
     ensures { result.now ≡ spec.router_line fault }
 {
     match fault {
-        DaemonFault::Stream(fault) => fault_line(ProgramFault::Stream(fault)),
+        DaemonFault::Stream(fault) => fault_line(Program::Ncroute, ProgramFault::Stream(fault)),
         DaemonFault::Call(CallFault::Full) => "ncroute: J1\n",
         DaemonFault::Call(CallFault::Memory) => "ncroute: J2\n",
         DaemonFault::Lock(LockFault::Held) => "ncroute: L2\n",
         DaemonFault::Lock(LockFault::Memory) => "ncroute: L3\n",
         DaemonFault::NotBegun(fault) | DaemonFault::Save(fault) => save_line(fault),
         DaemonFault::NotStarted => "ncroute: X2\n",
-        DaemonFault::Memory => fault_line(ProgramFault::MEMORY),
+        DaemonFault::Memory => fault_line(Program::Ncroute, ProgramFault::MEMORY),
     }
 }
 
@@ -421,6 +468,7 @@ pub(crate) fn run_setting<
     rt: &R,
     alloc: Global,
     save: &Option<String>,
+    router_files: RouterFiles<R>,
     setting: Setting<R::Segments>,
     surroundings: Surroundings<'_>,
     console: &mut Console<I, W, E>,
@@ -428,16 +476,19 @@ pub(crate) fn run_setting<
 ) -> Result<u8, Unreported>
 where
     R::Segments: Send + 'static,
+    R::File: Send,
+    R::New: Send,
     requires { IfSome setting.save (λ segments. spec.IsEmpty (R.Segments.holds segments)) }
     ensures finished { IfOk result (spec.RunsPlan (R.keeps rt.now) save.now setting.plan setting.filters.entries
         (option_map (λ segments. R.Segments.holds segments) setting.save) console.old console.new) }
     ensures unreported { IfErr result (λ unreported. spec.CutsPlan (stream_fault unreported.why) setting.plan setting.filters.entries
         console.old console.new unreported.status) }
 {
-    match run_router::<R, FI, FO, R, R::Segments, T, I, W>(
+    match run_router::<R, FI, FO, R, RouterFiles<R>, R::Segments, T, I, W>(
         rt,
         alloc,
         *rt,
+        router_files,
         setting,
         surroundings,
         voice,
@@ -484,17 +535,24 @@ fn run_words<
 ) -> Result<u8, Unreported>
 where
     R::Segments: Send + 'static,
+    R::File: Send,
+    R::New: Send,
     ensures served { IfOk result (spec.ServesRouter (R.opens rt.now) (R.makes rt.now) (R.keeps rt.now) (origin_of origin.entry) words.now
         console.old console.new) }
     ensures unreported { IfErr result (λ unreported. spec.CutsRouter (R.opens rt.now) (R.makes rt.now) (R.keeps rt.now) (stream_fault unreported.why)
         (origin_of origin.entry) words.now console.old console.new unreported.status) }
 {
-    let Outlets { voice, pipe } = outlets;
+    let Outlets {
+        voice,
+        pipe,
+        origins,
+    } = outlets;
     match set_up(rt, alloc, words, console) {
         Ok(Some(setting)) => run_setting::<R, FI, FO, T, I, W, E>(
             rt,
             alloc,
             &words.save,
+            RouterFiles::new(*rt, origins),
             setting,
             surroundings_of(words, pipe),
             console,
@@ -535,6 +593,8 @@ pub(crate) fn serve_words<
 ) -> Result<u8, Unreported>
 where
     R::Segments: Send + 'static,
+    R::File: Send,
+    R::New: Send,
     ensures served { IfOk result (checked.ServesWords (R.opens rt.now) (R.makes rt.now) (R.keeps rt.now) (origin_of origin.entry) words.now
         console.old console.new) }
     ensures unreported { IfErr result (λ unreported. checked.CutsWords (R.opens rt.now) (R.makes rt.now) (R.keeps rt.now) (stream_fault unreported.why)
