@@ -4,8 +4,13 @@ import json
 import sys
 
 status = json.load(sys.stdin)
-for name in ("up", "entries", "forgotten", "saved"):
+uses = [(link["node"], way, link[way]) for link in status["links"] for way in ("import", "export") if link[way]]
+print(f'ncroute_info{{version="{status["version"]}",domain="{status["domain"] or ""}"}} 1')
+for name in ("up", "entries", "forgotten", "saved", "segments", "bytes"):
     print(f"ncroute_{name} {status[name] or 0}")
 for name in ("up", "sessions", "received", "sent", "waiting"):
     for link in status["links"]:
         print(f'ncroute_link_{name}{{node="{link["node"]}"}} {int(link["state"] == "up") if name == "up" else link[name]}')
+for name in ("accepted", "rejected", "budget"):
+    for node, way, used in uses:
+        print(f'ncroute_filter_{name}{{node="{node}",direction="{way}",filter="{used["name"] or ""}"}} {used[name]}')

@@ -1,16 +1,19 @@
 #!/usr/bin/env python3
-"""Starts routers from files of their whole domain, and compares what they say of it: the digest in their greetings, which is the same for files that
-are one domain, and another one for each that is not; and what two of them tell that were started from the same file, and from others. One comes up
-with a neighbour of a version that knows no digests, also where that is in session already. The last line is 'N passed, M failed'.
+"""Starts routers from files of their whole domain, and compares what they say of it: the digest in their greetings and in their status, which is
+the same for files that are one domain, and another one for each that is not; and what two of them tell that were started from the same file, and from
+others, and where one of them read the file again and the other one was started anew. One comes up with a neighbour of a version that knows no
+digests, also where that is in session already. The last line is 'N passed, M failed'.
 
 usage: NCROUTE=PATH scripts/check_domain_files.py     (PATH: the program as it is built)
 """
+import json
 import os
 import pathlib
 import re
 import subprocess
 import tempfile
 
+from lib.controls import Control
 from lib.counts import Counts
 from lib.processes import PATIENCE, Process, awaited
 from lib.program import built
@@ -32,6 +35,9 @@ SAME = {
     "a prefix that is said, and the usual one": [DOMAIN[0], "prefix 3 10.3.0.0/16", *DOMAIN[1:]],
 }
 
+# The file of a domain that is read again.
+AGAIN = ["domain 2", f"load near {NEAR}", "link 0 1", "import 0 1 near"]
+
 # And each of these another one.
 OTHERS = {
     "more nodes": ["domain 5", *DOMAIN[1:]],
@@ -46,7 +52,23 @@ OTHERS = {
 }
 
 
+# What an end says that hears the greeting of another domain.
+MISTAKEN = re.compile(r"link \d: line \d+ is not its greeting: the neighbour's domain has the digest [0-9a-f]{16}, and this one [0-9a-f]{16}: closed")
+
 GREETING = re.compile(rb"netchange 2 \d+ 0 9 (\d+) (\d+)( [0-9a-f]{16})?\n")
+
+
+def fifos_in(folder, *names):
+    """New FIFOs of these names."""
+    paths = [os.path.join(folder, name) for name in names]
+    for path in paths:
+        os.mkfifo(path)
+    return paths
+
+
+def digest_of(operator):
+    """The digest that a router says its domain has."""
+    return json.loads(operator.ask("status json"))["domain"]
 
 
 class Older:
@@ -92,7 +114,7 @@ class Domains:
     """Files of domains in a folder, and routers that are started from them."""
 
     def __init__(self, program, folder, counts):
-        self.program, self.folder, self.counts = program, folder, counts
+        self.program, self.folder, self.counts, self.statuses = program, folder, counts, []
         for name, text in (("near", NEAR), ("slow", SLOW)):
             self.write(f"{name}.filter", [text.replace("{ ", "{ # in a file\n")])
 
@@ -107,18 +129,20 @@ class Domains:
         """What node 0 greets by, where these lines are its domain."""
         file = self.write("the.domain", lines)
         with tempfile.TemporaryDirectory(dir=self.folder) as folder:
-            fifos = [os.path.join(folder, name) for name in ("in", "out")]
-            for fifo in fifos:
-                os.mkfifo(fifo)
+            fifos = fifos_in(folder, "in", "out")
             words = [self.program, "router", "--domain", file, "--node", "0", "--link", f"1={fifos[0]},{fifos[1]}"]
-            with Process(words, errors=subprocess.DEVNULL), open(fifos[1], "rb") as said, open(fifos[0], "wb"):
-                return said.readline().decode()
+            with Process(words, errors=subprocess.DEVNULL) as router, open(fifos[1], "rb") as said, open(fifos[0], "wb"):
+                greeting, self.statuses = said.readline().decode(), [router.ask(line) for line in ("status json", "status")]
+                return greeting
 
     def digest(self, what, lines):
         """The digest in that greeting."""
         greeting = self.greeting(lines)
         found = re.fullmatch(r"netchange 2 \d 0 9 \d+ 0 ([0-9a-f]{16})\n", greeting)
         self.counts.expect(f"greeting: {what}", found, repr(greeting))
+        as_object, line = self.statuses
+        told = found and json.loads(as_object)["domain"] == found[1] and f" domain {found[1]} version " in line
+        self.counts.expect(f"status: {what}", told, (greeting, self.statuses))
         return found and found[1]
 
     def digests(self):
@@ -132,16 +156,13 @@ class Domains:
     def meet(self, what, files, options, is_up):
         """Nodes 0 and 1, each with its words: whether both come up, or both say why not."""
         with tempfile.TemporaryDirectory(dir=self.folder) as folder:
-            there, back = (os.path.join(folder, name) for name in ("there", "back"))
-            for fifo in (there, back):
-                os.mkfifo(fifo)
+            there, back = fifos_in(folder, "there", "back")
             links = [["--link", f"1={back},{there}"], ["--link", f"0={there},{back}"]]
             errors = [os.path.join(folder, f"{node}.errors") for node in (0, 1)]
             with open(errors[0], "wb") as first, open(errors[1], "wb") as second:
                 with self.start(0, files[0], links[0], options[0], first) as zero, self.start(1, files[1], links[1], options[1], second) as one:
                     def told():
-                        return [re.findall(r"link \d: line 1 is not its greeting: the neighbour's domain has the digest [0-9a-f]{16}, and this one "
-                                           r"[0-9a-f]{16}: closed", pathlib.Path(path).read_text(encoding="utf-8")) for path in errors]
+                        return [MISTAKEN.findall(pathlib.Path(path).read_text(encoding="utf-8")) for path in errors]
 
                     def seen():
                         return zero.ask("neighbours"), one.ask("neighbours"), told()
@@ -161,9 +182,7 @@ class Domains:
         what = "an older neighbour in session" if is_up else "an older neighbour"
         file = self.write("older.domain", ["domain 2", "link 0 1"])
         with tempfile.TemporaryDirectory(dir=self.folder) as folder:
-            fifos = [os.path.join(folder, name) for name in ("in", "out")]
-            for fifo in fifos:
-                os.mkfifo(fifo)
+            fifos = fifos_in(folder, "in", "out")
             words = [self.program, "router", "--domain", file, "--node", "0", "--link", f"1={fifos[0]},{fifos[1]}"]
             errors = os.path.join(folder, "errors")
             with open(errors, "wb") as told, Process(words, errors=told) as router, \
@@ -184,6 +203,63 @@ class Domains:
                 self.counts.expect(f"{what} that says another digest is refused", "is not its greeting: the neighbour's domain has the digest "
                                    "0000000000000000, and this one " in text, (text, older.lines[before:]))
 
+    def reload(self, control):
+        """Node 0 reads its file again, which has another filter."""
+        before = digest_of(control)
+        self.write("again.domain", [line.replace("> 2", "> 3") for line in AGAIN])
+        answer = control.ask("reload")
+        self.counts.expect("reload", answer == "reloaded | import 1 near" and digest_of(control) != before, answer)
+
+    def started_anew(self):
+        """Node 0 reads its file again while its link is up, and node 1 is started anew, from that file, and from the one that it was."""
+        files = [self.write(f"{name}.domain", AGAIN) for name in ("again", "before")]
+        with tempfile.TemporaryDirectory(dir=self.folder) as folder:
+            there, back = fifos_in(folder, "there", "back")
+            control, errors = Control(folder, "zero"), os.path.join(folder, "errors")
+            links = [["--link", f"1={back},{there}", "--retry", "1"], ["--link", f"0={there},{back}", "--retry", "1"]]
+
+            def is_up(it):
+                return all(re.fullmatch(rf"neighbours {node}:\d+", line) for node, line in zip((1, 0), it))
+
+            def comes_up(what, one):
+                found = awaited(lambda: (zero.ask("neighbours"), one.ask("neighbours")), is_up, PATIENCE, 0.1)
+                self.counts.expect(what, is_up(found), found)
+                return found
+            with open(errors, "wb") as told, self.start(0, files[0], links[0], control.option(), told) as zero, control:
+                with self.start(1, files[0], links[1], [], subprocess.DEVNULL) as one:
+                    before = comes_up("one file before it is read again", one)
+                    self.reload(control)
+                    found = zero.ask("neighbours"), one.ask("neighbours")
+                    self.counts.expect("a session goes on", found == before, (found, before))
+                with self.start(1, files[0], links[1], [], subprocess.DEVNULL) as one:
+                    comes_up("one that read the file again, and one that was started anew", one)
+                said = pathlib.Path(errors).read_text(encoding="utf-8")
+                self.counts.expect("no other domain", not MISTAKEN.search(said), said)
+                with self.start(1, files[1], links[1], [], subprocess.DEVNULL) as one:
+                    said = awaited(lambda: pathlib.Path(errors).read_text(encoding="utf-8"), MISTAKEN.search, PATIENCE, 0.1)
+                    self.counts.expect("the file before is another domain", MISTAKEN.search(said) and one.ask("neighbours") == "neighbours", said)
+
+    def begun_anew(self):
+        """Node 0 reads its file again while its link is up, whose neighbour begins anew over the same streams: the new digest is said, and wanted."""
+        file = self.write("again.domain", AGAIN)
+        with tempfile.TemporaryDirectory(dir=self.folder) as folder:
+            fifos, control = fifos_in(folder, "in", "out"), Control(folder, "zero")
+            link = ["--link", f"1={fifos[0]},{fifos[1]}"]
+            with self.start(0, file, link, control.option(), subprocess.DEVNULL) as router, control, \
+                    open(fifos[1], "rb", buffering=0) as said, open(fifos[0], "wb", buffering=0) as back:
+                def meet(heard, number, digest, session):
+                    """Answers the router's greeting that repeats a number, by one of another number."""
+                    greeting = next(found for line in iter(said.readline, b"") if (found := GREETING.fullmatch(line)) and int(found[2]) == heard)
+                    back.write(f"netchange 2 2 1 0 {number} {greeting[1].decode()} {digest}\n".encode())
+                    up = awaited(lambda: router.ask("neighbours"), lambda it: it == f"neighbours 1:{session}", PATIENCE, 0.1)
+                    told = greeting[3] and greeting[3].decode().strip()
+                    found = up, told
+                    self.counts.expect(f"session {session} over the same streams", found == (f"neighbours 1:{session}", digest), (found, digest))
+                meet(0, 7, digest_of(control), 1)
+                self.reload(control)
+                back.write(f"netchange 2 2 1 0 8 0 {digest_of(control)}\n".encode())
+                meet(8, 8, digest_of(control), 2)
+
     def meetings(self):
         two = ["domain 2", "link 0 1"]
         same, other = self.write("same.domain", two), self.write("other.domain", [two[0], "prefix 1 10.9.0.0/16", *two[1:]])
@@ -203,6 +279,8 @@ def main():
         domains = Domains(built(), folder, counts)
         domains.digests()
         domains.meetings()
+        domains.started_anew()
+        domains.begun_anew()
         for is_up in (False, True):
             domains.older(is_up)
     counts.finish()

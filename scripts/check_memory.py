@@ -17,8 +17,7 @@ Tests and program are those that the gate has built, under a small library that 
 are tried in a minute. `rt try --test --fail-alloc` takes one number a run, and a run takes half a minute.
 
 A run of the program that meets one ends with status 1 and the code of what was refused, and has written the first lines of its whole answer,
-each whole; or it did without, and ended as ever. Without its first allocation, which comes before it reads its words, it ends with status 1 and says
-nothing. `net` meets a refusal also where its threads have ended and it replays what came of them.
+each whole; or it did without, and ended as ever. `net` meets a refusal also where its threads have ended and it replays what came of them.
 """
 import collections
 import concurrent.futures
@@ -50,9 +49,6 @@ run_sessions""".split()
 # Each of these ends has to come about.
 MEMORY = {b"ncroute: E3\n"}
 MEMORY_OF_NETWORK = {b"ncroute: %s\n" % code for code in (b"E3", b"J2", b"L3", b"X1", b"X2")}
-
-# How each command ends without the first allocation: nothing is there yet to tell of it.
-WITHOUT_FIRST = (1, b"", b"")
 
 # How often a run is swept at most, until each of its ends has come about.
 SWEEPS = 5
@@ -165,10 +161,6 @@ def sweep_runs(sweep, pool, counts):
                 if (status, output, errors) == (ever.returncode, ever.stdout, ever.stderr):
                     continue
                 all_refused += 1
-                if nth == 1:
-                    if (status, output, errors) != WITHOUT_FIRST:
-                        faults.append(f"without allocation 1: status {status}, {errors.decode(errors='replace')!r}, {len(output)} bytes written")
-                    continue
                 came.add(errors)
                 if status != 1 or errors not in ends or not begins_whole(output, ever.stdout):
                     faults.append(f"without allocation {nth}: status {status}, {errors.decode(errors='replace')!r}, {len(output)} bytes written")

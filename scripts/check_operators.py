@@ -5,9 +5,10 @@ failed'.
 usage: scripts/check_operators.py [--long [TIMES]] [ROW..]        (NCROUTE=PATH: the program, without which nothing is run)
 
 Eight operators change filters and ask at the same time: each answer is one of those that there may be, and the history that is saved replays and has
-each of their calls once, in the order of its operator. In one row sessions come and go meanwhile, and the router is killed and started again and
-again: then each of its histories is such a whole, but for calls that were not answered, which it may have, and for the last second before a kill.
-That row takes a few seconds; with --long it alone is run, for a minute, and so 20 times, or TIMES.
+each of their calls once, in the order of its operator. In one row sessions come and go meanwhile, another operator changes the files and has them
+read again, and the router is killed and started again and again: then each of its histories is such a whole, but for calls that were not answered,
+which it may have, and for the last second before a kill. That row takes a few seconds; with --long it alone is run, for a minute, and so 20 times, or
+TIMES.
 """
 import collections
 import concurrent.futures
@@ -27,7 +28,7 @@ from lib.controls import Control, until
 from lib.histories import entries_of, replayed, segments_of
 from lib.processes import PATIENCE, Delays, Router, awaited
 from lib.program import TOP, built
-from lib.routers import Run, RunRows
+from lib.routers import Neighbour, Run, RunRows
 
 OPERATORS, SIZE = 8, 16
 
@@ -35,25 +36,35 @@ OPERATORS, SIZE = 8, 16
 LONG, SHORT = 4.0, 1.0
 
 # Seconds for which operators speak to routers that are killed, in the gate and by --long, and how often --long has it so; how long a router lives, at
-# least and at most; how long an operator rests then; and what a router has saved that was answered so long before.
-KILLS, MINUTE, TIMES, LIVES, REST, LATE = 6.0, 60.0, 20, (1.0, 4.0), 0.005, 1.0
+# least and at most; and what a router has saved that was answered so long before.
+KILLS, MINUTE, TIMES, LIVES, LATE = 6.0, 60.0, 20, (1.0, 4.0), 1.0
 
 # A line of the log.
 LOGGED = re.compile(r"(\d{4}-\d\d-\d\dT\d\d:\d\d:\d\dZ) (\S.*)")
 
 # What each of them may be answered.
 ROUTES = re.compile(r"routes( \d+:\d+(:\d+)?){%d}" % SIZE)
-STATUS = re.compile(r"status node 0 size \d+ up \d+ entries \d+ forgotten \d+ room \d+( saved \d+)? version [^|]*"
-                    r"( \| link \d+ (up \d+|open|closed) since \d+ sessions \d+ received \d+ sent \d+ waiting \d+( unheard \d+)?( ended [^|]*)?)*")
+FILTER = r" (\w+|-) budget \d+ accepted \d+ rejected \d+"
+STATUS = re.compile(r"status node 0 size \d+ up \d+ entries \d+ forgotten \d+ room \d+( saved \d+ segments \d+ bytes \d+)?( domain [0-9a-f]{16})?"
+                    r" version [^|]*( \| link \d+ (up \d+|open|closed) since \d+ sessions \d+ received \d+ sent \d+ waiting \d+"
+                    rf"( import{FILTER})?( export{FILTER})?( unheard \d+)?( ended [^|]*)?)*")
+
+# What the object of a status has.
+MEMBERS = "bytes domain entries forgotten links node room saved segments size up version".split()
 
 CTL = TOP / "tools" / "ncroute-ctl"
+
+
+def filter_of(length):
+    """The text of a filter that rejects longer prefixes."""
+    return f"filter f {{ if net.len > {length} then reject; accept; }}"
 
 
 def codes_of(program):
     """Codes of filters that differ, as lines of a script have them."""
     found = []
     for length in range(33):
-        text = f"filter f {{ if net.len > {length} then reject; accept; }}"
+        text = filter_of(length)
         ran = subprocess.run([program, "check", "--size", str(SIZE)], input=text, capture_output=True, text=True, check=True)
         found.append(re.search(r"^code (\S+)$", ran.stdout, re.M)[1])
     return found
@@ -74,6 +85,57 @@ def calls_in(entries):
 def entries_in(history):
     """The entries of a history, as far as their lines are whole."""
     return [entry.decode() for segment in segments_of(history) for entry in entries_of(segment.read_bytes())]
+
+
+# The file of a domain of eight nodes, of which node 0 is the router and has links to nodes 1 and 2; and the filters that it includes.
+DOMAIN = ["domain 8", "include near near.filter", "include far far.filter", "link 0 1", "link 0 2", "import 0 1 near", "import 0 2 far",
+          "export 0 2 near"]
+FILTERS = {"near": "filter near { accept; }", "far": "filter far { if rip_metric > 5 then reject; accept; }"}
+FARTHER = "filter far {\n  rip_metric = rip_metric + 2;\n  accept;\n}"
+
+# What a reload refuses: the file that is written anew, and what is said of it.
+REFUSED = [
+    ("far.filter", "filter far {\n  accept\n}", r"\S*far\.filter:3:1: .*"),
+    ("far.filter", "filter far { if rip_metric > net.len then accept; metric = 2; }", r"\S*far\.filter:1:\d+: .*"),
+    ("the.domain", "\n".join([*DOMAIN[:2], "include far none.filter", *DOMAIN[3:]]), r"\S*none\.filter: No such file or directory \(E1\)"),
+    ("the.domain", "\n".join([*DOMAIN, "import 0 1 nobody"]), r"\S*the\.domain:9:12: .*"),
+    ("the.domain", "\n".join(["domain 9", *DOMAIN[1:]]), r"needs a restart: the domain has 9 nodes, and not 8"),
+    ("the.domain", "\n".join([DOMAIN[0], "prefix 3 192.0.2.0/24", *DOMAIN[1:3], DOMAIN[4], "link 3 0", *DOMAIN[6:]]),
+     r"needs a restart: node 3 has the prefix 192\.0\.2\.0/24, and not 10\.3\.0\.0/16"),
+    ("the.domain", "\n".join([*DOMAIN, "link 3 0"]), r"error: the file of the domain has a link to node 3, and no --link says where its streams are"),
+]
+
+
+def until_answer(control, line, wanted):
+    """Asks an operator's question until the answer has this pattern: whether it comes to have it."""
+    return re.search(wanted, awaited(lambda: control.ask(line), lambda answer: re.search(wanted, answer), PATIENCE))
+
+
+class DomainFiles:
+    """The files of a domain, in a folder."""
+
+    def __init__(self, folder):
+        self.folder = folder
+        self.write("the.domain", "\n".join(DOMAIN))
+        for name, text in FILTERS.items():
+            self.write(f"{name}.filter", text)
+
+    def path(self, name):
+        return os.path.join(self.folder, name)
+
+    def write(self, name, text):
+        pathlib.Path(self.path(name)).write_text(text + "\n", encoding="utf-8")
+
+    def write_links(self, neighbours, *links):
+        """Has the domain and the file of options say links to these nodes, or to a node at the files of another neighbour."""
+        links = [link if isinstance(link, tuple) else (link, link) for link in links]
+        uses = [line for line in DOMAIN if not line.startswith("link ")]
+        self.write("the.domain", "\n".join([uses[0], *(f"link 0 {node}" for node, _ in links), *uses[1:]]))
+        streams = [f"link {node} {neighbours[at].there} {neighbours[at].back}" for node, at in links]
+        self.write("r.conf", "\n".join(["node 0", "stay", "retry 1", "domain the.domain", *streams]))
+
+    def read(self, name):
+        return pathlib.Path(self.path(name)).read_text(encoding="utf-8").rstrip("\n")
 
 
 class Speaker:
@@ -112,22 +174,24 @@ class Speaker:
 class Said:
     """A call of an operator, as the history has it; when it was answered, if it was."""
 
-    def __init__(self, call):
-        self.call, self.answered = call, None
+    def __init__(self, call, answered=None):
+        self.call, self.answered = call, answered
 
 
 class Visitor:
     """An operator who speaks to one router after another at the same FIFOs: each of its calls belongs to a life of the router."""
 
+    # How long it rests after each turn.
+    REST = 0.005
+
     def __init__(self, lives, control, node, codes):
         self.lives, self.control, self.node, self.codes = lives, control, node, codes
         self.said, self.wrong, self.count, self.longest = {}, [], 0, 0.0
 
-    def expect(self, line, pattern, call=None):
+    def expect(self, line, pattern, *calls):
         """Says a line that is answered by a pattern; what it enters is noted before."""
-        if call:
-            said = Said(call)
-            self.said[self.lives.of(self)].append(said)
+        said = [Said(call) for call in calls]
+        self.said[self.lives.of(self)] += said
         begun = time.monotonic()
         answer = self.control.ask(line)
         self.longest = max(self.longest, time.monotonic() - begun)
@@ -135,8 +199,12 @@ class Visitor:
             raise BrokenPipeError
         if not re.fullmatch(pattern, answer):
             self.wrong.append((line[:60], answer[:60]))
-        if call:
-            said.answered = time.monotonic()
+        for each in said:
+            each.answered = time.monotonic()
+
+    def begin(self):
+        """What it knows of a router before it speaks to it."""
+        self.said.setdefault(self.lives.of(self), [])
 
     def turn(self):
         code = self.codes[self.count % len(self.codes)]
@@ -152,12 +220,11 @@ class Visitor:
     def visit(self, is_over):
         """Speaks to one router until it is over, or the router ends."""
         self.control.open()
-        life = self.lives.enter(self)
-        if life is not None:
-            self.said.setdefault(life, [])
+        if self.lives.enter(self) is not None:
+            self.begin()
             while not is_over():
                 self.turn()
-                time.sleep(REST)
+                time.sleep(self.REST)
             self.control.finish()
 
     def speak(self, is_over):
@@ -172,6 +239,42 @@ class Visitor:
                 self.control.close()
                 self.lives.leave(self)
         return self
+
+
+class Reloader(Visitor):
+    """An operator who changes the filter of node 1 in its file, and now and then has both files say the link to node 2 or not, and has them read
+    again. Of each turn the router enters both uses of the filter. `write` writes the files for the longest prefix that passes, and with that link or
+    not."""
+
+    # How long it rests, and in which of its turns the link changes.
+    REST, LINKS = 0.1, 12
+
+    def __init__(self, lives, control, codes, write):
+        super().__init__(lives, control, 1, codes)
+        self.write, self.has_link = write, True
+        self.write(0, self.has_link)
+
+    def calls(self):
+        return [f"{direction} 1 {self.codes[self.count % len(self.codes)]}" for direction in ("import", "export")]
+
+    def begin(self):
+        """The router was started by the files."""
+        super().begin()
+        for call in self.calls():
+            self.said[self.lives.of(self)].append(Said(call, time.monotonic()))
+
+    def turn(self):
+        self.count += 1
+        links = ""
+        if self.count % self.LINKS == 0:
+            self.has_link = not self.has_link
+            links = r" \| link 2 is " + ("new" if self.has_link else "gone")
+        length = self.count % len(self.codes)
+        self.write(length, self.has_link)
+        lengths, verdicts = (f"{length},{length}", "reject | accept") if length else (f"1,{len(self.codes) - 1}", "accept | reject")
+        differs = re.escape(f" | differ 0.0.0.0/0{{{lengths}}}, metrics 0..{SIZE}: {verdicts} | same on all other routes of a domain of {SIZE} nodes")
+        self.expect("reload check", rf"reload \| import 1 near{differs} \| export 1 near{differs}{links}")
+        self.expect("reload", rf"reloaded \| import 1 near \| export 1 near{links}", *self.calls())
 
 
 class Lives:
@@ -234,14 +337,16 @@ def is_whole(said, found, known):
 
 
 class Killed:
-    """Two routers with a link, of which the first has a neighbour that comes and goes and eight operators. Each is killed now and then, and started
-    again with another history."""
+    """Two routers with a link, of which the first is started by files, has a neighbour that comes and goes, eight operators, and one who changes the
+    files and has them read again. Each is killed now and then, and started again with another history."""
 
     def __init__(self, program, folder):
         self.program, self.folder, self.lives, self.is_over = program, folder, Lives(), threading.Event()
         self.histories, self.others, self.killed, self.ends, self.sessions = [], [], [], [], 0
         codes = codes_of(program)
-        self.visitors = [Visitor(self.lives, Control(folder, f"control{at}"), at + 1, codes) for at in range(OPERATORS)]
+        # The files speak of nodes 1 and 2.
+        self.visitors = [Visitor(self.lives, Control(folder, f"control{at}"), at + 3, codes) for at in range(OPERATORS)]
+        self.visitors.append(Reloader(self.lives, Control(folder, "reloads"), codes, self.write))
         for name in ("there", "back", "2.in", "2.out"):
             os.mkfifo(self.path(name))
         self.first = self.second = None
@@ -249,18 +354,29 @@ class Killed:
     def path(self, name):
         return os.path.join(self.folder, name)
 
-    def start(self, node, histories, links, options=()):
+    def write(self, length, has_link):
+        """Writes the files of the first router: the filter of node 1 lets prefixes of this length pass, and the link to node 2 is said or not."""
+        links = {1: "link 1 back there"} | ({2: "link 2 2.in 2.out"} if has_link else {})
+        texts = {
+            "near.filter": [filter_of(length)],
+            "the.domain": [f"domain {SIZE}", "include near near.filter", *(f"link 0 {node}" for node in links), "import 0 1 near", "export 0 1 near"],
+            "first.conf": ["domain the.domain", "node 0", "allow-other-domain", "retry 1", *links.values()],
+        }
+        for name, lines in texts.items():
+            pathlib.Path(self.path(name)).write_text("".join(f"{line}\n" for line in lines), encoding="utf-8")
+
+    def start(self, histories, size, node, links, options):
         """A router with another folder for its history."""
-        histories.append(self.path(f"history{node}.{len(histories)}"))
-        return Router(self.program, SIZE, node, links, histories[-1], ["--retry", "1", *options], errors=subprocess.DEVNULL)
+        histories.append(self.path(f"history{node or 0}.{len(histories)}"))
+        return Router(self.program, size, node, links, histories[-1], options, errors=subprocess.DEVNULL)
 
     def start_first(self):
         self.lives.begin(len(self.histories))
-        links = {1: (self.path("back"), self.path("there")), 2: (self.path("2.in"), self.path("2.out"))}
-        self.first = self.start(0, self.histories, links, [word for one in self.visitors for word in one.control.option()])
+        controls = [word for one in self.visitors for word in one.control.option()]
+        self.first = self.start(self.histories, None, None, {}, ["--config", self.path("first.conf"), *controls])
 
     def start_second(self):
-        self.second = self.start(1, self.others, {0: (self.path("there"), self.path("back"))})
+        self.second = self.start(self.others, SIZE, 1, {0: (self.path("there"), self.path("back"))}, ["--retry", "1"])
 
     def kill_first(self):
         self.killed.append(self.lives.end(self.first.kill))
@@ -287,7 +403,7 @@ class Killed:
         chosen = random.Random(seconds)
         self.start_first()
         self.start_second()
-        with concurrent.futures.ThreadPoolExecutor(OPERATORS + 1) as pool:
+        with concurrent.futures.ThreadPoolExecutor(len(self.visitors) + 1) as pool:
             spoken = [pool.submit(one.speak, self.is_over.is_set) for one in self.visitors]
             spoken.append(pool.submit(self.come_and_go))
             try:
@@ -396,7 +512,8 @@ class Rows(RunRows):
             calls = sum(len(said) for visitor in killed.visitors for said in visitor.said.values())
             entries = [sum(len(entries_in(history)) for history in histories) for histories in (killed.histories, killed.others)]
             print(f"routers are killed: {len(killed.histories)} and {len(killed.others)} lives, {killed.sessions} sessions of the neighbour, "
-                  f"{calls} calls, {entries[0]} and {entries[1]} entries, late by {delays.longest:.2f} s at most", file=sys.stderr)
+                  f"{killed.visitors[-1].count} reloads, {calls} calls, {entries[0]} and {entries[1]} entries, "
+                  f"late by {delays.longest:.2f} s at most", file=sys.stderr)
 
     def replays(self, history, is_killed):
         said, _ = replayed(self.program, segments_of(history))
@@ -604,11 +721,13 @@ class Rows(RunRows):
             self.judge("line", STATUS.fullmatch(line), line)
             found = json.loads(text)
             links = {link["node"]: link for link in found["links"]}
-            self.judge("names", sorted(found) == ["entries", "forgotten", "links", "node", "room", "saved", "size", "up", "version"], sorted(found))
+            self.judge("names", sorted(found) == MEMBERS and found["domain"] is None, found)
             self.judge("router", (found["size"], found["node"], found["room"]) == (8, 0, 1000000), found)
             entries = len(run.entries())
             self.judge("entries", found["entries"] == entries and found["forgotten"] == 0, (found, entries))
-            self.judge("saved", awaited(lambda: json.loads(run.ask("status json"))["saved"], lambda saved: saved == entries, PATIENCE) == entries)
+            found = awaited(lambda: json.loads(run.ask("status json")), lambda found: found["saved"] == entries, PATIENCE)
+            sizes = [segment.stat().st_size for segment in segments_of(run.history)]
+            self.judge("saved", (found["saved"], found["segments"], found["bytes"]) == (entries, len(sizes), sum(sizes)), (found, sizes))
             two = links[2]
             self.judge("up", (two["state"], two["session"], two["sessions"], two["received"]) == ("up", 1, 1, 1), two)
             self.judge("sent", two["sent"] == 9 and two["waiting"] == 0, two)
@@ -629,16 +748,88 @@ class Rows(RunRows):
         """docs/monitor.py tells all numbers of `status json` in the form that Prometheus reads: a name, labels, a number."""
         with Run(self.program) as run:
             self.serve_two(run)
+            for line in ("load all filter all { accept; }", "import 2 all", "export 1 all"):
+                self.judge(line, run.ask(line).split()[0] in ("verified", "done"), line)
             text = run.ask("status json")
             said = subprocess.run([sys.executable, TOP / "docs" / "monitor.py"], input=text, capture_output=True, text=True, check=True).stdout
-            found, status = dict(re.findall(r'(?m)^([a-z_]+(?:\{node="\d+"\})?) (\d+)$', said)), json.loads(text)
-            self.judge("lines", len(found) == said.count("\n") == 4 + 5 * 2, said)
-            self.judge("router", all(found[f"ncroute_{name}"] == str(status[name] or 0) for name in ("up", "entries", "forgotten", "saved")), said)
+            status = json.loads(text)
+            found = dict(re.findall(r'(?m)^([a-z_]+(?:\{[a-z]+="[^"]*"(?:,[a-z]+="[^"]*")*\})?) (\d+)$', said))
+            self.judge("lines", len(found) == said.count("\n") == 1 + 6 + 5 * 2 + 3, said)
+            self.judge("info", found[f'ncroute_info{{version="{status["version"]}",domain=""}}'] == "1", said)
+            numbers = ("up", "entries", "forgotten", "saved", "segments", "bytes")
+            self.judge("router", all(found[f"ncroute_{name}"] == str(status[name] or 0) for name in numbers), said)
             for link in status["links"]:
                 wanted = {**{name: link[name] for name in ("sessions", "received", "sent", "waiting")}, "up": int(link["node"] == 2)}
                 told = {name: int(found[f'ncroute_link_{name}{{node="{link["node"]}"}}']) for name in wanted}
                 self.judge(f"link {link['node']}", told == wanted, (told, wanted))
+            for name in ("accepted", "rejected", "budget"):
+                told = found[f'ncroute_filter_{name}{{node="2",direction="import",filter="all"}}']
+                self.judge(name, told == str(status["links"][1]["import"][name]), (told, status))
             self.end(run)
+
+    def row_filters(self):
+        """What the filters of a link do with the routes of the moment, and what they are called."""
+        with Run(self.program) as run:
+            self.serve_two(run)
+
+            def told():
+                return json.loads(run.ask("status json"))["links"][1]
+            two = told()
+            self.judge("none", two["import"] is None and two["export"] is None, two)
+            texts = {"near": "if rip_metric > 2 then reject; accept;", "far": "if rip_metric > 4 then reject; accept;", "all": "accept;"}
+            budgets = {name: int(run.ask(f"load {name} filter {name} {{ {text} }}").split()[1]) for name, text in texts.items()}
+            for line in ("import 2 near", "export 2 near"):
+                self.judge(line, run.ask(line).startswith("done "), line)
+            run.neighbours[2].say(b"3 1\n4 2\n5 3\n6 4\n7 8\n")
+            self.judge("4", run.routes_until(4, "3:2"))
+            run.neighbours[2].say(b"2 0\n")
+            found = awaited(told, lambda link: link["received"] == 7, PATIENCE)
+            # Of what it tells 2, 3 and 4 pass, at 0, 1 and 2. Of the routes to 0, 2, 3 and 4, at 0, 1, 2 and 3, the last one does not.
+            wanted = {"accepted": 3, "budget": budgets["near"], "name": "near", "rejected": 2}
+            self.judge("import", found["import"] == wanted, found)
+            wanted = {"accepted": 3, "budget": budgets["near"], "name": "near", "rejected": 1}
+            self.judge("export", found["export"] == wanted, found)
+            line = run.ask("status")
+            shown = f" import near budget {budgets['near']} accepted 3 rejected 2 export near budget {budgets['near']} accepted 3 rejected 1 "
+            self.judge("line", shown in line and STATUS.fullmatch(line), line)
+            run.neighbours[2].say(b"5 2\n")
+            wanted = {"accepted": 4, "budget": budgets["near"], "name": "near", "rejected": 1}
+            found = awaited(lambda: told()["import"], lambda found: found == wanted, PATIENCE)
+            self.judge("of the moment", found == wanted, found)
+            # The same filter comes into force once more: no count begins anew.
+            self.judge("import 2 near again", run.ask("import 2 near").startswith("done "))
+            self.judge("not reset", told()["import"] == wanted, told())
+            # A name that is given to another filter is no name of the one in force, which keeps the one by which it came.
+            self.judge("loaded again", run.ask(f"load near filter near {{ {texts['all']} }}").startswith("verified "))
+            found = told()
+            self.judge("still in force", found["import"] == wanted, found)
+            self.judge("import 2 far", run.ask("import 2 far").startswith("done "))
+            wanted = {"accepted": 5, "budget": budgets["far"], "name": "far", "rejected": 0}
+            found = told()["import"]
+            self.judge("replaced", found == wanted, found)
+            run.neighbours[2].close()
+            self.says(run, "closed")
+            found = awaited(told, lambda link: link["state"] == "closed", PATIENCE)
+            self.judge("closed", found["import"] is None and found["export"] is None, found)
+            self.end(run)
+
+    def row_filters_of_the_command_line(self):
+        """Filters that a router begins with have the names of `--filter`, also for operators who may look alone."""
+        with tempfile.TemporaryDirectory() as folder:
+            path, control = os.path.join(folder, "near.filter"), Control(folder, "look", looks=True)
+            pathlib.Path(path).write_text("filter near { if rip_metric > 2 then reject; accept; }", encoding="utf-8")
+            more = ["--filter", f"near={path}", "--import", "2=near", "--export", "1=near", *control.option()]
+            with Run(self.program, more=more) as run:
+                self.serve_two(run)
+                found = json.loads(control.asked("status json")[0])["links"]
+                self.judge("names", (found[0]["import"], found[1]["import"]["name"]) == (None, "near"), found)
+                # The neighbour at 1 is not up, so its filter does nothing now.
+                self.judge("not up", found[0]["export"] is None, found)
+                for line in ("load far filter far { accept; }", "export 2 far"):
+                    self.judge(line, run.ask(line).split()[0] in ("verified", "done"), line)
+                found = json.loads(control.asked("status json")[0])["links"][1]["export"]
+                self.judge("of another operator", found["name"] == "far" and found["accepted"] == 2, found)
+                self.end(run)
 
     def row_routes_json(self):
         with Run(self.program) as run:
@@ -650,6 +841,223 @@ class Rows(RunRows):
             self.judge("prefixes", [route["prefix"] for route in found] == [f"10.{node}.0.0/16" for node in range(8)], found)
             self.judge("reachable", [route["reachable"] for route in found] == [True, False, True] + [False] * 5, found)
             self.end(run)
+
+    def begin_of(self, run):
+        """What is to stay where nothing changes: the sessions, the routes and the history."""
+        return run.ask("neighbours"), run.ask("routes"), run.entries()
+
+    @contextlib.contextmanager
+    def in_domain(self, *more):
+        """A router that is started from the file of its domain, both neighbours of which are up and say that they are there; an operator of it; and
+        the files."""
+        with tempfile.TemporaryDirectory() as folder:
+            files, control = DomainFiles(folder), Control(folder, "one")
+            with Run(self.program, size=None, more=["--domain", files.path("the.domain"), *more, *control.option()]) as run, control:
+                for node, neighbour in run.neighbours.items():
+                    neighbour.come()
+                    neighbour.say(b"%d 0\n" % node)
+                    self.judge(f"{node} is served", run.routes_until(node, f"1:{node}"))
+                yield run, control, files
+                answer = control.ask("quit")
+                self.judge("quit", answer == "ok", answer)
+                self.ends_well(run)
+
+    def row_reload(self):
+        """One of the filters changes, and one of the uses goes: these alone are set, by events, and no session ends."""
+        with self.in_domain() as (run, control, files):
+            before, digest = self.begin_of(run), self.digest_of(control)
+            answer = control.ask("reload")
+            self.judge("nothing changed", answer == "reloaded" and self.begin_of(run) == before, answer)
+            files.write("far.filter", FARTHER)
+            answer = control.ask("reload check")
+            differs = re.escape(" | ".join(self.differences(FILTERS["far"], FARTHER)))
+            self.judge("check", re.fullmatch(rf"reload \| import 2 far \| {differs}", answer) and self.begin_of(run) == before, answer)
+            self.judge("digest as it was", self.digest_of(control) == digest)
+            answer = control.ask("reload")
+            self.judge("reload", answer == "reloaded | import 2 far", answer)
+            self.judge("another digest", self.digest_of(control) != digest)
+            neighbours, routes, entries = self.begin_of(run)
+            self.judge("sessions", neighbours == before[0], (neighbours, before[0]))
+            self.judge("routes", " 1:1:1 2:3:2 " in routes, routes)
+            more = [entry.split()[1:3] for entry in entries[len(before[2]):]]
+            self.judge("entries", entries[:len(before[2])] == before[2] and more[0] == ["import", "2"] and ["import", "1"] not in more, more)
+            answer = control.ask("import 1 far")
+            self.judge("its names", answer == "done 1", answer)
+            answer = control.ask("reload")
+            self.judge("as the file says", answer == "reloaded | import 1 near", answer)
+            files.write("the.domain", "\n".join(line for line in DOMAIN if line != "import 0 2 far"))
+            answer = control.ask("reload")
+            self.judge("a use is gone", answer == "reloaded | import 2 -", answer)
+            self.judge("routes again", run.routes_until(2, "1:2"))
+            self.judge("sessions again", run.ask("neighbours") == before[0])
+
+    def digest_of(self, control):
+        """The digest that the router says its domain has."""
+        return json.loads(control.ask("status json"))["domain"]
+
+    def differences(self, old, new):
+        """What `ncroute diff` tells of two filters."""
+        with tempfile.TemporaryDirectory() as folder:
+            paths = [pathlib.Path(folder, name) for name in ("old", "new")]
+            for path, text in zip(paths, (old, new)):
+                path.write_text(text)
+            ran = subprocess.run([self.program, "diff", "--size", "8", *paths], capture_output=True, text=True, check=False)
+        return ran.stdout.splitlines()
+
+    @contextlib.contextmanager
+    def by_options(self):
+        """A router whose file of options says its links to nodes 1 and 2, which are up; an operator of it; the files; and neighbours 1 to 3."""
+        with tempfile.TemporaryDirectory() as folder:
+            files, control = DomainFiles(folder), Control(folder, "one")
+            neighbours = {node: Neighbour(folder, node) for node in (1, 2, 3)}
+            files.write_links(neighbours, 1, 2)
+            with Run(self.program, nodes=(), size=None, node=None, more=["--config", files.path("r.conf"), *control.option()]) as run, control:
+                for node in (1, 2):
+                    neighbours[node].come()
+                    neighbours[node].say(b"%d 0\n" % node)
+                    self.judge(f"{node} is served", until_answer(control, "routes", rf" {node}:1:{node}( |$)"))
+                yield run, control, files, neighbours
+                answer = control.ask("quit")
+                self.judge("quit", answer == "ok" and run.process.wait(timeout=PATIENCE) == 0, answer)
+                self.ends_well(run)
+                for neighbour in neighbours.values():
+                    neighbour.close()
+
+    def row_reload_links(self):
+        """One link goes and one comes: the first has its Down in the history, the other one comes up, and the third keeps its session."""
+        with self.by_options() as (run, control, files, neighbours):
+            before = control.ask("neighbours"), control.ask("history 0")
+            files.write_links(neighbours, 2, 3)
+            told, digests = " | link 1 is gone | link 3 is new", [self.digest_of(control)]
+            answer = control.ask("reload check")
+            self.judge("check", answer == "reload" + told, answer)
+            self.judge("nothing changed", (control.ask("neighbours"), control.ask("history 0")) == before)
+            answer = control.ask("reload")
+            self.judge("reload", answer == "reloaded" + told, answer)
+            answer = control.ask("neighbours")
+            self.judge("1 is gone", answer == "neighbours 2:2", answer)
+            answer = control.ask("history 0")
+            self.judge("its Down", answer[len(before[1]):].startswith(" | ") and re.search(r"\| \S+ down 1 ", answer[len(before[1]):]), answer)
+            self.judge("its stream ends", neighbours[1].is_ended())
+            neighbours[3].come()
+            neighbours[3].say(b"3 0\n")
+            self.judge("3 is served", until_answer(control, "routes", r" 3:1:3( |$)"))
+            answer = control.ask("neighbours")
+            self.judge("2 stays", answer == "neighbours 2:2 3:3", answer)
+            for operator in (control, run):
+                answer = operator.ask("down 3")
+                self.judge("a link alone", answer.startswith("refused O9 "), answer)
+            answer = [link["node"] for link in json.loads(control.ask("status json"))["links"]]
+            self.judge("status", answer == [2, 3], answer)
+            digests.append(self.digest_of(control))
+            found = [re.search(rb"^netchange( \d+){6} (\S+)", neighbours[node].told, re.M)[2].decode() for node in (2, 3)]
+            self.judge("digests", found == digests and digests[0] != digests[1], (found, digests))
+            neighbours[1].close()
+            files.write_links(neighbours, 1, 2)
+            answer = control.ask("reload")
+            self.judge("back again", re.fullmatch(r"reloaded \| link 1 is new \| link 3 is gone", answer), answer)
+            neighbours[1].come()
+            neighbours[1].say(b"1 0\n")
+            self.judge("1 is served", until_answer(control, "routes", r" 1:1:1( |$)"))
+            found = {link["node"]: link for link in json.loads(control.ask("status json"))["links"]}
+            counts = {node: (link["sessions"], link["received"]) for node, link in found.items()}
+            self.judge("counts go on", counts == {1: (2, 2), 2: (1, 1)}, counts)
+            neighbours[3].close()
+
+    def row_reload_other_files(self):
+        """A link that has other files is opened there, and its session at the files before is over."""
+        with self.by_options() as (run, control, files, neighbours):
+            neighbours[4] = Neighbour(files.folder, "other")
+            files.write_links(neighbours, 2, (1, 4))
+            answer = control.ask("reload")
+            self.judge("reload", answer == "reloaded | link 1 has other files", answer)
+            answer = control.ask("neighbours")
+            self.judge("1 is closed", answer == "neighbours 2:2", answer)
+            self.judge("its stream ends", neighbours[1].is_ended())
+            neighbours[1].close()
+            neighbours[4].node = 1
+            neighbours[4].come()
+            neighbours[4].say(b"1 0\n")
+            self.judge("1 is served", until_answer(control, "routes", r" 1:1:1( |$)"))
+
+    def row_refused_links(self):
+        """A link that is not as it is to be is refused as at the start, and no link changes."""
+        with self.by_options() as (run, control, files, neighbours):
+            before = control.ask("neighbours"), control.ask("history 0")
+            domain, options = files.read("the.domain"), files.read("r.conf")
+            wanted = [
+                (domain + "\nlink 0 3", options, r"error: the file of the domain has a link to node 3, and no --link says where its streams are"),
+                (domain, options + "\nlink 3 a b", r"\S*/a: No such file or directory \(E1\)"),
+                (domain, options + f"\nlink 3 {neighbours[3].there} {neighbours[3].back}",
+                 r"\S*r\.conf:\d+:6: the file of the domain has no link to node 3"),
+                (domain, options + f"\nlink 2 {neighbours[3].there} {neighbours[3].back}", r"\S*r\.conf:\d+:\d+: .*"),
+                (domain, options + "\nhold 12", r"needs a restart: \S*r\.conf: `hold 12` is new"),
+            ]
+            for domain_text, options_text, words in wanted:
+                files.write("the.domain", domain_text)
+                files.write("r.conf", options_text)
+                for line in ("reload check", "reload"):
+                    answer = control.ask(line)
+                    self.judge(f"{line}: {words}", re.fullmatch(rf"refused O12 \d+ {words}", answer), answer)
+                self.judge(f"nothing changed: {words}", (control.ask("neighbours"), control.ask("history 0")) == before)
+
+    def row_refused_reload(self):
+        """Something is wrong with the files, or the running router cannot take it: it is told in words, and nothing changes."""
+        with self.in_domain() as (run, control, files):
+            before = self.begin_of(run)
+            for name, text, wanted in REFUSED:
+                was = files.read(name)
+                files.write(name, text)
+                for line in ("reload check", "reload"):
+                    answer = control.ask(line)
+                    self.judge(f"{line}: {wanted}", re.fullmatch(rf"refused O12 \d+ {wanted}", answer), answer)
+                self.judge(f"nothing changed: {wanted}", self.begin_of(run) == before)
+                files.write(name, was)
+            answer = control.ask("reload")
+            self.judge("right again", answer == "reloaded" and self.begin_of(run) == before, answer)
+
+    def row_reload_with_options(self):
+        """A line of the file of options that is another one, new or gone is refused, and a comment is not."""
+        with tempfile.TemporaryDirectory() as folder:
+            files, control = DomainFiles(folder), Control(folder, "one")
+            options = ["node 0", "stay", "domain the.domain", "hold 9"]
+            files.write("r.conf", "\n".join(options))
+            with Run(self.program, size=None, node=None, more=["--config", files.path("r.conf"), *control.option()]) as run, control:
+                files.write("r.conf", "\n".join([*options, "# a comment"]))
+                answer = control.ask("reload")
+                self.judge("comment", answer == "reloaded", answer)
+                files.write("r.conf", "\n".join([*options[:3], "hold 12", "retry 1"]))
+                answer = control.ask("reload")
+                wanted = (r"refused O12 2 needs a restart: \S*r\.conf: `hold 12` is new \| \S*r\.conf: `retry 1` is new"
+                          r" \| \S*r\.conf: `hold 9` is gone")
+                self.judge("lines", re.fullmatch(wanted, answer), answer)
+                files.write("r.conf", "\n".join([*options, "hodl 1"]))
+                answer = control.ask("reload")
+                self.judge("wrong line", re.fullmatch(r"refused O12 3 \S*r\.conf:5:1: no option has this name", answer), answer)
+                answer = control.ask("quit")
+                self.judge("quit", answer == "ok" and run.process.wait(timeout=PATIENCE) == 0, answer)
+
+    def row_read(self):
+        """A name gets the filter of a file beside the domain's; a file that is refused leaves the name its filter, and each use its own."""
+        with self.in_domain() as (run, control, files):
+            files.write("more.filter", FARTHER)
+            answer = control.ask("read near more.filter")
+            self.judge("read", re.fullmatch(r"verified \d+ \d+", answer), answer)
+            self.judge("not in use yet", run.routes_until(1, "1:1"))
+            answer = control.ask("import 1 near")
+            self.judge("in use", answer == "done 1" and run.routes_until(1, "3:1"), answer)
+            files.write("more.filter", "filter near {\n  if net.len > then accept;\n}")
+            before = self.begin_of(run)
+            answer = control.ask("read near more.filter")
+            self.judge("refused", re.fullmatch(r"refused O12 \d+ \S*more\.filter:2:\d+: .*", answer), answer)
+            self.judge("nothing changed", self.begin_of(run) == before)
+            answer = control.ask("import 2 near")
+            self.judge("the name keeps its filter", answer == "done 1" and run.routes_until(2, "3:2"), answer)
+            answer = control.ask("read near /no/such.filter")
+            self.judge("not there", re.fullmatch(r"refused O12 \d+ /no/such\.filter: No such file or directory \(E1\)", answer), answer)
+            for line in ("read", "read near", "read 1near more.filter", "read near more.filter more", "reload it", "reload check it"):
+                answer = control.ask(line)
+                self.judge(line, re.fullmatch(r"refused O1 \d+", answer), answer)
 
     def ctl(self, config, *words, text=None):
         ran = subprocess.run([CTL, "-c", config, *words], input=text, capture_output=True, text=True, check=False, timeout=2 * PATIENCE)

@@ -170,8 +170,6 @@ class Guide:
         for paragraph, block in re.findall(r"(?m)^((?:\S.*\n)+)\n((?: {4}(?!\w+[$#>:] ).*\n)+)", text):
             if names := re.findall(r"`/etc/ncroute/([\w.]+)`", paragraph):
                 self.files[names[-1]] = re.sub("(?m)^ {4}", "", block)
-        # What is added to the file of the domain.
-        self.added = "".join(it + "\n" for it in re.findall(r"(?m)^ {4}(include nearer .*|import \d \d nearer)$", text))
         shown = None
         for line in text.split("\n"):
             if found := re.fullmatch(r" {4}(north|east)# (.*)", line):
@@ -190,6 +188,12 @@ class Guide:
     def runs(self, program):
         """The commands that begin with a program, and what they print, in order."""
         return [(name, command.partition(" && ")[0], shown) for name, command, shown in self.commands if command.startswith(f"{program} ")]
+
+    def steps(self):
+        """What is typed while the routers run, in order: what asks a router, changes a file or has a service reload, and what it prints."""
+        parts = [(name, part, shown) for name, command, shown in self.commands for part in command.split(" && ")
+                 if re.match(r"sed |ncroute-ctl |systemctl reload ", part)]
+        return [(name, part, shown if part.startswith("ncroute-ctl") else []) for name, part, shown in parts]
 
 
 class Lab:
@@ -285,7 +289,7 @@ class Lab:
         self.judge(f"{what}: FIFOs of {name}", not os.path.exists(path), f"{path} is still there")
 
     def begun(self):
-        """In any order: here the routers come before their lines. What an operator types then is answered as the document shows."""
+        """In any order: here the routers come before their lines."""
         for _, command, shown in self.guide.runs("ncroute router"):
             self.looks_as_shown("begun", command, shown)
         for unit, name in sorted(self.guide.starts()):
@@ -293,12 +297,8 @@ class Lab:
         self.judge("what is started", len(self.services) == 6, sorted(self.services))
         self.are_up("begun")
         self.installs("begun", 0)
-        commands = [(command, shown) for name, command, shown in self.guide.runs("ncroute-ctl") if name == "north"]
-        for command, shown in commands:
-            self.looks_as_shown("north", command, shown)
         answers = Control(f"{self.folder}/run/ncroute/north", "look", is_made=True).asked("routes", "import 1 near")
         self.judge("who may look", answers == [ROUTES["north"], "refused O11 2"], answers)
-        self.judge("what is typed", len(commands) > 3 and sum(bool(shown) for _, shown in commands) > 2, commands)
         log = pathlib.Path(f"{self.folder}/var/log/ncroute/north.log").read_text(encoding="utf-8")
         self.judge("log", re.fullmatch(r"(\S+Z .*\n)*\S+Z link 1: up in session 1\n(\S+Z .*\n)*", log), log)
 
@@ -379,22 +379,38 @@ class Lab:
             self.judge(f"{unit} has not failed", service.is_clean(service.results[-1]), service.results)
         self.judge("ncroute-kernel ends", service.results == [0], service.results)
 
-    def filter_stays(self):
-        """With the lines that the document adds to the file of the domain a router would be started."""
-        lines = self.guide.added
-        folder = pathlib.Path(f"{self.folder}/etc/ncroute")
-        (folder / "nearer.filter").write_text("filter nearer { if rip_metric > 1 then reject; accept; }\n", encoding="utf-8")
-        with open(folder / "net.domain", "a", encoding="utf-8") as domain:
-            domain.write(lines)
-        found = [self.types(f"ncroute router --config {name}.conf --check") for name in ROUTES]
-        self.judge("a filter stays", lines.count("\n") == 2 and found == [(0, [])] * 2, (lines, found))
+    def operated(self):
+        """What an operator types is answered as the document shows. A filter that is changed in its file comes into force, and no session ends. A
+        file that is refused changes nothing, and the journal says why."""
+        near, sessions = pathlib.Path(f"{self.folder}/etc/ncroute/near.filter"), self.answer("north", "neighbours")
+        before, steps, reloads = near.read_text(encoding="utf-8"), self.guide.steps(), []
+        for name, command, shown in steps:
+            if command.startswith("systemctl"):
+                reloads.append(command)
+                self.judge(f"{name}: {command}", self.services["ncroute", name].reload(), self.services["ncroute", name].lines()[-3:])
+            else:
+                self.looks_as_shown(name, command, shown)
+        self.judge("what is typed", len(steps) > 6 and sum(bool(shown) for _, _, shown in steps) > 4, steps)
+        self.judge("what is reloaded", reloads == [f"systemctl reload ncroute@{name}" for name in ROUTES], reloads)
+        # Here both machines have the same file.
+        after, north = near.read_text(encoding="utf-8"), self.services["ncroute", "north"]
+        self.judge("a file is changed", after != before, before)
+        near.write_text(after.replace("accept", "acept"), encoding="utf-8")
+        told = "near.filter:3:3: `acept` is no command"
+        self.judge("a wrong file is not reloaded", not north.reload() and told in "\n".join(north.lines()), north.lines()[-3:])
+        near.write_text(after, encoding="utf-8")
+        self.judge("the files are reloaded", north.reload(), north.lines()[-3:])
+        found = self.types("ncroute-ctl -c east.conf reload check")
+        self.judge("nothing is left to reload", found == (0, ["reload"]), found)
+        self.are_up("reloaded")
+        self.judge("a reload ends no session", self.answer("north", "neighbours") == sessions, sessions)
 
     def run(self):
         self.begun()
+        self.operated()
         self.lines_end()
         self.routers_end()
         self.stopped()
-        self.filter_stays()
 
     def close(self):
         for service in self.services.values():

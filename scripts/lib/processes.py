@@ -117,11 +117,11 @@ class Process:
 
 class Router(Process):
     """A process of `ncroute router`. `links` has the files that it reads and writes for each neighbour, `history` is the folder where it saves. Where
-    no size is given here, the file of its domain says it."""
+    no size is given here, the file of its domain says it, and its file of options says a node that is not given."""
 
     def __init__(self, program, size, node, links, history=None, options=(), **more):
         self.program, self.history = program, history
-        words = [program, "router", *(["--size", str(size)] if size else []), "--node", str(node), *options]
+        words = [program, "router", *(["--size", str(size)] if size else []), *([] if node is None else ["--node", str(node)]), *options]
         if history:
             words += ["--save", history]
         for other, (there, back) in links.items():

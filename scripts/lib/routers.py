@@ -69,7 +69,7 @@ class Neighbour:
     def greetings(self):
         """Of each greeting that it was told since it opened its files the number of the router's attempt, and the one that the router heard last."""
         lines = self.told[self.before:].split(b"\n")[:-1]
-        return [tuple(map(int, line.split()[5:])) for line in lines if line.startswith(b"netchange ")]
+        return [tuple(map(int, line.split()[5:7])) for line in lines if line.startswith(b"netchange ")]
 
     def greet(self, size=SIZE, node=None, hold=0):
         """Answers the greeting that the router wrote last by one of its own: then the router is up."""
@@ -132,6 +132,15 @@ class Neighbour:
     def hear(self, enough, patience=PATIENCE):
         """Reads until what came contains these bytes: whether it does."""
         return self.listen(lambda: enough in self.told, patience)
+
+    def is_ended(self):
+        """Waits until the router has closed the stream that it was told by: whether it has."""
+        asked, end = select.poll(), time.monotonic() + PATIENCE
+        asked.register(self.reads, select.POLLIN)
+        while asked.poll(max(0, end - time.monotonic()) * 1000):
+            if not os.read(self.reads, 1 << 16):
+                return True
+        return False
 
     def messages(self):
         """The nodes and distances that it was told, behind the greeting."""

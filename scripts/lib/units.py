@@ -150,6 +150,11 @@ class Service:
                                                 preexec_fn=self.prepare)
             return not self.is_stopped.is_set()
 
+    def reload(self):
+        """Has it read its files again, as `systemctl reload` does: whether its unit says how, and that went well."""
+        with open(self.log, "ab") as log:
+            return bool(self.unit.settings["ExecReload"]) and self.do("ExecReload", log)
+
     def stop(self):
         """Stops it, as `systemctl stop` does: its last result, and how many seconds that took."""
         begun, stops = time.monotonic(), self.unit.seconds("TimeoutStopSec", "90s")

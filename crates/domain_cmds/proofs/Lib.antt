@@ -23,4 +23,5 @@ pub mod Forgetting
 pub mod Leaving
 pub mod Listed
 pub mod Zipping
+pub mod ByColumn
 mod FailureRows

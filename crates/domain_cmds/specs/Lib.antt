@@ -20,3 +20,5 @@ pub mod Left
 pub mod Paging
 pub mod Marks
 pub mod Running
+-- What only the bodies of this crate are proved against.
+pub mod ByColumn

@@ -1,11 +1,36 @@
-//! How much a failure changes, of all routes before it and after it.
+//! How much a failure changes of the routes to one destination, of all routes before it and after it.
+//!
+//! **Each pair of nodes is looked at once.** Most routes are what they were, whatever fails, so that is asked first.
 ghost use Rattle.std.specs.Prelude.{◌≡◌, ◌≤◌};
+ghost use Rattle.domain_cmds.specs.ByColumn as by_column;
 ghost use Rattle.domain_cmds.specs.Failures as spec;
 
 use crate::failure::Failing;
 use crate::routes::{Column, route_of};
 use crate::still::{distance, lesser, lesser_of_two};
 use crate::text::is_same;
+
+/// What a failure changes of one route.
+#[derive(Clone, Copy)]
+pub(crate) struct RouteEffect {
+    /// It has another distance or next hop.
+    changed: bool,
+    /// It is no more.
+    lost: bool,
+    /// The lesser of both distances, where they are two; otherwise the number of nodes.
+    still: u16,
+}
+
+/// What a failure changes of the routes to one destination.
+#[derive(Clone, Copy)]
+pub(crate) struct ColumnEffect {
+    /// How many have another distance or next hop.
+    pub(crate) changed: u32,
+    /// How many of these are no more.
+    pub(crate) lost: u32,
+    /// Below which distance none is another: the number of nodes, where none is at all.
+    pub(crate) still: u16,
+}
 
 /// Whether a node counts: the one that fails does not.
 fn is_told(what: Failing, v: u16) -> bool
@@ -34,29 +59,6 @@ fn is_changed(size: u16, what: Failing, before: &[Column], after: &[Column], u: 
         && !is_same(route_of(size, after, u, v), route_of(size, before, u, v))
 }
 
-/// How many routes of a node are others than they were.
-fn changed_of(size: u16, what: Failing, before: &[Column], after: &[Column], u: u16) -> u32
-    ensures value { result ≡ spec.changed_of size what before.now after.now u }
-    ensures few { result ≤ size }
-{
-    let mut count = 0;
-    for v in 0..size {
-        count += one_if(is_changed(size, what, before, after, u, v));
-    }
-    count
-}
-
-/// How many routes are others than they were.
-pub(crate) fn changed_routes(size: u16, what: Failing, before: &[Column], after: &[Column]) -> u32
-    ensures { result ≡ spec.changed_routes size what before.now after.now }
-{
-    let mut sum = 0;
-    for u in 0..size {
-        sum += changed_of(size, what, before, after, u);
-    }
-    sum
-}
-
 /// Whether one node reached another, and does no longer.
 pub(crate) fn is_lost(
     size: u16,
@@ -74,29 +76,6 @@ pub(crate) fn is_lost(
         && !(route_of(size, after, u, v).dist < size)
 }
 
-/// How many nodes one node reaches no longer.
-fn lost_of(size: u16, what: Failing, before: &[Column], after: &[Column], u: u16) -> u32
-    ensures value { result ≡ spec.lost_of size what before.now after.now u }
-    ensures few { result ≤ size }
-{
-    let mut count = 0;
-    for v in 0..size {
-        count += one_if(is_lost(size, what, before, after, u, v));
-    }
-    count
-}
-
-/// How many routes are no more.
-pub(crate) fn lost_routes(size: u16, what: Failing, before: &[Column], after: &[Column]) -> u32
-    ensures { result ≡ spec.lost_routes size what before.now after.now }
-{
-    let mut sum = 0;
-    for u in 0..size {
-        sum += lost_of(size, what, before, after, u);
-    }
-    sum
-}
-
 /// The lesser of the two distances from a node that counts to another, where they are two; otherwise the size.
 fn told_lesser(size: u16, what: Failing, before: &[Column], after: &[Column], v: u16, u: u16) -> u16
     ensures { result ≡ spec.told_lesser size what before.now after.now v u }
@@ -112,53 +91,52 @@ fn told_lesser(size: u16, what: Failing, before: &[Column], after: &[Column], v:
     }
 }
 
-/// The bound below which no distance to a node is another than it was.
-fn still_told(size: u16, what: Failing, before: &[Column], after: &[Column], v: u16) -> u16
-    ensures { result ≡ spec.still_told size what before.now after.now v }
+/// What a failure changes of the route of one node to another.
+fn route_effect(
+    size: u16,
+    what: Failing,
+    before: &[Column],
+    after: &[Column],
+    u: u16,
+    v: u16,
+) -> RouteEffect
+    ensures { result ≡ by_column.route_effect size what before.now after.now u v }
 {
-    let mut least = size;
+    if is_same(route_of(size, after, u, v), route_of(size, before, u, v)) {
+        return RouteEffect {
+            changed: false,
+            lost: false,
+            still: size,
+        };
+    }
+    RouteEffect {
+        changed: is_changed(size, what, before, after, u, v),
+        lost: is_lost(size, what, before, after, u, v),
+        still: told_lesser(size, what, before, after, v, u),
+    }
+}
+
+/// What a failure changes of the routes to a node.
+pub(crate) fn column_effect(
+    size: u16,
+    what: Failing,
+    before: &[Column],
+    after: &[Column],
+    v: u16,
+) -> ColumnEffect
+    ensures value { result ≡ by_column.column_effect size what before.now after.now v }
+    ensures few { (result.changed ≤ size) × (result.lost ≤ size) }
+{
+    let (mut changed, mut lost, mut still) = (0, 0, size);
     for u in 0..size {
-        least = lesser(least, told_lesser(size, what, before, after, v, u));
+        let effect = route_effect(size, what, before, after, u, v);
+        changed += one_if(effect.changed);
+        lost += one_if(effect.lost);
+        still = lesser(still, effect.still);
     }
-    least
-}
-
-/// Whether some distance to a node is another than it was.
-fn is_moved(size: u16, what: Failing, before: &[Column], after: &[Column], v: u16) -> bool
-    ensures { result ≡ spec.is_moved size what before.now after.now v }
-{
-    is_told(what, v) && still_told(size, what, before, after, v) < size
-}
-
-/// To how many nodes some distance is another than it was.
-pub(crate) fn moved_nodes(size: u16, what: Failing, before: &[Column], after: &[Column]) -> u32
-    ensures { result ≡ spec.moved_nodes size what before.now after.now }
-{
-    let mut count = 0;
-    for v in 0..size {
-        count += one_if(is_moved(size, what, before, after, v));
+    ColumnEffect {
+        changed,
+        lost,
+        still: if is_told(what, v) { still } else { size },
     }
-    count
-}
-
-/// The bound below which no distance to a node is another than it was; the size for the node that fails.
-fn still_to(size: u16, what: Failing, before: &[Column], after: &[Column], v: u16) -> u16
-    ensures { result ≡ spec.still_to size what before.now after.now v }
-{
-    if is_told(what, v) {
-        still_told(size, what, before, after, v)
-    } else {
-        size
-    }
-}
-
-/// The bound below which no distance at all is another than it was.
-pub(crate) fn still_near(size: u16, what: Failing, before: &[Column], after: &[Column]) -> u16
-    ensures { result ≡ spec.still_near size what before.now after.now }
-{
-    let mut least = size;
-    for v in 0..size {
-        least = lesser(least, still_to(size, what, before, after, v));
-    }
-    least
 }

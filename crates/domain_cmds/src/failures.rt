@@ -4,11 +4,12 @@ ghost use Rattle.domain_routes.specs.PlanView.{is_linked};
 ghost use Rattle.domain_cmds.specs.Failures as spec;
 ghost use Rattle.domain_cmds.specs.declared.failure.Failing.TheVariants as failing;
 
-use crate::counts::{changed_routes, lost_routes, moved_nodes, still_near};
+use crate::counts::{column_effect, one_if};
 use crate::failure::{Failing, FailureEffect};
 use crate::reach::phases_to_rest;
 use crate::resting::RestingPlan;
 use crate::routes::Column;
+use crate::still::lesser;
 use domain_routes::Plan;
 use std::alloc::{AllocError, Global};
 
@@ -16,13 +17,21 @@ use std::alloc::{AllocError, Global};
 fn failure_of(size: u16, what: Failing, before: &[Column], after: &[Column]) -> FailureEffect
     ensures { result ≡ spec.failure_of size what before.now after.now }
 {
+    let (mut changed, mut lost, mut moved, mut still) = (0, 0, 0, size);
+    for v in 0..size {
+        let effect = column_effect(size, what, before, after, v);
+        changed += effect.changed;
+        lost += effect.lost;
+        moved += one_if(effect.still < size);
+        still = lesser(still, effect.still);
+    }
     FailureEffect {
         what,
-        changed: changed_routes(size, what, before, after),
-        lost: lost_routes(size, what, before, after),
-        moved: moved_nodes(size, what, before, after),
+        changed,
+        lost,
+        moved,
         rounds: phases_to_rest(size, after),
-        still: still_near(size, what, before, after),
+        still,
     }
 }
 

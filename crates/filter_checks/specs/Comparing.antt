@@ -17,6 +17,7 @@ use Rattle.line_protocol.specs.declared.faults.StreamFault.{StreamFault}
 use Rattle.line_protocol.specs.declared.faults.StreamFault.TheVariants.{Memory}
 use Rattle.refusal_reports.specs.Refusing.{CutsRefusingIf, RefusesIf}
 use Rattle.report_formats.specs.declared.format.Format.{Format}
+use Rattle.filter_checks.specs.PartLines.{parts_text}
 use Rattle.filter_checks.specs.PartReports.{parts_in}
 use Rattle.filter_checks.specs.declared.comparing.Compared.{Compared}
 use Rattle.filter_checks.specs.declared.comparing.Compared.TheVariants as compared
@@ -35,6 +36,10 @@ pub record AreParts (old new : CodeView) (size limit : ℕ) (parts : List RouteP
   pub real : All (IsReal size) parts
   pub decided : IsEnough size limit → All IsDecided parts
   pub none : old ≡ new → parts ≡ []
+
+-- such parts are told in lines
+abbrev pub TellsParts : CodeView → CodeView → ℕ → ℕ → List ℕ → Type 0
+TellsParts old new size limit text = (parts : List RoutePart) × AreParts old new size limit parts × (text ≡ parts_text size parts)
 
 -- what the comparison comes to
 abbrev pub compared_as : Comparison → Compared

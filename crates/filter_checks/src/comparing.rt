@@ -9,6 +9,7 @@ ghost use Rattle.filter_reports.specs.Naming.{named};
 ghost use Rattle.filter_checks.specs.Comparing as spec;
 ghost use Rattle.filter_checks.specs.declared.comparing.Compared.TheVariants as compared;
 
+use crate::part_lines::parts_text;
 use crate::part_reports::parts_in;
 use code_file::write_code;
 use filter_code::Code;
@@ -83,6 +84,20 @@ fn find_parts(
     }
     let parts = compare(alloc, old, new, size, limit)?;
     join_all(alloc, parts)
+}
+
+/// The lines of the parts of the routes on which two filters differ, or on which it is not decided, and one line on all other routes: of domains of the
+/// size that they were verified for. It tries at most `limit` classes of routes.
+pub fn difference_text(
+    alloc: Global,
+    old: &Verified,
+    new: &Verified,
+    limit: u64,
+) -> Result<Vec<u8>, AllocError>
+    ensures { IfOk result (λ text. spec.TellsParts old.now.program new.now.program old.now.size limit text.items) }
+{
+    let parts = find_parts(alloc, old.code(), new.code(), old.size(), limit)?;
+    parts_text(alloc, old.size(), parts.as_slice())
 }
 
 /// What the comparison comes to, by what its parts come to.

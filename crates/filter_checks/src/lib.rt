@@ -15,7 +15,7 @@ mod tap;
 mod test_file;
 mod testing;
 
-pub use comparing::{Compared, compare_named};
+pub use comparing::{Compared, compare_named, difference_text};
 pub use faults::fault_text;
 pub use laws::{
     compared_filters_mean_the_same, comparison_is_of_filters, held_tests_are_of_filters,

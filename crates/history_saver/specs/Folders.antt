@@ -1,5 +1,6 @@
 -- A folder that has the segments of a history. (This project's own choice.)
-use Rattle.std.specs.Prelude.{ℕ, List, [], ◌∷◌, ◌++◌, take}
+use Rattle.std.specs.Prelude.{ℕ, ◌+◌, List, [], ◌∷◌, ◌++◌, length, min, take}
+use Rattle.history_saver.specs.declared.folder.FolderSize.{FolderSize}
 
 -- a segment: how many entries of the history came before it, and what its file holds
 pub record Segment : Type 0 where
@@ -33,3 +34,12 @@ with_written bytes v = record { segments = longer bytes v.segments; next = v.nex
 -- so many of the newest are left
 abbrev pub with_newest : ℕ → FolderView → FolderView
 with_newest n v = record { segments = take n v.segments; next = v.next }
+
+-- how many bytes segments have
+abbrev pub bytes_of : List Segment → ℕ
+bytes_of [] = 0
+bytes_of (s ∷ ss) = length s.text + bytes_of ss
+
+-- how much a folder holds, as far as 64 bits go
+abbrev pub size_of : FolderView → FolderSize
+size_of v = record { segments = min (length v.segments) 18446744073709551615; bytes = min (bytes_of v.segments) 18446744073709551615 }

@@ -1,11 +1,18 @@
 //! A folder of segments in a file system.
 
-use crate::folder::SegmentFolder;
+use crate::folder::{FolderSize, SegmentFolder};
 use std::alloc::Global;
 use std::collections::VecDeque;
 use std::fs::{self, File, OpenFile};
 use std::io::{self, Error, ErrorKind, Write};
 use std::rt::Files;
+
+/// A segment that has its name: where it begins, and how many bytes it has.
+#[derive(Clone, Copy)]
+struct NamedSegment {
+    at: u64,
+    bytes: u64,
+}
 
 /// A folder of a file system for the segments of one history. The name of a segment is the number of entries that come before it, with 20
 /// digits, and `.history`. While it is made it has the name `.next.history`.
@@ -18,8 +25,11 @@ pub struct SegmentFiles<R: Files + Drop> {
     // The file that is being made, and the one that grows.
     next: Option<R::File>,
     newest: Option<R::File>,
-    // Where the segments begin that have their names, the oldest first.
-    begun: VecDeque<u64>,
+    // The segments that have their names, the oldest first.
+    named: VecDeque<NamedSegment>,
+    // How many bytes these have, and the one that is being made.
+    bytes: u64,
+    next_bytes: u64,
 }
 
 impl<R: Files + Drop> SegmentFiles<R> {
@@ -33,7 +43,9 @@ impl<R: Files + Drop> SegmentFiles<R> {
             folder: name,
             next: None,
             newest: None,
-            begun: VecDeque::new(alloc),
+            named: VecDeque::new(alloc),
+            bytes: 0,
+            next_bytes: 0,
         })
     }
 
@@ -69,14 +81,23 @@ impl<R: Files + Drop> SegmentFiles<R> {
     }
 
     /// Removes the oldest segment. One that somebody else has removed is no matter.
-    fn remove_oldest(&mut self, at: u64) -> io::Result<()> {
-        match fs::remove_file(&self.files, self.path(at)?.as_str()) {
+    fn remove_oldest(&mut self, oldest: NamedSegment) -> io::Result<()> {
+        match fs::remove_file(&self.files, self.path(oldest.at)?.as_str()) {
             Ok(()) => {}
             Err(error) if error.kind() == ErrorKind::NotFound => {}
             Err(error) => return Err(error),
         }
-        self.begun.pop_front();
+        self.named.pop_front();
+        self.bytes = self.bytes.saturating_sub(oldest.bytes);
         Ok(())
+    }
+
+    /// Notes that so many bytes were written behind the newest segment.
+    fn note_written(&mut self, count: u64) {
+        if let Some(newest) = self.named.back_mut() {
+            newest.bytes = newest.bytes.saturating_add(count);
+        }
+        self.bytes = self.bytes.saturating_add(count);
     }
 }
 
@@ -92,6 +113,7 @@ impl<R: Files + Drop> SegmentFolder for SegmentFiles<R> {
         let mut file = File::create(&self.files, path.as_str())?;
         file.write_all(text)?;
         self.next = Some(file);
+        self.next_bytes = text.len() as u64;
         Ok(())
     }
 
@@ -106,29 +128,40 @@ impl<R: Files + Drop> SegmentFolder for SegmentFiles<R> {
     }
 
     fn name(&mut self, at: u64) -> io::Result<()> {
-        self.begun.reserve(1)?;
+        self.named.reserve(1)?;
         self.give_name(at)?;
-        self.begun.push_back_reserved(at);
+        let bytes = self.next_bytes;
+        self.named.push_back_reserved(NamedSegment { at, bytes });
+        self.bytes = self.bytes.saturating_add(bytes);
         self.newest = self.next.take();
         Ok(())
     }
 
     fn write(&mut self, text: &[u8]) -> io::Result<usize> {
-        match &mut self.newest {
-            Some(file) => file.write(text),
-            None => Err(Error::from(ErrorKind::NotFound)),
-        }
+        let Some(file) = &mut self.newest else {
+            return Err(Error::from(ErrorKind::NotFound));
+        };
+        let count = file.write(text)?;
+        self.note_written(count as u64);
+        Ok(count)
     }
 
     fn keep(&mut self, count: usize) -> io::Result<()> {
-        let most = self.begun.len();
+        let most = self.named.len();
         for _ in count..most {
-            let at = match self.begun.front() {
-                Some(at) => *at,
+            let oldest = match self.named.front() {
+                Some(oldest) => *oldest,
                 None => return Ok(()),
             };
-            self.remove_oldest(at)?;
+            self.remove_oldest(oldest)?;
         }
         Ok(())
+    }
+
+    fn size(&self) -> FolderSize {
+        FolderSize {
+            segments: self.named.len() as u64,
+            bytes: self.bytes,
+        }
     }
 }

@@ -2,14 +2,23 @@
 
 use std::io;
 
+/// How much a folder holds.
+#[derive(Clone, Copy, PartialEq, Eq)]
+pub struct FolderSize {
+    /// How many segments have their names.
+    pub segments: u64,
+    /// How many bytes they have.
+    pub bytes: u64,
+}
+
 /// A folder in which the segments of a history are made, one after another. It has one that is made under a temporary name, and those
 /// that have their names, of which the newest grows. It is used by who makes them, and by nobody else.
 ///
 /// A contract sees what a folder says that it holds. Of the files of a system nothing is known.
 pub trait SegmentFolder {
-    ghost use Rattle.std.specs.Prelude.{◌≡◌, ◌≤◌, ℕ, List, Option, ⊤, IfOk, OnErr, OnOk, length, take};
+    ghost use Rattle.std.specs.Prelude.{◌≡◌, ◌≤◌, ℕ, List, Option, ⊤, IfOk, IfSome, OnErr, OnOk, length, take};
     ghost use Rattle.std.specs.Option.{option_map};
-    ghost use Rattle.history_saver.specs.Folders.{FolderView, with_named, with_newest, with_next, with_written};
+    ghost use Rattle.history_saver.specs.Folders.{FolderView, size_of, with_named, with_newest, with_next, with_written};
 
     // What it holds, where that is known.
     ghost holds: { Self → Option FolderView };
@@ -44,4 +53,8 @@ pub trait SegmentFolder {
         requires { 1 ≤ count }
         ensures kept { OnOk result (holds self.new ≡ option_map (with_newest count) (holds self.old)) }
         ensures left { OnErr result ((n : ℕ) × (count ≤ n) × (holds self.new ≡ option_map (with_newest n) (holds self.old))) };
+
+    /// How much it holds, by what was written here: nobody looks at the files. Numbers count as far as 64 bits go.
+    fn size(&self) -> FolderSize
+        ensures { IfSome (holds self.now) (λ v. result ≡ size_of v) };
 }

@@ -14,7 +14,7 @@ mod segments;
 
 pub use fault::SaveFault;
 pub use files::SegmentFiles;
-pub use folder::SegmentFolder;
+pub use folder::{FolderSize, SegmentFolder};
 pub use laws::segments_tell_the_history;
 pub use reading::MOST_AT_ONCE;
 pub use segments::{Rotation, SegmentSaver};

@@ -5,7 +5,7 @@ ghost use Rattle.netchange_core.specs.Calls.{opened};
 ghost use Rattle.history_file.specs.Fits.{largest_limit};
 ghost use Rattle.history_file.specs.Segments.{IsStateText};
 ghost use Rattle.history_saver.specs.Adding.{next_count};
-ghost use Rattle.history_saver.specs.Folders.{with_named, with_next};
+ghost use Rattle.history_saver.specs.Folders.{size_of, with_named, with_next};
 ghost use Rattle.history_saver.specs.Looking.{Looks, seen_by};
 ghost use Rattle.history_saver.specs.Portions.{IsLeftOut};
 ghost use Rattle.history_saver.specs.Steps as spec;
@@ -15,7 +15,7 @@ ghost use Rattle.route_history.specs.JournalView.{JournalView};
 ghost use Rattle.slot_lock.specs.Passes.{IsPassOf};
 
 use crate::fault::SaveFault;
-use crate::folder::SegmentFolder;
+use crate::folder::{FolderSize, SegmentFolder};
 use crate::portion::{Due, Portion, PortionReader};
 use crate::reading::MOST_AT_ONCE;
 use history_file::write_state;
@@ -150,6 +150,13 @@ impl<F: SegmentFolder + Drop> SegmentSaver<F> {
         ensures { result ≡ self.now.saved }
     {
         self.saved
+    }
+
+    /// How much its folder holds.
+    pub fn size(&self) -> FolderSize
+        ensures { IfSome self.now.folder (λ v. result ≡ size_of v) }
+    {
+        self.folder.size()
     }
 
     /// The folder.

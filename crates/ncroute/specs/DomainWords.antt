@@ -123,6 +123,9 @@ or_else None other = other
 or_else (Some fault) other = Some fault
 
 -- a link too many counts first, then one that is missing; a node that is not in the domain has no links to compare
+abbrev pub unfit_beside : List LinkFiles → List ℕ → Option DomainFault
+unfit_beside links neighbours = or_else (stranger_from 0 links neighbours) (unserved links neighbours)
+
 abbrev pub unfit_of : List LinkFiles → Option NodeFile → Option DomainFault
 unfit_of links None = None
-unfit_of links (Some node) = or_else (stranger_from 0 links node.neighbours.items) (unserved links node.neighbours.items)
+unfit_of links (Some node) = unfit_beside links node.neighbours.items

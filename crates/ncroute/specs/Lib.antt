@@ -24,6 +24,7 @@ pub mod Paging
 pub mod Places
 pub mod Planning
 pub mod Reading
+pub mod Reloading
 pub mod Replaying
 pub mod Segments
 pub mod Requests

@@ -116,6 +116,8 @@ fn serve_statements<
 ) -> Result<u8, Unreported>
 where
     R::Segments: Send + 'static,
+    R::File: Send,
+    R::New: Send,
     ensures served { IfOk result (spec.ServesStatements (R.opens rt.now) (R.makes rt.now) (R.keeps rt.now) (origin_of origin.entry) words.now
         console.old console.new) }
     ensures unreported { IfErr result (λ unreported. spec.CutsStatements (R.opens rt.now) (R.makes rt.now) (R.keeps rt.now) (stream_fault unreported.why)
@@ -128,7 +130,7 @@ where
         Ok(all) => serve_in_domain::<R, FI, FO, T, I, W, E>(
             rt, alloc, &all, origin, console, outlets,
         ),
-        Err(_) => end_by_memory(&mut console.errors),
+        Err(_) => return end_by_memory(&mut console.errors),
     }
 }
 
@@ -163,6 +165,8 @@ fn serve_text<
 ) -> Result<u8, Unreported>
 where
     R::Segments: Send + 'static,
+    R::File: Send,
+    R::New: Send,
     requires { length text.now < 2 ^ 63 }
     ensures served { IfOk result (spec.ServesText (R.opens rt.now) (R.makes rt.now) (R.keeps rt.now) name.now text.now words.now
         console.old console.new) }
@@ -179,7 +183,7 @@ where
             let origin = Origin { name, statements };
             serve_statements::<R, FI, FO, T, I, W, E>(rt, alloc, words, origin, console, outlets)
         }
-        Err(wrong) => end_by_wrong(alloc, &mut console.errors, name, &wrong),
+        Err(wrong) => return end_by_wrong(alloc, &mut console.errors, name, &wrong),
     }
 }
 
@@ -213,6 +217,8 @@ fn serve_file<
 ) -> Result<u8, Unreported>
 where
     R::Segments: Send + 'static,
+    R::File: Send,
+    R::New: Send,
     ensures served { IfOk result (spec.ServesFile (R.opens rt.now) (R.makes rt.now) (R.keeps rt.now) name.now words.now
         console.old console.new) }
     ensures unreported { IfErr result (λ unreported. spec.CutsFile (R.opens rt.now) (R.makes rt.now) (R.keeps rt.now) (stream_fault unreported.why) name.now
@@ -233,7 +239,9 @@ where
             outlets,
         ),
         Ok(None) => Ok(FAILED),
-        Err(fault) => end_by_line(&mut console.errors, FAILED, fault_line(fault).as_bytes()),
+        Err(fault) => {
+            return end_by_line(&mut console.errors, FAILED, fault_line(fault).as_bytes());
+        }
     }
 }
 
@@ -267,6 +275,8 @@ pub(crate) fn serve_router<
 ) -> Result<u8, Unreported>
 where
     R::Segments: Send + 'static,
+    R::File: Send,
+    R::New: Send,
     ensures served { IfOk result (spec.ServesConfigured (R.opens rt.now) (R.makes rt.now) (R.keeps rt.now) words.now console.old console.new) }
     ensures unreported { IfErr result (λ unreported. spec.CutsConfigured (R.opens rt.now) (R.makes rt.now) (R.keeps rt.now) (stream_fault unreported.why)
         words.now console.old console.new unreported.status) }

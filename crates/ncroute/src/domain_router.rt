@@ -21,6 +21,7 @@ use crate::domain_words::{DomainFault, find_unfit, said_beside, with_domain};
 use crate::ending::{FAILED, fault_line};
 use crate::folders::HistoryFolders;
 use crate::planning::{PlanFault, is_memory, plan_of};
+use crate::reloading::RouterFiles;
 use crate::routing::{
     Outlets, SetupFault, Unreported, WRONG_WORDS, end_by_line, end_unset, make_save, run_setting,
     serve_words, surroundings_of,
@@ -186,13 +187,19 @@ fn run_marked<
 ) -> Result<u8, Unreported>
 where
     R::Segments: Send + 'static,
+    R::File: Send,
+    R::New: Send,
     ensures served { IfOk result (spec.RunsMarked (R.makes rt.now) (R.keeps rt.now) filters.entries words.now plan console.old console.new) }
     ensures unreported { IfErr result (λ unreported. spec.CutsMarked (R.makes rt.now) (stream_fault unreported.why) filters.entries words.now plan
         console.old console.new unreported.status) }
 {
     match make_folder(rt, alloc, words, console) {
         Ok(Some(save)) => {
-            let Outlets { voice, pipe } = outlets;
+            let Outlets {
+                voice,
+                pipe,
+                origins,
+            } = outlets;
             let setting = Setting {
                 plan,
                 filters,
@@ -202,6 +209,7 @@ where
                 rt,
                 alloc,
                 &words.save,
+                RouterFiles::new(*rt, origins),
                 setting,
                 surroundings_of(words, pipe),
                 console,
@@ -245,6 +253,8 @@ fn run_plan<
 ) -> Result<u8, Unreported>
 where
     R::Segments: Send + 'static,
+    R::File: Send,
+    R::New: Send,
     ensures served { IfOk result (spec.RunsPlan (R.makes rt.now) (R.keeps rt.now) file words.now plan console.old console.new) }
     ensures unreported { IfErr result (λ unreported. spec.CutsPlan (R.makes rt.now) (stream_fault unreported.why) file words.now plan
         console.old console.new unreported.status) }
@@ -299,6 +309,8 @@ fn serve_plan<
 ) -> Result<u8, Unreported>
 where
     R::Segments: Send + 'static,
+    R::File: Send,
+    R::New: Send,
     ensures served { IfOk result (spec.ServesPlan (R.makes rt.now) (R.keeps rt.now) file node.now words.now plan (origin_of origin.entry)
         console.old console.new) }
     ensures unreported { IfErr result (λ unreported. spec.CutsServedPlan (R.makes rt.now) (stream_fault unreported.why) file node.now words.now plan
@@ -342,6 +354,8 @@ fn serve_said<
 ) -> Result<u8, Unreported>
 where
     R::Segments: Send + 'static,
+    R::File: Send,
+    R::New: Send,
     ensures served { IfOk result (spec.ServesSaid (R.makes rt.now) (R.keeps rt.now) file node.now words.now (origin_of origin.entry)
         console.old console.new) }
     ensures unreported { IfErr result (λ unreported. spec.CutsSaid (R.makes rt.now) (stream_fault unreported.why) file node.now words.now
@@ -401,15 +415,20 @@ fn serve_node<
 ) -> Result<u8, Unreported>
 where
     R::Segments: Send + 'static,
+    R::File: Send,
+    R::New: Send,
     ensures served { IfOk result (spec.ServesNode (R.makes rt.now) (R.keeps rt.now) file me words.now (origin_of origin.entry)
         console.old console.new) }
     ensures unreported { IfErr result (λ unreported. spec.CutsNode (R.makes rt.now) (stream_fault unreported.why) file me words.now
         (origin_of origin.entry) console.old console.new unreported.status) }
 {
     match said_to(alloc, words, &file, me) {
-        Ok((node, all)) => serve_said::<R, FI, FO, T, I, W, E>(
-            rt, alloc, file, &node, &all, origin, console, outlets,
-        ),
+        Ok((node, all)) => {
+            let outlets = outlets.in_domain(alloc, words, &file, me, &node);
+            serve_said::<R, FI, FO, T, I, W, E>(
+                rt, alloc, file, &node, &all, origin, console, outlets,
+            )
+        }
         Err(_) => end_by_program(&mut console.errors, ProgramFault::MEMORY),
     }
 }
@@ -446,6 +465,8 @@ fn serve_file<
 ) -> Result<u8, Unreported>
 where
     R::Segments: Send + 'static,
+    R::File: Send,
+    R::New: Send,
     ensures served { IfOk result (spec.ServesFile (R.opens rt.now) (R.makes rt.now) (R.keeps rt.now) name.now me words.now (origin_of origin.entry)
         console.old console.new) }
     ensures unreported { IfErr result (λ unreported. spec.CutsFile (R.opens rt.now) (R.makes rt.now) (stream_fault unreported.why) name.now me words.now
@@ -457,7 +478,7 @@ where
         ),
         Ok(DomainRead::Unread) => Ok(FAILED),
         Ok(DomainRead::Wrong) => Ok(WRONG_WORDS),
-        Err(fault) => end_by_program(&mut console.errors, fault),
+        Err(fault) => return end_by_program(&mut console.errors, fault),
     }
 }
 
@@ -506,6 +527,8 @@ fn serve_beside<
 ) -> Result<u8, Unreported>
 where
     R::Segments: Send + 'static,
+    R::File: Send,
+    R::New: Send,
     ensures served { IfOk result (spec.ServesBeside (R.opens rt.now) (R.makes rt.now) (R.keeps rt.now) name.now words.now
         (origin_of origin.entry) console.old console.new) }
     ensures unreported { IfErr result (λ unreported. spec.CutsBeside (R.opens rt.now) (R.makes rt.now) (stream_fault unreported.why) name.now words.now
@@ -515,7 +538,7 @@ where
         Ok(me) => serve_file::<R, FI, FO, T, I, W, E>(
             rt, alloc, name, me, words, origin, console, outlets,
         ),
-        Err(fault) => end_by_beside(alloc, &mut console.errors, origin, fault),
+        Err(fault) => return end_by_beside(alloc, &mut console.errors, origin, fault),
     }
 }
 
@@ -549,11 +572,14 @@ pub(crate) fn serve_in_domain<
 ) -> Result<u8, Unreported>
 where
     R::Segments: Send + 'static,
+    R::File: Send,
+    R::New: Send,
     ensures served { IfOk result (spec.ServesInDomain (R.opens rt.now) (R.makes rt.now) (R.keeps rt.now) (origin_of origin.entry) words.now
         console.old console.new) }
     ensures unreported { IfErr result (λ unreported. spec.CutsInDomain (R.opens rt.now) (R.makes rt.now) (R.keeps rt.now) (stream_fault unreported.why)
         (origin_of origin.entry) words.now console.old console.new unreported.status) }
 {
+    let outlets = outlets.by_options(alloc, origin);
     match &words.domain {
         Some(name) => serve_beside::<R, FI, FO, T, I, W, E>(
             rt,

@@ -227,7 +227,7 @@ pub(crate) fn with_domain(
 }
 
 /// Whether a node is one of these.
-fn is_among(nodes: &[u16], node: u16) -> bool
+pub(crate) fn is_among(nodes: &[u16], node: u16) -> bool
     ensures { result ≡ spec.is_among nodes.now node }
 {
     nodes.iter().any(|other| *other == node)
@@ -265,18 +265,22 @@ fn find_unserved(links: &[LinkFiles], neighbours: &[u16]) -> Option<DomainFault>
     None
 }
 
+/// What is wrong with the links of a node that has these neighbours.
+pub(crate) fn find_unfit_beside(links: &[LinkFiles], neighbours: &[u16]) -> Option<DomainFault>
+    ensures { result ≡ spec.unfit_beside links.now neighbours.now }
+{
+    match find_stranger(links, neighbours) {
+        Some(fault) => Some(fault),
+        None => find_unserved(links, neighbours),
+    }
+}
+
 /// What is wrong with the links of a node: one leads to no neighbour, or none leads to one.
 pub(crate) fn find_unfit(links: &[LinkFiles], node: &Option<NodeFile>) -> Option<DomainFault>
     ensures { result ≡ spec.unfit_of links.now node.now }
 {
     match node {
-        Some(node) => {
-            let neighbours = node.neighbours.as_slice();
-            match find_stranger(links, neighbours) {
-                Some(fault) => Some(fault),
-                None => find_unserved(links, neighbours),
-            }
-        }
+        Some(node) => find_unfit_beside(links, node.neighbours.as_slice()),
         None => None,
     }
 }

@@ -26,9 +26,12 @@ mod lines;
 mod linting;
 mod loading;
 mod network;
+mod origins;
 mod paging;
 mod placed;
 mod planning;
+mod relinking;
+mod reloading;
 mod replay;
 mod requests;
 mod respond;
@@ -45,7 +48,9 @@ mod wrong_words;
 
 use command_line::{Invocation, Terminals, tell_that_input_is_read, waits_for_people};
 use console::Console;
-use ending::FAILED;
+use ending::end_by_fault;
+use filter_reports::ProgramFault;
+use origins::Origins;
 use respond::respond;
 use router_daemon::{InputPipe, StandardInput};
 use routing::Outlets;
@@ -66,10 +71,10 @@ fn main(rt: HostRuntime) -> ExitCode {
         fs::open(&rt, NO_STREAM),
     ];
     let Ok(pipe) = Arc::new(rt.alloc(), InputPipe::new()) else {
-        return ExitCode::from(FAILED);
+        return ExitCode::from(end_by_fault(&mut rt.stderr(), ProgramFault::MEMORY));
     };
     let Ok(shared) = Arc::try_clone(&pipe) else {
-        return ExitCode::from(FAILED);
+        return ExitCode::from(end_by_fault(&mut rt.stderr(), ProgramFault::MEMORY));
     };
     let mut console = Console {
         reader: StandardInput::new(rt, rt.stdin(), shared),
@@ -93,6 +98,7 @@ fn main(rt: HostRuntime) -> ExitCode {
     let outlets = Outlets {
         voice: rt.stderr(),
         pipe,
+        origins: Origins::none(),
     };
     let status = respond(&rt, rt.alloc(), words, &mut console, outlets);
     ExitCode::from(status)

@@ -86,6 +86,8 @@ fn status_of_router<
 ) -> u8
 where
     R::Segments: Send + 'static,
+    R::File: Send,
+    R::New: Send,
     ensures { ServesConfigured (R.opens rt.now) (R.makes rt.now) (R.keeps rt.now) words.now console.old console.new result
         ⊎ ((cut : StreamFault) × CutsConfigured (R.opens rt.now) (R.makes rt.now) (R.keeps rt.now) cut words.now console.old console.new result) }
 {
@@ -135,6 +137,8 @@ pub(crate) fn respond<
 ) -> u8
 where
     R::Segments: Send + 'static,
+    R::File: Send,
+    R::New: Send,
     ensures { Responds (R.opens rt.now) (R.creates rt.now) (R.leaves rt.now) (R.makes rt.now) (R.keeps rt.now) words console.old console.new result }
 {
     match words {

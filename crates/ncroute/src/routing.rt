@@ -26,10 +26,13 @@ use crate::console::Console;
 use crate::ending::{FAILED, fault_line};
 use crate::folders::HistoryFolders;
 use crate::loading::load_filters;
+use crate::origins::Origins;
 use crate::planning::{PlanFault, is_memory, plan_of};
+use crate::reloading::RouterFiles;
 use crate::texts::{Folder, tell_uncreated, write_line};
 use crate::wrong_words::wrong_line;
 use command_line::{RouterWords, VERSION};
+use domain_files::{DomainFile, NodeFile};
 use filter_reports::ProgramFault;
 use history_saver::{SaveFault, SegmentSaver};
 use line_protocol::StreamFault;
@@ -66,6 +69,47 @@ pub struct Outlets<T> {
     pub voice: T,
     /// Where standard input is ended.
     pub pipe: Arc<InputPipe>,
+    /// The files by which it is started.
+    pub origins: Origins,
+}
+
+impl<T> Outlets<T> {
+    /// The same of a router that is started by this file of options.
+    pub(crate) fn by_options(self, alloc: Global, origin: Origin<'_>) -> Outlets<T> {
+        let Outlets {
+            voice,
+            pipe,
+            origins,
+        } = self;
+        let origins = origins.by_options(alloc, origin);
+        Outlets {
+            voice,
+            pipe,
+            origins,
+        }
+    }
+
+    /// The same of a router that is started by the file of its domain, which words name.
+    pub(crate) fn in_domain(
+        self,
+        alloc: Global,
+        words: &RouterWords,
+        file: &DomainFile,
+        me: u32,
+        node: &Option<NodeFile>,
+    ) -> Outlets<T> {
+        let Outlets {
+            voice,
+            pipe,
+            origins,
+        } = self;
+        let origins = origins.in_domain(alloc, words, file, me, node);
+        Outlets {
+            voice,
+            pipe,
+            origins,
+        }
+    }
 }
 
 /// What kept a router from being set up.
@@ -421,6 +465,7 @@ pub(crate) fn run_setting<
     rt: &R,
     alloc: Global,
     save: &Option<String>,
+    router_files: RouterFiles<R>,
     setting: Setting<R::Segments>,
     surroundings: Surroundings<'_>,
     console: &mut Console<I, W, E>,
@@ -428,16 +473,19 @@ pub(crate) fn run_setting<
 ) -> Result<u8, Unreported>
 where
     R::Segments: Send + 'static,
+    R::File: Send,
+    R::New: Send,
     requires { IfSome setting.save (λ segments. spec.IsEmpty (R.Segments.holds segments)) }
     ensures finished { IfOk result (spec.RunsPlan (R.keeps rt.now) save.now setting.plan setting.filters.entries
         (option_map (λ segments. R.Segments.holds segments) setting.save) console.old console.new) }
     ensures unreported { IfErr result (λ unreported. spec.CutsPlan (stream_fault unreported.why) setting.plan setting.filters.entries
         console.old console.new unreported.status) }
 {
-    match run_router::<R, FI, FO, R, R::Segments, T, I, W>(
+    match run_router::<R, FI, FO, R, RouterFiles<R>, R::Segments, T, I, W>(
         rt,
         alloc,
         *rt,
+        router_files,
         setting,
         surroundings,
         voice,
@@ -484,17 +532,24 @@ fn run_words<
 ) -> Result<u8, Unreported>
 where
     R::Segments: Send + 'static,
+    R::File: Send,
+    R::New: Send,
     ensures served { IfOk result (spec.ServesRouter (R.opens rt.now) (R.makes rt.now) (R.keeps rt.now) (origin_of origin.entry) words.now
         console.old console.new) }
     ensures unreported { IfErr result (λ unreported. spec.CutsRouter (R.opens rt.now) (R.makes rt.now) (R.keeps rt.now) (stream_fault unreported.why)
         (origin_of origin.entry) words.now console.old console.new unreported.status) }
 {
-    let Outlets { voice, pipe } = outlets;
+    let Outlets {
+        voice,
+        pipe,
+        origins,
+    } = outlets;
     match set_up(rt, alloc, words, console) {
         Ok(Some(setting)) => run_setting::<R, FI, FO, T, I, W, E>(
             rt,
             alloc,
             &words.save,
+            RouterFiles::new(*rt, origins),
             setting,
             surroundings_of(words, pipe),
             console,
@@ -535,6 +590,8 @@ pub(crate) fn serve_words<
 ) -> Result<u8, Unreported>
 where
     R::Segments: Send + 'static,
+    R::File: Send,
+    R::New: Send,
     ensures served { IfOk result (checked.ServesWords (R.opens rt.now) (R.makes rt.now) (R.keeps rt.now) (origin_of origin.entry) words.now
         console.old console.new) }
     ensures unreported { IfErr result (λ unreported. checked.CutsWords (R.opens rt.now) (R.makes rt.now) (R.keeps rt.now) (stream_fault unreported.why)

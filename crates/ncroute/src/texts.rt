@@ -48,6 +48,9 @@ pub trait Folder {
     /// Closes a new file of this name, which is to stay as it is.
     fn close(&self, name: &str, file: Self::New)
         ensures { leaves self.now name.now (Self.New.contents file) };
+
+    /// Looks whether there is a file of this name, and does not open it.
+    fn find(&self, name: &str) -> io::Result<()>;
 }
 
 impl<F: Files> Folder for F {
@@ -71,6 +74,13 @@ impl<F: Files> Folder for F {
     }
 
     fn close(&self, _name: &str, _file: F::File) {}
+
+    fn find(&self, name: &str) -> io::Result<()> {
+        match fs::metadata(self, name) {
+            Ok(_) => Ok(()),
+            Err(why) => Err(why),
+        }
+    }
 }
 
 /// Why a source was not read.
@@ -301,7 +311,11 @@ pub(crate) fn tell_unwritten<E: Write>(
 }
 
 /// The line that tells that a source was not read, with the reason in the error.
-fn broken_line(alloc: Global, source: &Source, error: &Error) -> Result<Vec<u8>, AllocError>
+pub(crate) fn broken_line(
+    alloc: Global,
+    source: &Source,
+    error: &Error,
+) -> Result<Vec<u8>, AllocError>
     ensures { IfOk result (λ line. (words : List ℕ) × (line.items ≡ unread_line source.now words)) }
 {
     let words = format!(in alloc; "{error}")?;

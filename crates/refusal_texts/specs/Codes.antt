@@ -23,6 +23,7 @@ code_codes =
 abbrev pub run_codes : List (List ℕ)
 run_codes =
     codes "O1" ∷ codes "O2" ∷ codes "O3" ∷ codes "O4" ∷ codes "O5" ∷ codes "O6" ∷ codes "O7" ∷ codes "O8" ∷ codes "O9" ∷ codes "O10" ∷ codes "O11"
+    ∷ codes "O12" ∷ codes "O13"
     ∷ codes "E1" ∷ codes "E2" ∷ codes "E3" ∷ codes "E4" ∷ codes "N1" ∷ codes "N2" ∷ codes "N3" ∷ codes "N4" ∷ codes "N5" ∷ codes "N6" ∷ codes "N7"
     ∷ codes "J1" ∷ codes "J2" ∷ codes "L1" ∷ codes "L2" ∷ codes "L3" ∷ codes "X1" ∷ codes "X2" ∷ codes "D1" ∷ codes "D2" ∷ codes "D3"
     ∷ codes "D4" ∷ codes "H1" ∷ codes "H2" ∷ codes "H3" ∷ []

@@ -2,7 +2,7 @@
 use crate::page::Page;
 
 /// A page for each code.
-pub static RUN_PAGES: [Page; 36] = [
+pub static RUN_PAGES: [Page; 38] = [
     Page {
         code: "O1",
         text: "\
@@ -138,6 +138,27 @@ Place: the number of the line
     refused O11 1
 
 A control with `look` answers `routes`, `neighbours`, `told`, `history` and `status`. Say the rest at standard input, or at a control without it.
+",
+    },
+    Page {
+        code: "O12",
+        text: "\
+O12: a file is not taken
+Place: the number of the line; what is wrong stands behind it
+
+    $ mkfifo to from; ncroute router --size 4 --node 0 --stay --control to,from < /dev/null 2> /dev/null & sleep 0.2; echo 'read near no.filter' > to; head -n 1 from; kill $!
+    refused O12 1 no.filter: No such file or directory (E1)
+
+`read` and `reload` change nothing then. Where `reload` says `needs a restart`, a running router cannot take what follows.
+",
+    },
+    Page {
+        code: "O13",
+        text: "\
+O13: a reload was broken off
+Place: the number of the line; what was set stands behind it
+
+The router refused to set a filter, as where its history has no room at the moment. Say `reload` again: it sets what is not in force yet.
 ",
     },
     Page {

@@ -9,6 +9,7 @@ pub mod Looking
 mod Notes
 pub mod Passes
 pub mod Running
+mod Sparing
 pub mod SavedWhole
 pub mod Serving
 pub mod Splitting

@@ -1,5 +1,5 @@
 -- How the parts of a run make the whole.
-use Rattle.std.proofs.Common.{◌≡◌, ◌∙◌, sym, ap, subst, refl, ℕ, List, [], map, Option, Some, None, Result, Ok, Err}
+use Rattle.std.proofs.Common.{◌≡◌, ◌∙◌, sym, ap, subst, refl, ℕ, List, [], Option, Some, None, Result, Ok, Err}
 use Rattle.std.specs.Prelude.{IfErr, IfOk, IfSome, IsErrAnd, IsOkAnd, MatchResult, OnErr}
 use Rattle.std.specs.declared.alloc.AllocError.{AllocError}
 use Rattle.history_saver.specs.Folders.{FolderView}
@@ -11,6 +11,7 @@ use Rattle.router_operator.specs.Running.{IsBrokenOff, IsServed}
 use Rattle.router_options.specs.PlanView.{PlanView}
 use Rattle.slot_lock.specs.Passes.{PassView, RouterView}
 use Rattle.router_daemon.specs.Passes.{IsLegalPass}
+use Rattle.router_daemon.specs.Spares.{linked_nodes}
 use Rattle.router_daemon.specs.Running.{Fails, HasOperator, IsEarly, IsOpened, IsWhy, Operated, Operates}
 use Rattle.router_daemon.specs.Running.{RunsAsOne, RunsOperator, Saves, SavesTo, asked_for, operator_of}
 use Rattle.router_daemon.specs.Uses.{BeginsWithFilters}
@@ -98,7 +99,7 @@ from_none r entries (Some most) None h = absurd h
 -- The router is opened as the plan says, and the pass of who opened it has set the filters.
 module _ (plan : PlanView) (names : Names) (r : RouterView) (first : PassView) (nodes : List ℕ) (known left held holds : Option (List ℕ))
     (given : Option (Option FolderView)) (is_opened : IsOpened plan r) (sets : BeginsWithFilters r plan names first)
-    (entries : List Entry) (seen : entries ≡ first.fragment.seen) (are : nodes ≡ map (λ link. link.node) plan.links) where
+    (entries : List Entry) (seen : entries ≡ first.fragment.seen) (are : nodes ≡ linked_nodes plan) where
   -- its operator, said of the plan
   runs_operator : (answered : Result ℕ StreamFault) (input : List ℕ) (now : PassView) → HasOperator r entries names nodes answered input left held holds now
       → RunsOperator plan names answered input left held holds r now

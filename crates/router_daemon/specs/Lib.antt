@@ -3,6 +3,7 @@ pub mod Codes
 pub mod Endings
 pub mod Noting
 pub mod Running
+pub mod Spares
 pub mod StatesView
 pub mod Steps
 -- what only bodies are proved against

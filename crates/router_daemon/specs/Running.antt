@@ -1,5 +1,5 @@
 -- How a router is run. (This project's own choice.)
-use Rattle.std.specs.Prelude.{◌≡◌, ℕ, false, true, List, [], length, map, Option, Some, None, Result, Ok, Err, ⊤, option_and_then, if◌then◌else◌}
+use Rattle.std.specs.Prelude.{◌≡◌, ℕ, false, true, List, [], length, Option, Some, None, Result, Ok, Err, ⊤, option_and_then, if◌then◌else◌}
 use Rattle.std.specs.Option.{option_map}
 use Rattle.history_saver.specs.Folders.{FolderView}
 use Rattle.history_saver.specs.Looking.{seen_by}
@@ -14,6 +14,7 @@ use Rattle.router_options.specs.PlanView.{PlanView}
 use Rattle.router_options.specs.declared.plan.DomainMark.{DomainMark}
 use Rattle.slot_lock.specs.Passes.{PassView, RouterView}
 use Rattle.router_daemon.specs.Passes.{IsLegalPass}
+use Rattle.router_daemon.specs.Spares.{linked_nodes}
 use Rattle.router_daemon.specs.Uses.{BeginsWithFilters}
 use Rattle.router_daemon.specs.declared.fault.DaemonFault.{DaemonFault}
 use Rattle.router_daemon.specs.declared.fault.DaemonFault.TheVariants as fault
@@ -59,7 +60,7 @@ pub record RunsOperator (plan : PlanView) (names : Names) (answered : Result ℕ
   pub is_opened : IsOpened plan r
   pub first : PassView
   pub sets : BeginsWithFilters r plan names first
-  pub operator : HasOperator r first.fragment.seen names (map (λ link. link.node) plan.links) answered input left held holds now
+  pub operator : HasOperator r first.fragment.seen names (linked_nodes plan) answered input left held holds now
 
 -- there was such a router, and such an operator of it
 abbrev pub Operated : PlanView → Names → Result ℕ StreamFault → List ℕ → Option (List ℕ) → Option (List ℕ) → Option (List ℕ) → Type 0

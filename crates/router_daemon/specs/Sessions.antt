@@ -1,5 +1,5 @@
 -- The sessions of a link, each from the greeting to the Down. (This project's own choice.)
-use Rattle.std.specs.Prelude.{◌≡◌, ◌⊎◌, ℕ, ◌-◌, ◌≤◌, true, [], Option, ⊤}
+use Rattle.std.specs.Prelude.{◌≡◌, ◌⊎◌, ℕ, ◌-◌, ◌≤◌, true, [], Option, ⊤, is_some}
 use Rattle.link_handshake.specs.declared.post.CameUp.{CameUp}
 use Rattle.link_handshake.specs.declared.said.Said.{Said}
 use Rattle.message_streams.specs.Views.{ReaderView}
@@ -92,10 +92,17 @@ pub record IsTurnedAway (d : Domain) (neighbour : ℕ) (old : PassView) (why : S
   pub unmet : IsUnmet why d neighbour i
   pub unchanged : new ≡ old
 
--- One session of a link: with a pass of one share there is none; of a neighbour that does not greet as it has to nothing is entered.
+-- A reload may give a domain another digest. One is wanted of neighbours if one was at the start.
+pub record IsSince (start now : Domain) : Type 0 where
+  pub size : now.size ≡ start.size
+  pub me : now.me ≡ start.me
+  pub wanted : is_some now.digest ≡ is_some start.digest
+
+-- One session of a link: with a pass of one share there is none; of a neighbour that does not greet as it has to, in the domain as it is then, nothing
+-- is entered.
 abbrev pub Serves : RouterView → Domain → ℕ → ReaderView → Option Said → PassView → SessionEnd → PassView → Type 0
-Serves r d neighbour input first old why new = LacksShares old why new ⊎ (IsTurnedAway d neighbour old why new
-    ⊎ Meets r d neighbour input first old why new)
+Serves r start neighbour input first old why new = LacksShares old why new
+    ⊎ ((d : Domain) × IsSince start d × (IsTurnedAway d neighbour old why new ⊎ Meets r d neighbour input first old why new))
 
 -- One of them was the last over its streams.
 pub record ServesLast (r : RouterView) (d : Domain) (neighbour : ℕ) (why : SessionEnd) : Type 0 where

@@ -12,9 +12,9 @@ use crate::queues::{LOOK, close_long_queues};
 use crate::retrying::next_wait;
 use crate::router_passes::RouterPass;
 use crate::shared::Shared;
-use crate::signals::Closing;
+use crate::signals::{Closing, Saved};
 use crate::telling::Event;
-use history_saver::{SaveFault, SegmentFolder};
+use history_saver::{FolderSize, SaveFault, SegmentFolder};
 use router_operator::Naming;
 use slot_lock::Pass;
 use std::alloc::Global;
@@ -126,15 +126,15 @@ fn state_after<R: Wait + Clock, J: Naming, E: Write>(
     }
 }
 
-/// Notes how many entries are saved, where the history is.
+/// Notes how much is saved, where the history is.
 fn note_saved<R: Wait, J: Naming, E: Write>(
     rt: &R,
     shared: &Shared<J, E>,
-    saves: bool,
+    size: Option<FolderSize>,
     turned: Result<u64, SaveFault>,
 ) {
-    if let (true, Ok(count)) = (saves, turned) {
-        *shared.signals.saved.lock(rt) = Some(count);
+    if let (Some(size), Ok(entries)) = (size, turned) {
+        *shared.signals.saved.lock(rt) = Some(Saved { entries, size });
     }
 }
 
@@ -157,7 +157,7 @@ fn turn<R: Wait + Clock, F: SegmentFolder + Drop, J: Naming, E: Write>(
             },
         _ => {
             let turned = forgetter.turn(rt, alloc, shared);
-            note_saved(rt, shared, forgetter.saves(), turned);
+            note_saved(rt, shared, forgetter.size(), turned);
             state_after(rt, alloc, shared, state, turned)
         }
     }

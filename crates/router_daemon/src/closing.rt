@@ -16,25 +16,15 @@ fn close<R: Wait, J: Naming, E: Write>(rt: &R, shared: &Shared<J, E>) -> usize {
     states.close();
     let count = states.len();
     shared.signals.wake(states);
+    shared.signals.wanted.close(rt);
     shared.signals.news.notify(rt);
     count
-}
-
-/// Ends the session of a link, if one is there and nobody else ended it. Its Down is owed then.
-fn end_session<R: Wait + Clock, J: Naming, E: Write>(rt: &R, shared: &Shared<J, E>, link: usize) {
-    let Some(session) = shared.signals.session(rt, link) else {
-        return;
-    };
-    if shared.signals.end(rt, link, session, false).is_first() {
-        shared.signals.owe(rt, link, session);
-        shared.signals.end_change(rt, link);
-    }
 }
 
 /// Ends the sessions of the first `count` links, and waits for those who are entering an Up or a Down.
 fn end_sessions<R: Wait + Clock, J: Naming, E: Write>(rt: &R, shared: &Shared<J, E>, count: usize) {
     for link in 0..count {
-        end_session(rt, shared, link);
+        shared.signals.end_session(rt, link);
     }
     shared.signals.await_no_change(rt);
 }

@@ -18,7 +18,7 @@ use crate::standard_input::InputPipe;
 use crate::starting::take_part;
 use crate::telling::{Event, OpenFault, shown_of};
 use line_protocol::{Service, answer_lines_within};
-use router_operator::{INPUT_LIMIT, Looker, Naming, Operator};
+use router_operator::{Configuration, ConfiguredOperator, INPUT_LIMIT, Looker, Naming, Operator};
 use router_options::ControlFiles;
 use slot_lock::Pass;
 use std::alloc::{AllocError, Global};
@@ -164,18 +164,23 @@ fn answer_gated<R: Wait, I: Read, O: Write, S: Service>(
 }
 
 /// Answers the lines of an operator who may change the router: whether they ended it, and what they are when their lines are over.
-fn serve_changes<R: Wait + Clock, I: Read, O: Write, J: Naming, E: Write>(
+fn serve_changes<R: Wait + Clock, I: Read, O: Write, C: Configuration, J: Naming, E: Write>(
     rt: &R,
     alloc: Global,
     shared: &Shared<J, E>,
+    configuration: &C,
     controls: &Controls<J>,
     idle: IdleOperator<J>,
     input: &mut I,
     output: &mut O,
 ) -> (bool, IdleOperator<J>) {
-    let mut operator = operator_of(rt, shared, controls, idle);
+    let mut configured = ConfiguredOperator::new(
+        operator_of(rt, shared, controls, idle),
+        configuration,
+    );
     let request_gate = &shared.signals.request_gate;
-    answer_gated(rt, alloc, request_gate, &mut operator, input, output);
+    answer_gated(rt, alloc, request_gate, &mut configured, input, output);
+    let operator = configured.operator();
     let has_quit = operator.has_quit();
     let (pass, filters) = operator.parts();
     let router_pass = RouterPass::new(pass);
@@ -223,10 +228,18 @@ fn end_router<R: Wait, J: Naming, E: Write>(
 
 /// Serves an operator at files that are open, and closes these: first the one that their lines come from, so that whoever finds the other one closed can
 /// open both again. What the operator is when their lines are over; nothing where they ended the router.
-fn serve_files<R: Wait + Clock, I: Read + Drop, O: Write + Drop, J: Naming, E: Write>(
+fn serve_files<
+    R: Wait + Clock,
+    I: Read + Drop,
+    O: Write + Drop,
+    C: Configuration,
+    J: Naming,
+    E: Write,
+>(
     rt: &R,
     alloc: Global,
     shared: &Shared<J, E>,
+    configuration: &C,
     controls: &Controls<J>,
     looks: bool,
     idle: IdleOperator<J>,
@@ -237,7 +250,16 @@ fn serve_files<R: Wait + Clock, I: Read + Drop, O: Write + Drop, J: Naming, E: W
         let after = serve_looks(rt, alloc, shared, controls, idle, &mut input, &mut output);
         (false, after)
     } else {
-        serve_changes(rt, alloc, shared, controls, idle, &mut input, &mut output)
+        serve_changes(
+            rt,
+            alloc,
+            shared,
+            configuration,
+            controls,
+            idle,
+            &mut input,
+            &mut output,
+        )
     };
     drop(input);
     drop(output);
@@ -255,6 +277,7 @@ fn control<
     I: Read + Drop,
     O: Write + Drop,
     D: LinkFolder<I, O> + Drop,
+    C: Configuration + Drop,
     J: Naming,
     E: Write + Drop,
 >(
@@ -262,6 +285,7 @@ fn control<
     alloc: Global,
     folder: Arc<D>,
     shared: Arc<Shared<J, E>>,
+    configuration: Arc<C>,
     files: ControlFiles,
     controls: Arc<Controls<J>>,
     idle: IdleOperator<J>,
@@ -280,7 +304,17 @@ fn control<
         let pause = match opened {
             Some((input, output)) => {
                 let looks = files.looks;
-                idle = serve_files(&rt, alloc, &shared, &controls, looks, idle, input, output)?;
+                idle = serve_files::<R, I, O, C, J, E>(
+                    &rt,
+                    alloc,
+                    &shared,
+                    &configuration,
+                    &controls,
+                    looks,
+                    idle,
+                    input,
+                    output,
+                )?;
                 if folder.is_kept(files.input.as_str()) {
                     return None;
                 }
@@ -302,6 +336,7 @@ fn start_control<
     I: Read + Send + Drop + 'static,
     O: Write + Send + Drop + 'static,
     D: LinkFolder<I, O> + Send + Sync + Drop + 'static,
+    C: Configuration + Send + Sync + Drop + 'static,
     J: Naming + Send + Sync + 'static,
     E: Write + Send + Drop + 'static,
 >(
@@ -309,6 +344,7 @@ fn start_control<
     alloc: Global,
     folder: &Arc<D>,
     shared: &Arc<Shared<J, E>>,
+    configuration: &Arc<C>,
     files: ControlFiles,
     controls: Arc<Controls<J>>,
     idle: IdleOperator<J>,
@@ -316,8 +352,18 @@ fn start_control<
     let handle = *rt;
     let folder = Arc::try_clone(folder)?;
     let shared = Arc::try_clone(shared)?;
+    let configuration = Arc::try_clone(configuration)?;
     let started = thread::spawn(rt, move || {
-        control::<R, I, O, D, J, E>(handle, alloc, folder, shared, files, controls, idle)
+        control::<R, I, O, D, C, J, E>(
+            handle,
+            alloc,
+            folder,
+            shared,
+            configuration,
+            files,
+            controls,
+            idle,
+        )
     });
     Ok(started.is_ok())
 }
@@ -328,6 +374,7 @@ pub(crate) fn start_controls<
     I: Read + Send + Drop + 'static,
     O: Write + Send + Drop + 'static,
     D: LinkFolder<I, O> + Send + Sync + Drop + 'static,
+    C: Configuration + Send + Sync + Drop + 'static,
     J: Naming + Send + Sync + 'static,
     E: Write + Send + Drop + 'static,
 >(
@@ -335,6 +382,7 @@ pub(crate) fn start_controls<
     alloc: Global,
     folder: &Arc<D>,
     shared: &Arc<Shared<J, E>>,
+    configuration: &Arc<C>,
     pass: &mut Pass,
     files: Vec<ControlFiles>,
     filters: &VerifiedFilters,
@@ -351,7 +399,17 @@ pub(crate) fn start_controls<
             filters: filters.clone()?,
         };
         let controls = Arc::try_clone(&controls)?;
-        if !start_control::<R, I, O, D, J, E>(rt, alloc, folder, shared, files, controls, idle)? {
+        let is_started = start_control::<R, I, O, D, C, J, E>(
+            rt,
+            alloc,
+            folder,
+            shared,
+            configuration,
+            files,
+            controls,
+            idle,
+        )?;
+        if !is_started {
             shared.tell(rt, alloc, Event::NoControl(name.as_str()));
         }
     }

@@ -9,6 +9,7 @@ ghost use Rattle.router_daemon.specs.Uses as spec;
 
 use crate::fault::DaemonFault;
 use crate::setting::VerifiedFilters;
+use crate::signals::Signals;
 use netchange_core::Event;
 use operator_cmds::Direction;
 use router_options::{FilterUse, RouterPlan};
@@ -105,4 +106,20 @@ pub(crate) fn set_filters<R: Wait>(
         plan.exports.as_slice(),
         filters,
     )
+}
+
+/// Notes the names of the filters that a router begins with, in a direction.
+pub(crate) fn name_filters<R: Wait>(
+    rt: &R,
+    signals: &Signals,
+    direction: Direction,
+    uses: &[FilterUse],
+    filters: &VerifiedFilters,
+) {
+    for used in uses {
+        let name = used.name.as_str();
+        if let Some(filter) = filters.get(name.as_bytes()) {
+            signals.name_filter(rt, direction, used.node, name, filter);
+        }
+    }
 }

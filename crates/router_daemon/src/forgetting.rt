@@ -12,7 +12,7 @@ ghost use Rattle.router_daemon.specs.Running.{SavesTo, keep_of};
 
 use crate::router_passes::RouterPass;
 use crate::shared::Shared;
-use history_saver::{Rotation, SaveFault, SegmentFolder, SegmentSaver};
+use history_saver::{FolderSize, Rotation, SaveFault, SegmentFolder, SegmentSaver};
 use netchange_core::Opening;
 use route_history::{CHUNK, LongJournal, beginnings_are_legal};
 use router_operator::Naming;
@@ -159,6 +159,14 @@ impl<F: SegmentFolder + Drop, J: Naming> Forgetter<F, J> {
     /// Whether the history is saved.
     pub(crate) fn saves(&self) -> bool {
         self.saver.is_some()
+    }
+
+    /// How much the folder holds, if there is one.
+    pub(crate) fn size(&self) -> Option<FolderSize> {
+        match &self.saver {
+            Some(saver) => Some(saver.size()),
+            None => None,
+        }
     }
 
     /// Saves what is not saved, if there is a folder, and then forgets entries, but for the last ones: how many there were, all of them saved.

@@ -23,7 +23,7 @@ pub(crate) struct News {
 }
 
 impl News {
-    /// The news of a router with so many links.
+    /// The news of a router that has so many links when it begins.
     pub(crate) fn new(alloc: Global, links: usize) -> Result<News, AllocError> {
         let mut is_awaited = Vec::with_capacity(alloc, links)?;
         for _ in 0..links {

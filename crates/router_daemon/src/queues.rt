@@ -79,7 +79,7 @@ fn first_long(tables: &Tables, nodes: &[u16], most: u32, from: usize) -> Option<
 /// The first such link is looked for.
 #[derive(Drop)]
 pub(crate) struct LongQueueSearch<'a> {
-    /// The nodes that have links, in the order of the links.
+    /// The nodes that have links, or may get some, in the order of the links.
     nodes: &'a [u16],
     /// The most messages that may wait.
     most: u32,

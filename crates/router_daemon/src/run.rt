@@ -13,6 +13,7 @@ use crate::closing::close_links;
 use crate::controls::{Controls, start_controls};
 use crate::fault::DaemonFault;
 use crate::feeding::{FeedFile, Feeding, start_feeding};
+use crate::filtering::name_filters;
 use crate::folder::LinkFolder;
 use crate::forgetting::Forgetter;
 use crate::logging::{LogWriter, open_log, start_log};
@@ -30,7 +31,8 @@ use history_saver::{SaveFault, SegmentFolder, SegmentSaver};
 use line_protocol::StreamFault;
 use neighbour_session::Domain;
 use netchange_core::Opening;
-use router_operator::Naming;
+use operator_cmds::Direction;
+use router_operator::{Configuration, Naming};
 use router_options::{ControlFiles, DomainMark, LinkFiles, RouterPlan};
 use slot_lock::{Pass, Right, Router};
 use std::alloc::{AllocError, Global};
@@ -147,6 +149,7 @@ fn serve_all<
     FI: Read + Send + Drop + 'static,
     FO: Write + Send + Drop + 'static,
     D: LinkFolder<FI, FO> + Send + Sync + Drop + 'static,
+    C: Configuration + Send + Sync + Drop + 'static,
     J: Naming + Send + Sync + 'static,
     E: Write + Send + Drop + 'static,
     I: Read,
@@ -155,6 +158,7 @@ fn serve_all<
     rt: &R,
     alloc: Global,
     folder: D,
+    configuration: C,
     shared: &Arc<Shared<J, E>>,
     pass: &mut Pass,
     links: Vec<LinkFiles>,
@@ -180,6 +184,7 @@ fn serve_all<
     }
     let operators = LegalPass::new(shared.router.split(pass, 1));
     let folder = Arc::new(alloc, folder)?;
+    let configuration = Arc::new(alloc, configuration)?;
     let OpenedSurroundings {
         feeding,
         log_writer,
@@ -190,8 +195,16 @@ fn serve_all<
     start_links::<R, FI, FO, D, J, E>(rt, alloc, &folder, shared, pass, links, common)?;
     start_feeding::<R, FI, FO, D, J, E>(rt, alloc, &folder, shared, pass, feeding)?;
     let controls = Controls::new(figures, pipe);
-    start_controls::<R, FI, FO, D, J, E>(
-        rt, alloc, &folder, shared, pass, files, &filters, controls,
+    start_controls::<R, FI, FO, D, C, J, E>(
+        rt,
+        alloc,
+        &folder,
+        shared,
+        &configuration,
+        pass,
+        files,
+        &filters,
+        controls,
     )?;
     Ok(serve_lines(
         rt, alloc, shared, operators, figures, filters, reader, writer,
@@ -255,6 +268,7 @@ fn run_named<
     FI: Read + Send + Drop + 'static,
     FO: Write + Send + Drop + 'static,
     D: LinkFolder<FI, FO> + Send + Sync + Drop + 'static,
+    C: Configuration + Send + Sync + Drop + 'static,
     S: SegmentFolder + Send + Drop + 'static,
     E: Write + Send + Drop + 'static,
     I: Read,
@@ -263,6 +277,7 @@ fn run_named<
     rt: &R,
     alloc: Global,
     folder: D,
+    configuration: C,
     setting: Setting<S>,
     surroundings: Surroundings<'_>,
     errors: E,
@@ -296,6 +311,8 @@ fn run_named<
         opening,
         limit,
         queue,
+        imports,
+        exports,
         links,
         retry,
         hold,
@@ -311,7 +328,6 @@ fn run_named<
     };
     let common = Links {
         domain: domain_of(&opening, domain),
-        digest: domain.map(|mark| mark.digest),
         retry,
         hold,
     };
@@ -323,11 +339,23 @@ fn run_named<
     } = surroundings;
     let feeding = Feeding::<J>::new(alloc, feed, &opening)?;
     let (log, log_writer, logged) = open_log(alloc, log)?;
-    let beginning = Beginning::now(rt, version);
+    let beginning = Beginning::now(rt, version, domain.map(|mark| mark.digest));
     let shared: Arc<Shared<J, E>> = Arc::new(
         alloc,
-        shared_of(alloc, router, links.as_slice(), beginning, log, errors)?,
+        shared_of(
+            alloc,
+            router,
+            &opening,
+            links.as_slice(),
+            domain,
+            beginning,
+            log,
+            errors,
+        )?,
     )?;
+    let signals = &shared.signals;
+    name_filters(rt, signals, Direction::Import, imports.as_slice(), &filters);
+    name_filters(rt, signals, Direction::Export, exports.as_slice(), &filters);
     shared.tell(rt, alloc, Event::Begins(version));
     let around = OpenedSurroundings {
         feeding,
@@ -341,8 +369,19 @@ fn run_named<
         messages: queue,
     };
     let bounding = start_bounding(rt, alloc, &shared, forgetter, router_pass, most)?;
-    let ran = serve_all::<R, FI, FO, D, J, E, I, W>(
-        rt, alloc, folder, &shared, &mut pass, links, common, around, figures, filters, reader,
+    let ran = serve_all::<R, FI, FO, D, C, J, E, I, W>(
+        rt,
+        alloc,
+        folder,
+        configuration,
+        &shared,
+        &mut pass,
+        links,
+        common,
+        around,
+        figures,
+        filters,
+        reader,
         writer,
     );
     close_links(rt, &shared, &mut pass);
@@ -360,6 +399,7 @@ pub fn run_router<
     FI: Read + Send + Drop + 'static,
     FO: Write + Send + Drop + 'static,
     D: LinkFolder<FI, FO> + Send + Sync + Drop + 'static,
+    C: Configuration + Send + Sync + Drop + 'static,
     S: SegmentFolder + Send + Drop + 'static,
     E: Write + Send + Drop + 'static,
     I: Read,
@@ -368,6 +408,7 @@ pub fn run_router<
     rt: &R,
     alloc: Global,
     folder: D,
+    configuration: C,
     setting: Setting<S>,
     surroundings: Surroundings<'_>,
     errors: E,
@@ -386,10 +427,11 @@ pub fn run_router<
     let (router, pass, right) = open_router(rt, alloc, &setting.plan, &setting.filters)?;
     let (mut outbox, counts) = start_telling(rt, alloc, errors)?;
     tell_if_unkept(rt, alloc, &mut outbox, &counts, setting.save.is_some());
-    let ran = run_named::<Brand, R, FI, FO, D, S, Outbox, I, W>(
+    let ran = run_named::<Brand, R, FI, FO, D, C, S, Outbox, I, W>(
         rt,
         alloc,
         folder,
+        configuration,
         setting,
         surroundings,
         outbox,

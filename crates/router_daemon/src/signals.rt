@@ -3,6 +3,7 @@ ghost use Rattle.std.specs.Prelude.{◌≡◌, IfOk, is_some};
 ghost use Rattle.router_daemon.specs.StatesView.{AllAwake};
 
 use crate::ending::SessionEnding;
+use crate::filter_names::FilterNames;
 use crate::link_records::LinkRecords;
 use crate::logging::Log;
 use crate::news::News;
@@ -11,14 +12,20 @@ use crate::states::LinkStates;
 use crate::stations::Stations;
 use crate::status::status_of;
 use crate::telling::Event;
+use crate::wanted::WantedLinks;
 use crate::watching::now;
+use filter_verifier::Verified;
+use history_saver::FolderSize;
+use link_handshake::Speaker;
 use operator_cmds::Direction;
-use router_operator::Listener;
+use router_operator::{LinkChange, Listener};
+use router_options::LinkFiles;
 use router_status::Status;
 use slot_lock::Answer;
 use std::alloc::{AllocError, Global};
+use std::random::RandomSource;
 use std::rt::Clock;
-use std::sync::{Condvar, Mutex, MutexGuard, Wait};
+use std::sync::{Arc, Condvar, Mutex, MutexGuard, Wait};
 use std::time::Duration;
 
 /// Shows that the router is being closed: only `Signals` makes one, and only then.
@@ -34,6 +41,8 @@ pub(crate) struct Signals {
     pub(crate) states: Mutex<LinkStates>,
     /// The ends of the links.
     pub(crate) stations: Stations,
+    /// Which links there are to be.
+    pub(crate) wanted: WantedLinks,
     /// One for each link: its writer sleeps on it.
     pub(crate) condvars: Vec<Condvar>,
     /// The thread that saves the history, and forgets it, sleeps on it.
@@ -50,16 +59,27 @@ pub(crate) struct Signals {
     pub(crate) news: News,
     /// Where operators at files of their own are attended to.
     pub(crate) request_gate: RequestGate,
-    /// The nodes that have links, in the order of the links.
+    /// The nodes that have links or may get some, in the order of the links.
     pub(crate) nodes: Vec<u16>,
     /// What is counted of the links.
     pub(crate) records: LinkRecords,
-    /// How many entries of the history are saved, if it is.
-    pub(crate) saved: Mutex<Option<u64>>,
+    /// How much of the history is saved, if it is.
+    pub(crate) saved: Mutex<Option<Saved>>,
+    /// The filters that were put in force under names.
+    pub(crate) names: FilterNames,
     /// The version of the program.
     pub(crate) version: &'static str,
     /// The log, if one is kept.
     log: Option<Log>,
+}
+
+/// How much of a history is saved.
+#[derive(Clone, Copy)]
+pub(crate) struct Saved {
+    /// How many entries.
+    pub(crate) entries: u64,
+    /// How much the folder held then.
+    pub(crate) size: FolderSize,
 }
 
 /// What is known of a router when it begins.
@@ -67,15 +87,22 @@ pub(crate) struct Signals {
 pub(crate) struct Beginning {
     /// The version of the program.
     version: &'static str,
+    /// The digest of its domain, if a file set it up.
+    digest: Option<[u8; 8]>,
     /// The time, in milliseconds of a clock that never goes back.
     time: u64,
 }
 
 impl Beginning {
-    /// A router of this version begins now.
-    pub(crate) fn now<R: Clock>(rt: &R, version: &'static str) -> Beginning {
+    /// A router of this version and this domain begins now.
+    pub(crate) fn now<R: Clock>(
+        rt: &R,
+        version: &'static str,
+        digest: Option<[u8; 8]>,
+    ) -> Beginning {
         Beginning {
             version,
+            digest,
             time: now(rt).unwrap_or(0),
         }
     }
@@ -137,27 +164,31 @@ fn notify_writers(states: &mut LinkStates, condvars: &[Condvar])
 }
 
 impl Signals {
-    /// The signals of a router with links to these nodes, of which this is known when it begins.
+    /// The signals of a router with these links to the first of these nodes, of which this is known when it begins. The others may get links.
     pub(crate) fn new(
         alloc: Global,
+        links: &[LinkFiles],
         nodes: &[u16],
         beginning: Beginning,
         log: Option<Log>,
     ) -> Result<Signals, AllocError> {
+        let spares = nodes.len().saturating_sub(links.len());
         Ok(Signals {
             states: Mutex::new(LinkStates::new(alloc, nodes)?),
             stations: Stations::new(alloc, nodes.len())?,
+            wanted: WantedLinks::new(alloc, links, spares, beginning.digest)?,
             condvars: condvars_of(alloc, nodes.len())?,
             saver_condvar: Condvar::new(),
             changes_done: Condvar::new(),
             owed: owed_of(alloc, nodes.len())?,
             room_end: Mutex::new(None),
             room_condvar: Condvar::new(),
-            news: News::new(alloc, nodes.len())?,
+            news: News::new(alloc, links.len())?,
             request_gate: RequestGate::new(),
-            nodes: Vec::from_slice(alloc, nodes)?,
             records: LinkRecords::new(alloc, nodes.len(), beginning.time)?,
+            nodes: Vec::from_slice(alloc, nodes)?,
             saved: Mutex::new(None),
+            names: FilterNames::new(alloc, nodes.len())?,
             version: beginning.version,
             log,
         })
@@ -170,15 +201,32 @@ impl Signals {
         }
     }
 
-    /// Notes why the link to a node is closed.
-    pub(crate) fn note_ended<R: Wait>(&self, rt: &R, node: u16, why: Option<String>) {
-        if let Some(link) = self
-            .nodes
+    /// The link to a node, if there is one.
+    fn link_to(&self, node: u16) -> Option<usize> {
+        self.nodes
             .as_slice()
             .iter()
             .position(|other| *other == node)
-        {
+    }
+
+    /// Notes why the link to a node is closed.
+    pub(crate) fn note_ended<R: Wait>(&self, rt: &R, node: u16, why: Option<String>) {
+        if let Some(link) = self.link_to(node) {
             self.records.note_ended(rt, link, why);
+        }
+    }
+
+    /// Notes under which name a filter was put in force for a node in a direction.
+    pub(crate) fn name_filter<R: Wait>(
+        &self,
+        rt: &R,
+        direction: Direction,
+        node: u16,
+        name: &str,
+        filter: &Arc<Verified>,
+    ) {
+        if let Some(link) = self.link_to(node) {
+            self.names.note(rt, direction, link, name, filter);
         }
     }
 
@@ -261,6 +309,11 @@ impl Signals {
         }
     }
 
+    /// Whether a thread is entering an Up or a Down of a session.
+    pub(crate) fn is_changing<R: Wait>(&self, rt: &R) -> bool {
+        self.states.lock(rt).is_changing()
+    }
+
     /// Waits until no thread is entering an Up or a Down of a session.
     pub(crate) fn await_no_change<R: Wait>(&self, rt: &R) {
         let mut states = self.states.lock(rt);
@@ -327,16 +380,37 @@ impl Signals {
         }
     }
 
-    /// Begins a session of a link, whose Up has this answer. False where one is there already or the router is being closed.
+    /// The end of a link that was opened now begins, unless its turn is over.
+    pub(crate) fn open_station<R: Wait + Clock + RandomSource>(
+        &self,
+        rt: &R,
+        link: usize,
+        turn: u32,
+        speaker: Speaker,
+    ) {
+        if let Some(places) = self.wanted.hold_turn(rt, link, turn) {
+            self.stations.open(rt, link, speaker, now(rt).unwrap_or(0));
+            drop(places);
+        }
+    }
+
+    /// Begins a session of this turn of a link, whose Up has this answer. False where one is there already, the turn is over, or the router is being
+    /// closed.
     pub(crate) fn begin<R: Wait + Clock>(
         &self,
         rt: &R,
         link: usize,
+        turn: u32,
         session: u32,
         answer: &Answer,
     ) -> bool {
         let mut states = self.states.lock(rt);
-        let begins = states.begin(link, session, answer.at);
+        let begins = if self.wanted.has_turn(rt, link, turn) {
+            states.begin(link, session, answer.at)
+        } else {
+            states.note(answer.at, &answer.reply);
+            false
+        };
         self.wake(states);
         if begins {
             self.note_up(rt, link, session);
@@ -363,7 +437,8 @@ impl Signals {
             self.records.note_over(rt, link);
         }
         if ending.is_first() && !states.is_closing() {
-            self.stations.begin_anew(rt, link, by_line);
+            let digest = self.wanted.digest(rt);
+            self.stations.begin_anew(rt, link, by_line, digest);
         }
         self.wake(states);
         ending
@@ -373,6 +448,14 @@ impl Signals {
     pub(crate) fn owe<R: Wait>(&self, rt: &R, link: usize, session: u32) {
         if let Some(owed) = self.owed.get(link) {
             *owed.lock(rt) = Some(session);
+        }
+    }
+
+    /// Whether the session of a link is over, but nobody entered its Down.
+    pub(crate) fn owes<R: Wait>(&self, rt: &R, link: usize) -> bool {
+        match self.owed.get(link) {
+            Some(owed) => owed.lock(rt).is_some(),
+            None => false,
         }
     }
 
@@ -395,8 +478,16 @@ impl Listener for Signals {
         self.news.note(rt, answer.at);
     }
 
-    fn replaced<R: Wait + Clock>(&self, rt: &R, direction: Direction, node: u16, name: &[u8]) {
+    fn replaced<R: Wait + Clock>(
+        &self,
+        rt: &R,
+        direction: Direction,
+        node: u16,
+        name: &[u8],
+        filter: &Arc<Verified>,
+    ) {
         if let Ok(name) = str::from_utf8(name) {
+            self.name_filter(rt, direction, node, name, filter);
             self.log(
                 rt,
                 Event::Replaced {
@@ -406,6 +497,19 @@ impl Listener for Signals {
                 },
             );
         }
+    }
+
+    fn compare_links<R: Wait + Clock>(
+        &self,
+        rt: &R,
+        alloc: Global,
+        links: &[LinkFiles],
+    ) -> Result<Vec<LinkChange>, AllocError> {
+        self.compare_all(rt, alloc, links)
+    }
+
+    fn change_links<R: Wait + Clock>(&self, rt: &R, changes: Vec<LinkChange>, digest: [u8; 8]) {
+        self.change_all(rt, changes, digest);
     }
 
     fn status<R: Wait + Clock>(&self, rt: &R, alloc: Global) -> Result<Status, AllocError> {

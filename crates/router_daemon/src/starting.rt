@@ -9,9 +9,9 @@ use crate::folder::LinkFolder;
 use crate::forgetting::{AsBegun, Forgetter};
 use crate::mailbox::Mailbox;
 use crate::outbox::{Counts, Outbox, open_outbox, tell_people};
-use crate::router_passes::RouterPass;
+use crate::router_passes::{LegalPass, RouterPass};
 use crate::shared::Shared;
-use crate::supervisor::{RouterLink, keep_link};
+use crate::supervisor::{LinkPost, keep_links};
 use crate::telling::{CloseReason, Event};
 use crate::watching::watch_links;
 use crate::writer::write_link;
@@ -35,13 +35,14 @@ pub(crate) type Bounding<S, J> = PromisedHandle<Forgetter<S, J>, AsBegun<S, J>>;
 /// The shares of a link's pass. It gives one of them to its writer, for a session.
 const SHARES: u32 = 100;
 
+/// The shares of who starts the threads of links that are new: enough for 249 of them.
+const SPARE_SHARES: u32 = 25_000;
+
 /// What all links of a router have in common.
 #[derive(Clone, Copy)]
 pub(crate) struct Links {
-    /// The router's place in its domain.
+    /// The router's place in its domain, as it was at the start.
     pub(crate) domain: Domain,
-    /// The digest of its domain, which neighbours are told.
-    pub(crate) digest: Option<[u8; 8]>,
     /// How long a closed link waits before it is opened again, in seconds.
     pub(crate) retry: Option<u32>,
     /// How many seconds the router may be silent before it is dead; 0 for any time.
@@ -71,7 +72,7 @@ fn start_writer<
     Ok(started.is_ok())
 }
 
-/// Starts the thread of who keeps a link. Whether it was started.
+/// Starts the thread of who keeps the links of a node. Whether it was started.
 fn start_supervisor<
     R: Threads + Wait + Clock + RandomSource + Copy + Send + Drop + 'static,
     I: Read + Send + Drop + 'static,
@@ -85,19 +86,19 @@ fn start_supervisor<
     folder: &Arc<D>,
     shared: &Arc<Shared<J, E>>,
     mailbox: Arc<Mailbox<O, J>>,
-    link: RouterLink,
+    post: LinkPost,
     router_pass: RouterPass<J>,
 ) -> Result<bool, AllocError> {
     let handle = *rt;
     let folder = Arc::try_clone(folder)?;
     let shared = Arc::try_clone(shared)?;
     let started = thread::spawn(rt, move || {
-        keep_link::<R, I, O, D, J, E>(handle, alloc, folder, shared, mailbox, link, router_pass)
+        keep_links::<R, I, O, D, J, E>(handle, alloc, folder, shared, mailbox, post, router_pass)
     });
     Ok(started.is_ok())
 }
 
-/// Starts the threads of a link. Whether they were started.
+/// Starts the threads of the links of a node. Whether they were started.
 fn start_link<
     R: Threads + Wait + Clock + RandomSource + Copy + Send + Drop + 'static,
     I: Read + Send + Drop + 'static,
@@ -110,14 +111,14 @@ fn start_link<
     alloc: Global,
     folder: &Arc<D>,
     shared: &Arc<Shared<J, E>>,
-    link: RouterLink,
+    post: LinkPost,
     router_pass: RouterPass<J>,
 ) -> Result<bool, AllocError> {
     let mailbox: Arc<Mailbox<O, J>> = Arc::new(alloc, Mailbox::new())?;
-    if !start_writer::<R, O, J, E>(rt, alloc, shared, &mailbox, link.index, link.files.node)? {
+    if !start_writer::<R, O, J, E>(rt, alloc, shared, &mailbox, post.index, post.node)? {
         return Ok(false);
     }
-    start_supervisor::<R, I, O, D, J, E>(rt, alloc, folder, shared, mailbox, link, router_pass)
+    start_supervisor::<R, I, O, D, J, E>(rt, alloc, folder, shared, mailbox, post, router_pass)
 }
 
 /// Takes a part of a pass, with so many shares.
@@ -157,8 +158,134 @@ fn start_watcher<
     Ok(started.is_ok())
 }
 
-/// Starts the threads of all links, and the one that looks at the clock for them. Where a link's is not started, people are told, and the link
-/// stays down.
+/// Starts the threads of a link, with shares of a pass. Where they are not started, people are told, and the link stays down.
+fn start_post<
+    R: Threads + Wait + Clock + RandomSource + Copy + Send + Drop + 'static,
+    I: Read + Send + Drop + 'static,
+    O: Write + Send + Drop + 'static,
+    D: LinkFolder<I, O> + Send + Sync + Drop + 'static,
+    J: Naming + Send + Sync + 'static,
+    E: Write + Send + Drop + 'static,
+>(
+    rt: &R,
+    alloc: Global,
+    folder: &Arc<D>,
+    shared: &Arc<Shared<J, E>>,
+    pass: &mut Pass,
+    post: LinkPost,
+) -> Result<(), AllocError>
+    requires { IsLegalPass J.router pass.old }
+    ensures { IsLegalPass J.router pass.new }
+{
+    let node = post.node;
+    let router_pass = take_part(shared, pass, SHARES)?;
+    if !start_link::<R, I, O, D, J, E>(rt, alloc, folder, shared, post, router_pass)? {
+        let why = CloseReason::Unstarted;
+        shared.tell(rt, alloc, Event::Closed { node, why });
+    }
+    Ok(())
+}
+
+/// Starts the threads of the link of a place, which is new.
+fn start_place<
+    R: Threads + Wait + Clock + RandomSource + Copy + Send + Drop + 'static,
+    I: Read + Send + Drop + 'static,
+    O: Write + Send + Drop + 'static,
+    D: LinkFolder<I, O> + Send + Sync + Drop + 'static,
+    J: Naming + Send + Sync + 'static,
+    E: Write + Send + Drop + 'static,
+>(
+    rt: &R,
+    alloc: Global,
+    folder: &Arc<D>,
+    shared: &Arc<Shared<J, E>>,
+    pass: &mut Pass,
+    index: usize,
+    common: Links,
+)
+    requires { IsLegalPass J.router pass.old }
+    ensures { IsLegalPass J.router pass.new }
+{
+    let Some(node) = shared.nodes.get(index) else {
+        return;
+    };
+    let node = *node;
+    let post = LinkPost {
+        index,
+        node,
+        common,
+    };
+    let started = start_post::<R, I, O, D, J, E>(rt, alloc, folder, shared, pass, post);
+    if started.is_err() {
+        let why = CloseReason::Unstarted;
+        shared.tell(rt, alloc, Event::Closed { node, why });
+    }
+}
+
+/// Starts the threads of links that are new, until the router is being closed.
+fn open_links<
+    R: Threads + Wait + Clock + RandomSource + Copy + Send + Drop + 'static,
+    I: Read + Send + Drop + 'static,
+    O: Write + Send + Drop + 'static,
+    D: LinkFolder<I, O> + Send + Sync + Drop + 'static,
+    J: Naming + Send + Sync + 'static,
+    E: Write + Send + Drop + 'static,
+>(
+    rt: R,
+    alloc: Global,
+    folder: Arc<D>,
+    shared: Arc<Shared<J, E>>,
+    common: Links,
+    legal_pass: LegalPass<J>,
+) {
+    let mut pass = legal_pass.pass();
+    for _ in rt.forever() {
+        let Some(index) = shared.signals.wanted.await_unkept(&rt) else {
+            return;
+        };
+        start_place::<R, I, O, D, J, E>(&rt, alloc, &folder, &shared, &mut pass, index, common);
+    }
+}
+
+/// Starts the thread that starts those of links that are new, where a node besides those of so many links may get one. Without it they stay down.
+fn start_opening<
+    R: Threads + Wait + Clock + RandomSource + Copy + Send + Drop + 'static,
+    I: Read + Send + Drop + 'static,
+    O: Write + Send + Drop + 'static,
+    D: LinkFolder<I, O> + Send + Sync + Drop + 'static,
+    J: Naming + Send + Sync + 'static,
+    E: Write + Send + Drop + 'static,
+>(
+    rt: &R,
+    alloc: Global,
+    folder: &Arc<D>,
+    shared: &Arc<Shared<J, E>>,
+    pass: &mut Pass,
+    links: usize,
+    common: Links,
+) -> Result<(), AllocError>
+    requires { IsLegalPass J.router pass.old }
+    ensures { IsLegalPass J.router pass.new }
+{
+    if shared.nodes.len() <= links {
+        return Ok(());
+    }
+    // Never so: half of the shares that a router is opened with is more than 249 links need.
+    if pass.shares() <= SPARE_SHARES {
+        return Err(AllocError);
+    }
+    let legal_pass = LegalPass::new(shared.router.split(pass, SPARE_SHARES));
+    let handle = *rt;
+    let folder = Arc::try_clone(folder)?;
+    let shared = Arc::try_clone(shared)?;
+    let _ = thread::spawn(rt, move || {
+        open_links::<R, I, O, D, J, E>(handle, alloc, folder, shared, common, legal_pass)
+    });
+    Ok(())
+}
+
+/// Starts the threads of all links, the one that looks at the clock for them, and the one that starts those of links that are new. Where a link's is
+/// not started, people are told, and the link stays down.
 pub(crate) fn start_links<
     R: Threads + Wait + Clock + RandomSource + Copy + Send + Drop + 'static,
     I: Read + Send + Drop + 'static,
@@ -182,21 +309,19 @@ pub(crate) fn start_links<
     // Without it no line is written again and no neighbour is found silent, as with a HOLD of 0.
     let is_watched = start_watcher::<R, J, E>(rt, alloc, shared, router_pass)?;
     let hold = if is_watched { common.hold } else { 0 };
+    let common = Links {
+        domain: common.domain,
+        retry: common.retry,
+        hold,
+    };
+    start_opening::<R, I, O, D, J, E>(rt, alloc, folder, shared, pass, links.len(), common)?;
     for (index, files) in links.into_iter().enumerate() {
-        let node = files.node;
-        let link = RouterLink {
+        let post = LinkPost {
             index,
-            files,
-            domain: common.domain,
-            retry: common.retry,
-            digest: common.digest,
-            hold,
+            node: files.node,
+            common,
         };
-        let router_pass = take_part(shared, pass, SHARES)?;
-        if !start_link::<R, I, O, D, J, E>(rt, alloc, folder, shared, link, router_pass)? {
-            let why = CloseReason::Unstarted;
-            shared.tell(rt, alloc, Event::Closed { node, why });
-        }
+        start_post::<R, I, O, D, J, E>(rt, alloc, folder, shared, pass, post)?;
     }
     Ok(())
 }

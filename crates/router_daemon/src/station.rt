@@ -77,15 +77,17 @@ impl Station {
         self.post.hear(line, next)
     }
 
-    /// Its session is over: it begins anew. If a line ended it, that is heard next.
-    pub(crate) fn begin_anew(&mut self, by_line: bool)
+    /// Its session is over: it begins anew, in a domain of this digest. If a line ended it, that is heard next.
+    pub(crate) fn begin_anew(&mut self, by_line: bool, digest: Option<[u8; 8]>)
         ensures end { self.new.post.end ≡ begun (max self.old.next 1) self.old.post.end.heard }
+        ensures speaker { self.new.post.speaker ≡ record self.old.post.speaker { digest = digest } }
         ensures owes { self.new.post.owes_greeting ≡ true }
         ensures greets { self.new.is_to_hear ≡ by_line }
         ensures wait { self.new.wait ≡ self.old.wait }
     {
         let next = self.next.max(1);
         self.post.begin(next);
+        self.post.speaker.digest = digest;
         self.looks = 0;
         self.is_to_hear = by_line;
     }

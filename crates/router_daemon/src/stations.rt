@@ -117,11 +117,17 @@ impl Stations {
         }
     }
 
-    /// The session of a link is over: its end begins anew. If a line ended it, who reads the link hears that line next.
-    pub(crate) fn begin_anew<R: Wait>(&self, rt: &R, link: usize, by_line: bool) {
+    /// The session of a link is over: its end begins anew, in a domain of this digest. If a line ended it, who reads the link hears that line next.
+    pub(crate) fn begin_anew<R: Wait>(
+        &self,
+        rt: &R,
+        link: usize,
+        by_line: bool,
+        digest: Option<[u8; 8]>,
+    ) {
         if let Some(station) = self.stations.get(link) {
             if let Some(station) = station.lock(rt).as_mut() {
-                station.begin_anew(by_line);
+                station.begin_anew(by_line, digest);
             }
         }
     }

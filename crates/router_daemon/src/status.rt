@@ -2,6 +2,8 @@
 
 use crate::link_records::LinkRecord;
 use crate::signals::Signals;
+use link_handshake::digest_digits;
+use operator_cmds::Direction;
 use router_status::{LinkState, LinkStatus, Status};
 use std::alloc::{AllocError, Global};
 use std::rt::Clock;
@@ -34,6 +36,7 @@ fn link_status<R: Wait + Clock>(
         sent,
         ended,
     } = signals.records.look(rt, alloc, link)?;
+    let names = &signals.names;
     Ok(LinkStatus {
         node,
         state,
@@ -42,6 +45,10 @@ fn link_status<R: Wait + Clock>(
         received,
         sent,
         waiting: 0,
+        import_named: names.look(rt, alloc, Direction::Import, link)?,
+        import_status: None,
+        export_named: names.look(rt, alloc, Direction::Export, link)?,
+        export_status: None,
         unheard,
         ended,
     })
@@ -56,9 +63,22 @@ fn link_statuses<R: Wait + Clock>(
     let nodes = signals.nodes.as_slice();
     let mut links = Vec::with_capacity(alloc, nodes.len())?;
     for (link, node) in nodes.iter().enumerate() {
-        links.push(link_status(rt, alloc, signals, link, *node)?)?;
+        if signals.wanted.is_wanted(rt, link) {
+            links.push(link_status(rt, alloc, signals, link, *node)?)?;
+        }
     }
     Ok(links)
+}
+
+/// The digits of the digest of a domain, if there is one.
+fn digits_of(alloc: Global, digest: Option<[u8; 8]>) -> Result<Option<String>, AllocError> {
+    let Some(digest) = digest else {
+        return Ok(None);
+    };
+    match str::from_utf8(digest_digits(digest).as_slice()) {
+        Ok(digits) => Ok(Some(String::from_str(alloc, digits)?)),
+        Err(_) => Ok(None),
+    }
 }
 
 /// What a router is about, but for what its history says.
@@ -67,6 +87,7 @@ pub(crate) fn status_of<R: Wait + Clock>(
     alloc: Global,
     signals: &Signals,
 ) -> Result<Status, AllocError> {
+    let saved = *signals.saved.lock(rt);
     Ok(Status {
         version: signals.version,
         size: 0,
@@ -75,7 +96,10 @@ pub(crate) fn status_of<R: Wait + Clock>(
         entries: 0,
         forgotten: 0,
         room: 0,
-        saved: *signals.saved.lock(rt),
+        saved: saved.map(|saved| saved.entries),
+        segments: saved.map(|saved| saved.size.segments),
+        bytes: saved.map(|saved| saved.size.bytes),
+        domain: digits_of(alloc, signals.wanted.digest(rt))?,
         links: link_statuses(rt, alloc, signals)?,
     })
 }

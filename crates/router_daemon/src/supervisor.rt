@@ -4,7 +4,7 @@
 ghost use Rattle.std.specs.Prelude.{◌≡◌, ◌<◌, ⊤, false, true, IfErr, IfNone, IfOk};
 ghost use Rattle.slot_lock.specs.Passes.{IsPassOf};
 ghost use Rattle.router_daemon.specs.Links.{AreFresh, IsUnopened, IsUnreadable, KeepsOnce, KeepsTurn, StaysClosed};
-ghost use Rattle.router_daemon.specs.Sessions.{IsOver, OpensLater, OpensNever, Serves, ServesLast, ServesNeighbour};
+ghost use Rattle.router_daemon.specs.Sessions.{IsOver, IsSince, OpensLater, OpensNever, Serves, ServesLast, ServesNeighbour};
 ghost use Rattle.neighbour_session.specs.Ending.{GoesDown};
 ghost use Rattle.message_streams.specs.Views.{ReaderView};
 ghost use Rattle.neighbour_session.specs.Reading.{Hears};
@@ -14,12 +14,12 @@ use crate::folder::LinkFolder;
 use crate::guards::{LinkEars, LinkGuard};
 use crate::mailbox::{Mailbox, WriterTask};
 use crate::owed_downs::{enter_owed_down, passes};
-use crate::retrying::{reopening, seconds, wait_before, was_long};
+use crate::retrying::{reopening, wait_before, was_long};
 use crate::router_passes::{FreshPass, RouterPass};
 use crate::shared::Shared;
-use crate::signals::Closing;
+use crate::starting::Links;
 use crate::telling::{CloseReason, Event, OpenFault, shown_of};
-use crate::watching::now;
+use crate::wanted::{TurnEnd, WantedLink};
 use link_handshake::{Said, Speaker};
 use message_streams::{MessageReader, MessageWriter};
 use neighbour_session::{Domain, SessionEnd, enter_down, enter_up, meet, pause, serve_reader};
@@ -31,7 +31,6 @@ use std::io::{self, BufReader, Read, Write};
 use std::random::RandomSource;
 use std::rt::Clock;
 use std::sync::{Arc, Wait};
-use std::thread;
 use std::time::Instant;
 
 /// A link that is kept.
@@ -41,14 +40,14 @@ pub(crate) struct RouterLink {
     pub(crate) index: usize,
     /// The neighbour, and the files.
     pub(crate) files: LinkFiles,
-    /// The router's place in its domain.
+    /// The turn of the link.
+    pub(crate) turn: u32,
+    /// The router's place in its domain, as it was at the start.
     pub(crate) domain: Domain,
     /// How long it is closed before it is opened again, in seconds.
     pub(crate) retry: Option<u32>,
     /// How many seconds this router may be silent before it is dead; 0 for any time.
     pub(crate) hold: u16,
-    /// The digest of its domain, which the neighbour is told.
-    pub(crate) digest: Option<[u8; 8]>,
 }
 
 /// The streams of a link that is open.
@@ -260,7 +259,10 @@ fn serve_opened<R: Wait + Clock, I: Read + Drop, O: Write + Drop, J: Naming, E: 
     ensures shares { pass.new.fragment.shares ≡ pass.old.fragment.shares }
     ensures over { IsOver J.router task.session input pass.old result.0 pass.new }
 {
-    if shared.signals.begin(rt, link.index, task.session, answer) {
+    if shared
+        .signals
+        .begin(rt, link.index, link.turn, task.session, answer)
+    {
         return serve_begun(rt, alloc, shared, mailbox, link, input, task, pass);
     }
     let WriterTask {
@@ -342,7 +344,7 @@ fn serve_neighbour<R: Wait + Clock, I: Read + Drop, O: Write + Drop, J: Naming, 
     (why, input)
 }
 
-/// The end of a link that was opened now begins.
+/// The end of a link that was opened now begins, unless its turn is over.
 fn open_station<R: Wait + Clock + RandomSource, J: Naming, E: Write>(
     rt: &R,
     shared: &Shared<J, E>,
@@ -352,10 +354,26 @@ fn open_station<R: Wait + Clock + RandomSource, J: Naming, E: Write>(
         size: link.domain.size,
         node: link.domain.me,
         hold: link.hold,
-        digest: link.digest,
+        digest: shared.signals.wanted.digest(rt),
     };
-    let now = now(rt).unwrap_or(0);
-    shared.signals.stations.open(rt, link.index, speaker, now);
+    shared
+        .signals
+        .open_station(rt, link.index, link.turn, speaker);
+}
+
+/// The router's place in its domain, which has this digest now. A neighbour may have any other one still, if it might have at the start.
+fn domain_now(domain: Domain, digest: Option<[u8; 8]>) -> Domain
+    ensures { IsSince domain result }
+{
+    let wanted = match domain.digest {
+        Some(first) => Some(digest.unwrap_or(first)),
+        None => None,
+    };
+    Domain {
+        size: domain.size,
+        me: domain.me,
+        digest: wanted,
+    }
 }
 
 /// Serves one session over the streams of a link, until it is over: waits first until the neighbour answers this router's greeting. A line that
@@ -382,7 +400,8 @@ fn serve_link<R: Wait + Clock + RandomSource, I: Read + Drop, O: Write + Drop, J
     let ears = LinkEars::new(&shared.signals, link.index);
     ears.listen(rt, first.is_some());
     let node = link.files.node;
-    match meet(rt, &mut input, &ears, link.domain, node, first) {
+    let domain = domain_now(link.domain, shared.signals.wanted.digest(rt));
+    match meet(rt, &mut input, &ears, domain, node, first) {
         Ok(_) => serve_neighbour(rt, alloc, shared, mailbox, link, input, pass, begun),
         Err(why) => {
             let input = going_on(why, input);
@@ -510,8 +529,69 @@ fn keep_turn<
     reopening(link.retry, again, before)
 }
 
-/// Keeps a link: serves one session after another, until it stays closed (None) or the router is being closed.
-pub(crate) fn keep_link<
+/// Keeps a link: serves one session after another, until it stays closed (None), or its turn is over.
+fn keep_link<
+    R: Wait + Clock + RandomSource,
+    I: Read + Drop,
+    O: Write + Drop,
+    D: LinkFolder<I, O>,
+    J: Naming,
+    E: Write,
+>(
+    rt: &R,
+    alloc: Global,
+    folder: &D,
+    shared: &Shared<J, E>,
+    mailbox: &Mailbox<O, J>,
+    link: &RouterLink,
+    pass: &mut Pass,
+) -> Option<TurnEnd>
+    requires { IsPassOf J.router pass.old }
+    ensures of { IsPassOf J.router pass.new }
+    ensures closed { IfNone result (StaysClosed (D.may_read folder.now) (D.may_write folder.now) J.router link.now.domain link.now.files
+        link.now.retry) }
+{
+    let mut before = None;
+    for _ in rt.forever() {
+        let wait = keep_turn::<R, I, O, D, J, E>(
+            rt, alloc, folder, shared, mailbox, link, before, pass,
+        )?;
+        if let Some(end) = shared.signals.wanted.rest(rt, link.index, link.turn, wait) {
+            return Some(end);
+        }
+        before = Some(wait);
+    }
+    unreachable!()
+}
+
+/// The place of a node that has a link, or may get one.
+#[derive(Clone, Copy)]
+pub(crate) struct LinkPost {
+    /// Its number.
+    pub(crate) index: usize,
+    /// The node.
+    pub(crate) node: u16,
+    /// What all links have in common.
+    pub(crate) common: Links,
+}
+
+impl LinkPost {
+    /// The link that is wanted there.
+    fn link(self, wanted: WantedLink) -> RouterLink {
+        let WantedLink { files, turn } = wanted;
+        RouterLink {
+            index: self.index,
+            files,
+            turn,
+            domain: self.common.domain,
+            retry: self.common.retry,
+            hold: self.common.hold,
+        }
+    }
+}
+
+/// Keeps the links of a node, one after another, until the router is being closed.
+pub(crate) fn keep_links<
     R: Wait + Clock + RandomSource + Drop,
     I: Read + Drop,
     O: Write + Drop,
@@ -524,22 +604,17 @@ pub(crate) fn keep_link<
     folder: Arc<D>,
     shared: Arc<Shared<J, E>>,
     mailbox: Arc<Mailbox<O, J>>,
-    link: RouterLink,
+    post: LinkPost,
     router_pass: RouterPass<J>,
-) -> Option<Closing>
-    ensures { IfNone result (StaysClosed (D.may_read folder.value) (D.may_write folder.value) J.router link.domain link.files link.retry) }
-{
+) {
     let mut pass = router_pass.pass();
-    let mut before = None;
     for _ in rt.forever() {
-        let wait = keep_turn::<R, I, O, D, J, E>(
-            &rt, alloc, &folder, &shared, &mailbox, &link, before, &mut pass,
-        )?;
-        if let Some(closing) = shared.signals.closing(&rt) {
-            return Some(closing);
-        }
-        thread::sleep(&rt, seconds(wait));
-        before = Some(wait);
+        let Some(wanted) = shared.signals.wanted.await_link(&rt, post.index) else {
+            return;
+        };
+        let link = post.link(wanted);
+        let _ = keep_link::<R, I, O, D, J, E>(
+            &rt, alloc, &folder, &shared, &mailbox, &link, &mut pass,
+        );
     }
-    unreachable!()
 }

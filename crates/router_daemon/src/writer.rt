@@ -117,16 +117,19 @@ enum Work<J: Naming> {
     Greet(Greeting),
     /// Write a session.
     Serve(WriterTask<J>),
+    /// Let the stream go, since the link is closed.
+    LetGo,
     /// Close the stream.
     Close,
 }
 
-/// Waits until there is something to do for who writes to a link. What is to be greeted is greeted first.
+/// Waits until there is something to do for who writes to a link, and has a stream or has let it go. What is to be greeted is greeted first.
 fn await_work<R: Wait, O: Write + Drop, J: Naming, E: Write>(
     rt: &R,
     shared: &Shared<J, E>,
     mailbox: &Mailbox<O, J>,
     link: usize,
+    has_stream: bool,
 ) -> Work<J> {
     let signals = &shared.signals;
     let Some(condvar) = signals.condvars.get(link) else {
@@ -142,6 +145,9 @@ fn await_work<R: Wait, O: Write + Drop, J: Naming, E: Write>(
         }
         if mailbox.closes(rt) {
             return Work::Close;
+        }
+        if has_stream && !signals.stations.is_open(rt, link) {
+            return Work::LetGo;
         }
         states = condvar.wait(rt, states);
     }
@@ -213,7 +219,7 @@ fn write_stream<R: Wait + Clock, O: Write + Drop, J: Naming, E: Write>(
 ) {
     let mut output = Some(output);
     for _ in rt.forever() {
-        match await_work(rt, shared, mailbox, link) {
+        match await_work(rt, shared, mailbox, link, output.is_some()) {
             Work::Greet(greeting) => {
                 if let Some(mut stream) = output.take() {
                     if write_greeting(alloc, &mut stream, greeting) {
@@ -226,6 +232,7 @@ fn write_stream<R: Wait + Clock, O: Write + Drop, J: Naming, E: Write>(
             Work::Serve(task) => {
                 output = serve_task(rt, alloc, shared, mailbox, link, node, task, output.take());
             }
+            Work::LetGo => output = None,
             Work::Close => return,
         }
     }

@@ -6,3 +6,5 @@ mod NamingFilters
 mod Staying
 mod Ending
 mod LookingAlone
+mod Putting
+mod Rereading

@@ -3,13 +3,18 @@
 #![tactic(auto)]
 
 mod calls;
+mod configuration;
+mod configured;
 mod listener;
 mod looker;
 mod looking;
 mod naming;
 mod operator;
 mod questions;
+mod reloading;
 
+pub use configuration::{Configuration, ConfigurationFault, Configured, LinkChange, NamedUse};
+pub use configured::ConfiguredOperator;
 pub use listener::Listener;
 pub use looker::Looker;
 pub use naming::Naming;

@@ -70,7 +70,7 @@ impl StatusQuery {
             IfOk result (Adds (status_answer self.old journal.now.first history) out.old.items out.new.items)) }
         ensures err { OnErr result (StartsWith out.new.items out.old.items) }
     {
-        self.status.complete(journal);
+        self.status.complete(alloc, journal)?;
         answer_status(alloc, out, &self.status, self.form)
     }
 }

@@ -54,11 +54,11 @@ pub(crate) const LOOKS_ALONE: &str = "O11";
 /// The operator of a router that others call too. A contract sees it as an `OperatorView`.
 #[derive(Drop)]
 pub struct Operator<'a, R, L, J: Naming> {
-    rt: &'a R,
-    router: &'a Router,
+    pub(crate) rt: &'a R,
+    pub(crate) router: &'a Router,
     /// What the operator has seen of the router's history.
-    pass: Pass,
-    listener: &'a L,
+    pub(crate) pass: Pass,
+    pub(crate) listener: &'a L,
     /// The number of nodes of the domain.
     size: u16,
     /// The most entries of the history, or as many as an endless router has room for.
@@ -66,7 +66,7 @@ pub struct Operator<'a, R, L, J: Naming> {
     /// The nodes that have links.
     links: &'a [u16],
     /// The filter of each name.
-    filters: BTreeMap<Vec<u8>, Arc<Verified>>,
+    pub(crate) filters: BTreeMap<Vec<u8>, Arc<Verified>>,
     /// The operator said `quit`.
     has_quit: bool,
     of: PhantomData<J>,
@@ -254,8 +254,15 @@ impl<'a, R: Wait + Clock, L: Listener, J: Naming> Operator<'a, R, L, J> {
         }
     }
 
+    /// The number of nodes of the domain.
+    pub(crate) fn size(&self) -> u16
+        ensures { result ≡ self.now.router.opening.size }
+    {
+        self.size
+    }
+
     /// Answers `load` and `code`: a source is verified, and gets a name.
-    fn load(
+    pub(crate) fn load(
         &mut self,
         alloc: Global,
         number: u32,
@@ -301,9 +308,17 @@ impl<'a, R: Wait + Clock, L: Listener, J: Naming> Operator<'a, R, L, J> {
         let event = direction.event(node, Arc::try_clone(filter)?);
         let reply = self.enter(event, out)?;
         if reply == LineReply::Answered {
-            self.listener.replaced(self.rt, direction, node, name);
+            self.tell_replaced(direction, node, name);
         }
         Ok(reply)
+    }
+
+    /// Tells the listener that the filter of a name is in force.
+    fn tell_replaced(&self, direction: Direction, node: u16, name: &[u8]) {
+        if let Some(filter) = self.filters.get(name) {
+            self.listener
+                .replaced(self.rt, direction, node, name, filter);
+        }
     }
 
     /// Answers `down`. The link of a node takes it down itself.
@@ -330,7 +345,7 @@ impl<'a, R: Wait + Clock, L: Listener, J: Naming> Operator<'a, R, L, J> {
     }
 
     /// Enters an event, and answers it by the router's reply, of which the listener is told.
-    fn enter(&mut self, event: Event, out: &mut Vec<u8>) -> Result<LineReply, AllocError>
+    pub(crate) fn enter(&mut self, event: Event, out: &mut Vec<u8>) -> Result<LineReply, AllocError>
         ensures ok { IfOk result (Answers (λ answer. spec.AnswersEvent self.old event answer self.new) out.old.items out.new.items) }
         ensures err { OnErr result (StartsWith out.new.items out.old.items) }
         ensures left { OnErr result (spec.BreaksOff self.old self.new) }

@@ -5,9 +5,10 @@ use Rattle.netchange_core.specs.World.{World}
 use Rattle.serde_json.specs.Data.{Data}
 use Rattle.serde_json.specs.View.{items_of}
 use Rattle.serde_json.specs.Written.{has_float, items_have_float}
-use Rattle.router_status.specs.Objects.{all_routes_data, below, link_data, links_data, next_hop, number_or_null, route_data, routes_data, session_in}
-use Rattle.router_status.specs.Objects.{status_data, text_or_null}
-use Rattle.router_status.specs.Status.{LinkView, StatusView}
+use Rattle.router_status.specs.Objects.{all_routes_data, below, filter_or_null, link_data, links_data, next_hop, number_or_null}
+use Rattle.router_status.specs.Objects.{route_data, routes_data, session_in, status_data, text_or_null}
+use Rattle.router_status.specs.Status.{LinkView, NamedView, StatusView, name_of}
+use Rattle.router_status.specs.declared.status.FilterStatus.{FilterStatus}
 
 neither : (a b : Bool) → a ≡ false → b ≡ false → (a || b) ≡ false
 neither a b p q = ap (λ (x : Bool). x || b) p ∙ q
@@ -28,14 +29,23 @@ text_not : (text : Option (List ℕ)) → has_float (text_or_null text) ≡ fals
 text_not None = refl
 text_not (Some t) = refl
 
+-- the same of a part and of those behind it
+also_not : (d : Data) (rest : Bool) → has_float d ≡ false → rest ≡ false → (has_float d || rest) ≡ false
+also_not d rest p q = neither (has_float d) rest p q
+
+filter_not : (filter : Option FilterStatus) (named : Option NamedView) → has_float (filter_or_null filter named) ≡ false
+filter_not None named = refl
+filter_not (Some filter) named = also_not (text_or_null (name_of filter named)) false (text_not (name_of filter named)) refl
+
 -- ---- the router
 
 link_not : (link : LinkView) → has_float (link_data link) ≡ false
 link_not link =
-    neither (has_float (text_or_null link.ended)) (has_float (number_or_null (session_in link.state)) || (has_float (number_or_null link.unheard) || false))
-    (text_not link.ended)
-    (neither (has_float (number_or_null (session_in link.state))) (has_float (number_or_null link.unheard) || false) (number_not (session_in link.state))
-    (neither (has_float (number_or_null link.unheard)) false (number_not link.unheard) refl))
+    also_not (text_or_null link.ended) _ (text_not link.ended)
+    (also_not (filter_or_null link.export_status link.export_named) _ (filter_not link.export_status link.export_named)
+    (also_not (filter_or_null link.import_status link.import_named) _ (filter_not link.import_status link.import_named)
+    (also_not (number_or_null (session_in link.state)) _ (number_not (session_in link.state))
+    (also_not (number_or_null link.unheard) false (number_not link.unheard) refl))))
 
 links_not : (links : List LinkView) → items_have_float (links_data links) ≡ false
 links_not [] = refl
@@ -43,8 +53,11 @@ links_not (link ∷ links) = neither (has_float (link_data link)) (items_have_fl
 
 pub status_not : (status : StatusView) → has_float (status_data status) ≡ false
 status_not status =
-    neither (items_have_float (links_data status.links)) (has_float (number_or_null status.saved) || false) (links_not status.links)
-    (neither (has_float (number_or_null status.saved)) false (number_not status.saved) refl)
+    also_not (number_or_null status.bytes) _ (number_not status.bytes)
+    (also_not (text_or_null status.domain) _ (text_not status.domain)
+    (neither (items_have_float (links_data status.links)) _ (links_not status.links)
+    (also_not (number_or_null status.saved) _ (number_not status.saved)
+    (also_not (number_or_null status.segments) false (number_not status.segments) refl))))
 
 -- ---- its routes
 

@@ -1,3 +1,4 @@
+mod Counting
 mod Growing
 mod Filling
 mod Floats

@@ -9,7 +9,8 @@ use Rattle.serde_json.specs.Data.{Data, Items, array, boolean, item, member, no_
 use Rattle.serde_json.specs.View.{items_of}
 use Rattle.serde_json.specs.Written.{compact_text}
 use Rattle.router_status.specs.Lines.{text_of}
-use Rattle.router_status.specs.Status.{LinkView, StatusView}
+use Rattle.router_status.specs.Status.{LinkView, NamedView, StatusView, name_of}
+use Rattle.router_status.specs.declared.status.FilterStatus.{FilterStatus}
 use Rattle.router_status.specs.declared.status.LinkState.{LinkState}
 use Rattle.router_status.specs.declared.status.LinkState.TheVariants as state
 
@@ -38,8 +39,21 @@ session_in (state.Up session) = Some session
 session_in state.Open = None
 session_in state.Closed = None
 
+-- what its filters do
+abbrev pub filter_data : FilterStatus → Option (List ℕ) → Data
+filter_data filter name = object (member (codes "accepted") (number (unsigned filter.accepted))
+    (member (codes "budget") (number (unsigned filter.budget))
+    (member (codes "name") (text_or_null name)
+    (member (codes "rejected") (number (unsigned filter.rejected)) no_members))))
+
+abbrev pub filter_or_null : Option FilterStatus → Option NamedView → Data
+filter_or_null None named = null
+filter_or_null (Some filter) named = filter_data filter (name_of filter named)
+
 abbrev pub link_data : LinkView → Data
 link_data link = object (member (codes "ended") (text_or_null link.ended)
+    (member (codes "export") (filter_or_null link.export_status link.export_named)
+    (member (codes "import") (filter_or_null link.import_status link.import_named)
     (member (codes "node") (number (unsigned link.node))
     (member (codes "received") (number (unsigned link.received))
     (member (codes "sent") (number (unsigned link.sent))
@@ -48,21 +62,24 @@ link_data link = object (member (codes "ended") (text_or_null link.ended)
     (member (codes "since") (number (unsigned link.since))
     (member (codes "state") (string (state_word link.state))
     (member (codes "unheard") (number_or_null link.unheard)
-    (member (codes "waiting") (number (unsigned link.waiting)) no_members))))))))))
+    (member (codes "waiting") (number (unsigned link.waiting)) no_members))))))))))))
 
 abbrev pub links_data : List LinkView → Items
 links_data links = items_of (map link_data links)
 
 abbrev pub status_data : StatusView → Data
-status_data status = object (member (codes "entries") (number (unsigned status.entries))
+status_data status = object (member (codes "bytes") (number_or_null status.bytes)
+    (member (codes "domain") (text_or_null status.domain)
+    (member (codes "entries") (number (unsigned status.entries))
     (member (codes "forgotten") (number (unsigned status.forgotten))
     (member (codes "links") (array (links_data status.links))
     (member (codes "node") (number (unsigned status.node))
     (member (codes "room") (number (unsigned status.room))
     (member (codes "saved") (number_or_null status.saved)
+    (member (codes "segments") (number_or_null status.segments)
     (member (codes "size") (number (unsigned status.size))
     (member (codes "up") (number (unsigned status.up))
-    (member (codes "version") (string status.version) no_members)))))))))
+    (member (codes "version") (string status.version) no_members))))))))))))
 
 -- ---- routes
 

@@ -15,5 +15,5 @@ mod text;
 pub use form::Form;
 pub use object::push_status_object;
 pub use routes::push_routes_object;
-pub use status::{LinkState, LinkStatus, Status};
+pub use status::{FilterStatus, LinkState, LinkStatus, NamedFilter, Status, is_same_code};
 pub use text::push_status;

@@ -5,9 +5,9 @@ ghost use Rattle.serde_json.specs.View.{items_view, view};
 ghost use Rattle.serde_json.specs.Written.{has_float};
 ghost use Rattle.router_status.specs.Lines.{text_of};
 ghost use Rattle.router_status.specs.Objects as spec;
-ghost use Rattle.router_status.specs.Status.{link_view, status_view};
+ghost use Rattle.router_status.specs.Status.{link_view, name_of, named_view_of, status_view};
 
-use crate::status::{LinkState, LinkStatus, Status};
+use crate::status::{FilterStatus, LinkState, LinkStatus, NamedFilter, Status};
 use serde_json::{Value, json};
 use std::alloc::{AllocError, Global};
 
@@ -59,11 +59,56 @@ fn session_in(state: LinkState) -> Option<u64>
     }
 }
 
+/// The name of a filter, if it has one.
+fn filter_name(
+    alloc: Global,
+    filter: FilterStatus,
+    named: &Option<NamedFilter>,
+) -> Result<Value, AllocError>
+    ensures { IfOk result (λ value. view value ≡ spec.text_or_null (name_of filter (named_view_of named.now))) }
+{
+    match named {
+        Some(named) if filter.is_named => text_value(alloc, named.name.as_str()),
+        _ => Ok(Value::Null),
+    }
+}
+
+/// What a filter does as an object.
+fn filter_value(
+    alloc: Global,
+    filter: FilterStatus,
+    named: &Option<NamedFilter>,
+) -> Result<Value, AllocError>
+    ensures { IfOk result (λ value. view value ≡ spec.filter_data filter (name_of filter (named_view_of named.now))) }
+{
+    let accepted = u64::from(filter.accepted);
+    let budget = u64::from(filter.budget);
+    let name = filter_name(alloc, filter, named)?;
+    let rejected = u64::from(filter.rejected);
+    json!(in alloc; {"accepted": accepted, "budget": budget, "name": name, "rejected": rejected})
+}
+
+/// What a filter does as an object, if there is one.
+fn filter_or_null(
+    alloc: Global,
+    filter: Option<FilterStatus>,
+    named: &Option<NamedFilter>,
+) -> Result<Value, AllocError>
+    ensures { IfOk result (λ value. view value ≡ spec.filter_or_null filter (named_view_of named.now)) }
+{
+    match filter {
+        Some(filter) => filter_value(alloc, filter, named),
+        None => Ok(Value::Null),
+    }
+}
+
 /// A link as an object.
 fn link_value(alloc: Global, link: &LinkStatus) -> Result<Value, AllocError>
     ensures { IfOk result (λ value. view value ≡ spec.link_data (link_view link.now)) }
 {
     let ended = text_or_null(alloc, &link.ended)?;
+    let export = filter_or_null(alloc, link.export_status, &link.export_named)?;
+    let import = filter_or_null(alloc, link.import_status, &link.import_named)?;
     let node = u64::from(link.node);
     let received = link.received;
     let sent = link.sent;
@@ -74,8 +119,8 @@ fn link_value(alloc: Global, link: &LinkStatus) -> Result<Value, AllocError>
     let unheard = number_or_null(link.unheard);
     let waiting = link.waiting;
     json!(in alloc; {
-        "ended": ended, "node": node, "received": received, "sent": sent, "session": session, "sessions": sessions,
-        "since": since, "state": state, "unheard": unheard, "waiting": waiting
+        "ended": ended, "export": export, "import": import, "node": node, "received": received, "sent": sent,
+        "session": session, "sessions": sessions, "since": since, "state": state, "unheard": unheard, "waiting": waiting
     })
 }
 
@@ -94,18 +139,21 @@ fn link_values(alloc: Global, links: &[LinkStatus]) -> Result<Vec<Value>, AllocE
 fn status_value(alloc: Global, status: &Status) -> Result<Value, AllocError>
     ensures { IfOk result (λ value. view value ≡ spec.status_data (status_view status.now)) }
 {
+    let bytes = number_or_null(status.bytes);
+    let domain = text_or_null(alloc, &status.domain)?;
     let entries = status.entries;
     let forgotten = status.forgotten;
     let links = Value::Array(link_values(alloc, status.links.as_slice())?);
     let node = u64::from(status.node);
     let room = u64::from(status.room);
     let saved = number_or_null(status.saved);
+    let segments = number_or_null(status.segments);
     let size = u64::from(status.size);
     let up = status.up;
     let version = text_value(alloc, status.version)?;
     json!(in alloc; {
-        "entries": entries, "forgotten": forgotten, "links": links, "node": node, "room": room, "saved": saved,
-        "size": size, "up": up, "version": version
+        "bytes": bytes, "domain": domain, "entries": entries, "forgotten": forgotten, "links": links, "node": node,
+        "room": room, "saved": saved, "segments": segments, "size": size, "up": up, "version": version
     })
 }
 

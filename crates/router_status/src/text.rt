@@ -2,9 +2,9 @@
 ghost use Rattle.std.specs.Prelude.{◌≡◌, ◌++◌, ◌∷◌, [], OnErr, OnOk, flat_map};
 ghost use Rattle.std.specs.Io.{StartsWith};
 ghost use Rattle.router_status.specs.Lines as spec;
-ghost use Rattle.router_status.specs.Status.{link_view, status_view};
+ghost use Rattle.router_status.specs.Status.{link_view, name_of, named_view_of, status_view};
 
-use crate::status::{LinkState, LinkStatus, Status};
+use crate::status::{FilterStatus, LinkState, LinkStatus, NamedFilter, Status};
 use line_protocol::push_decimal;
 use std::alloc::AllocError;
 
@@ -75,6 +75,81 @@ fn push_messages(out: &mut Vec<u8>, link: &LinkStatus) -> Result<(), AllocError>
     push_number(out, "waiting", link.waiting)
 }
 
+/// The name of a filter, or `-` where it has none.
+fn shown_name(filter: FilterStatus, named: &Option<NamedFilter>) -> &[u8]
+    ensures { result.now ≡ spec.name_text (name_of filter (named_view_of named.now)) }
+{
+    match named {
+        Some(named) if filter.is_named => named.name.as_bytes(),
+        _ => b"-",
+    }
+}
+
+/// Adds a filter by its direction and its name.
+fn push_direction(
+    out: &mut Vec<u8>,
+    direction: &str,
+    filter: FilterStatus,
+    named: &Option<NamedFilter>,
+) -> Result<(), AllocError>
+    ensures ok { OnOk result (out.new.items ≡ out.old.items ++ spec.direction_text direction.now (name_of filter (named_view_of named.now))) }
+    ensures err { OnErr result (StartsWith out.new.items out.old.items) }
+{
+    out.push(b' ')?;
+    out.extend_from_slice(direction.as_bytes())?;
+    out.push(b' ')?;
+    out.extend_from_slice(shown_name(filter, named))
+}
+
+/// Adds the budget of a filter, and how many routes it lets through and rejects.
+fn push_verdicts(out: &mut Vec<u8>, filter: FilterStatus) -> Result<(), AllocError>
+    ensures ok { OnOk result (out.new.items ≡ out.old.items ++ spec.verdicts_text filter) }
+    ensures err { OnErr result (StartsWith out.new.items out.old.items) }
+{
+    push_number(out, "budget", u64::from(filter.budget))?;
+    push_number(out, "accepted", u64::from(filter.accepted))?;
+    push_number(out, "rejected", u64::from(filter.rejected))
+}
+
+/// Adds what a filter does.
+fn push_filter(
+    out: &mut Vec<u8>,
+    direction: &str,
+    filter: FilterStatus,
+    named: &Option<NamedFilter>,
+) -> Result<(), AllocError>
+    ensures ok { OnOk result (out.new.items ≡ out.old.items ++ spec.filter_text direction.now (named_view_of named.now) filter) }
+    ensures err { OnErr result (StartsWith out.new.items out.old.items) }
+{
+    push_direction(out, direction, filter, named)?;
+    push_verdicts(out, filter)
+}
+
+/// Adds what a filter does, if there is one.
+fn push_if_filtered(
+    out: &mut Vec<u8>,
+    direction: &str,
+    filter: Option<FilterStatus>,
+    named: &Option<NamedFilter>,
+) -> Result<(), AllocError>
+    ensures ok { OnOk result (out.new.items ≡ out.old.items ++ spec.filtered_text direction.now (named_view_of named.now) filter) }
+    ensures err { OnErr result (StartsWith out.new.items out.old.items) }
+{
+    match filter {
+        Some(filter) => push_filter(out, direction, filter, named),
+        None => Ok(()),
+    }
+}
+
+/// Adds what is told of the filters of a link.
+fn push_filters(out: &mut Vec<u8>, link: &LinkStatus) -> Result<(), AllocError>
+    ensures ok { OnOk result (out.new.items ≡ out.old.items ++ spec.filters_text (link_view link.now)) }
+    ensures err { OnErr result (StartsWith out.new.items out.old.items) }
+{
+    push_if_filtered(out, "import", link.import_status, &link.import_named)?;
+    push_if_filtered(out, "export", link.export_status, &link.export_named)
+}
+
 /// Adds what is counted of a link.
 fn push_counts(out: &mut Vec<u8>, link: &LinkStatus) -> Result<(), AllocError>
     ensures ok { OnOk result (out.new.items ≡ out.old.items ++ spec.counts_text (link_view link.now)) }
@@ -82,6 +157,7 @@ fn push_counts(out: &mut Vec<u8>, link: &LinkStatus) -> Result<(), AllocError>
 {
     push_sessions(out, link)?;
     push_messages(out, link)?;
+    push_filters(out, link)?;
     push_if_known(out, "unheard", link.unheard)
 }
 
@@ -126,6 +202,16 @@ fn push_node(out: &mut Vec<u8>, status: &Status) -> Result<(), AllocError>
     push_number(out, "up", status.up)
 }
 
+/// Adds how much of its history is saved, if it is.
+fn push_saved(out: &mut Vec<u8>, status: &Status) -> Result<(), AllocError>
+    ensures ok { OnOk result (out.new.items ≡ out.old.items ++ spec.saved_text (status_view status.now)) }
+    ensures err { OnErr result (StartsWith out.new.items out.old.items) }
+{
+    push_if_known(out, "saved", status.saved)?;
+    push_if_known(out, "segments", status.segments)?;
+    push_if_known(out, "bytes", status.bytes)
+}
+
 /// Adds how long its history is.
 fn push_history(out: &mut Vec<u8>, status: &Status) -> Result<(), AllocError>
     ensures ok { OnOk result (out.new.items ≡ out.old.items ++ spec.history_text (status_view status.now)) }
@@ -134,7 +220,21 @@ fn push_history(out: &mut Vec<u8>, status: &Status) -> Result<(), AllocError>
     push_number(out, "entries", status.entries)?;
     push_number(out, "forgotten", status.forgotten)?;
     push_number(out, "room", u64::from(status.room))?;
-    push_if_known(out, "saved", status.saved)
+    push_saved(out, status)
+}
+
+/// Adds the digest of its domain, if a file set it up.
+fn push_domain(out: &mut Vec<u8>, domain: &Option<String>) -> Result<(), AllocError>
+    ensures ok { OnOk result (out.new.items ≡ out.old.items ++ spec.domain_text (spec.text_of domain.now)) }
+    ensures err { OnErr result (StartsWith out.new.items out.old.items) }
+{
+    match domain {
+        Some(digits) => {
+            out.extend_from_slice(b" domain ")?;
+            out.extend_from_slice(digits.as_bytes())
+        }
+        None => Ok(()),
+    }
 }
 
 /// Adds the version of the program.
@@ -146,6 +246,15 @@ fn push_version(out: &mut Vec<u8>, version: &str) -> Result<(), AllocError>
     out.extend_from_slice(version.as_bytes())
 }
 
+/// Adds the file by which it was set up, and the version of the program.
+fn push_origin(out: &mut Vec<u8>, status: &Status) -> Result<(), AllocError>
+    ensures ok { OnOk result (out.new.items ≡ out.old.items ++ spec.origin_text (status_view status.now)) }
+    ensures err { OnErr result (StartsWith out.new.items out.old.items) }
+{
+    push_domain(out, &status.domain)?;
+    push_version(out, status.version)
+}
+
 /// Adds what is told of the router itself.
 fn push_router(out: &mut Vec<u8>, status: &Status) -> Result<(), AllocError>
     ensures ok { OnOk result (out.new.items ≡ out.old.items ++ spec.router_text (status_view status.now)) }
@@ -154,7 +263,7 @@ fn push_router(out: &mut Vec<u8>, status: &Status) -> Result<(), AllocError>
     out.extend_from_slice(b"status")?;
     push_node(out, status)?;
     push_history(out, status)?;
-    push_version(out, status.version)
+    push_origin(out, status)
 }
 
 /// Adds the line that tells what a router is about.

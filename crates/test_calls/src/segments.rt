@@ -9,7 +9,7 @@ use crate::asserts::{Host, RouterHost, done, must, some};
 use crate::callers::{Caller, opening};
 use crate::events::{EventKind, event_of};
 use history_file::Chain;
-use history_saver::{Rotation, SaveFault, SegmentFiles, SegmentFolder, SegmentSaver};
+use history_saver::{FolderSize, Rotation, SaveFault, SegmentFiles, SegmentFolder, SegmentSaver};
 use route_history::Journal;
 use slot_lock::{Pass, Right, Router};
 use std::alloc::Global;
@@ -112,6 +112,17 @@ impl SegmentFolder for MemoryFolder {
             self.named.remove(0);
         }
         Ok(())
+    }
+
+    fn size(&self) -> FolderSize {
+        let mut bytes: u64 = 0;
+        for segment in self.named.iter() {
+            bytes = bytes.saturating_add(segment.text.len() as u64);
+        }
+        FolderSize {
+            segments: self.named.len() as u64,
+            bytes,
+        }
     }
 }
 

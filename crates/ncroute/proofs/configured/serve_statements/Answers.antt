@@ -15,15 +15,15 @@ returns-in-Some-clause-unreported g c =
     rw (← c.console.view_is) (IfErr-weaker c.end_by_clash.result _ _
     (λ unreported told. inr (inl (c.in-Some.clash, c.in-Some.ensures, (told, refl, refl)))) c.end_by_clash.ensures.cut)
 
-pub returns-in-Ok-clause-served : goal.returns-in-Ok-clause-served
+pub returns-clause-served : goal.returns-clause-served
 unfolding ServesStatements
-returns-in-Ok-clause-served g c =
+returns-clause-served g c =
     IfOk-weaker c.serve_in_domain.result _ _
     (λ status does. inl (rw c.in_default.is at c.find_clash.ensures, (c.in-Ok.all, c.in-Ok.ensures, does))) c.serve_in_domain.ensures.served
 
-pub returns-in-Ok-clause-unreported : goal.returns-in-Ok-clause-unreported
+pub returns-clause-unreported : goal.returns-clause-unreported
 unfolding CutsStatements
-returns-in-Ok-clause-unreported g c =
+returns-clause-unreported g c =
     IfErr-weaker c.serve_in_domain.result _ _
     (λ unreported does. inl (rw c.in_default.is at c.find_clash.ensures, (c.in-Ok.all, c.in-Ok.ensures, does))) c.serve_in_domain.ensures.unreported
 

@@ -15,9 +15,9 @@ unfolding CutsText
 returns-in_default-clause-unreported g c =
     rw (← c.console.view_is) (IfErr-weaker c.end_by_memory.result _ _ (λ unreported told. inr (told, refl, refl)) c.end_by_memory.ensures.cut)
 
-pub returns-in-Ok-read_statements-clause-served : goal.returns-in-Ok-read_statements-clause-served
+pub returns-clause-served : goal.returns-clause-served
 unfolding ServesText
-returns-in-Ok-read_statements-clause-served g c =
+returns-clause-served g c =
     let file = rw c.as_str.ensures.value at c.in-Ok-read_statements.ensures in
     IfOk-weaker c.serve_statements.result _ _
     (λ status does. inl (
@@ -27,9 +27,9 @@ returns-in-Ok-read_statements-clause-served g c =
     ))
     (rw c.as_slice-statements.ensures.value at c.serve_statements.ensures.served)
 
-pub returns-in-Ok-read_statements-clause-unreported : goal.returns-in-Ok-read_statements-clause-unreported
+pub returns-clause-unreported : goal.returns-clause-unreported
 unfolding CutsText
-returns-in-Ok-read_statements-clause-unreported g c =
+returns-clause-unreported g c =
     let file = rw c.as_str.ensures.value at c.in-Ok-read_statements.ensures in
     IfErr-weaker c.serve_statements.result _ _
     (λ unreported does. inl (

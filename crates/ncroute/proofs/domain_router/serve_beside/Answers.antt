@@ -4,14 +4,14 @@ use Rattle.std.proofs.lemmas.Result.{IfErr-weaker, IfOk-weaker}
 use Rattle.ncroute.specs.DomainRouter.{CutsBeside, DoesBeside, ServesBeside}
 use Rattle.ncroute.proofs.domain_router.serve_beside.Goals as goal
 
-pub returns-in-Ok-clause-served : goal.returns-in-Ok-clause-served
+pub returns-clause-served : goal.returns-clause-served
 unfolding ServesBeside DoesBeside
-returns-in-Ok-clause-served g c =
+returns-clause-served g c =
     IfOk-weaker c.serve_file.result _ _ (λ status does. inl (c.in-Ok.me, c.in-Ok.ensures.node.0, c.in-Ok.ensures.node.1, does)) c.serve_file.ensures.served
 
-pub returns-in-Ok-clause-unreported : goal.returns-in-Ok-clause-unreported
+pub returns-clause-unreported : goal.returns-clause-unreported
 unfolding CutsBeside DoesBeside
-returns-in-Ok-clause-unreported g c =
+returns-clause-unreported g c =
     IfErr-weaker c.serve_file.result _ _ (λ unreported does. inl (c.in-Ok.me, c.in-Ok.ensures.node.0, c.in-Ok.ensures.node.1, does)) c.serve_file.ensures.unreported
 
 pub returns-in-Err-clause-served : goal.returns-in-Err-clause-served

@@ -1,12 +1,13 @@
-use Rattle.std.proofs.Common.{◌≡◌, ◌∙◌, ap, map, List}
+use Rattle.std.proofs.Common.{◌≡◌, ◌∙◌, ap}
 use Rattle.std.proofs.lemmas.Result.{IfErr-weaker, IfOk-weaker}
 use Rattle.std.specs.Option.{option_map}
 use Rattle.router_options.specs.PlanView.{PlanView}
-use Rattle.router_options.specs.declared.parts.LinkFiles.{LinkFiles}
 use Rattle.router_daemon.specs.Forgetting.{ForgetterView}
 use Rattle.router_daemon.specs.Running.{keep_of}
+use Rattle.router_daemon.specs.Spares.{linked_nodes}
 use Rattle.router_daemon.specs.declared.fault.DaemonFault.TheVariants as fault
 use Rattle.router_daemon.proofs.Running.{exits_early, run_fails, run_is_one, run_saves}
+use Rattle.router_daemon.proofs.Sparing.{linked_again}
 use Rattle.router_daemon.proofs.run.run_named.Goals as goal
 
 pub returns-clause-operated : goal.returns-clause-operated
@@ -17,9 +18,9 @@ returns-clause-operated g c =
     ap (λ (v : ForgetterView). option_map keep_of v.saver) c.in_ok-bounding.ensures.begun ∙ c.in_ok-forgetter.ensures.how in
     let nodes = c.in_ok-shared.shared.value.nodes.items in
     let sliced : c.as_slice.result.now ≡ plan.links = c.as_slice.ensures.value ∙ ap (λ (p : PlanView). p.links) c.plan.view_is in
-    let are : nodes ≡ map (λ link. link.node) plan.links =
-    ap (λ shared. shared.nodes.items) c.in_ok-shared.ensures.ok ∙ c.in_ok-shared_of.ensures
-    ∙ ap (λ (files : List LinkFiles). map (λ link. link.node) files) sliced in
+    let are : nodes ≡ linked_nodes plan =
+    linked_again _ plan _ nodes c.plan.view_is sliced
+    (ap (λ shared. shared.nodes.items) c.in_ok-shared.ensures.ok ∙ c.in_ok-shared_of.ensures) in
     IfOk-weaker c.end_run-ended.result _ _
     (λ end ok. run_is_one plan c.args.setting.filters.entries g.J.Naming.router c.args.pass nodes (g.I.Read.remaining c.args.reader.now)
     (g.I.Read.remaining c.serve_all-ran.new.reader) (g.W.Write.contents c.args.writer.now) (g.W.Write.contents c.serve_all-ran.new.writer)
@@ -36,9 +37,9 @@ returns-clause-saved g c =
     ap (λ (v : ForgetterView). option_map keep_of v.saver) c.in_ok-bounding.ensures.begun ∙ c.in_ok-forgetter.ensures.how in
     let nodes = c.in_ok-shared.shared.value.nodes.items in
     let sliced : c.as_slice.result.now ≡ plan.links = c.as_slice.ensures.value ∙ ap (λ (p : PlanView). p.links) c.plan.view_is in
-    let are : nodes ≡ map (λ link. link.node) plan.links =
-    ap (λ shared. shared.nodes.items) c.in_ok-shared.ensures.ok ∙ c.in_ok-shared_of.ensures
-    ∙ ap (λ (files : List LinkFiles). map (λ link. link.node) files) sliced in
+    let are : nodes ≡ linked_nodes plan =
+    linked_again _ plan _ nodes c.plan.view_is sliced
+    (ap (λ shared. shared.nodes.items) c.in_ok-shared.ensures.ok ∙ c.in_ok-shared_of.ensures) in
     IfOk-weaker c.end_run-ended.result _ _
     (λ end ok. run_saves plan c.args.setting.filters.entries g.J.Naming.router c.args.pass nodes (g.I.Read.remaining c.args.reader.now)
     (g.I.Read.remaining c.serve_all-ran.new.reader) (g.W.Write.contents c.args.writer.now) (g.W.Write.contents c.serve_all-ran.new.writer)
@@ -53,9 +54,9 @@ returns-clause-failed g c =
     let given = option_map (λ folder. g.S.SegmentFolder.holds folder) c.args.setting.save in
     let nodes = c.in_ok-shared.shared.value.nodes.items in
     let sliced : c.as_slice.result.now ≡ plan.links = c.as_slice.ensures.value ∙ ap (λ (p : PlanView). p.links) c.plan.view_is in
-    let are : nodes ≡ map (λ link. link.node) plan.links =
-    ap (λ shared. shared.nodes.items) c.in_ok-shared.ensures.ok ∙ c.in_ok-shared_of.ensures
-    ∙ ap (λ (files : List LinkFiles). map (λ link. link.node) files) sliced in
+    let are : nodes ≡ linked_nodes plan =
+    linked_again _ plan _ nodes c.plan.view_is sliced
+    (ap (λ shared. shared.nodes.items) c.in_ok-shared.ensures.ok ∙ c.in_ok-shared_of.ensures) in
     IfErr-weaker c.end_run-ended.result _ _
     (λ why is. run_fails plan c.args.setting.filters.entries g.J.Naming.router c.args.pass nodes (g.I.Read.remaining c.args.reader.now)
     (g.I.Read.remaining c.serve_all-ran.new.reader) (g.W.Write.contents c.args.writer.now) (g.W.Write.contents c.serve_all-ran.new.writer)

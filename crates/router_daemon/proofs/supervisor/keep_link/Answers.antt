@@ -14,11 +14,8 @@ closed None may_read may_write r d files retry before old wait none h =
     (before, old, subst (λ (w : Option ℕ). KeepsTurn may_read may_write r d files retry before old w) none h)
 closed (Some closing) may_read may_write r d files retry before old wait none h = tt
 
-pub returns-in_err-wait : goal.returns-in_err-wait
-returns-in_err-wait g c =
-    closed c.from_residual.result (g.D.LinkFolder.may_read c.args.folder.value) (g.D.LinkFolder.may_write c.args.folder.value)
-    g.J.Naming.router c.args.link.domain c.args.link.files c.args.link.retry c.loop.before c.loop.pass c.keep_turn.result c.in_err-wait.was
-    (subst
-    (λ folder. KeepsTurn (g.D.LinkFolder.may_read folder) (g.D.LinkFolder.may_write folder) g.J.Naming.router c.args.link.domain c.args.link.files
-    c.args.link.retry c.loop.before c.loop.pass c.keep_turn.result)
-    c.deref.ensures c.keep_turn.ensures.keeps)
+pub returns-in_err-wait-clause-closed : goal.returns-in_err-wait-clause-closed
+returns-in_err-wait-clause-closed g c =
+    closed c.from_residual.result (g.D.LinkFolder.may_read c.args.folder.now) (g.D.LinkFolder.may_write c.args.folder.now)
+    g.J.Naming.router c.args.link.now.domain c.args.link.now.files c.args.link.now.retry c.loop.before c.loop.pass c.keep_turn.result
+    c.in_err-wait.was c.keep_turn.ensures.keeps

@@ -1,5 +1,5 @@
 -- One link more is filled.
-use Rattle.std.proofs.Common.{◌≡◌, ◌+◌, ◌<◌, ◌++◌, ℕ, List, ap, drop, length, map, slice_index_or, slice_set, subst, sym, take}
+use Rattle.std.proofs.Common.{◌≡◌, ◌+◌, ◌<◌, ◌++◌, List, ap, drop, length, map, slice_index_or, slice_set, subst, sym, take}
 use Rattle.std.proofs.lemmas.List.Edits.{map_over_more}
 use Rattle.router_status.specs.Status.{filled}
 use Rattle.router_status.specs.declared.status.LinkStatus.{LinkStatus}
@@ -17,6 +17,5 @@ loop-link-preserved c =
     let read : x ≡ slice_index_or ys i x = ap (λ (y : LinkStatus). slice_index_or ys i y) c.link-item.is in
     let more : slice_set ys i (filled w x) ≡ map (filled w) (take (i + 1) xs) ++ drop (i + 1) xs =
     map_over_more (filled w) xs ys i x inside c.loop-link.invariant.raw read in
-    let raw = subst (λ (y : LinkStatus). slice_set ys i y ≡ map (filled w) (take (i + 1) xs) ++ drop (i + 1) xs)
-    (sym (ap (λ (n : ℕ). record x { waiting = n }) c.waiting_for-link.ensures)) more in
+    let raw = subst (λ (y : LinkStatus). slice_set ys i y ≡ map (filled w) (take (i + 1) xs) ++ drop (i + 1) xs) (sym c.in_ok-fill_link.ensures) more in
     record { raw = raw; seen = seen_filled w xs _ (i + 1) raw }
