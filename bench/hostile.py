@@ -1,7 +1,7 @@
 #!/usr/bin/env python3
 """Times the commands on inputs that are made to take long, and prints a table: the bytes of each, the processor time and that of a byte.
 
-usage: hostile.py NCROUTE [COMMAND]
+usage: hostile.py NCROUTE NCIMPORT [COMMAND]
 
 What is listed is the worst that was found for each command, its size doubled until it takes a second or meets a limit of the language. COMMAND, as
 `diff`, has it print the rows of that command alone. A run ends after LIMIT seconds of the clock, and that is said.
@@ -36,7 +36,7 @@ def lint(text):
 
 
 def imported(text):
-    return ["import", "--size", "16", 0], [text]
+    return ["ncimport", "--size", "16", 0], [text]
 
 
 def repeated(front, middle, back, size):
@@ -68,7 +68,7 @@ def histories():
 def included(depth, width):
     """A configuration that includes so many files, each of which includes as many, so deep."""
     files = [f'include "{at + 1}.filter";\n' * width for at in range(depth)]
-    return ["import", "--size", "16", 0], [*files, "define A = 1;\n"]
+    return ["ncimport", "--size", "16", 0], [*files, "define A = 1;\n"]
 
 
 # Rows of one size: the command, what the input is, and its words and files.
@@ -109,7 +109,7 @@ GROWING = [
 ]
 
 
-def run(program, words, texts):
+def run(programs, words, texts):
     """The processor time of a run in seconds, or nothing where it did not end."""
     with tempfile.TemporaryDirectory() as folder:
         names = [os.path.join(folder, f"{at}.filter") for at in range(len(texts))]
@@ -118,7 +118,8 @@ def run(program, words, texts):
                 out.write(text)
         before = resource.getrusage(resource.RUSAGE_CHILDREN)
         try:
-            line = [program, *(names[word] if isinstance(word, int) else word for word in words)]
+            line = [names[word] if isinstance(word, int) else word for word in words]
+            line = [programs[1], *line[1:]] if line[0] == "ncimport" else [programs[0], *line]
             subprocess.run(line, stdout=subprocess.DEVNULL, stderr=subprocess.DEVNULL, check=False, timeout=LIMIT)
         except subprocess.TimeoutExpired:
             return None
@@ -135,20 +136,20 @@ def show(what, words, texts, seconds):
 
 
 def main():
-    if len(sys.argv) not in (2, 3):
+    if len(sys.argv) not in (3, 4):
         sys.exit(__doc__)
-    program, wanted = os.path.abspath(sys.argv[1]), sys.argv[2:]
+    programs, wanted = [os.path.abspath(word) for word in sys.argv[1:3]], sys.argv[3:]
     print("| Command | Input | bytes | s | µs a byte |\n|---|---|---|---|---|")
     for what, (words, texts) in FIXED:
         if not wanted or wanted == words[:1]:
-            show(what, words, texts, run(program, words, texts))
+            show(what, words, texts, run(programs, words, texts))
     for what, longest, made in GROWING:
         size, last = 8_192, None
         while size <= longest:
             words, texts = made(size)
             if wanted and wanted != words[:1]:
                 break
-            last = words, texts, run(program, words, texts)
+            last = words, texts, run(programs, words, texts)
             if last[2] is None or last[2] > 1:
                 break
             size *= 2

@@ -1,8 +1,8 @@
 #!/usr/bin/env python3
-"""Counts what `ncroute import` takes for configurations of more and more filters, and prints a table: the instructions of each, and those of a
+"""Counts what `ncimport` takes for configurations of more and more filters, and prints a table: the instructions of each, and those of a
 filter.
 
-usage: imports.py NCROUTE
+usage: imports.py NCIMPORT
 
 Each filter has a set of 250 prefixes, a line each. What is not imported is said, and the status is 1. valgrind counts.
 """
@@ -29,7 +29,7 @@ def configuration(count):
 def main():
     if len(sys.argv) != 2:
         sys.exit(__doc__)
-    command = [os.path.abspath(sys.argv[1]), "import", "--size", "16"]
+    command = [os.path.abspath(sys.argv[1]), "--size", "16"]
     print("| Filters | MB | M instructions | of a filter |\n|---|---|---|---|")
     with tempfile.TemporaryDirectory() as folder:
         for count in COUNTS:

@@ -13,10 +13,10 @@
 #   lookup times the lookup of an int in sets of 3 to 1,024 ranges, and the match of a prefix in sets of 12 to 1,024 patterns
 #   diff times `ncroute diff` and `ncroute lint` on lists of 290 and 1,024 patterns
 #   names counts instructions of scripts with names that would collide in a table by std's hash, beside other names
-#   imports counts instructions of `ncroute import` for configurations of 100 to 800 filters
+#   imports counts instructions of `ncimport` for configurations of 100 to 800 filters
 #   hostile times commands on inputs that are made to take long
 #   library times calls of the library for C beside the same runs in Rattle; FILTER_C=PATH names an archive that is built already
-#   NCROUTE=PATH       a proved `ncroute` that is built already: then none is built here
+#   NCROUTE=PATH       a proved `ncroute` that is built already, with `ncimport` beside it: then none is built here
 #   BENCH_PARTS=PATH   the same for `bench_parts`
 #   ROUNDS=N           how often each program is run on each input (7)
 #   ROUTES=N           the number of route lines of each input of `eval` (200,000, of straight_filter 100,000)
@@ -49,6 +49,16 @@ need_ncroute() {
     if [ -z "${NCROUTE:-}" ]; then
         build ncroute --help
         NCROUTE="$bench/../crates/ncroute/out/ncroute"
+    fi
+}
+
+# Sees to it that NCIMPORT names a program: the one beside `ncroute`, where that is built already.
+need_ncimport() {
+    if [ -z "${NCROUTE:-}" ]; then
+        build ncimport --help
+        NCIMPORT="$bench/../crates/ncimport/out/ncimport"
+    else
+        NCIMPORT="$(dirname "$NCROUTE")/ncimport"
     fi
 }
 
@@ -165,11 +175,12 @@ elif [ "$wanted" = names ]; then
     need_ncroute
     "$bench/names.py" "$NCROUTE"
 elif [ "$wanted" = imports ]; then
-    need_ncroute
-    "$bench/imports.py" "$NCROUTE"
+    need_ncimport
+    "$bench/imports.py" "$NCIMPORT"
 elif [ "$wanted" = hostile ]; then
+    need_ncimport
     need_ncroute
-    "$bench/hostile.py" "$NCROUTE"
+    "$bench/hostile.py" "$NCROUTE" "$NCIMPORT"
 elif [ "$wanted" = library ]; then
     need_ncroute
     need_bench_parts

@@ -5,7 +5,7 @@ usage: scripts/check_documents.py        (NCROUTE=PATH: the program; without it,
 
 - Each example: a line `    $ COMMAND` of README.md or docs/*.md, run where the examples of the repository are, writes the indented lines below it.
   One that looks at standard error (`2>&1`), names the output of a command (`<(`), or the file of a filter or a history other than behind `<` (as
-  `ncroute filter` and `ncroute lint` do), or runs a router (`ncroute router`) needs the program, and is left out without NCROUTE=PATH.
+  `ncroute filter` and `ncroute lint` do), or runs a router (`ncroute router`) or `ncimport` needs the programs, and is left out without NCROUTE=PATH.
 - Each block of several terminals (`    one$ COMMAND`, `    one> LINE`, `    one: LINE`), played as lib/terminals.py says, needs the program too.
 - Each example that hands a filter from `ncroute check` on to another `ncroute` does nothing, and fails, with a filter that is refused.
 - The table of the examples in docs/LANGUAGE.md: each filter of examples/ answers the route so.
@@ -99,8 +99,8 @@ def listed(text):
 
 
 def needs_program(command):
-    """`rt try --cases` tells no standard error, and runs in a folder without the files of the repository."""
-    words = ("2>&1", "<(", "ncroute filter", "ncroute lint", "ncroute router", ".history")
+    """`rt try --cases` tells no standard error, runs in a folder without the files of the repository, and runs no other program."""
+    words = ("2>&1", "<(", "ncimport", "ncroute filter", "ncroute lint", "ncroute router", ".history")
     return any(word in command for word in words) or ".filter" in re.sub(r"< *[\w/.]+", "", command)
 
 

@@ -1,10 +1,11 @@
 #!/usr/bin/env python3
-"""Tries `ncroute import` at many sizes: variables, lengths, numbers of filters; names that would steer a terminal; and random configurations that
+"""Tries `ncimport` at many sizes: variables, lengths, numbers of filters; names that would steer a terminal; and random configurations that
 are made of the filters in `tests/bird/`, whose import must have the tokens of the filter itself. Where BIRD takes a filter that is refused here, what
 is imported must answer as BIRD did. Prints what fails, and at last 'N passed, M failed'. Each rewrite, files that include files, and what is left
-out and at which place, are in `tests/rows/import.rows`.
+out and at which place, are in `tests/rows/ncimport.rows`.
 
-usage: NCROUTE=PATH [SEED=N] scripts/check_import.py     (PATH: the program as it is built; N: the seed of the random configurations, 1)
+usage: NCROUTE=PATH [SEED=N] scripts/check_import.py     (PATH: `ncroute` as it is built, with `ncimport` beside it; N: the seed of the random
+                                                          configurations, 1)
 """
 import functools
 import os
@@ -18,7 +19,7 @@ import tempfile
 
 from lib import bird
 from lib.counts import Counts
-from lib.program import built
+from lib.program import beside, built
 from lib.tokens import words
 
 SIZE = "250"
@@ -60,7 +61,7 @@ class Trial:
     """Configurations that are imported in a folder of their own."""
 
     def __init__(self, ncroute, folder):
-        self.ncroute, self.folder = ncroute, folder
+        self.ncroute, self.ncimport, self.folder = ncroute, beside(ncroute), folder
         self.counts, self.number = Counts(), 0
 
     def check(self, name, holds, told=""):
@@ -78,7 +79,7 @@ class Trial:
         (here / folder).mkdir(parents=True)
         for name, text in files:
             (here / name).write_bytes(text.encode("utf-8", "surrogateescape"))
-        words = [self.ncroute, "import", "--size", SIZE, "--out", folder, files[0][0]]
+        words = [self.ncimport, "--size", SIZE, "--out", folder, files[0][0]]
         return here, subprocess.run(words, cwd=here, capture_output=True, **more)
 
     def taken(self, name, config, filters):

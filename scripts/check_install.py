@@ -1,9 +1,9 @@
 #!/usr/bin/env python3
-"""Installs the program in a temporary folder, and looks at what came there: both programs, the man pages, the completions, and the syntax files, by
+"""Installs the programs in a temporary folder, and looks at what came there: the programs, the man pages, the completions, and the syntax files, by
 which each token of the filters in `examples/` is read. Prints what is wrong, and at last 'N passed, M failed'. What needs a program that is not there
 (`groff`, `vim`, `zsh`, `fish`) is not run: a line says so, and it counts as skipped.
 
-usage: NCROUTE=PATH scripts/check_install.py     (PATH: the program as it is built)
+usage: NCROUTE=PATH scripts/check_install.py     (PATH: `ncroute` as it is built, with `ncimport` beside it)
 """
 import collections
 import itertools
@@ -18,6 +18,9 @@ from lib import documents, manual
 from lib.counts import Counts, lack_of
 from lib.program import TOP, built
 from lib.tokens import tokens
+
+# Those that are made of the sources.
+PROGRAMS = ("ncroute", "ncimport")
 
 # The words of BIRD that are refused by name.
 LEFT_OUT = """function define print printn return include string pair quad ec lc bgppath bgpmask clist eclist lclist set from proto preference
@@ -117,7 +120,7 @@ def vim_differs(prefix):
 def completed(prefix, words):
     """What bash completes the last of some words to."""
     given = f'COMP_WORDS=({" ".join(words)}); COMP_CWORD={len(words) - 1}'
-    line = f'. {prefix}/share/bash-completion/completions/ncroute; {given}; _ncroute; echo "${{COMPREPLY[@]}}"'
+    line = f'. {prefix}/share/bash-completion/completions/{words[0]}; {given}; _{words[0]}; echo "${{COMPREPLY[@]}}"'
     return subprocess.run(["bash", "-c", line], capture_output=True, text=True, cwd=TOP).stdout.split()
 
 
@@ -131,7 +134,9 @@ def bash_differs(prefix):
         (["ncroute", "test", "examples/customer_list.t"], ["examples/customer_list.test"]),
         (["ncroute", "eval", "--e"], ["--explain"]),
         (["ncroute", "rewrite", "--e"], []),
-        (["ncroute", "import", "--out", "exam"], ["examples"]),
+        (["ncimport", "--o"], ["--out"]),
+        (["ncimport", "--out", "exam"], ["examples"]),
+        (["ncimport", "--size", "16", "examples/edge"], ["examples/edge_router.bird"]),
         (["ncroute", "run", "--save", "examples/no"], ["examples/no_bogons.filter"]),
     )
     for words, wanted in rows:
@@ -142,14 +147,18 @@ def bash_differs(prefix):
 
 def zsh_differs(prefix):
     """What keeps zsh from reading its completions."""
-    ran = subprocess.run(["zsh", "-n", os.path.join(prefix, "share/zsh/site-functions/_ncroute")], capture_output=True, text=True)
-    return ran.stderr if ran.returncode else None
+    for name in PROGRAMS:
+        ran = subprocess.run(["zsh", "-n", os.path.join(prefix, f"share/zsh/site-functions/_{name}")], capture_output=True, text=True)
+        if ran.returncode:
+            return ran.stderr
+    return None
 
 
 def fish_differs(prefix):
-    path = os.path.join(prefix, "share/fish/vendor_completions.d/ncroute.fish")
-    for line, wanted in (("ncroute che", ["check"]), ("ncroute run --exp", ["--explain"]), ("ncroute check --explain ne", ["never"]),
+    for line, wanted in (("ncimport --o", ["--out"]), ("ncimport examples/edge", ["examples/edge_router.bird"]),
+                         ("ncroute che", ["check"]), ("ncroute run --exp", ["--explain"]), ("ncroute check --explain ne", ["never"]),
                          ("ncroute run --save examples/no", ["examples/no_bogons.filter"])):
+        path = os.path.join(prefix, f"share/fish/vendor_completions.d/{line.split()[0]}.fish")
         said = subprocess.run(["fish", "--no-config", "-c", f"source {path}; complete -C '{line}'"], capture_output=True, text=True).stdout
         if (found := [words.split("\t")[0] for words in said.splitlines()]) != wanted:
             return f"{line}: {found}, and not {wanted}"
@@ -161,7 +170,7 @@ def fish_differs(prefix):
 
 def programs_missing(prefix):
     """The programs run, and tell how they are called."""
-    for name in ("ncroute", "ncroute-ctl", "ncroute-kernel"):
+    for name in (*PROGRAMS, "ncroute-ctl", "ncroute-kernel"):
         ran = subprocess.run([os.path.join(prefix, "bin", name), "--help"], capture_output=True, text=True, check=False)
         if ran.returncode or f"usage: {name} " not in ran.stdout.replace("Usage", "usage"):
             return f"{name}: {ran}"
@@ -172,7 +181,7 @@ def programs_missing(prefix):
 
 
 def pages_missing(prefix):
-    """One page for each command, and the one that each document is on; no others."""
+    """One page for each command, and the one that each document is on, as that of `ncimport`; no others."""
     said = subprocess.run([os.path.join(prefix, "bin", "ncroute"), "--help"], capture_output=True, text=True, check=True).stdout
     commands = re.findall(r"(?m)^  (\w+) ", said.partition("Commands:")[2].partition("Options:")[0])
     wanted = {("ncroute", 1)} | {(f"ncroute-{name}", 1) for name in commands if name != "help"} | set(manual.PAGES.values())
@@ -213,7 +222,7 @@ def pages_differ(prefix):
 
 def references(text):
     """The pages that a text names."""
-    return [(name, int(section)) for name, section in re.findall(r"(ncroute[\w-]*)\((\d)\)", text)]
+    return [(name, int(section)) for name, section in re.findall(r"(ncroute[\w-]*|ncimport)\((\d)\)", text)]
 
 
 def references_differ(texts):

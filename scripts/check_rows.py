@@ -1,5 +1,5 @@
 #!/usr/bin/env python3
-"""Runs the rows of `tests/rows/`: what the program reads and what it answers. Prints each row that differs, and at last 'N passed, M failed'.
+"""Runs the rows of `tests/rows/`: what the programs read and what they answer. Prints each row that differs, and at last 'N passed, M failed'.
 
 usage: scripts/check_rows.py [[--without] NAME..]
        (NAMEs: of files, as `eval`; --without: all files but these; NCROUTE=PATH: the program; without it, the sources as they are, by `rt try`:
@@ -35,7 +35,7 @@ class Place:
 
     def line(self, redirections):
         """The line of a shell that runs the row. What is behind a `|` of its words has another standard input and error."""
-        return f"cd {self.folder} && {self.row.before} && {redirections} ncroute {self.row.words}"
+        return f"cd {self.folder} && {self.row.before} && {redirections} {self.row.command()}"
 
     def read(self, name):
         """The bytes of a file; none where it is not there."""
@@ -81,7 +81,7 @@ def main(names):
     said = dict(zip(plain, ncroute.runs([(place.line(f"2>{place.errors}"), place.row.given) for place in plain])))
     for place in places:
         output, status = said[place] if place in said else place.on_terminal(ncroute)
-        counts.judge(f"{place.row.place}: ncroute {place.row.words}", "; ".join(place.differences(output, status, is_built)))
+        counts.judge(f"{place.row.place}: {place.row.command()}", "; ".join(place.differences(output, status, is_built)))
     outer.cleanup()
     ncroute.close()
     counts.finish()

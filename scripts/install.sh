@@ -1,11 +1,11 @@
 #!/usr/bin/env bash
-# Proves, builds and installs `ncroute`, `ncroute-ctl` and `ncroute-kernel` with their man pages, completions for bash, zsh and fish, and the syntax files of
-# `editors/`.
+# Proves, builds and installs `ncroute`, `ncimport`, `ncroute-ctl` and `ncroute-kernel` with their man pages, completions for bash, zsh and fish, and
+# the syntax files of `editors/`.
 #
 # usage: scripts/install.sh [--unproved] [--service] [PREFIX]     (PREFIX: /usr/local; --unproved: builds without proving anything, as
 #                                                    scripts/build.sh does; --service: installs the systemd units of `packaging/`, too)
-#        scripts/install.sh --library [--unproved] [PREFIX]      installs the library of filters for C in place of the program
-#   NCROUTE=PATH   a program that is built already: then none is built here
+#        scripts/install.sh --library [--unproved] [PREFIX]      installs the library of filters for C in place of the programs
+#   NCROUTE=PATH   a program that is built already, with `ncimport` beside it: then none is built here
 #   FILTER_C=PATH  the same for the archive of the crate filter_c
 #   DESTDIR=ROOT   all comes into ROOT, from where a package takes it to PREFIX, a path from `/` on (not with --library)
 set -eu
@@ -38,17 +38,18 @@ if [ -z "${NCROUTE:-}" ]; then
     "$top/scripts/build.sh" "${how[@]}" "$NCROUTE"
 fi
 install -D -m 755 "$NCROUTE" "$prefix/bin/ncroute"
+install -D -m 755 "$(dirname "$NCROUTE")/ncimport" "$prefix/bin/ncimport"
 for program in ncroute-ctl ncroute-kernel; do
     install -D -m 755 "$top/tools/$program" "$prefix/bin/$program"
 done
 install -D -m 755 "$top/docs/monitor.py" "$prefix/share/ncroute/monitor.py"
 # Where this runs as root, it leaves no folder of its own in the sources.
-PYTHONDONTWRITEBYTECODE=1 "$top/scripts/make_manual.py" "$prefix/bin/ncroute" "$prefix"
+PYTHONDONTWRITEBYTECODE=1 "$top/scripts/make_manual.py" "$prefix/bin" "$prefix"
 for part in syntax ftdetect; do
     install -D -m 644 "$top/editors/vim/$part/ncroute.vim" "$prefix/share/vim/vimfiles/$part/ncroute.vim"
 done
 (cd "$top/editors/vscode" && find . -type f -exec install -D -m 644 {} "$prefix/share/ncroute/vscode/{}" \;)
-echo "installed in $prefix: bin/ncroute, bin/ncroute-ctl, bin/ncroute-kernel, man pages, completions, and syntax files for vim; those for Visual Studio Code are in share/ncroute/vscode, a script for Prometheus is share/ncroute/monitor.py"
+echo "installed in $prefix: bin/ncroute, bin/ncimport, bin/ncroute-ctl, bin/ncroute-kernel, man pages, completions, and syntax files for vim; those for Visual Studio Code are in share/ncroute/vscode, a script for Prometheus is share/ncroute/monitor.py"
 if [ -n "$has_units" ]; then
     (cd "$top/packaging" && find . -type f -exec install -D -m 644 {} "$prefix/lib/{}" \;)
     # The units name the programs where they will be.

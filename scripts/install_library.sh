@@ -25,7 +25,7 @@ trap 'rm -rf "$folder"' EXIT
 if [ -n "${FILTER_C:-}" ]; then
     cp "$FILTER_C" "$folder/filter_c.a"
 elif [ -n "$how" ]; then
-    "$top/scripts/build_unproved.py" --library "$folder/filter_c.a"
+    "$top/scripts/build_unproved.py" filter_c "$folder/filter_c.a"
 else
     echo "proving and building filter_c, which takes half an hour or more from nothing" >&2
     (cd "$top/crates/filter_c" && rt lib >&2)

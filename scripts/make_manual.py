@@ -1,15 +1,15 @@
 #!/usr/bin/env python3
-"""Writes the man pages of `ncroute` from what `ncroute --help` and the help of each command say and from the documents of `docs/` (as
-`lib/manual.py` has them), and its completions for bash, zsh and fish from the help alone.
+"""Writes the man pages of `ncroute` and `ncimport` from what their help and that of each command say and from the documents of `docs/` (as
+`lib/manual.py` has them), and their completions for bash, zsh and fish from the help alone.
 
-usage: make_manual.py NCROUTE FOLDER     (NCROUTE: the program as it is built; FOLDER gets share/man, share/bash-completion, share/zsh, share/fish)
+usage: make_manual.py BIN FOLDER     (BIN: the folder of the programs as they are built; FOLDER gets share/man, share/bash-completion, share/zsh,
+                                      share/fish)
 """
 import os
 import pathlib
 import re
 import subprocess
 import sys
-import tempfile
 
 from lib.manual import NAME, documents, reference, roff
 
@@ -36,10 +36,10 @@ class Option:
 
 
 class Command:
-    """What the help of a command says; that of the program has an empty name."""
+    """What the help of a program or of a command of it says; the command that is the program has an empty name."""
 
-    def __init__(self, name, text):
-        self.name = name
+    def __init__(self, program, name, text):
+        self.program, self.name = program, name
         head, *self.body = re.split(r"(?m)^(?=Usage: )", text, maxsplit=1)
         self.about = head.strip()
         sections = "".join(self.body).split("\n\n")
@@ -58,6 +58,9 @@ class Command:
             else:
                 self.rest = [section]
 
+    def page(self):
+        return (f"{self.program}-{self.name}" if self.name else self.program), 1
+
     def takes_files(self):
         return any(re.search("FILE|OLD|NEW", argument) for argument, _ in self.arguments)
 
@@ -67,18 +70,14 @@ def option_of(line, heading):
     return Option(names.split(", "), value, text, heading)
 
 
-def commands_of(ncroute):
-    """The program itself, and each of its commands."""
-    with tempfile.TemporaryDirectory() as folder:
-        # The usage names the program as it was called.
-        called = os.path.join(folder, NAME)
-        os.symlink(os.path.realpath(ncroute), called)
+def commands_of(folder, name):
+    """A program itself, and each of its commands."""
+    def help_of(*words):
+        ran = subprocess.run([os.path.join(folder, name), *words, "--help"], capture_output=True, text=True, check=True)
+        return Command(name, " ".join(words), ran.stdout)
 
-        def help_of(*words):
-            return Command(" ".join(words), subprocess.run([called, *words, "--help"], capture_output=True, text=True, check=True).stdout)
-
-        program = help_of()
-        return [program] + [help_of(name) for name, _ in program.commands if name != "help"]
+    program = help_of()
+    return [program] + [help_of(command) for command, _ in program.commands if command != "help"]
 
 
 # ---- man pages
@@ -115,10 +114,10 @@ def related(page, documents, known):
 
 
 def pages(commands, documents):
-    """Each man page, by its file: one for each command, with the document about it, and one for each other document."""
+    """Each man page, by its file: one for each program and command, with the document about it, and one for each other document."""
     texts, documented = {}, {document.page for document in documents}
     for command in commands:
-        page = (f"{NAME}-{command.name}" if command.name else NAME, 1)
+        page = command.page()
         texts[page] = head(page, roff(command.about)) + of_command(command, page in documented)
     for document in documents:
         if document.page[1] != 1:
@@ -136,25 +135,33 @@ def pages(commands, documents):
 # ---- completions
 
 
+def bash_cases(command, before):
+    """What bash completes behind a command: values of options, and options and files. `before` stands before a word where it is looked at."""
+    values, words = [], []
+    for option in command.options:
+        if option.value:
+            asked = f'-W "{" ".join(option.values)}"' if option.values else {"FILE": "-f", "FOLDER": "-d"}.get(option.value)
+            found = f'COMPREPLY=($(compgen {asked} -- "$word")); ' if asked else ""
+            values.append(f'    "{before}{option.long()}") {found}return ;;')
+    names = " ".join(option.long() for option in command.options)
+    words.append(f'    "{before}-"*) COMPREPLY=($(compgen -W "{names}" -- "$word")) ;;')
+    if command.takes_files():
+        words.append(f'    "{before}"*) COMPREPLY=($(compgen -f -- "$word")) ;;')
+    return values, words
+
+
 def bash(program, commands):
-    lines = ["# Completes ncroute in bash.", "_ncroute() {", "    local word=${COMP_WORDS[COMP_CWORD]} before=${COMP_WORDS[COMP_CWORD - 1]}"]
+    name = program.program
+    lines = [f"# Completes {name} in bash.", f"_{name}() {{", "    local word=${COMP_WORDS[COMP_CWORD]} before=${COMP_WORDS[COMP_CWORD - 1]}"]
     lines.append("    COMPREPLY=()")
-    names = " ".join([command.name for command in commands] + ["help"] + [option.long() for option in program.options])
-    lines += ["    if ((COMP_CWORD == 1)); then", f'        COMPREPLY=($(compgen -W "{names}" -- "$word"))', "        return", "    fi"]
-    lines.append('    case "${COMP_WORDS[1]} $before" in')
-    for command in commands:
-        for option in command.options:
-            if option.value:
-                asked = f'-W "{" ".join(option.values)}"' if option.values else {"FILE": "-f", "FOLDER": "-d"}.get(option.value)
-                words = f'COMPREPLY=($(compgen {asked} -- "$word")); ' if asked else ""
-                lines.append(f'    "{command.name} {option.long()}") {words}return ;;')
-    lines += ["    esac", '    case "${COMP_WORDS[1]} $word" in']
-    for command in commands:
-        names = " ".join(option.long() for option in command.options)
-        lines.append(f'    "{command.name} -"*) COMPREPLY=($(compgen -W "{names}" -- "$word")) ;;')
-        if command.takes_files():
-            lines.append(f'    "{command.name} "*) COMPREPLY=($(compgen -f -- "$word")) ;;')
-    lines += ["    esac", "}", "complete -o filenames -F _ncroute ncroute"]
+    which, cases = "", [bash_cases(program, "")]
+    if commands:
+        names = " ".join([command.name for command in commands] + ["help"] + [option.long() for option in program.options])
+        lines += ["    if ((COMP_CWORD == 1)); then", f'        COMPREPLY=($(compgen -W "{names}" -- "$word"))', "        return", "    fi"]
+        which, cases = "${COMP_WORDS[1]} ", [bash_cases(command, f"{command.name} ") for command in commands]
+    lines += [f'    case "{which}$before" in', *(line for values, _ in cases for line in values), "    esac"]
+    lines += [f'    case "{which}$word" in', *(line for _, words in cases for line in words), "    esac"]
+    lines += ["}", f"complete -o filenames -F _{name} {name}"]
     return "\n".join(lines) + "\n"
 
 
@@ -163,24 +170,34 @@ def in_quotes(text):
     return text.replace("'", "'\\''").replace("[", "(").replace("]", ")").replace(":", ",")
 
 
+def zsh_arguments(command):
+    """The words by which zsh completes the options and arguments of a command."""
+    specs = []
+    for option in command.options:
+        action = {"FILE": "_files", "FOLDER": "_files -/"}.get(option.value, f"({' '.join(option.values)})")
+        values = f":{option.value}:{action}" if option.value else ""
+        again = "*" if option.may_come_again() else ""
+        for name in option.names:
+            sign = "=" if option.value and name.startswith("--") else ""
+            specs.append(f"'{again}{name}{sign}[{in_quotes(option.text)}]{values}'")
+    if command.takes_files():
+        specs.append("'*:file:_files'")
+    return f"_arguments {' '.join(specs)}"
+
+
 def zsh(program, commands):
-    lines = ["#compdef ncroute", "_ncroute() {", "    local -a commands", "    commands=("]
-    lines += [f"        '{name}:{in_quotes(about)}'" for name, about in program.commands]
-    lines += ["    )", "    if ((CURRENT == 2)); then", "        _describe command commands", "        return", "    fi"]
-    lines += ["    local command=$words[2]", "    shift words", "    ((CURRENT--))", "    case $command in"]
-    for command in commands:
-        specs = []
-        for option in command.options:
-            action = {"FILE": "_files", "FOLDER": "_files -/"}.get(option.value, f"({' '.join(option.values)})")
-            values = f":{option.value}:{action}" if option.value else ""
-            again = "*" if option.may_come_again() else ""
-            for name in option.names:
-                sign = "=" if option.value and name.startswith("--") else ""
-                specs.append(f"'{again}{name}{sign}[{in_quotes(option.text)}]{values}'")
-        if command.takes_files():
-            specs.append("'*:file:_files'")
-        lines.append(f"    {command.name}) _arguments {' '.join(specs)} ;;")
-    lines += ["    esac", "}", '_ncroute "$@"']
+    name = program.program
+    lines = [f"#compdef {name}", f"_{name}() {{"]
+    if commands:
+        lines += ["    local -a commands", "    commands=("]
+        lines += [f"        '{command}:{in_quotes(about)}'" for command, about in program.commands]
+        lines += ["    )", "    if ((CURRENT == 2)); then", "        _describe command commands", "        return", "    fi"]
+        lines += ["    local command=$words[2]", "    shift words", "    ((CURRENT--))", "    case $command in"]
+        lines += [f"    {command.name}) {zsh_arguments(command)} ;;" for command in commands]
+        lines.append("    esac")
+    else:
+        lines.append(f"    {zsh_arguments(program)}")
+    lines += ["}", f'_{name} "$@"']
     return "\n".join(lines) + "\n"
 
 
@@ -189,31 +206,37 @@ def in_fish_quotes(text):
     return "'" + text.replace("\\", "\\\\").replace("'", "\\'") + "'"
 
 
+def fish_options(command, when):
+    """The lines by which fish completes the options and arguments of a command, each of which begins with when it does."""
+    for option in command.options:
+        files = {"FILE": " -r -F", "FOLDER": " -x -a '(__fish_complete_directories)'"}
+        value = files.get(option.value, f" -x -a '{' '.join(option.values)}'") if option.value else ""
+        names = " ".join(f"-l {name[2:]}" if name.startswith("--") else f"-s {name[1:]}" for name in option.names)
+        yield f"{when} {names}{value} -d {in_fish_quotes(option.text)}"
+    if command.takes_files():
+        yield f"{when} -F"
+
+
 def fish(program, commands):
-    lines = ["# Completes ncroute in fish.", "complete -c ncroute -f"]
-    lines += [f"complete -c ncroute -n __fish_use_subcommand -a {name} -d {in_fish_quotes(about)}" for name, about in program.commands]
-    for command in commands:
-        when = f"complete -c ncroute -n '__fish_seen_subcommand_from {command.name}'"
-        for option in command.options:
-            files = {"FILE": " -r -F", "FOLDER": " -x -a '(__fish_complete_directories)'"}
-            value = files.get(option.value, f" -x -a '{' '.join(option.values)}'") if option.value else ""
-            names = " ".join(f"-l {name[2:]}" if name.startswith("--") else f"-s {name[1:]}" for name in option.names)
-            lines.append(f"{when} {names}{value} -d {in_fish_quotes(option.text)}")
-        if command.takes_files():
-            lines.append(f"{when} -F")
+    name = program.program
+    lines = [f"# Completes {name} in fish.", f"complete -c {name} -f"]
+    for command, about in program.commands:
+        lines.append(f"complete -c {name} -n __fish_use_subcommand -a {command} -d {in_fish_quotes(about)}")
+    for command in commands or [program]:
+        when = f" -n '__fish_seen_subcommand_from {command.name}'" if command.name else ""
+        lines += fish_options(command, f"complete -c {name}{when}")
     return "\n".join(lines) + "\n"
 
 
 def main(words):
     if len(words) != 2:
         sys.exit(__doc__)
-    program, *commands = commands_of(words[0])
-    files = {
-        **dict(pages([program, *commands], documents())),
-        "share/bash-completion/completions/ncroute": bash(program, commands),
-        "share/zsh/site-functions/_ncroute": zsh(program, commands),
-        "share/fish/vendor_completions.d/ncroute.fish": fish(program, commands),
-    }
+    programs = [commands_of(words[0], name) for name in (NAME, "ncimport")]
+    files = dict(pages([command for commands in programs for command in commands], documents()))
+    for program, *commands in programs:
+        files[f"share/bash-completion/completions/{program.program}"] = bash(program, commands)
+        files[f"share/zsh/site-functions/_{program.program}"] = zsh(program, commands)
+        files[f"share/fish/vendor_completions.d/{program.program}.fish"] = fish(program, commands)
     for name, text in files.items():
         path = pathlib.Path(words[1], name)
         path.parent.mkdir(parents=True, exist_ok=True)

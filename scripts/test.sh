@@ -82,9 +82,10 @@ if [ -n "$is_proved" ]; then
     # What the gate took so far, by the system's own sum, as bench/GATE.md counts it.
     times >"$output"
     echo "rt ci: $(tail -n 1 "$output") of processor time, in user code and in the system"
-    # The program that the gate has built runs the examples. Without it the sources do, by `rt try`.
-    if [ -x crates/ncroute/out/ncroute ]; then
-        export NCROUTE="$PWD/crates/ncroute/out/ncroute"
+    # The programs that the gate has built run the examples. Without them the sources do, by `rt try`.
+    if [ -x crates/ncroute/out/ncroute ] && [ -x crates/ncimport/out/ncimport ]; then
+        install -D -m 755 -t "$folder/bin" crates/ncroute/out/ncroute crates/ncimport/out/ncimport
+        export NCROUTE="$folder/bin/ncroute"
     fi
 elif [ -z "${NCROUTE:-}" ]; then
     export NCROUTE="$folder/ncroute"

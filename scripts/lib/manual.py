@@ -1,7 +1,7 @@
 """Which documents of `docs/` are man pages, and how their Markdown becomes roff. `make_manual.py` puts the pages together.
 
-A document about one command is the last section of that command's page, in place of the running text of its help; each other one is a page of its
-own, in section 5 (formats), 7, or 8 (programs beside the router).
+A document about one command, or about `ncimport`, is the last section of its page, in place of the running text of its help; each other one is a
+page of its own, in section 5 (formats), 7, or 8 (programs beside the router).
 A link to another page becomes that page's name and section, and a link to anything else its text alone. A form of Markdown that no document
 has used yet ends the script with a message, so that nothing is left out unseen.
 """
@@ -17,7 +17,7 @@ NAME = "ncroute"
 # The page and the section of each document. That of ROUTER.md is named after its title, since `ncroute router` has a page.
 PAGES = {
     "CHECK": ("ncroute-check", 1), "DIFF": ("ncroute-diff", 1), "DOMAIN": ("ncroute-domain", 1),
-    "FILTER": ("ncroute-filter", 1), "IMPORT": ("ncroute-import", 1), "LINT": ("ncroute-lint", 1), "LIST": ("ncroute-list", 1),
+    "FILTER": ("ncroute-filter", 1), "IMPORT": ("ncimport", 1), "LINT": ("ncroute-lint", 1), "LIST": ("ncroute-list", 1),
     "DAEMON": ("ncroute-router", 1), "TESTING": ("ncroute-test", 1),
     "CONTROL": ("ncroute-ctl", 8), "KERNEL": ("ncroute-kernel", 8),
     "CODE_FILE": ("ncroute-code-file", 5), "HISTORY": ("ncroute-history", 5), "SCRIPT": ("ncroute-script", 5),

@@ -1,7 +1,8 @@
-"""How the scripts run `ncroute`: a shell finds it as a command, whether or not it is built.
+"""How the scripts run `ncroute` and `ncimport`: a shell finds them as commands, the first one whether or not it is built.
 
-With NCROUTE=PATH that program runs. Without, `rt try --cases` builds the sources as they are, unproved and with checks, and runs them on
-all inputs at once: a command that was not run yet stands for each input that the shell gave, and the shell runs again with its answers.
+With NCROUTE=PATH that program runs, and `ncimport` beside it. Without, there is no `ncimport`, and `rt try --cases` builds the sources of `ncroute`
+as they are, unproved and with checks, and runs them on all inputs at once: a command that was not run yet stands for each input that the shell
+gave, and the shell runs again with its answers.
 """
 import concurrent.futures
 import os
@@ -44,7 +45,7 @@ with open(answer + ".status") as it:
 
 
 class Program:
-    """The command `ncroute`, and `ncroute-ctl`, in a folder that is the first of the PATH of what `shell` runs."""
+    """The commands `ncroute`, `ncimport` and `ncroute-ctl`, in a folder that is the first of the PATH of what `shell` runs."""
 
     def __init__(self):
         # It goes when the script ends, however that is.
@@ -60,6 +61,7 @@ class Program:
         command = self.bin / "ncroute"
         if path := named():
             command.symlink_to(path)
+            (self.bin / "ncimport").symlink_to(beside(path))
         else:
             command.write_text(STAND_IN.format(python=sys.executable, answers=self.answers, asked=self.asked, not_run=NOT_RUN))
             command.chmod(0o755)
@@ -133,8 +135,13 @@ def named():
     return os.path.realpath(path) if path else None
 
 
+def beside(path):
+    """The path of `ncimport`, beside that of `ncroute`."""
+    return os.path.join(os.path.dirname(path), "ncimport")
+
+
 def built():
-    """The same, for a script that runs nothing else: where NCROUTE names none, the script ends and has not passed."""
+    """The path of `ncroute`, for a script that runs nothing else: where NCROUTE names none, the script ends and has not passed."""
     if path := named():
         return path
     print("nothing is run: NCROUTE=PATH names the program")

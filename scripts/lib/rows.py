@@ -2,7 +2,7 @@
 
 A file has rows with empty lines between them. A row is lines that begin with a sign and a blank:
 
-    $ WORDS     the words of the command line behind `ncroute`, as a shell takes them
+    $ WORDS     the words of the command line behind `ncroute`, as a shell takes them; or a command line that begins with `ncimport`
     < LINE      a line of standard input
     > LINE      a line of standard output
     ! LINE      a line of standard error, which has no other
@@ -122,6 +122,14 @@ class Row:
             return self.errors
         return self.output if file is None else self.left.setdefault(file, Wanted())
 
+    def command(self):
+        """The command line: the words, with the name of the program before them."""
+        return self.words if self.is_import() else f"ncroute {self.words}"
+
+    def is_import(self):
+        """Whether the program is `ncimport`."""
+        return self.words.split(" ")[0] == "ncimport"
+
     def is_files_alone(self):
         """Whether no line says what a program is given or what it must do."""
         has_more = self.given or self.left or self.looks_at_errors or self.terminals or self.output.parts != [b""]
@@ -134,8 +142,8 @@ class Row:
         return self.status or 0
 
     def needs_program(self):
-        """`rt try` tells no standard error, and has no other streams and no files."""
-        return self.has_files or self.looks_at_errors or self.terminals or re.search(r"examples|[<>]&|<\(|/dev/full", self.words)
+        """`rt try` tells no standard error, and has no other streams, no files and no other program."""
+        return self.is_import() or self.has_files or self.looks_at_errors or self.terminals or re.search(r"examples|[<>]&|<\(|/dev/full", self.words)
 
 
 def rows_of(path):

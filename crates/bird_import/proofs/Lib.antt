@@ -13,7 +13,6 @@ mod Judged
 mod Laying
 mod LayingRows
 mod Once
-mod OtherTables
 mod Listed
 mod Noted
 mod Outside

@@ -1,16 +1,15 @@
--- Where words stand outside of what is opened, and the first block from an index on.
-use Rattle.std.proofs.Common.{◌≡◌, ℕ, zero, suc, ◌+◌, ◌-◌, ◌<◌, ◌≤◌, ◌&&◌, ◌==◌, Bool, true, false, if◌then◌else◌, List, []}
-use Rattle.std.proofs.Common.{◌∷◌, length, drop, Option, Some, None, Decides, inl, inr, refl, sym, ◌∙◌, ap, arith, rules}
-use Rattle.std.specs.Prelude.{IfSome}
+-- Where words stand outside of what is opened.
+use Rattle.std.proofs.Common.{◌≡◌, ℕ, zero, suc, ◌+◌, ◌<◌, ◌≤◌, ◌&&◌, ◌==◌, Bool, false, if◌then◌else◌, List, []}
+use Rattle.std.proofs.Common.{◌∷◌, length, drop, Option, Some, None, Decides, refl, sym, ◌∙◌, ap, arith, rules}
 use Rattle.std.specs.Option.{option_and_then}
-use Rattle.std.proofs.lemmas.Bool.{cases_eq, false_from_ne_true, cond-true, cond-false}
+use Rattle.std.proofs.lemmas.Bool.{cond-false}
 use Rattle.std.proofs.lemmas.List.{drop_all}
 use Rattle.std.proofs.lemmas.Option.{slice_get_past}
 use denote.Enum.Bare.{same_true, true_same}
 use Rattle.filter_tokens.specs.contracts.symbol.Symbol.{the_type}
 use Rattle.filter_tokens.specs.declared.symbol.Symbol.{Symbol}
 use Rattle.bird_import.specs.Indices.{bytes_at, bytes_of_word, kind_at, kind_of_word}
-use Rattle.bird_import.specs.Items.{block_from, depth_past, first_opening, first_outside, is_symbol, opens_block}
+use Rattle.bird_import.specs.Items.{depth_past, first_outside, is_symbol}
 use Rattle.bird_import.specs.declared.word.Word.{Word}
 use Rattle.bird_import.specs.declared.word.WordKind.{WordKind}
 use Rattle.bird_import.specs.declared.word.WordKind.TheVariants as kind
@@ -47,53 +46,6 @@ unfolding is_symbol
 symbol_decides wanted (kind.Symbol found) =
     (λ yes. ap kind.Symbol (same_true the_type (search rules) found wanted yes), λ same. true_same the_type found wanted (cc))
 symbol_decides wanted other = (λ yes. absurd (cc), λ same. absurd (cc))
-
--- the first block is at an index
-opening_there : (words : List Word) (n from at : ℕ) → from ≤ at → at < from + n → opens_block words at ≡ true
-    → ((k : ℕ) → from ≤ k → k < at → opens_block words k ≡ true → ⊥) → first_opening words n from ≡ Some at
-unfolding first_opening
-opening_there words zero from at after below opens none = absurd (omega arith)
-opening_there words (suc n) from at after below opens none =
-    elim (cases_eq from at) [
-      | inl same ↦ cond-true (opens_block words from) (Some from) (first_opening words n (from + 1))
-          (ap (opens_block words) same ∙ opens) ∙ ap Some same
-      | inr other ↦ cond-false (opens_block words from) (Some from) (first_opening words n (from + 1))
-          (false_from_ne_true (opens_block words from) (none from (omega arith) (omega arith)))
-          ∙ opening_there words n (from + 1) at (omega arith) (omega arith) opens (λ k after below. none k (omega arith) below)
-    ]
-
--- there is none
-no_opening : (words : List Word) (n from : ℕ) → ((k : ℕ) → from ≤ k → k < from + n → opens_block words k ≡ true → ⊥) → first_opening words n from ≡ None
-unfolding first_opening
-no_opening words zero from none = refl
-no_opening words (suc n) from none =
-    cond-false (opens_block words from) (Some from) (first_opening words n (from + 1)) (false_from_ne_true (opens_block words from) (none from (omega arith) (omega arith)))
-    ∙ no_opening words n (from + 1) (λ k after below. none k (omega arith) (omega arith))
-
--- what is found is the first block
-pub record IsFirstBlock (words : List Word) (from at : ℕ) : Type 0 where
-  pub opens : opens_block words at ≡ true
-  pub none : (k : ℕ) → from ≤ k → k < at → opens_block words k ≡ true → ⊥
-  pub after : from ≤ at
-  pub below : at < length words
-
-pub block_is : (words : List Word) (from at : ℕ) → IsFirstBlock words from at → Some at ≡ block_from words from
-unfolding block_from
-block_is words from at is =
-    sym (opening_there words (length words - from) from at is.after (omega (arith, is.after, is.below)) is.opens is.none)
-
-pub no_block : (words : List Word) (from : ℕ) → ((k : ℕ) → from ≤ k → k < length words → opens_block words k ≡ true → ⊥) → None ≡ block_from words from
-unfolding block_from
-no_block words from none = sym (no_opening words (length words - from) from (λ k after below. none k after (omega arith)))
-
--- what is found is it, if anything
-pub first_block_is : (words : List Word) (from : ℕ) (found : Option ℕ)
-    → IfSome found (λ at. (opens_block words at ≡ true) × ((k : ℕ) → from ≤ k → k < at → opens_block words k ≡ true → ⊥))
-    → (found ≡ None → (k : ℕ) → from ≤ k → k < length words → opens_block words k ≡ true → ⊥)
-    → IfSome found (λ at. (from ≤ at) × (at < length words)) → found ≡ block_from words from
-first_block_is words from None some none within = no_block words from (none refl)
-first_block_is words from (Some at) some none within =
-    block_is words from at (record { opens = some.0; none = some.1; after = within.0; below = within.1 })
 
 -- a word that is not wanted there is gone past
 pub outside_further : (wanted : WordKind → Bool) (depth at after : ℕ) (words : List Word) → at < length words

@@ -1,6 +1,6 @@
 //! A configuration that is taken apart.
 //!
-//! **`import` finds lines and columns from marks.** Each file of a configuration has the position of every 16th byte, as a listing has, so that the
+//! **`ncimport` finds lines and columns from marks.** Each file of a configuration has the position of every 16th byte, as a listing has, so that the
 //! time grows with the text (`bench/run.sh imports`). Were each place that is told counted from the first byte, it would grow with its square.
 
 use crate::items::{Definition, Item};

@@ -7,7 +7,7 @@ ghost use Rattle.bird_import.specs.Rules as rule;
 ghost use Rattle.bird_import.specs.Stuck.{HasValue, Hinder};
 ghost use Rattle.bird_import.specs.declared.reason.Why.TheVariants as why;
 
-use crate::items::first_block;
+use crate::outline::first_block;
 use crate::reason::{Reason, Why, unwritten};
 use crate::rules::is_kind;
 use crate::step::{NextStep, Rule, joined, planned};

@@ -17,6 +17,7 @@ mod includes;
 mod items;
 mod names;
 mod operators;
+mod outline;
 mod printing;
 mod reason;
 mod rules;

@@ -194,6 +194,19 @@ pub(crate) fn is_foreign_at(words: &[Word<'_>], at: usize, name: &[u8]) -> bool
     matches!(kind_at(words, at), WordKind::Foreign) && bytes_at(words, at) == name
 }
 
+/// Whether the word at an index is this one, a name or a word that only BIRD's configurations have.
+pub(crate) fn is_word_at(words: &[Word<'_>], at: usize, word: &[u8]) -> bool
+    ensures { IsTrue result → items.IsPlainAt word.now words.now at }
+{
+    bytes_at(words, at) == word
+        && (is_name_at(words, at) || kind_at(words, at) == WordKind::Foreign)
+}
+
+/// The bytes of the word so many words behind an index, if there is one.
+pub(crate) fn bytes_behind<'a>(words: &[Word<'a>], at: usize, more: usize) -> &'a [u8] {
+    bytes_at(words, at.saturating_add(more))
+}
+
 /// Whether the word before an index is this keyword or punctuator.
 pub(crate) fn is_before(words: &[Word<'_>], at: usize, symbol: Symbol) -> bool
     ensures { IsTrue result ↔ spec.IsBehind symbol words.now at }

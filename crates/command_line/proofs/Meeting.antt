@@ -6,7 +6,7 @@ use Rattle.clap.specs.Words.{Row, found_of, rows_of, subcommand_name_of, subcomm
 use Rattle.clap.specs.declared.parser.matches.ArgMatches.{ArgMatches}
 use Rattle.clap.specs.declared.parser.matches.ArgMatches.TheViews.{out-ArgMatches, out-SubCommand}
 use Rattle.command_line.specs.CommandNames.{command_of}
-use Rattle.command_line.specs.Given.{given_in}
+use Rattle.program_words.specs.Given.{given_in}
 use Rattle.command_line.specs.Meaning.{ComesTo, MetComesTo}
 use Rattle.command_line.specs.declared.command_names.CommandName.{CommandName}
 use Rattle.command_line.specs.declared.terminals.Terminals.{Terminals}

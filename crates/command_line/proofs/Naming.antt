@@ -6,9 +6,10 @@ use Rattle.std.proofs.lemmas.List.{map-append, map_more}
 use Rattle.std.proofs.lemmas.Option.{slice_get-get_or}
 use Rattle.command_line.specs.Filters.{NameFirst, file_in}
 use Rattle.command_line.specs.Reads.{filter_sources}
-use Rattle.command_line.specs.Sources.{AreNamed, IsNamed}
+use Rattle.command_line.specs.Sources.{AreNamed}
+use Rattle.program_words.specs.Sources.{IsNamed}
 use Rattle.command_line.specs.declared.filter_words.NamedFile.{NamedFile}
-use Rattle.command_line.specs.declared.requests.Source.{Source}
+use Rattle.program_words.specs.declared.source.Source.{Source}
 
 -- one more name, with its source
 pub one_more : (names : List (List ℕ)) (sources : List Source) (name : List ℕ) (source : Source)

@@ -1,18 +1,17 @@
 -- What the parser of words makes of a command line.
 use Rattle.std.proofs.Common.{◌≡◌, ◌∙◌, ◌⊎◌, true, List, ℕ, Result, Ok, Err, ap, inl, inr, refl, subst, sym}
 use Rattle.std.specs.Prelude.{IfErr, IfOk}
-use Rattle.std.proofs.lemmas.Result.{IfErr-weaker, IfOk-weaker}
 use Rattle.clap.specs.Words.{App, HasMatchesOf, IsAmong, fault_of, is_simple, is_simple_and_free, kind_of, subcommand_of, subcommand_rows_of}
 use Rattle.clap.specs.Kinds.{FailsBy as ParseFailsBy}
 use Rattle.clap.specs.declared.error.Error.{Error}
 use Rattle.clap.specs.declared.error.kind.ErrorKind.TheVariants as kind
 use Rattle.clap.specs.declared.parser.matches.ArgMatches.{ArgMatches}
-use Rattle.command_line.specs.Meaning.{FailsBy, IsMeant, Meets, Shows, status_of}
+use Rattle.command_line.specs.Meaning.{FailsBy, IsParsed, Meets, Shows}
 use Rattle.command_line.specs.Parameters.{AreChoices, all_taken, command_app, program}
 use Rattle.command_line.specs.declared.options.Choices.{Choices}
 use Rattle.command_line.specs.declared.terminals.Terminals.{Terminals}
-use Rattle.command_line.specs.declared.words.Invocation.{Invocation}
 use Rattle.command_line.specs.declared.words.Invocation.TheVariants.{Shown}
+use Rattle.program_words.specs.Showing.{status_of}
 use Rattle.line_protocol.specs.declared.faults.StreamFault.{StreamFault}
 use Rattle.line_protocol.specs.declared.faults.StreamFault.TheVariants.{Memory, Write}
 
@@ -61,15 +60,10 @@ module _ (line : List (List ℕ)) (terminals : Terminals) (error : Error) (shows
     | inr shown ↦ shown
   ]
 
-  pub shown_is_meant : {E : Type 0} (result : Result Invocation E)
-      → IfOk result (λ words. (kind_of error ≡ kind.OutOfMemory → ⊥) × (words ≡ Shown (status_of (kind_of error)))) → IfOk result (IsMeant line terminals)
-  shown_is_meant result shown = IfOk-weaker result _ _ (λ words is. inl (kind_of error, known is.0, is.1)) shown
+  pub shown_is_parsed : (status : ℕ) → (kind_of error ≡ kind.OutOfMemory → ⊥) × (status ≡ status_of (kind_of error)) → IsParsed line terminals (Shown status)
+  shown_is_parsed status shown = inl (kind_of error, known shown.0, ap (λ s. Shown s) shown.1)
 
-  pub show_fails : (result : Result Invocation StreamFault) → IfErr result (λ fault. (fault ≡ Memory)
-      ⊎ ((fault ≡ Write) × (kind_of error ≡ kind.OutOfMemory → ⊥) × (status_of (kind_of error) ≡ 0))) → IfErr result (FailsBy line)
-  show_fails result fails = IfErr-weaker result _ _ weaken fails
-    where
-      weaken : (fault : StreamFault) → (fault ≡ Memory) ⊎ ((fault ≡ Write) × (kind_of error ≡ kind.OutOfMemory → ⊥) × (status_of (kind_of error) ≡ 0))
-          → FailsBy line fault
-      weaken fault (inl memory) = inl memory
-      weaken fault (inr (write, other, help)) = inr (write, (kind_of error, known other, help))
+  pub show_fails : (fault : StreamFault) → (fault ≡ Memory) ⊎ ((fault ≡ Write) × (kind_of error ≡ kind.OutOfMemory → ⊥) × (status_of (kind_of error) ≡ 0))
+      → FailsBy line fault
+  show_fails fault (inl memory) = inl memory
+  show_fails fault (inr (write, other, help)) = inr (write, (kind_of error, known other, help))

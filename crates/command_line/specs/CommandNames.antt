@@ -11,7 +11,6 @@ name_of command.Domain = codes "domain"
 name_of command.Eval = codes "eval"
 name_of command.Explain = codes "explain"
 name_of command.Filter = codes "filter"
-name_of command.Import = codes "import"
 name_of command.Lint = codes "lint"
 name_of command.List = codes "list"
 name_of command.Net = codes "net"
@@ -23,7 +22,7 @@ name_of command.Test = codes "test"
 
 abbrev pub all_commands : List CommandName
 all_commands =
-    command.Check ∷ command.Diff ∷ command.Domain ∷ command.Eval ∷ command.Explain ∷ command.Filter ∷ command.Import ∷ command.Lint
+    command.Check ∷ command.Diff ∷ command.Domain ∷ command.Eval ∷ command.Explain ∷ command.Filter ∷ command.Lint
     ∷ command.List ∷ command.Net ∷ command.Replay ∷ command.Rewrite ∷ command.Router ∷ command.Run ∷ command.Test ∷ []
 
 -- the command that a word names

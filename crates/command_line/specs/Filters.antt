@@ -3,7 +3,7 @@ use Rattle.std.specs.Prelude.{◌≡◌, ◌&&◌, ◌++◌, ◌==◌, ℕ, zero
 use Rattle.std.specs.List.{after_first, before_first, list_any, position_or_len}
 use Rattle.std.specs.Str.{bytes_eq}
 use Rattle.operator_cmds.specs.Names.{is_name}
-use Rattle.command_line.specs.Sources.{IsNamed}
+use Rattle.program_words.specs.Sources.{IsNamed}
 use Rattle.command_line.specs.declared.filter_words.NamedFile.{NamedFile}
 use Rattle.command_line.specs.declared.filter_words.WrongFilter.{WrongFilter}
 use Rattle.command_line.specs.declared.filter_words.WrongFilter.TheVariants.{Word, Twice}

@@ -1,7 +1,6 @@
 -- What callers cite.
 pub mod CommandNames
 pub mod Filters
-pub mod Given
 pub mod Meaning
 pub mod Pages
 pub mod Parameters

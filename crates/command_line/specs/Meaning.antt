@@ -1,48 +1,48 @@
 -- What the words behind each command ask for: which of them sets what. (This project's own choice.)
 use Rattle.std.specs.Prelude.{◌≡◌, ◌⊎◌, ◌&&◌, ◌||◌, ℕ, Bool, true, false, List, [], MatchOption, Option, Some, None, codes}
-use Rattle.std.specs.Prelude.{if◌then◌else◌, is_some, length, map, nat_lt, not, option_map, string_bytes, unwrap_or, ⊤}
+use Rattle.std.specs.Prelude.{if◌then◌else◌, is_some, length, map, nat_lt, not, option_map, slice_get, string_bytes, unwrap_or, ⊤}
 use Rattle.std.specs.List.{list_any}
 use Rattle.std.specs.Option.{option_map_or}
 use Rattle.std.specs.Str.{bytes_eq}
 use Rattle.clap.specs.Words.{IsAmong, Row, fault_of, subcommand_of}
 use Rattle.clap.specs.declared.error.kind.ErrorKind.{ErrorKind}
-use Rattle.clap.specs.declared.error.kind.ErrorKind.TheVariants as kind
 use Rattle.report_formats.specs.declared.format.Format.{Format}
 use Rattle.report_formats.specs.declared.format.Format.TheVariants as formats
 use Rattle.report_formats.specs.declared.format.TestFormat.{TestFormat}
 use Rattle.report_formats.specs.declared.format.TestFormat.TheVariants as test_formats
 use Rattle.command_line.specs.CommandNames.{command_of}
 use Rattle.command_line.specs.Filters.{HasWrong, NameFirst}
-use Rattle.command_line.specs.Given.{is_set, number_of, word_of, words_of}
+use Rattle.program_words.specs.Given.{is_set, number_of, word_of, words_of}
 use Rattle.command_line.specs.Pages.{IsPage, explained, page_head}
 use Rattle.command_line.specs.Parameters.{AreChoices, program}
-use Rattle.command_line.specs.Readings.{is_file, readings}
-use Rattle.command_line.specs.Reads.{dash, file, filter_sources, names_read, sources_of}
+use Rattle.command_line.specs.Readings.{readings}
+use Rattle.command_line.specs.Reads.{file, filter_sources, names_read, sources_of}
 use Rattle.command_line.specs.Sources.{AreNamed}
 use Rattle.command_line.specs.Telling.{is_explained}
+use Rattle.program_words.specs.Showing.{status_of}
+use Rattle.program_words.specs.Sources.{dash, is_file}
 use Rattle.command_line.specs.declared.command_names.CommandName.{CommandName}
 use Rattle.command_line.specs.declared.command_names.CommandName.TheVariants as command
 use Rattle.line_protocol.specs.declared.faults.StreamFault.{StreamFault}
 use Rattle.line_protocol.specs.declared.faults.StreamFault.TheVariants.{Memory, Write}
-use Rattle.command_line.specs.declared.diff_words.Comparing.{Comparing}
+use Rattle.report_formats.specs.declared.options.DiffOptions.{DiffOptions}
 use Rattle.command_line.specs.declared.filter_words.NamedFile.{NamedFile}
 use Rattle.command_line.specs.declared.filter_words.WrongFilter.{WrongFilter}
-use Rattle.command_line.specs.declared.lint_words.Linting.{Linting}
+use Rattle.report_formats.specs.declared.options.LintOptions.{LintOptions}
 use Rattle.command_line.specs.declared.options.Choices.{Choices}
-use Rattle.command_line.specs.declared.requests.Checking.{Checking}
-use Rattle.command_line.specs.declared.requests.Importing.{Importing}
+use Rattle.report_formats.specs.declared.options.CheckOptions.{CheckOptions}
 use Rattle.command_line.specs.declared.requests.Request.{Request}
 use Rattle.command_line.specs.declared.requests.Request.TheVariants as request
 use Rattle.command_line.specs.declared.requests.RouteReport.{RouteReport}
 use Rattle.command_line.specs.declared.requests.RouteReport.TheVariants.{Verdicts, Reasons, Coverage}
 use Rattle.command_line.specs.declared.requests.RunOptions.{RunOptions}
-use Rattle.command_line.specs.declared.requests.Source.{Source}
+use Rattle.program_words.specs.declared.source.Source.{Source}
 use Rattle.command_line.specs.declared.requests.Trying.{Trying}
 use Rattle.command_line.specs.declared.router_words.RouterWords.{RouterWords}
 use Rattle.command_line.specs.declared.telling.Telling.{Telling}
 use Rattle.command_line.specs.declared.telling.Telling.TheVariants.{Auto, Always, Never}
 use Rattle.command_line.specs.declared.terminals.Terminals.{Terminals}
-use Rattle.command_line.specs.declared.test_words.Testing.{Testing}
+use Rattle.report_formats.specs.declared.options.TestOptions.{TestOptions}
 use Rattle.command_line.specs.declared.words.Invocation.{Invocation}
 use Rattle.command_line.specs.declared.words.Invocation.TheVariants.{Asked, Network, Router, Shown}
 
@@ -77,7 +77,7 @@ abbrev pub tells : List Row → Terminals → Bool → Bool
 tells given terminals has_files = is_explained (telling_of given) terminals.errors has_files
 
 -- how `check` checks sources, of which some are files or none is: all that is asked for beside the report has refusals told
-pub record IsChecking (given : List Row) (terminals : Terminals) (has_files : Bool) (how : Checking) : Type 0 where
+pub record IsChecking (given : List Row) (terminals : Terminals) (has_files : Bool) (how : CheckOptions) : Type 0 where
   pub is_code : how.is_code ≡ is_set (codes "code") given
   pub has_names : how.has_names ≡ is_set (codes "names") given
   pub is_quiet : how.is_quiet ≡ is_set (codes "quiet") given
@@ -92,7 +92,7 @@ abbrev pub SaysSize : List Row → ℕ → Type 0
 SaysSize given size = number_of 32 (codes "size") given ≡ Some size
 
 -- how `diff` compares filters on the routes of a domain of a size, of which one is in a file
-abbrev pub comparing_of : List Row → Terminals → ℕ → Comparing
+abbrev pub comparing_of : List Row → Terminals → ℕ → DiffOptions
 comparing_of given terminals size = record {
   size = size;
   limit = unwrap_or (number_of 64 (codes "limit") given) usual_limit;
@@ -101,7 +101,7 @@ comparing_of given terminals size = record {
 }
 
 -- how `lint` looks through filters
-pub record IsLinting (given : List Row) (terminals : Terminals) (sources : List Source) (how : Linting) : Type 0 where
+pub record IsLinting (given : List Row) (terminals : Terminals) (sources : List Source) (how : LintOptions) : Type 0 where
   pub size : SaysSize given how.size
   pub limit : how.limit ≡ unwrap_or (number_of 64 (codes "limit") given) usual_limit
   pub allowed : map (λ copy. string_bytes copy) how.allowed.items ≡ words_of (codes "allow") given
@@ -110,7 +110,7 @@ pub record IsLinting (given : List Row) (terminals : Terminals) (sources : List 
   pub is_explained : how.is_explained ≡ tells given terminals (list_any is_file sources)
 
 -- how `test` runs test files
-abbrev pub testing_of : List Row → Terminals → List Source → Testing
+abbrev pub testing_of : List Row → Terminals → List Source → TestOptions
 testing_of given terminals sources = record {
   limit = unwrap_or (number_of 64 (codes "limit") given) usual_limit;
   format = test_format_of given;
@@ -135,11 +135,6 @@ pub record IsTrying (given : List Row) (terminals : Terminals) (how : Trying) : 
 -- the words of `filter` name a file
 abbrev pub names_file : List Row → Bool
 names_file given = option_map_or (λ name. not (bytes_eq name dash)) (word_of file given) false
-
--- how `import` imports filters
-pub record IsImporting (given : List Row) (how : Importing) : Type 0 where
-  pub size : SaysSize given how.size
-  pub folder : option_map (λ copy. string_bytes copy) how.folder ≡ word_of (codes "out") given
 
 -- the filters of `--filter`, in order
 abbrev pub AreFilters : List Row → List NamedFile → Type 0
@@ -208,7 +203,6 @@ Sets command.Eval given terminals (request.Eval tells_people) = tells_people ≡
 Sets command.Explain given terminals (request.Explain page) = IsPage (explained given) (string_bytes page)
 Sets command.Filter given terminals (request.Filter how source) =
     IsTrying given terminals how × (names_file given ≡ true) × (asks_twice given ≡ false)
-Sets command.Import given terminals (request.Import how source) = IsImporting given how
 Sets command.Lint given terminals (request.Lint how sources) = IsLinting given terminals sources.items how
 Sets command.List given terminals (request.List size is_code source tells_people) = (size ≡ number_of 32 (codes "size") given)
     × (is_code ≡ is_set (codes "code") given) × (tells_people ≡ tells given terminals (is_file source))
@@ -236,7 +230,6 @@ AreRefused command.Domain given = (pages_a_comparison given ≡ true) ⊎ (forma
 AreRefused command.Explain given = page_head (explained given) ≡ None
 AreRefused command.Filter given =
     (asks_twice given ≡ true) ⊎ ((number_of 32 (codes "size") given ≡ None) ⊎ (names_file given ≡ false))
-AreRefused command.Import given = number_of 32 (codes "size") given ≡ None
 AreRefused command.Lint given = number_of 32 (codes "size") given ≡ None
 AreRefused command.Router given = HasWrongFilter given
 AreRefused command.Run given = HasWrongFilter given
@@ -259,12 +252,6 @@ MetComesTo (Some met) terminals words =
 abbrev pub once : Invocation → Invocation
 once words = if nat_lt 1 (readings words) then Shown 2 else words
 
--- the status of what the parser of words shows in place of matches: help and the version are no mistake
-abbrev pub status_of : ErrorKind → ℕ
-status_of kind.DisplayHelp = 0
-status_of kind.DisplayVersion = 0
-status_of _ = 2
-
 -- The parser of words accepts the words of a command line, of which the first is the program's name, and met this.
 pub record Meets (line : List (List ℕ)) (met : Option (List ℕ × List Row)) : Type 0 where
   pub choices : Choices
@@ -278,11 +265,20 @@ pub record Shows (line : List (List ℕ)) (shown : ErrorKind) : Type 0 where
   pub are_choices : AreChoices choices
   pub among : IsAmong shown (fault_of (program choices) line)
 
--- what the words of a command line come to
-abbrev pub IsMeant : List (List ℕ) → Terminals → Invocation → Type 0
-IsMeant line terminals words = ((shown : ErrorKind) × Shows line shown × (words ≡ Shown (status_of shown)))
+-- what the parser of words makes of the words of a command line
+abbrev pub IsParsed : List (List ℕ) → Terminals → Invocation → Type 0
+IsParsed line terminals words = ((shown : ErrorKind) × Shows line shown × (words ≡ Shown (status_of shown)))
     ⊎ ((met : Option (List ℕ × List Row)) × (meant : Invocation) × Meets line met × MetComesTo met terminals meant
     × (words ≡ once meant))
+
+-- the words ask for `import`, which is a program of its own
+abbrev pub asks_for_import : List (List ℕ) → Bool
+asks_for_import line = option_map_or (λ word. bytes_eq word (codes "import")) (slice_get line 1) false
+
+-- what the words of a command line come to: those that ask for `import` are refused, whatever stands behind it
+abbrev pub IsMeant : List (List ℕ) → Terminals → Invocation → Type 0
+IsMeant line terminals words = ((asks_for_import line ≡ true) × (words ≡ Shown 2))
+    ⊎ ((asks_for_import line ≡ false) × IsParsed line terminals words)
 
 -- The words of a command line do not come to anything: memory was refused, or help was to be shown and was not taken.
 abbrev pub FailsBy : List (List ℕ) → StreamFault → Type 0

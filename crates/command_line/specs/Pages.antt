@@ -2,7 +2,7 @@
 use Rattle.std.specs.Prelude.{◌≡◌, ◌++◌, ℕ, List, [], ◌∷◌, Option, Some, None, IsSomeAnd, codes, if◌then◌else◌, map, true, unwrap_or}
 use Rattle.std.specs.Char.{to_ascii_uppercase}
 use Rattle.clap.specs.Words.{Row}
-use Rattle.command_line.specs.Given.{word_of}
+use Rattle.program_words.specs.Given.{word_of}
 use Rattle.refusal_texts.specs.Codes.{all_codes, begins_with, head_of, is_among}
 
 -- the letters of codes, in the order in which a filter, a script and a run meet them

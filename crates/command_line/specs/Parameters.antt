@@ -78,7 +78,6 @@ all_taken =
     ∷ takes command.Explain (codes "code") Argument
     ∷ needs command.Filter (codes "size") Number ∷ takes command.Filter (codes "why") Flag ∷ takes command.Filter (codes "coverage") Flag
     ∷ takes command.Filter (codes "explain") When ∷ needs command.Filter (codes "file") Argument
-    ∷ needs command.Import (codes "size") Number ∷ takes command.Import (codes "out") Text ∷ takes command.Import (codes "file") Argument
     ∷ needs command.Lint (codes "size") Number ∷ takes command.Lint (codes "limit") Count ∷ takes command.Lint (codes "allow") Codes
     ∷ takes command.Lint (codes "order") Flag ∷ takes command.Lint (codes "format") Format ∷ takes command.Lint (codes "explain") When
     ∷ takes command.Lint (codes "file") Arguments
@@ -118,7 +117,7 @@ command_app choices name = fold with_rule (new_app name) (rules_of choices name 
 abbrev pub listed : List (List ℕ)
 listed =
     map name_of
-    (command.Check ∷ command.Diff ∷ command.Explain ∷ command.Filter ∷ command.Import ∷ command.Lint ∷ command.List ∷ command.Test
+    (command.Check ∷ command.Diff ∷ command.Explain ∷ command.Filter ∷ command.Lint ∷ command.List ∷ command.Test
     ∷ command.Eval ∷ command.Rewrite ∷ command.Domain ∷ command.Net ∷ command.Replay ∷ command.Router ∷ command.Run ∷ [])
 
 -- the program without its commands: it wants one, and shows help where there are no words

@@ -1,22 +1,12 @@
 -- How often what the words of a command line ask for reads standard input to its end. (This project's own choice.)
-use Rattle.std.specs.Prelude.{ℕ, Bool, true, false, List, count_by, if◌then◌else◌, max}
+use Rattle.std.specs.Prelude.{ℕ, List, count_by, if◌then◌else◌, max}
+use Rattle.program_words.specs.Sources.{is_input}
 use Rattle.command_line.specs.Reads.{filter_sources, sources_of}
 use Rattle.command_line.specs.declared.requests.Request.{Request}
-use Rattle.command_line.specs.declared.requests.Source.{Source}
-use Rattle.command_line.specs.declared.requests.Source.TheVariants.{Input, File}
+use Rattle.program_words.specs.declared.source.Source.{Source}
 use Rattle.command_line.specs.declared.router_words.RouterWords.{RouterWords}
 use Rattle.command_line.specs.declared.words.Invocation.{Invocation}
 use Rattle.command_line.specs.declared.words.Invocation.TheVariants.{Asked, Network, Router, Shown}
-
--- a source is standard input
-abbrev pub is_input : Source → Bool
-is_input Input = true
-is_input (File file) = false
-
--- a source is a file
-abbrev pub is_file : Source → Bool
-is_file Input = false
-is_file (File file) = true
 
 -- how many of these sources are standard input
 abbrev pub inputs_among : List Source → ℕ

@@ -1,23 +1,16 @@
 -- Which files and which standard input a command reads. (This project's own choice.)
-use Rattle.std.specs.Prelude.{◌++◌, ℕ, List, [], ◌∷◌, Option, Some, None, codes, map, unwrap_or}
+use Rattle.std.specs.Prelude.{◌++◌, ℕ, List, [], ◌∷◌, Option, Some, None, codes, map}
 use Rattle.clap.specs.Words.{Row}
 use Rattle.command_line.specs.Filters.{file_in}
-use Rattle.command_line.specs.Given.{word_of, words_of}
+use Rattle.program_words.specs.Given.{word_of, words_of}
+use Rattle.program_words.specs.Sources.{dash, one_name}
 use Rattle.command_line.specs.declared.command_names.CommandName.{CommandName}
 use Rattle.command_line.specs.declared.command_names.CommandName.TheVariants as command
 use Rattle.command_line.specs.declared.filter_words.NamedFile.{NamedFile}
 use Rattle.command_line.specs.declared.requests.Request.{Request}
 use Rattle.command_line.specs.declared.requests.Request.TheVariants as request
-use Rattle.command_line.specs.declared.requests.Source.{Source}
-use Rattle.command_line.specs.declared.requests.Source.TheVariants.{Input}
-
--- the word for standard input
-abbrev pub dash : List ℕ
-dash = codes "-"
-
--- what an argument names that takes one name
-abbrev pub one_name : List ℕ → List Row → List ℕ
-one_name argument given = unwrap_or (word_of argument given) dash
+use Rattle.program_words.specs.declared.source.Source.{Source}
+use Rattle.program_words.specs.declared.source.Source.TheVariants.{Input}
 
 -- some names; where there are none, standard input
 abbrev pub or_input : List (List ℕ) → List (List ℕ)
@@ -49,7 +42,6 @@ names_read command.Domain given = compared given ++ one_name file given ∷ []
 names_read command.Eval given = dash ∷ []
 names_read command.Explain given = []
 names_read command.Filter given = one_name file given ∷ dash ∷ []
-names_read command.Import given = one_name file given ∷ []
 names_read command.Lint given = or_input (words_of file given)
 names_read command.List given = one_name file given ∷ []
 names_read command.Net given = []
@@ -73,7 +65,6 @@ sources_of (request.Eval tells_people) = Input ∷ []
 sources_of (request.Explain page) = []
 sources_of (request.List size is_code source is_explained) = source ∷ []
 sources_of (request.Filter how source) = source ∷ Input ∷ []
-sources_of (request.Import how source) = source ∷ []
 sources_of (request.Lint how sources) = sources.items
 sources_of (request.Page source is_explained page) = source ∷ []
 sources_of (request.Replay sources) = sources.items

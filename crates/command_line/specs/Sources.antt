@@ -1,12 +1,8 @@
--- Which sources the words of a command line name. (This project's own choice.)
-use Rattle.std.specs.Prelude.{◌≡◌, ℕ, List, [], ◌∷◌, codes, string_bytes, ⊤}
-use Rattle.command_line.specs.declared.requests.Source.{Source}
-use Rattle.command_line.specs.declared.requests.Source.TheVariants.{Input, File}
-
--- the source of a name: standard input for `-`, and otherwise the file of this name
-abbrev pub IsNamed : List ℕ → Source → Type 0
-IsNamed name Input = name ≡ codes "-"
-IsNamed name (File file) = (string_bytes file ≡ name) × (name ≡ codes "-" → ⊥)
+-- Which sources the words of a command line name that takes any number of them. (This project's own choice.)
+use Rattle.std.specs.Prelude.{◌≡◌, ℕ, List, [], ◌∷◌, ⊤}
+use Rattle.program_words.specs.Sources.{IsNamed}
+use Rattle.program_words.specs.declared.source.Source.{Source}
+use Rattle.program_words.specs.declared.source.Source.TheVariants.{Input}
 
 -- each name's source, in order
 abbrev pub AreNamed : List (List ℕ) → List Source → Type 0

@@ -17,8 +17,6 @@ pub enum CommandName {
     Explain,
     /// `filter`
     Filter,
-    /// `import`
-    Import,
     /// `lint`
     Lint,
     /// `list`
@@ -49,7 +47,6 @@ pub(crate) fn command_named(word: &str) -> Option<CommandName>
         "eval" => Some(CommandName::Eval),
         "explain" => Some(CommandName::Explain),
         "filter" => Some(CommandName::Filter),
-        "import" => Some(CommandName::Import),
         "lint" => Some(CommandName::Lint),
         "list" => Some(CommandName::List),
         "net" => Some(CommandName::Net),

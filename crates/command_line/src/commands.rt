@@ -8,10 +8,8 @@ use crate::headings::heading_of;
 use crate::help::help_of;
 use crate::options::{Choices, Parameter, ParameterKind, arg_of};
 use clap::{Arg, Command};
+use program_words::VERSION;
 use std::alloc::{AllocError, Global};
-
-/// The version of the project, and the logic that it is proved in, as `rt version` names it: several kits have it.
-pub const VERSION: &str = "0.1.0 (Rattle logic dac8208d650f15bf)";
 
 /// The program, with all commands. Options that are one of some words take these.
 pub(crate) fn program<'a>(alloc: Global, choices: Choices<'a>) -> Result<Command<'a>, AllocError>
@@ -102,7 +100,7 @@ fn args_of<'a>(
 }
 
 /// The commands and what each does, in the order in which the help shows them.
-static COMMANDS: [(&str, &str); 15] = [
+static COMMANDS: [(&str, &str); 14] = [
     ("check", "Compile a filter, and verify its code"),
     (
         "diff",
@@ -113,10 +111,6 @@ static COMMANDS: [(&str, &str); 15] = [
         "Explain a refusal code, with an example and a fix",
     ),
     ("filter", "Verify a filter, and take routes through it"),
-    (
-        "import",
-        "Take a configuration of BIRD apart, and verify each filter of it",
-    ),
     (
         "lint",
         "Warn of what is plainly wrong in filters, such as a command that no route reaches",
@@ -160,7 +154,7 @@ static COMMANDS: [(&str, &str); 15] = [
 ];
 
 /// The options and arguments of each command, in the order in which its help shows them.
-static PARAMETERS: [(&str, Parameter); 73] = [
+static PARAMETERS: [(&str, Parameter); 70] = [
     ("check", SIZE),
     ("check", CODE),
     ("check", NAMES),
@@ -181,9 +175,6 @@ static PARAMETERS: [(&str, Parameter); 73] = [
     ("filter", COVERAGE),
     ("filter", EXPLAIN),
     ("filter", TRIED),
-    ("import", SIZE),
-    ("import", OUT),
-    ("import", IMPORTED),
     ("lint", SIZE),
     ("lint", LIMIT),
     ("lint", ALLOW),
@@ -234,6 +225,18 @@ static PARAMETERS: [(&str, Parameter); 73] = [
     ("run", STOP),
     ("run", EXPLAIN),
     ("run", SCRIPTS),
+];
+
+/// The options that take a number.
+pub(crate) static NUMBERED: [&str; 8] = [
+    "--size",
+    "--limit",
+    "--node",
+    "--queue",
+    "--retry",
+    "--hold",
+    "--segments",
+    "--settle",
 ];
 
 /// The number of nodes of the domain.
@@ -404,24 +407,6 @@ const LINTED: Parameter = Parameter {
     value: "FILE",
     help: "The file of a filter in place of standard input; - is standard input",
     kind: ParameterKind::Arguments,
-    is_required: false,
-};
-
-/// The folder of imported filters.
-const OUT: Parameter = Parameter {
-    name: "out",
-    value: "FOLDER",
-    help: "Write each filter into a new file of this folder, which has to be there",
-    kind: ParameterKind::Text,
-    is_required: false,
-};
-
-/// The configuration that is imported.
-const IMPORTED: Parameter = Parameter {
-    name: "file",
-    value: "FILE",
-    help: "The configuration, in place of standard input; - is standard input",
-    kind: ParameterKind::Argument,
     is_required: false,
 };
 

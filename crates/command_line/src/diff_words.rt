@@ -1,38 +1,25 @@
 //! The words of `diff`.
 ghost use Rattle.std.specs.Prelude.{◌≡◌, IfOk};
-ghost use Rattle.command_line.specs.Given.{given_in};
+ghost use Rattle.program_words.specs.Given.{given_in};
 ghost use Rattle.command_line.specs.Meaning.{AskFor, SaysSize, comparing_of};
 ghost use Rattle.command_line.specs.declared.command_names.CommandName.TheVariants as command;
 
 use crate::format_words::format_in;
-use crate::given::count_given;
-use crate::requests::{Request, one_source, tells_in};
+use crate::requests::{Request, tells_in};
 use crate::terminals::Terminals;
 use clap::ArgMatches;
-use report_formats::Format;
+use program_words::{count_given, one_source};
+use report_formats::DiffOptions;
 use std::alloc::{AllocError, Global};
-
-/// How two filters are compared.
-#[derive(Clone, Copy)]
-pub struct Comparing {
-    /// The number of nodes of the domain on whose routes they are compared.
-    pub size: u32,
-    /// The largest number of classes of routes that are tried.
-    pub limit: u64,
-    /// How what is found is written.
-    pub format: Format,
-    /// A refusal is told in words too.
-    pub is_explained: bool,
-}
 
 /// The largest number of classes of routes that are tried where none is said.
 pub(crate) const USUAL_LIMIT: u64 = 1_000_000;
 
 /// How the words of `diff` have two filters compared on the routes of a domain of this size, of which one is in a file.
-fn comparing_in(matches: &ArgMatches<'_>, size: u32, terminals: Terminals) -> Comparing
+fn comparing_in(matches: &ArgMatches<'_>, size: u32, terminals: Terminals) -> DiffOptions
     ensures { result ≡ comparing_of (given_in matches.now) terminals size }
 {
-    Comparing {
+    DiffOptions {
         size,
         limit: count_given(matches, "limit").unwrap_or(USUAL_LIMIT),
         format: format_in(matches),

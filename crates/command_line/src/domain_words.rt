@@ -1,14 +1,14 @@
 //! The words of `domain`.
 ghost use Rattle.std.specs.Prelude.{◌≡◌, IfOk, None, codes, false};
-ghost use Rattle.command_line.specs.Given.{given_in, word_of};
+ghost use Rattle.program_words.specs.Given.{given_in, word_of};
 ghost use Rattle.command_line.specs.Meaning as spec;
 ghost use Rattle.command_line.specs.declared.command_names.CommandName.TheVariants as command;
 
 use crate::format_words::format_in;
-use crate::given::word_given;
-use crate::requests::{Request, explained_source, one_source, source_of, tells_in, text_in};
+use crate::requests::{Request, explained_source, tells_in};
 use crate::terminals::Terminals;
 use clap::ArgMatches;
+use program_words::{one_source, source_of, text_given, word_given};
 use std::alloc::{AllocError, Global};
 
 /// Whether the words of `domain` ask for a page and for a comparison, of which there is none on a page.
@@ -36,7 +36,7 @@ fn script_in(
     ensures { IfOk result (spec.AskFor command.Domain (given_in matches.now) terminals) }
 {
     let (source, is_explained) = explained_source(alloc, matches, terminals)?;
-    match text_in(alloc, matches, "page")? {
+    match text_given(alloc, matches, "page")? {
         Some(page) => Ok(Request::Page {
             source,
             is_explained,

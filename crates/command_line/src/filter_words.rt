@@ -1,13 +1,12 @@
 //! The filters that the words `--filter NAME=FILE` name.
 ghost use Rattle.std.specs.Prelude.{◌≡◌, false, true, IfErr, IfOk, MatchOption, codes, length, map, string_bytes};
 ghost use Rattle.command_line.specs.Filters as spec;
-ghost use Rattle.command_line.specs.Given.{given_in, words_of};
+ghost use Rattle.program_words.specs.Given.{given_in, words_of};
 ghost use Rattle.command_line.specs.Meaning.{AreFilters};
 
-use crate::given::words_given;
-use crate::requests::{Source, source_of};
 use clap::ArgMatches;
 use operator_cmds::is_name;
+use program_words::{Source, source_of, words_given};
 use std::alloc::{AllocError, Global};
 
 /// A filter that a script is started with.

@@ -1,10 +1,10 @@
 //! The words of `--format`.
 ghost use Rattle.std.specs.Prelude.{◌≡◌};
-ghost use Rattle.command_line.specs.Given.{given_in};
+ghost use Rattle.program_words.specs.Given.{given_in};
 ghost use Rattle.command_line.specs.Meaning.{format_of, test_format_of};
 
-use crate::given::word_given;
 use clap::ArgMatches;
+use program_words::word_given;
 use report_formats::{Format, TestFormat};
 
 /// How reports are written.

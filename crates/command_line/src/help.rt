@@ -14,7 +14,6 @@ pub(crate) fn help_of(command: &str) -> Option<&'static str>
         "domain" => Some(DOMAIN_HELP),
         "eval" => Some(EVAL_HELP),
         "filter" => Some(FILTER_HELP),
-        "import" => Some(IMPORT_HELP),
         "lint" => Some(LINT_HELP),
         "list" => Some(LIST_HELP),
         "net" => Some(NET_HELP),
@@ -111,27 +110,6 @@ Example:
   echo '8.8.8.0/24 9' | ncroute filter --size 16 examples/backup_link.filter
 prints `accept 12`. The exit status is 0; 1 if something was refused; 2 if the command
 line is wrong; 3 if a fault ended the run or a file could not be read.
-";
-
-/// Of `import`.
-const IMPORT_HELP: &str = "\
-FILE is a configuration of BIRD 2.0. Its filters are found, with those that a protocol has
-without a name, and each is written in this language: definitions and functions stand where
-they are used. Files that it includes are read. What has no counterpart is left out, and so
-is the whole filter that it stands in. `ncroute lint` says where a filter that is taken would
-lower a metric in BIRD, and does not here.
-
-For each filter a line is printed:
-  FILE:LINE:COL filter NAME verified BUDGET DEPTH
-                    it is taken; with --out after its name ` -> FOLDER/NAME.filter`, a new
-                    file with its text and the places that it comes from
-  FILE:LINE:COL filter NAME: WHY: this filter was left out
-                    what stands there is not taken
-
-Example:
-  mkdir filters; ncroute import --size 16 --out filters examples/edge_router.bird
-The exit status is 0; 1 if something was left out or a fault ended the run; 2 if the command
-line is wrong.
 ";
 
 /// Of `lint`.

@@ -1,7 +1,6 @@
 //! The words of the command line of `ncroute`: what they ask for, and the help that is shown in its place.
 #![tactic(auto)]
 
-mod arguments;
 mod classes;
 mod command_names;
 mod commands;
@@ -10,11 +9,9 @@ mod domain_words;
 mod environment;
 mod filter_words;
 mod format_words;
-mod given;
 mod headings;
 mod help;
 mod lint_words;
-mod numbers;
 mod options;
 mod requests;
 mod router_words;
@@ -25,13 +22,9 @@ mod test_words;
 mod trying_words;
 mod words;
 
-pub use commands::VERSION;
-pub use diff_words::Comparing;
 pub use filter_words::{NamedFile, WrongFilter, filters_in};
-pub use lint_words::Linting;
-pub use requests::{Checking, Importing, Request, RouteReport, RunOptions, Source, Trying};
+pub use requests::{Request, RouteReport, RunOptions, Trying};
 pub use router_words::RouterWords;
 pub use telling::{Telling, is_explained};
-pub use terminals::{Terminals, tell_that_input_is_read, waits_for_people};
-pub use test_words::Testing;
+pub use terminals::{Terminals, waits_for_people};
 pub use words::{Invocation, read, request_of};

@@ -1,34 +1,17 @@
 //! The words of `lint`.
 ghost use Rattle.std.specs.Prelude.{IfOk};
-ghost use Rattle.command_line.specs.Given.{given_in};
+ghost use Rattle.program_words.specs.Given.{given_in};
 ghost use Rattle.command_line.specs.Meaning.{AskFor, SaysSize};
 ghost use Rattle.command_line.specs.declared.command_names.CommandName.TheVariants as command;
 
 use crate::diff_words::USUAL_LIMIT;
 use crate::format_words::format_in;
-use crate::given::{count_given, is_given};
 use crate::requests::{Request, files_in, has_files, tells_in, values_of};
 use crate::terminals::Terminals;
 use clap::ArgMatches;
-use report_formats::Format;
+use program_words::{count_given, is_given};
+use report_formats::LintOptions;
 use std::alloc::{AllocError, Global};
-
-/// How filters are looked through for what is plainly wrong.
-#[derive(Drop)]
-pub struct Linting {
-    /// The number of nodes of the domain whose routes are meant.
-    pub size: u32,
-    /// The largest number of classes of routes that are tried for a filter.
-    pub limit: u64,
-    /// The codes of warnings that are not told.
-    pub allowed: Vec<String>,
-    /// Whether the order of metrics is kept is looked for too.
-    pub asks_order: bool,
-    /// How what is found is written.
-    pub format: Format,
-    /// A refusal is told in words too.
-    pub is_explained: bool,
-}
 
 /// What the words of `lint` ask for, with the size that they say.
 pub(crate) fn lint_in(
@@ -42,7 +25,7 @@ pub(crate) fn lint_in(
 {
     let sources = files_in(alloc, matches)?;
     let has_files = has_files(sources.as_slice());
-    let how = Linting {
+    let how = LintOptions {
         size,
         limit: count_given(matches, "limit").unwrap_or(USUAL_LIMIT),
         allowed: values_of(alloc, matches, "allow")?,

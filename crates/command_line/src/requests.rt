@@ -1,63 +1,22 @@
 //! What the program is asked to do, and the words that ask for it. Those of `diff`, `filter`, `lint`, `router`, `run` and `test` stand apart.
-ghost use Rattle.std.specs.Prelude.{◌≡◌, ◌||◌, [], ◌∷◌, IfOk, Some, None, codes, if◌then◌else◌, is_some, map, option_map, string_bytes};
+ghost use Rattle.std.specs.Prelude.{◌≡◌, ◌||◌, [], ◌∷◌, IfOk, Some, None, codes, if◌then◌else◌, is_some, map, string_bytes};
 ghost use Rattle.std.specs.List.{list_any};
-ghost use Rattle.command_line.specs.Given.{given_in, is_set, word_of, words_of};
+ghost use Rattle.program_words.specs.Given.{given_in, is_set, words_of};
 ghost use Rattle.command_line.specs.Meaning.{AskFor, IsChecking, SaysSize, tells, usual_limit};
-ghost use Rattle.command_line.specs.Readings as spec;
-ghost use Rattle.command_line.specs.Reads.{file, one_name, or_input};
-ghost use Rattle.command_line.specs.Sources.{AreNamed, AreSources, IsNamed};
+ghost use Rattle.command_line.specs.Reads.{file, or_input};
+ghost use Rattle.command_line.specs.Sources.{AreNamed, AreSources};
+ghost use Rattle.program_words.specs.Sources.{IsNamed, is_file, one_name};
 ghost use Rattle.command_line.specs.declared.command_names.CommandName.TheVariants as command;
 
-use crate::diff_words::{Comparing, USUAL_LIMIT};
+use crate::diff_words::USUAL_LIMIT;
 use crate::filter_words::NamedFile;
 use crate::format_words::format_in;
-use crate::given::{is_given, number_given, word_given, words_given};
-use crate::lint_words::Linting;
 use crate::telling::{Telling, is_explained};
 use crate::terminals::Terminals;
-use crate::test_words::Testing;
 use clap::ArgMatches;
-use report_formats::Format;
+use program_words::{Source, is_given, number_given, one_source, source_of, words_given};
+use report_formats::{CheckOptions, DiffOptions, Format, LintOptions, TestOptions};
 use std::alloc::{AllocError, Global};
-
-/// Where a source comes from.
-#[derive(Drop)]
-pub enum Source {
-    /// Standard input.
-    Input,
-    /// The file of this name.
-    File(String),
-}
-
-impl Source {
-    /// Whether it is standard input.
-    pub fn is_input(&self) -> bool
-        ensures { result ≡ spec.is_input self.now }
-    {
-        matches!(self, Source::Input)
-    }
-}
-
-/// How sources are checked.
-#[derive(Clone, Copy)]
-pub struct Checking {
-    /// The number of nodes of the domains that the code is for.
-    pub size: u32,
-    /// A source is a code file in hexadecimal, and not a filter's text.
-    pub is_code: bool,
-    /// A refusal is told on standard error, by the name of its source or in words.
-    pub tells_people: bool,
-    /// It is told in words.
-    pub is_explained: bool,
-    /// The name of its source stands before each line of a report.
-    pub has_names: bool,
-    /// Of a report only the line that refuses its source is written.
-    pub is_quiet: bool,
-    /// The warnings of a filter that is verified are told too, for which so many classes of routes are tried.
-    pub warning_limit: Option<u64>,
-    /// How all that is said is written.
-    pub format: Format,
-}
 
 /// What is written of routes that are taken through a filter.
 #[derive(Clone, Copy)]
@@ -96,22 +55,13 @@ pub struct RunOptions {
     pub filters: Vec<NamedFile>,
 }
 
-/// How the filters of a configuration are imported.
-#[derive(Drop)]
-pub struct Importing {
-    /// The number of nodes of the domains that they are verified for.
-    pub size: u32,
-    /// The folder of the files that they are written to, if they are.
-    pub folder: Option<String>,
-}
-
 /// What the program is asked to do.
 #[derive(Drop)]
 pub enum Request {
     /// Compile filters, or read their code files, and verify the code.
     Check {
         /// How they are checked.
-        how: Checking,
+        how: CheckOptions,
         /// The sources, in order.
         sources: Vec<Source>,
     },
@@ -129,7 +79,7 @@ pub enum Request {
     /// Compare two filters on all routes.
     Diff {
         /// How they are compared.
-        how: Comparing,
+        how: DiffOptions,
         /// Where the text of the filter as it was is.
         old: Source,
         /// Where the text of the filter as it will be is.
@@ -170,17 +120,10 @@ pub enum Request {
         /// Where its text is.
         source: Source,
     },
-    /// Import the filters of a configuration of BIRD.
-    Import {
-        /// How they are imported.
-        how: Importing,
-        /// The configuration.
-        source: Source,
-    },
     /// Warn of what is plainly wrong in filters.
     Lint {
         /// How they are looked through.
-        how: Linting,
+        how: LintOptions,
         /// The filters, in order.
         sources: Vec<Source>,
     },
@@ -213,21 +156,10 @@ pub enum Request {
     /// Run test files.
     Test {
         /// How they are run.
-        how: Testing,
+        how: TestOptions,
         /// The files, in order.
         sources: Vec<Source>,
     },
-}
-
-/// The source of a name: standard input for `-`.
-pub(crate) fn source_of(alloc: Global, name: &str) -> Result<Source, AllocError>
-    ensures { IfOk result (IsNamed name.now) }
-{
-    if name == "-" {
-        Ok(Source::Input)
-    } else {
-        Ok(Source::File(String::from_str(alloc, name)?))
-    }
 }
 
 /// The source of each of these names.
@@ -263,7 +195,7 @@ fn sources_in(alloc: Global, names: &[&str]) -> Result<Vec<Source>, AllocError>
 
 /// Whether one of these sources is a file.
 pub(crate) fn has_files(sources: &[Source]) -> bool
-    ensures { result ≡ list_any spec.is_file sources.now }
+    ensures { result ≡ list_any is_file sources.now }
 {
     sources.iter().any(|source| !source.is_input())
 }
@@ -273,17 +205,6 @@ pub(crate) fn files_in(alloc: Global, matches: &ArgMatches<'_>) -> Result<Vec<So
     ensures { IfOk result (λ sources. AreNamed (or_input (words_of file (given_in matches.now))) sources.items) }
 {
     sources_in(alloc, words_given(matches, "file"))
-}
-
-/// The source that an argument names, which takes one: standard input where it is not given.
-pub(crate) fn one_source(
-    alloc: Global,
-    matches: &ArgMatches<'_>,
-    argument: &str,
-) -> Result<Source, AllocError>
-    ensures { IfOk result (IsNamed (one_name argument.now (given_in matches.now))) }
-{
-    source_of(alloc, word_given(matches, argument).unwrap_or("-"))
 }
 
 /// Whether a refusal is told in words, where sources are files that were named or not.
@@ -300,7 +221,7 @@ pub(crate) fn explained_source(
     terminals: Terminals,
 ) -> Result<(Source, bool), AllocError>
     ensures source { IfOk result (λ told. IsNamed (one_name file (given_in matches.now)) told.0) }
-    ensures tells { IfOk result (λ told. told.1 ≡ tells (given_in matches.now) terminals (spec.is_file told.0)) }
+    ensures tells { IfOk result (λ told. told.1 ≡ tells (given_in matches.now) terminals (is_file told.0)) }
 {
     let source = one_source(alloc, matches, "file")?;
     let is_file = !source.is_input();
@@ -324,11 +245,11 @@ fn checking_in(
     size: u32,
     terminals: Terminals,
     has_files: bool,
-) -> Checking
+) -> CheckOptions
     ensures size { result.size ≡ size }
     ensures sets { IsChecking (given_in matches.now) terminals has_files result }
 {
-    telling_if_asked(Checking {
+    telling_if_asked(CheckOptions {
         size,
         is_code: is_given(matches, "code"),
         tells_people: has_files,
@@ -341,7 +262,7 @@ fn checking_in(
 }
 
 /// Where only the report on standard input is asked for, as by a program, its refusal is not told on standard error as well.
-fn telling_if_asked(how: Checking) -> Checking
+fn telling_if_asked(how: CheckOptions) -> CheckOptions
     ensures { result ≡ record how {
       tells_people = how.tells_people || (how.is_explained || (how.has_names || (how.is_quiet || is_some how.warning_limit)));
     } }
@@ -350,7 +271,7 @@ fn telling_if_asked(how: Checking) -> Checking
         || how.has_names
         || how.is_quiet
         || how.warning_limit.is_some();
-    Checking {
+    CheckOptions {
         tells_people: how.tells_people || asks_for_more,
         ..how
     }
@@ -386,20 +307,6 @@ pub(crate) fn rewrite_in(matches: &ArgMatches<'_>, terminals: Terminals) -> Requ
 {
     Request::Rewrite {
         is_old: is_given(matches, "old"),
-    }
-}
-
-/// The text of an option, if it is given.
-pub(crate) fn text_in(
-    alloc: Global,
-    matches: &ArgMatches<'_>,
-    name: &str,
-) -> Result<Option<String>, AllocError>
-    ensures { IfOk result (λ text. option_map (λ copy. string_bytes copy) text ≡ word_of name.now (given_in matches.now)) }
-{
-    match word_given(matches, name) {
-        Some(text) => Ok(Some(String::from_str(alloc, text)?)),
-        None => Ok(None),
     }
 }
 
@@ -439,26 +346,6 @@ pub(crate) fn list_in(
         is_code: is_given(matches, "code"),
         source,
         is_explained,
-    })
-}
-
-/// What the words of `import` ask for, with the size that they say.
-pub(crate) fn import_in(
-    alloc: Global,
-    matches: &ArgMatches<'_>,
-    size: u32,
-    terminals: Terminals,
-) -> Result<Request, AllocError>
-    requires { SaysSize (given_in matches.now) size }
-    ensures { IfOk result (AskFor command.Import (given_in matches.now) terminals) }
-{
-    let how = Importing {
-        size,
-        folder: text_in(alloc, matches, "out")?,
-    };
-    Ok(Request::Import {
-        how,
-        source: one_source(alloc, matches, "file")?,
     })
 }
 

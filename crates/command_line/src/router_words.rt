@@ -1,13 +1,13 @@
 //! The words of `router`.
 ghost use Rattle.std.specs.Prelude.{IfErr, IfOk, codes};
 ghost use Rattle.command_line.specs.Filters.{HasWrong};
-ghost use Rattle.command_line.specs.Given.{given_in, words_of};
+ghost use Rattle.program_words.specs.Given.{given_in, words_of};
 ghost use Rattle.command_line.specs.Meaning.{AreFilters, AskForRouter, IsRouting};
 
 use crate::filter_words::{NamedFile, WrongFilter, filters_given};
-use crate::given::{is_given, number_given};
-use crate::requests::{text_in, values_of};
+use crate::requests::values_of;
 use clap::ArgMatches;
+use program_words::{is_given, number_given, text_given};
 use std::alloc::{AllocError, Global};
 
 /// What the words of `router` say. Whether they go together is judged later.
@@ -69,9 +69,9 @@ fn routing_in(
     ensures sets { IfOk result (IsRouting (given_in matches.now)) }
 {
     Ok(RouterWords {
-        config: text_in(alloc, matches, "config")?,
+        config: text_given(alloc, matches, "config")?,
         checks: is_given(matches, "check"),
-        domain: text_in(alloc, matches, "domain")?,
+        domain: text_given(alloc, matches, "domain")?,
         allows_other: is_given(matches, "allow-other-domain"),
         size: number_given(matches, "size"),
         node: number_given(matches, "node"),
@@ -79,11 +79,11 @@ fn routing_in(
         queue: number_given(matches, "queue"),
         retry: number_given(matches, "retry"),
         hold: number_given(matches, "hold"),
-        save: text_in(alloc, matches, "save")?,
+        save: text_given(alloc, matches, "save")?,
         segments: number_given(matches, "segments"),
-        routes: text_in(alloc, matches, "routes")?,
+        routes: text_given(alloc, matches, "routes")?,
         settle: number_given(matches, "settle"),
-        log: text_in(alloc, matches, "log")?,
+        log: text_given(alloc, matches, "log")?,
         stays: is_given(matches, "stay"),
         prefixes: values_of(alloc, matches, "prefix")?,
         filters,

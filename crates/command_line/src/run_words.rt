@@ -1,15 +1,15 @@
 //! The words of `run`.
 ghost use Rattle.std.specs.Prelude.{◌≡◌, IfErr, IfOk, codes};
 ghost use Rattle.command_line.specs.Filters.{HasWrong};
-ghost use Rattle.command_line.specs.Given.{given_in, words_of};
+ghost use Rattle.program_words.specs.Given.{given_in, words_of};
 ghost use Rattle.command_line.specs.Meaning as spec;
 ghost use Rattle.command_line.specs.declared.command_names.CommandName.TheVariants as command;
 
 use crate::filter_words::{NamedFile, WrongFilter, filters_given};
-use crate::given::is_given;
-use crate::requests::{Request, RunOptions, files_in, has_files, tells_in, text_in};
+use crate::requests::{Request, RunOptions, files_in, has_files, tells_in};
 use crate::terminals::Terminals;
 use clap::ArgMatches;
+use program_words::{is_given, text_given};
 use std::alloc::{AllocError, Global};
 
 /// How the words of `run` have a script carried out that is started with these filters, and of which some is in files or none is.
@@ -27,7 +27,7 @@ fn running_in(
     Ok(RunOptions {
         is_explained: tells_in(matches, terminals, has_files),
         stops: is_given(matches, "stop"),
-        save: text_in(alloc, matches, "save")?,
+        save: text_given(alloc, matches, "save")?,
         filters,
     })
 }

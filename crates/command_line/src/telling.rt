@@ -1,13 +1,13 @@
 //! Whether a refusal is told in words.
 ghost use Rattle.std.specs.Prelude.{◌≡◌};
-ghost use Rattle.command_line.specs.Given.{given_in};
+ghost use Rattle.program_words.specs.Given.{given_in};
 ghost use Rattle.command_line.specs.Meaning.{telling_of};
 ghost use Rattle.command_line.specs.Parameters.{AreChoices};
 ghost use Rattle.command_line.specs.Telling.{is_explained};
 
-use crate::given::word_given;
 use crate::options::Choices;
 use clap::ArgMatches;
+use program_words::word_given;
 
 /// What the option `--explain` says.
 #[derive(Clone, Copy)]

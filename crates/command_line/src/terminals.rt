@@ -7,9 +7,10 @@ ghost use Rattle.command_line.specs.Readings as spec;
 ghost use Rattle.command_line.specs.Reads.{filter_sources};
 
 use crate::filter_words::NamedFile;
-use crate::requests::{Request, Source};
+use crate::requests::Request;
 use crate::router_words::RouterWords;
 use crate::words::Invocation;
+use program_words::Source;
 
 /// Which of the standard streams that people type into or read are terminals.
 #[derive(Clone, Copy)]
@@ -76,7 +77,6 @@ fn count_of(request: &Request) -> usize
             filters_among(how.filters.as_slice()).saturating_add(inputs_among(sources.as_slice()))
         }
         Request::Domain { source, .. }
-        | Request::Import { source, .. }
         | Request::List { source, .. }
         | Request::Page { source, .. } => input_in(source),
         Request::Filter { source, .. } => input_in(source).saturating_add(1),
@@ -104,9 +104,4 @@ pub fn waits_for_people(words: &Invocation, terminals: Terminals) -> bool
     ensures { result ≡ terminals.input && nat_lt 0 (spec.readings words.now) }
 {
     terminals.input && count_readings(words) > 0
-}
-
-/// Tells people that standard input is waited for. Where standard error takes no text, they are not told.
-pub fn tell_that_input_is_read<R: Eprint>(rt: &R) {
-    let _ = eprintln!(rt; "ncroute: reading standard input, which Ctrl-D ends");
 }

@@ -1,28 +1,17 @@
 //! The words of `test`.
 ghost use Rattle.std.specs.Prelude.{IfOk};
-ghost use Rattle.command_line.specs.Given.{given_in};
+ghost use Rattle.program_words.specs.Given.{given_in};
 ghost use Rattle.command_line.specs.Meaning.{AskFor};
 ghost use Rattle.command_line.specs.declared.command_names.CommandName.TheVariants as command;
 
 use crate::diff_words::USUAL_LIMIT;
 use crate::format_words::test_format_in;
-use crate::given::count_given;
 use crate::requests::{Request, files_in, has_files, tells_in};
 use crate::terminals::Terminals;
 use clap::ArgMatches;
-use report_formats::TestFormat;
+use program_words::count_given;
+use report_formats::TestOptions;
 use std::alloc::{AllocError, Global};
-
-/// How test files are run.
-#[derive(Clone, Copy)]
-pub struct Testing {
-    /// The largest number of classes of routes that a test tries.
-    pub limit: u64,
-    /// How what comes of the tests is written.
-    pub format: TestFormat,
-    /// What does not hold, and a refusal, is told in words too.
-    pub is_explained: bool,
-}
 
 /// What the words of `test` ask for.
 pub(crate) fn test_in(
@@ -34,7 +23,7 @@ pub(crate) fn test_in(
 {
     let sources = files_in(alloc, matches)?;
     let has_files = has_files(sources.as_slice());
-    let how = Testing {
+    let how = TestOptions {
         limit: count_given(matches, "limit").unwrap_or(USUAL_LIMIT),
         format: test_format_in(matches),
         is_explained: tells_in(matches, terminals, has_files),

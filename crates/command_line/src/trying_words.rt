@@ -1,13 +1,13 @@
 //! The words of `filter`.
 ghost use Rattle.std.specs.Prelude.{◌≡◌, ◌⊎◌, IfOk, MatchOption, None, codes, false};
-ghost use Rattle.command_line.specs.Given.{given_in, number_of};
+ghost use Rattle.program_words.specs.Given.{given_in, number_of};
 ghost use Rattle.command_line.specs.Meaning as spec;
 ghost use Rattle.command_line.specs.declared.command_names.CommandName.TheVariants as command;
 
-use crate::given::{is_given, number_given, word_given};
-use crate::requests::{Request, RouteReport, Trying, source_of, tells_in};
+use crate::requests::{Request, RouteReport, Trying, tells_in};
 use crate::terminals::Terminals;
 use clap::ArgMatches;
+use program_words::{is_given, number_given, source_of, word_given};
 use std::alloc::{AllocError, Global};
 
 /// Whether the words of `filter` ask for two things that do not go together.

@@ -1,23 +1,20 @@
 //! The words of the command line.
-ghost use Rattle.std.specs.Prelude.{◌≡◌, ◌≢◌, ◌≤◌, ◌⊎◌, ℕ, List, IfErr, IfOk, map};
+ghost use Rattle.std.specs.Prelude.{◌≡◌, ◌≤◌, ◌⊎◌, ℕ, List, IfErr, IfOk, map};
 ghost use Rattle.clap.specs.Words.{kind_of, subcommand_rows_of};
-ghost use Rattle.command_line.specs.Given.{given_in};
-ghost use Rattle.command_line.specs.Meaning.{ComesTo, FailsBy, IsMeant, Meets, MetComesTo, Shows, once, status_of};
+ghost use Rattle.program_words.specs.Given.{given_in};
+ghost use Rattle.command_line.specs.Meaning.{ComesTo, FailsBy, IsMeant, Meets, MetComesTo, Shows, asks_for_import, once};
 ghost use Rattle.command_line.specs.Readings.{readings};
 ghost use Rattle.command_line.specs.declared.command_names.CommandName.TheVariants as command;
 
-use crate::arguments::Readable;
 use crate::classes::page_of;
 use crate::command_names::{CommandName, command_named};
-use crate::commands::program;
+use crate::commands::{NUMBERED, program};
 use crate::diff_words::diff_in;
 use crate::domain_words::{domain_in, formats_no_comparison, pages_a_comparison};
 use crate::environment::with_size;
 use crate::filter_words::WrongFilter;
-use crate::given::{number_given, word_given};
 use crate::lint_words::lint_in;
-use crate::numbers::negative_number;
-use crate::requests::{Request, check_in, eval_in, import_in, list_in, replay_in, rewrite_in};
+use crate::requests::{Request, check_in, eval_in, list_in, replay_in, rewrite_in};
 use crate::router_words::{RouterWords, router_in};
 use crate::run_words::run_in;
 use crate::telling::choices;
@@ -27,13 +24,10 @@ use crate::trying_words::{asks_twice, filter_in};
 use clap::error::ErrorKind;
 use clap::{ArgMatches, Error};
 use line_protocol::StreamFault;
+use program_words::{WRONG_WORDS, arguments_of, number_given, show_wrong, word_given};
 use std::alloc::{AllocError, Global};
 use std::convert::AsStr;
-use std::env;
 use std::rt::Env;
-
-/// The exit status of a run whose words were wrong.
-const WRONG_WORDS: u8 = 2;
 
 /// What the words of the command line come to.
 #[derive(Drop)]
@@ -59,9 +53,7 @@ pub fn read<R: Env + AllocGlobal + Print + Eprint>(
     ensures fails { IfErr result (λ fault. (line : List (List ℕ)) × FailsBy line fault) }
 {
     let alloc = rt.alloc();
-    // All words are text here, so that want of memory alone keeps them from being read.
-    let words = env::args(&(Readable { env: rt }, alloc)).map_err(|_| StreamFault::Memory)?;
-    let words: Vec<String> = words.collect(alloc).map_err(|_| StreamFault::Memory)?;
+    let words = arguments_of(rt, alloc).map_err(|_| StreamFault::Memory)?;
     let words = with_size(rt, alloc, words).map_err(|_| StreamFault::Memory)?;
     request_of(rt, alloc, words.as_slice(), terminals)
 }
@@ -77,13 +69,39 @@ pub fn request_of<R: Print + Eprint, S: AsStr>(
     ensures meant { IfOk result (IsMeant (map S.text words.now) terminals) }
     ensures fails { IfErr result (FailsBy (map S.text words.now)) }
 {
+    if asks_for_import(words) {
+        return Ok(show_moved(rt));
+    }
     match matches_of(alloc, words) {
         Ok(matches) => match words_in(rt, alloc, &matches, terminals) {
             Ok(words) => Ok(reading_once(rt, words)),
             Err(_) => Err(StreamFault::Memory),
         },
-        Err(error) => show_wrong(rt, words, &error),
+        Err(error) => match show_wrong(rt, words, &NUMBERED, &error) {
+            Ok(status) => Ok(Invocation::Shown(status)),
+            Err(fault) => Err(fault),
+        },
     }
+}
+
+/// Whether the words ask for `import`, which is a program of its own.
+fn asks_for_import<S: AsStr>(words: &[S]) -> bool
+    ensures { result ≡ asks_for_import (map S.text words.now) }
+{
+    match words.get(1) {
+        Some(word) => word.as_str() == "import",
+        None => false,
+    }
+}
+
+/// Says where `import` is.
+fn show_moved<R: Eprint>(rt: &R) -> Invocation
+    ensures { result ≡ Invocation.Shown 2 }
+{
+    let _ = eprintln!(rt;
+        "error: `import` is a program of its own: write `ncimport` in place of `ncroute import`"
+    );
+    Invocation::Shown(WRONG_WORDS)
 }
 
 /// What the parser of words makes of these.
@@ -144,7 +162,6 @@ fn command_words<R: Eprint>(
         CommandName::Eval => Ok(Invocation::Asked(eval_in(words, terminals))),
         CommandName::Explain => explained_in(rt, alloc, words, terminals),
         CommandName::Filter => filter_words(rt, alloc, words, terminals),
-        CommandName::Import => import_words(alloc, words, terminals),
         CommandName::Lint => lint_words(alloc, words, terminals),
         CommandName::List => asked(list_in(alloc, words, terminals)),
         CommandName::Net => Ok(Invocation::Network),
@@ -255,21 +272,6 @@ fn diff_words(
     Ok(Invocation::Asked(diff_in(alloc, diff, size, terminals)?))
 }
 
-/// What the words of `import` come to.
-fn import_words(
-    alloc: Global,
-    import: &ArgMatches<'_>,
-    terminals: Terminals,
-) -> Result<Invocation, AllocError>
-    ensures { IfOk result (ComesTo command.Import (given_in import.now) terminals) }
-{
-    // The parser accepts no words without a size.
-    let Some(size) = number_given(import, "size") else {
-        return Ok(Invocation::Shown(WRONG_WORDS));
-    };
-    Ok(Invocation::Asked(import_in(alloc, import, size, terminals)?))
-}
-
 /// What the words of `lint` come to.
 fn lint_words(
     alloc: Global,
@@ -313,46 +315,6 @@ fn show_wrong_filter<R: Eprint>(rt: &R, wrong: WrongFilter<'_>) -> Invocation
         ),
     };
     Invocation::Shown(WRONG_WORDS)
-}
-
-/// Shows what is wrong with these words, or help. A negative number behind an option is for the parser of words an option that it
-/// does not know; people are told what is wrong with the number.
-fn show_wrong<R: Print + Eprint, S: AsStr>(
-    rt: &R,
-    words: &[S],
-    error: &Error,
-) -> Result<Invocation, StreamFault>
-    ensures shown { IfOk result (λ shown. (kind_of error.now ≢ ErrorKind.OutOfMemory) × (shown ≡ Invocation.Shown (status_of (kind_of error.now)))) }
-    ensures fails { IfErr result (λ fault. (fault ≡ StreamFault.Memory)
-        ⊎ ((fault ≡ StreamFault.Write) × (kind_of error.now ≢ ErrorKind.OutOfMemory) × (status_of (kind_of error.now) ≡ 0))) }
-{
-    if error.kind() == ErrorKind::UnknownArgument {
-        if let Some((option, number)) = negative_number(words) {
-            let _ = eprintln!(rt;
-                "error: invalid value '{number}' for '{option}': a number is at least 0"
-            );
-            return Ok(Invocation::Shown(WRONG_WORDS));
-        }
-    }
-    show(rt, error)
-}
-
-/// Shows what the parser of words answered in place of matches: help on standard output, or what is wrong with the words on
-/// standard error. Wrong words have their status also where standard error takes no text.
-fn show<R: Print + Eprint>(rt: &R, error: &Error) -> Result<Invocation, StreamFault>
-    ensures shown { IfOk result (λ shown. (kind_of error.now ≢ ErrorKind.OutOfMemory) × (shown ≡ Invocation.Shown (status_of (kind_of error.now)))) }
-    ensures fails { IfErr result (λ fault. (fault ≡ StreamFault.Memory)
-        ⊎ ((fault ≡ StreamFault.Write) × (kind_of error.now ≢ ErrorKind.OutOfMemory) × (status_of (kind_of error.now) ≡ 0))) }
-{
-    if error.kind() == ErrorKind::OutOfMemory {
-        return Err(StreamFault::Memory);
-    }
-    let printed = error.print(rt);
-    if error.use_stderr() {
-        return Ok(Invocation::Shown(WRONG_WORDS));
-    }
-    printed.map_err(|_| StreamFault::Write)?;
-    Ok(Invocation::Shown(0))
 }
 
 /// What `explain` asks for: the page of a code, the codes of a class, or the classes.

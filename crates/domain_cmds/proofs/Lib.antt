@@ -21,7 +21,6 @@ pub mod Grouping
 pub mod Joining
 pub mod Forgetting
 pub mod Leaving
-pub mod Listed
 pub mod Zipping
 pub mod ByColumn
 mod FailureRows

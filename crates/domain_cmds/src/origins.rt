@@ -5,7 +5,7 @@
 ghost use Rattle.std.specs.Prelude.{◌≡◌, ◌++◌, ◌∷◌, [], IfOk, OnErr, OnOk, None, false, true};
 ghost use Rattle.domain_cmds.specs.Origins as spec;
 
-use filter_reports::write_listing;
+use filter_reports::list_text;
 use filter_verifier::Verified;
 use operator_cmds::{Direction, FilterSource};
 use std::alloc::{AllocError, Global};
@@ -132,11 +132,8 @@ fn last_named(all: &[Origin], name: &[u8]) -> Option<usize>
 fn listing_in(alloc: Global, source: &[u8], is_code: bool) -> Result<Vec<u8>, AllocError>
     ensures { IfOk result (λ listing. spec.HasListing is_code source.now listing.items) }
 {
-    let mut listing = Vec::new(alloc);
-    match write_listing(alloc, source, &mut listing, None, is_code) {
-        Ok(_) => Ok(listing),
-        Err(_) => Err(AllocError),
-    }
+    let listing = list_text(alloc, source, None, is_code)?;
+    Ok(listing.text)
 }
 
 /// The listing of a source that gives code.

@@ -1,5 +1,5 @@
 -- What parts and tests say of codes they say of the filters that the codes are of.
-use Rattle.std.proofs.Common.{◌≡◌, ◌⊎◌, inl, inr, ℕ, Bool, true, false, List, [], ◌∷◌, All, refl, sym, ◌∙◌, subst, if◌then◌else◌}
+use Rattle.std.proofs.Common.{◌≡◌, ◌⊎◌, inl, inr, ℕ, Bool, true, false, List, [], ◌∷◌, All, refl, sym, ◌∙◌, subst, if◌then◌else◌, arith}
 use Rattle.std.specs.Prelude.{◌≢◌, ◌||◌, Option}
 use Rattle.std.specs.List.{list_any}
 use Rattle.std.proofs.lemmas.List.Elements.{All-head, All-weaker}
@@ -19,11 +19,11 @@ use Rattle.filter_diff.specs.declared.route_part.PartFinding.{PartFinding}
 use Rattle.filter_diff.specs.declared.route_part.RoutePart.{RoutePart}
 use Rattle.filter_parser.specs.SyntaxText.{FilterView, IsText}
 use Rattle.filter_verifier.specs.Safe.{IsRouteOf}
-use Rattle.report_formats.specs.declared.format.Format.{Format}
-use Rattle.filter_checks.specs.Comparing.{AreParts, ComparesNamed, compared_as}
-use Rattle.filter_checks.specs.declared.comparing.Compared.TheVariants as compared
+use Rattle.report_formats.specs.declared.options.DiffOptions.{DiffOptions}
+use Rattle.filter_checks.specs.Comparing.{AreParts, IsDiffReport, IsPartsReport, status_of_comparison}
 use Rattle.filter_reports.proofs.Saying.{says_the_same}
-use Rattle.filter_reports.specs.Naming.{Named}
+use Rattle.filter_reports.specs.Notices.{Named}
+use Rattle.filter_reports.specs.Reports.{ReportView}
 use Rattle.filter_reports.specs.VerifiedFilters.{IsFilterOf}
 use Rattle.filter_checks.specs.Filters.{ArePartsOf, HoldsOf}
 use Rattle.filter_diff.specs.Expectations.{IsCovered, IsMet, IsShown, route_of}
@@ -167,55 +167,55 @@ all_decided (part ∷ parts) all e =
     (or_true (is_difference part.finding) (list_any differs parts)
     (first_differs part.finding (All-head IsDecided part parts all))) e
 
--- what the comparison of two texts comes to
-compared_same : (found : Comparison) → compared.Same ≡ compared_as found → found ≡ answer.Same
-compared_same answer.Same e = refl
-compared_same answer.Differ e = let no : ⊥ = cc in absurd no
-compared_same answer.Undecided e = let no : ⊥ = cc in absurd no
+-- what the comparison comes to, by its exit status
+ends_same : (found : Comparison) (status : ℕ) → status ≡ status_of_comparison found → status ≡ 0 → found ≡ answer.Same
+ends_same answer.Same status e is = refl
+ends_same answer.Differ status e is = absurd (omega (arith, e, is))
+ends_same answer.Undecided status e is = absurd (omega (arith, e, is))
 
-compared_differ : (found : Comparison) → compared.Differ ≡ compared_as found → found ≡ answer.Differ
-compared_differ answer.Same e = let no : ⊥ = cc in absurd no
-compared_differ answer.Differ e = refl
-compared_differ answer.Undecided e = let no : ⊥ = cc in absurd no
+ends_differ : (found : Comparison) (status : ℕ) → status ≡ status_of_comparison found → status ≡ 1 → found ≡ answer.Differ
+ends_differ answer.Same status e is = absurd (omega (arith, e, is))
+ends_differ answer.Differ status e is = refl
+ends_differ answer.Undecided status e is = absurd (omega (arith, e, is))
 
-compared_undecided : (found : Comparison) → compared.Undecided ≡ compared_as found → found ≡ answer.Undecided
-compared_undecided answer.Same e = let no : ⊥ = cc in absurd no
-compared_undecided answer.Differ e = let no : ⊥ = cc in absurd no
-compared_undecided answer.Undecided e = refl
+ends_undecided : (found : Comparison) (status : ℕ) → status ≡ status_of_comparison found → status ≡ 3 → found ≡ answer.Undecided
+ends_undecided answer.Same status e is = absurd (omega (arith, e, is))
+ends_undecided answer.Differ status e is = absurd (omega (arith, e, is))
+ends_undecided answer.Undecided status e is = refl
 
 -- the code of a text says what its filter says
 of_text : (text : List ℕ) (size : ℕ) (f : FilterView) (is_f : IsFilterOf text size f) → SaysTheSame f is_f.program size
 of_text text size f is_f = says_the_same f is_f.program size is_f.translates.means is_f.safe
 
-module _ (format : Format) (size limit : ℕ) (is_explained : Bool) (old new : Named) (held holds stderr_before stderr_after : Option (List ℕ)) where
-  parts_of : (f g : FilterView) (is_f : IsFilterOf old.text size f) (is_g : IsFilterOf new.text size g) (parts : List RoutePart)
-      → AreParts is_f.program is_g.program size limit parts → ArePartsOf f g size parts
+module _ (how : DiffOptions) (old new : Named) (report : ReportView) where
+  parts_of : (f g : FilterView) (is_f : IsFilterOf old.text how.size f) (is_g : IsFilterOf new.text how.size g) (parts : List RoutePart)
+      → AreParts is_f.program is_g.program how.size how.limit parts → ArePartsOf f g how.size parts
   parts_of f g is_f is_g parts are =
-      of_filters f g is_f.program is_g.program size limit parts (of_text old.text size f is_f) (of_text new.text size g is_g) are
+      of_filters f g is_f.program is_g.program how.size how.limit parts (of_text old.text how.size f is_f) (of_text new.text how.size g is_g) are
 
-  pub filters_same : ComparesNamed format size limit is_explained old new held holds stderr_before stderr_after compared.Same
+  pub filters_same : IsDiffReport how old new report → report.status ≡ 0
       → (f : FilterView) × (g : FilterView) × IsText old.text f × IsText new.text g
-      × ((route : RouteView) → IsRouteOf size route → meaning f route ≡ meaning g route)
-  filters_same (inl refused) = let is = refused.0 in let no : ⊥ = cc in absurd no
-  filters_same (inr (keeps, f, is_f, g, is_g, writes)) = (
+      × ((route : RouteView) → IsRouteOf how.size route → meaning f route ≡ meaning g route)
+  filters_same (inl (before, after, are, refuses)) is = absurd (omega (arith, refuses.ends, is))
+  filters_same (inr (f, is_f, g, is_g, said)) is = (
     f,
     g,
     is_f.translates.spelled,
     is_g.translates.spelled,
-    all_same f g size writes.parts (parts_of f g is_f is_g writes.parts writes.are_parts)
-        (compared_same (answer_of writes.parts) writes.comes_to),
+    all_same f g how.size said.parts (parts_of f g is_f is_g said.parts said.are_parts)
+        (ends_same (answer_of said.parts) report.status said.ends is),
   )
 
-  pub filters_differ : ComparesNamed format size limit is_explained old new held holds stderr_before stderr_after compared.Differ
+  pub filters_differ : IsDiffReport how old new report → report.status ≡ 1
       → (f : FilterView) × (g : FilterView) × IsText old.text f × IsText new.text g
-      × (route : RouteView) × IsRouteOf size route × (meaning f route ≢ meaning g route)
-  filters_differ (inl refused) = let is = refused.0 in let no : ⊥ = cc in absurd no
-  filters_differ (inr (keeps, f, is_f, g, is_g, writes)) =
-      let one = one_differs f g size writes.parts (parts_of f g is_f is_g writes.parts writes.are_parts)
-      (compared_differ (answer_of writes.parts) writes.comes_to) in
+      × (route : RouteView) × IsRouteOf how.size route × (meaning f route ≢ meaning g route)
+  filters_differ (inl (before, after, are, refuses)) is = absurd (omega (arith, refuses.ends, is))
+  filters_differ (inr (f, is_f, g, is_g, said)) is =
+      let one = one_differs f g how.size said.parts (parts_of f g is_f is_g said.parts said.are_parts)
+      (ends_differ (answer_of said.parts) report.status said.ends is) in
       (f, g, is_f.translates.spelled, is_g.translates.spelled, one.0, one.1, one.2)
 
-  pub filters_decided : IsEnough size limit → ComparesNamed format size limit is_explained old new held holds stderr_before stderr_after compared.Undecided → ⊥
-  filters_decided enough (inl refused) = let is = refused.0 in let no : ⊥ = cc in absurd no
-  filters_decided enough (inr (keeps, f, is_f, g, is_g, writes)) =
-      all_decided writes.parts (writes.are_parts.decided enough) (compared_undecided (answer_of writes.parts) writes.comes_to)
+pub codes_decided : (how : DiffOptions) (name : List ℕ) (old new : CodeView) (size : ℕ) (report : ReportView) → IsEnough size how.limit
+    → IsPartsReport how name old new size report → report.status ≡ 3 → ⊥
+codes_decided how name old new size report enough said is =
+    all_decided said.parts (said.are_parts.decided enough) (ends_undecided (answer_of said.parts) report.status said.ends is)

@@ -1,9 +1,7 @@
--- How two filters are compared that have names. (This project's own choice.)
-use Rattle.std.specs.Prelude.{◌≡◌, ◌≢◌, ◌⊎◌, ℕ, Bool, false, List, [], All, Option, Some, None}
-use Rattle.std.specs.Io.KnownBytes.{Appends, Keeps}
+-- What is said of two filters that are compared. (This project's own choice.)
+use Rattle.std.specs.Prelude.{◌≡◌, ◌≢◌, ◌⊎◌, ℕ, false, List, [], All, Option, Some, None}
 use Rattle.filter_code.specs.CodeView.{CodeView}
 use Rattle.filter_reports.specs.Checking.{IsDiagnosis}
-use Rattle.filter_reports.specs.Cuts.{IsCut}
 use Rattle.filter_diff.specs.Answers.{answer_of}
 use Rattle.filter_diff.specs.Parts.{Cover, IsDecided, IsEnough, IsReal, IsTrueOf}
 use Rattle.filter_diff.specs.declared.answer.Comparison.{Comparison}
@@ -12,15 +10,12 @@ use Rattle.filter_diff.specs.declared.route_part.RoutePart.{RoutePart}
 use Rattle.filter_parser.specs.SyntaxText.{FilterView}
 use Rattle.filter_source.specs.declared.diagnosis.Diagnosis.{Diagnosis}
 use Rattle.filter_reports.specs.VerifiedFilters.{IsFilterOf}
-use Rattle.filter_reports.specs.Naming.{Named}
-use Rattle.line_protocol.specs.declared.faults.StreamFault.{StreamFault}
-use Rattle.line_protocol.specs.declared.faults.StreamFault.TheVariants.{Memory}
-use Rattle.refusal_reports.specs.Refusing.{CutsRefusingIf, RefusesIf}
-use Rattle.report_formats.specs.declared.format.Format.{Format}
+use Rattle.filter_reports.specs.Notices.{Named, words_or_line}
+use Rattle.filter_reports.specs.Reports.{ReportView, followed_by}
+use Rattle.refusal_reports.specs.Refusing.{IsRefusalReport}
+use Rattle.report_formats.specs.declared.options.DiffOptions.{DiffOptions}
 use Rattle.filter_checks.specs.PartLines.{parts_text}
 use Rattle.filter_checks.specs.PartReports.{parts_in}
-use Rattle.filter_checks.specs.declared.comparing.Compared.{Compared}
-use Rattle.filter_checks.specs.declared.comparing.Compared.TheVariants as compared
 
 -- This is told of a text: nothing where it spells a filter whose code never goes wrong in domains of the size, and otherwise why it
 -- is refused.
@@ -41,41 +36,33 @@ pub record AreParts (old new : CodeView) (size limit : ℕ) (parts : List RouteP
 abbrev pub TellsParts : CodeView → CodeView → ℕ → ℕ → List ℕ → Type 0
 TellsParts old new size limit text = (parts : List RoutePart) × AreParts old new size limit parts × (text ≡ parts_text size parts)
 
--- what the comparison comes to
-abbrev pub compared_as : Comparison → Compared
-compared_as answer.Same = compared.Same
-compared_as answer.Differ = compared.Differ
-compared_as answer.Undecided = compared.Undecided
+-- the exit status: 0 where the two do the same on all routes, 1 where they differ
+abbrev pub status_of_comparison : Comparison → ℕ
+status_of_comparison answer.Same = 0
+status_of_comparison answer.Differ = 1
+status_of_comparison answer.Undecided = 3
 
--- The lines of such parts were written. `held` and `holds` are what the writer held before and holds now.
-pub record WritesParts (format : Format) (name : List ℕ) (old new : CodeView) (size limit : ℕ) (held holds : Option (List ℕ)) (end : Compared) : Type 0 where
+-- This is the report on two codes that are compared: the lines of such parts, and nothing is told.
+pub record IsPartsReport (how : DiffOptions) (name : List ℕ) (old new : CodeView) (size : ℕ) (report : ReportView) : Type 0 where
   pub parts : List RoutePart
-  pub are_parts : AreParts old new size limit parts
-  pub written : Appends held holds (parts_in format name size parts)
-  pub comes_to : end ≡ compared_as (answer_of parts)
+  pub are_parts : AreParts old new size how.limit parts
+  pub written : report.out ≡ parts_in how.format name size parts
+  pub told : report.err ≡ []
+  pub ends : report.status ≡ status_of_comparison (answer_of parts)
 
--- a fault cut them
-abbrev pub IsCutParts : StreamFault → Format → List ℕ → CodeView → CodeView → ℕ → ℕ → Option (List ℕ) → Option (List ℕ) → Type 0
-IsCutParts fault format name old new size limit held holds =
-    ((fault ≡ Memory) × Appends held holds [])
-    ⊎ ((parts : List RoutePart) × AreParts old new size limit parts × IsCut fault held holds (parts_in format name size parts))
+-- It says why a source is refused, if it is.
+abbrev pub IsRefusalIf : DiffOptions → Named → Option Diagnosis → ReportView → Type 0
+IsRefusalIf how source None report = (report.out ≡ []) × (report.err ≡ [])
+IsRefusalIf how source (Some why) report = IsRefusalReport how.format (words_or_line how.is_explained) source why report
 
--- It was said why one text is refused, if it is, and then the same of another. `stderr_before` and `stderr_after` are what standard error held before and holds
--- now.
-pub record RefusesBoth (format : Format) (is_explained : Bool) (old new : Named) (before after : Option Diagnosis)
-    (held holds stderr_before stderr_after : Option (List ℕ)) : Type 0 where
-  pub writes : Option (List ℕ)
-  pub between : Option (List ℕ)
-  pub old_told : RefusesIf format is_explained old before held writes stderr_before between
-  pub new_told : RefusesIf format is_explained new after writes holds between stderr_after
-
--- A fault cut what is said of the one, or of the other.
-abbrev pub CutsRefusingBoth : StreamFault → Format → Bool → Named → Named → Option Diagnosis → Option Diagnosis → Option (List ℕ)
-    → Option (List ℕ) → Option (List ℕ) → Option (List ℕ) → Type 0
-CutsRefusingBoth fault format is_explained old new before after held holds stderr_before stderr_after =
-    CutsRefusingIf fault format is_explained old before held holds stderr_before stderr_after
-    ⊎ ((writes : Option (List ℕ)) × (between : Option (List ℕ)) × RefusesIf format is_explained old before held writes stderr_before between
-    × CutsRefusingIf fault format is_explained new after writes holds between stderr_after)
+-- It says so of one text, and then of another, and nothing is known of what they do.
+pub record RefusesBoth (how : DiffOptions) (old new : Named) (before after : Option Diagnosis) (report : ReportView) : Type 0 where
+  pub first : ReportView
+  pub second : ReportView
+  pub old_said : IsRefusalIf how old before first
+  pub new_said : IsRefusalIf how new after second
+  pub both : report ≡ followed_by first second
+  pub ends : report.status ≡ 3
 
 -- Two texts were judged, at least one of which is refused.
 pub record AreRefused (size : ℕ) (old new : Named) (before after : Option Diagnosis) : Type 0 where
@@ -83,21 +70,9 @@ pub record AreRefused (size : ℕ) (old new : Named) (before after : Option Diag
   pub new_judged : IsJudged size new.text after
   pub refused : before ≡ None → after ≢ None
 
--- The texts spell filters, and the lines of the comparison of their codes were written, and nothing told; or a text is refused, which was
--- said.
-abbrev pub ComparesNamed : Format → ℕ → ℕ → Bool → Named → Named → Option (List ℕ) → Option (List ℕ) → Option (List ℕ) → Option (List ℕ) → Compared → Type 0
-ComparesNamed format size limit is_explained old new held holds stderr_before stderr_after end =
-    ((end ≡ compared.Refused) × (before : Option Diagnosis) × (after : Option Diagnosis)
-    × AreRefused size old new before after × RefusesBoth format is_explained old new before after held holds stderr_before stderr_after)
-    ⊎ (Keeps stderr_before stderr_after × (f : FilterView) × (is_f : IsFilterOf old.text size f) × (g : FilterView) × (is_g : IsFilterOf new.text size g)
-    × WritesParts format new.name is_f.program is_g.program size limit held holds end)
-
--- A fault ended it: before anything was written or told, for want of memory; while a refusal was told; or while the lines were written.
-abbrev pub ComparesNamedOff : StreamFault → Format → ℕ → ℕ → Bool → Named → Named → Option (List ℕ) → Option (List ℕ) → Option (List ℕ)
-    → Option (List ℕ) → Type 0
-ComparesNamedOff fault format size limit is_explained old new held holds stderr_before stderr_after =
-    ((fault ≡ Memory) × Appends held holds [] × Keeps stderr_before stderr_after)
-    ⊎ (((before : Option Diagnosis) × (after : Option Diagnosis) × AreRefused size old new before after
-    × CutsRefusingBoth fault format is_explained old new before after held holds stderr_before stderr_after)
-    ⊎ (Keeps stderr_before stderr_after × (f : FilterView) × (is_f : IsFilterOf old.text size f) × (g : FilterView) × (is_g : IsFilterOf new.text size g)
-    × IsCutParts fault format new.name is_f.program is_g.program size limit held holds))
+-- The texts spell filters, and this is the report on the comparison of their codes; or a text is refused, of which it says why.
+abbrev pub IsDiffReport : DiffOptions → Named → Named → ReportView → Type 0
+IsDiffReport how old new report =
+    ((before : Option Diagnosis) × (after : Option Diagnosis) × AreRefused how.size old new before after × RefusesBoth how old new before after report)
+    ⊎ ((f : FilterView) × (is_f : IsFilterOf old.text how.size f) × (g : FilterView) × (is_g : IsFilterOf new.text how.size g)
+    × IsPartsReport how new.name is_f.program is_g.program how.size report)

@@ -9,11 +9,11 @@ use Rattle.filter_diff.specs.declared.route_part.PartFinding.TheVariants as find
 use Rattle.filter_diff.specs.declared.route_part.RoutePart.{RoutePart}
 use Rattle.prefix_patterns.specs.Spelling.{prefix_text}
 use Rattle.report_formats.specs.Parts.{PartView, part_line as json_part}
-use Rattle.report_formats.specs.Reports.{ReportView, report_line}
+use Rattle.report_formats.specs.Findings.{FindingView, finding_line}
 use Rattle.report_formats.specs.declared.format.Format.{Format}
 use Rattle.report_formats.specs.declared.format.Format.TheVariants as formats
-use Rattle.report_formats.specs.declared.report.Severity.{Severity}
-use Rattle.report_formats.specs.declared.report.Severity.TheVariants as severity
+use Rattle.report_formats.specs.declared.finding.Severity.{Severity}
+use Rattle.report_formats.specs.declared.finding.Severity.TheVariants as severity
 use Rattle.filter_checks.specs.PartLines.{ending_text, hidden_words, last_words, part_words, parts_text, shown_limit}
 
 -- how much is wrong with a part, and with a comparison
@@ -54,7 +54,7 @@ abbrev pub part_report : RoutePart → List ℕ
 part_report part = report_by part part.finding
 
 -- a report on the whole comparison, under the name of the newer filter
-abbrev pub whole_view : List ℕ → Comparison → List ℕ → ReportView
+abbrev pub whole_view : List ℕ → Comparison → List ℕ → FindingView
 whole_view name found words = record {
   severity = severity_of_answer found;
   code = None;
@@ -66,10 +66,10 @@ whole_view name found words = record {
 
 -- how many parts have no report, and what is said of all other routes
 abbrev pub hidden_report : List ℕ → Comparison → ℕ → List ℕ
-hidden_report name found count = if count == 0 then [] else report_line (whole_view name found (hidden_words count))
+hidden_report name found count = if count == 0 then [] else finding_line (whole_view name found (hidden_words count))
 
 abbrev pub last_report : List ℕ → ℕ → List RoutePart → List ℕ
-last_report name size parts = report_line (whole_view name (answer_of parts) (last_words size (count_by undecided parts) parts))
+last_report name size parts = finding_line (whole_view name (answer_of parts) (last_words size (count_by undecided parts) parts))
 
 -- the reports on the parts, and the last ones
 abbrev pub parts_reports : List ℕ → ℕ → List RoutePart → List ℕ

@@ -6,11 +6,11 @@ use Rattle.filter_diff.specs.declared.checking.ExpectationResult.TheVariants as 
 use Rattle.filter_diff.specs.declared.checking.Counterexample.{Counterexample}
 use Rattle.refusal_words.specs.Places.{before_first_feed}
 use Rattle.report_formats.specs.Cases.{broken_case, document_end, document_head, failed_case, passed_case}
-use Rattle.report_formats.specs.Reports.{ReportView, report_line}
+use Rattle.report_formats.specs.Findings.{FindingView, finding_line}
 use Rattle.report_formats.specs.declared.format.TestFormat.{TestFormat}
 use Rattle.report_formats.specs.declared.format.TestFormat.TheVariants as formats
-use Rattle.report_formats.specs.declared.report.Severity.{Severity}
-use Rattle.report_formats.specs.declared.report.Severity.TheVariants as severity
+use Rattle.report_formats.specs.declared.finding.Severity.{Severity}
+use Rattle.report_formats.specs.declared.finding.Severity.TheVariants as severity
 use Rattle.filter_checks.specs.Tap.{all_lines, found_text, plan, skipped}
 use Rattle.filter_checks.specs.declared.testing.RanTest.{RanTest}
 
@@ -34,7 +34,7 @@ abbrev pub result_words : RanTest → List ℕ
 result_words ran = ran.line.items ++ said ran.checked
 
 -- a report on a line of a file of this name
-abbrev pub view_on_line : Severity → List ℕ → ℕ → List ℕ → ReportView
+abbrev pub view_on_line : Severity → List ℕ → ℕ → List ℕ → FindingView
 view_on_line how name line words = record {
   severity = how;
   code = None;
@@ -45,11 +45,11 @@ view_on_line how name line words = record {
 }
 
 -- that on a test
-abbrev pub test_view : List ℕ → RanTest → ReportView
+abbrev pub test_view : List ℕ → RanTest → FindingView
 test_view name ran = view_on_line (severity_of ran.checked) name ran.number (result_words ran)
 
 abbrev pub test_report : List ℕ → RanTest → List ℕ
-test_report name ran = report_line (test_view name ran)
+test_report name ran = finding_line (test_view name ran)
 
 -- its element
 abbrev pub failure_case : List ℕ → List ℕ → Counterexample → List ℕ
@@ -73,7 +73,7 @@ results_in formats.Junit name before all = flat_map (case_of name) all
 abbrev pub not_run_words : List ℕ → List ℕ
 not_run_words diagnosis = codes "not run: " ++ before_first_feed diagnosis
 
-abbrev pub skipped_view : List ℕ → List ℕ → ReportView
+abbrev pub skipped_view : List ℕ → List ℕ → FindingView
 skipped_view name words = record {
   severity = severity.Undecided;
   code = None;
@@ -86,7 +86,7 @@ skipped_view name words = record {
 -- what is written in their place: a line, a report, or an element
 abbrev pub skipped_in : TestFormat → ℕ → List ℕ → List ℕ → List ℕ
 skipped_in formats.Tap number name diagnosis = skipped number name (not_run_words diagnosis)
-skipped_in formats.Json number name diagnosis = report_line (skipped_view name (not_run_words diagnosis))
+skipped_in formats.Json number name diagnosis = finding_line (skipped_view name (not_run_words diagnosis))
 skipped_in formats.Junit number name diagnosis = broken_case name name (not_run_words diagnosis)
 
 -- what is written before all tests, and behind them by their number

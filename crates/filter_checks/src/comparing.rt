@@ -1,40 +1,27 @@
 //! `ncroute diff`: on which routes two filters differ.
-ghost use Rattle.std.specs.Prelude.{◌≡◌, ◌≤◌, Decides, false, IfErr, IfOk, MatchResult, OnOk};
+//!
+//! **`diff` ends with 0 only where two filters do the same on all routes, and with 1 only where they differ.** What keeps it from knowing is 3,
+//! also a filter that is refused: after a 1 a script may count on a difference, as after a 1 of `cmp`.
+ghost use Rattle.std.specs.Prelude.{◌≡◌, ◌≤◌, Decides, false, IfOk, MatchResult, OnOk};
 ghost use Rattle.code_file.specs.Spelling.{IsCode, spelling};
 ghost use Rattle.filter_code.specs.Limits.{largest_size};
 ghost use Rattle.filter_reports.specs.Checking.{IsDiagnosis};
-ghost use Rattle.filter_reports.specs.Faults.{stream_fault};
 ghost use Rattle.filter_reports.specs.VerifiedFilters.{IsVerifiedOf};
-ghost use Rattle.filter_reports.specs.Naming.{named};
+ghost use Rattle.filter_reports.specs.Notices.{named};
+ghost use Rattle.filter_reports.specs.Reports.{report_of};
 ghost use Rattle.filter_checks.specs.Comparing as spec;
-ghost use Rattle.filter_checks.specs.declared.comparing.Compared.TheVariants as compared;
 
 use crate::part_lines::parts_text;
 use crate::part_reports::parts_in;
 use code_file::write_code;
 use filter_code::Code;
 use filter_diff::{Comparison, RoutePart, answer_of, compare, join_all};
-use filter_reports::{NamedText, ProgramFault, verified_filter};
+use filter_reports::{FAILED, FAULT, NamedText, Report, Wording, verified_filter};
 use filter_source::{Diagnosis, Failure};
 use filter_verifier::Verified;
-use line_protocol::write_text;
-use refusal_reports::refuse_if;
-use report_formats::Format;
+use refusal_reports::refusal_report;
+use report_formats::DiffOptions;
 use std::alloc::{AllocError, Global};
-use std::io::Write;
-
-/// What the comparison of two filters comes to.
-#[derive(Clone, Copy, PartialEq)]
-pub enum Compared {
-    /// A text gives no verified code, and nothing is compared.
-    Refused,
-    /// The two filters do the same with every route.
-    Same,
-    /// They differ on some routes.
-    Differ,
-    /// No difference was found, and some routes are undecided.
-    Undecided,
-}
 
 /// The verified code of a text for domains of a size, or what is told of why it is refused.
 fn judge(alloc: Global, text: &[u8], size: u32) -> Result<Result<Verified, Diagnosis>, AllocError>
@@ -100,137 +87,109 @@ pub fn difference_text(
     parts_text(alloc, old.size(), parts.as_slice())
 }
 
-/// What the comparison comes to, by what its parts come to.
-fn compared_as(found: Comparison) -> Compared
-    ensures { result ≡ spec.compared_as found }
+/// The exit status by what the comparison comes to: 0 where two filters do the same with every route.
+fn status_of_comparison(found: Comparison) -> u8
+    ensures { result ≡ spec.status_of_comparison found }
 {
     match found {
-        Comparison::Same => Compared::Same,
-        Comparison::Differ => Compared::Differ,
-        Comparison::Undecided => Compared::Undecided,
+        Comparison::Same => 0,
+        Comparison::Differ => FAILED,
+        Comparison::Undecided => FAULT,
     }
 }
 
-/// Compares two codes on all routes of domains of `size` nodes, and writes the lines of the parts.
-fn write_parts<W: Write>(
+/// The report on two codes that are compared on all routes of domains of `size` nodes: the lines of the parts.
+fn parts_report(
     alloc: Global,
-    format: Format,
+    how: DiffOptions,
     name: &[u8],
     old: &Code,
     new: &Code,
     size: u32,
-    limit: u64,
-    writer: &mut W,
-) -> Result<Compared, ProgramFault>
+) -> Result<Report, AllocError>
     requires { size ≤ largest_size }
-    ensures finished { IfOk result (spec.WritesParts format name.now old.now new.now size limit (W.contents writer.old) (W.contents writer.new)) }
-    ensures broken_off { IfErr result (λ fault.
-        spec.IsCutParts (stream_fault fault) format name.now old.now new.now size limit (W.contents writer.old) (W.contents writer.new)) }
+    ensures { IfOk result (λ report. spec.IsPartsReport how name.now old.now new.now size (report_of report)) }
 {
-    let parts = find_parts(alloc, old, new, size, limit)?;
-    let text = parts_in(alloc, format, name, size, parts.as_slice())?;
-    write_text(writer, text.as_slice())?;
-    Ok(compared_as(answer_of(parts.as_slice())))
+    let parts = find_parts(alloc, old, new, size, how.limit)?;
+    let text = parts_in(alloc, how.format, name, size, parts.as_slice())?;
+    Ok(Report {
+        out: text,
+        err: Vec::new(alloc),
+        status: status_of_comparison(answer_of(parts.as_slice())),
+    })
 }
 
-/// Compares two verified codes on all routes of domains of the size that they were verified for, and writes the lines of the parts.
-fn write_comparison<W: Write>(
+/// The report on two verified codes, which are compared on all routes of domains of the size that they were verified for.
+fn comparison_report(
     alloc: Global,
-    format: Format,
+    how: DiffOptions,
     name: &[u8],
     old: &Verified,
     new: &Verified,
-    limit: u64,
-    writer: &mut W,
-) -> Result<Compared, ProgramFault>
-    ensures finished { IfOk result (spec.WritesParts format name.now old.now.program new.now.program old.now.size limit (W.contents writer.old) (W.contents writer.new)) }
-    ensures broken_off { IfErr result (λ fault.
-        spec.IsCutParts (stream_fault fault) format name.now old.now.program new.now.program old.now.size limit (W.contents writer.old) (W.contents writer.new)) }
+) -> Result<Report, AllocError>
+    ensures { IfOk result (λ report. spec.IsPartsReport how name.now old.now.program new.now.program old.now.size (report_of report)) }
 {
-    write_parts(
-        alloc,
-        format,
-        name,
-        old.code(),
-        new.code(),
-        old.size(),
-        limit,
-        writer,
-    )
+    parts_report(alloc, how, name, old.code(), new.code(), old.size())
 }
 
-/// Says why each of two texts is refused, if it is.
-fn refuse_both<W: Write, E: Write>(
+/// The report on a source that is refused, if it is: nothing is compared, so nothing is known.
+fn refusal_report_if(
     alloc: Global,
-    format: Format,
-    is_explained: bool,
+    how: DiffOptions,
+    source: &NamedText<'_>,
+    why: &Option<Diagnosis>,
+) -> Result<Report, AllocError>
+    ensures said { IfOk result (λ report. spec.IsRefusalIf how (named source.now) why.now (report_of report)) }
+    ensures status { IfOk result (λ report. report.status ≡ 3) }
+{
+    match why {
+        Some(why) => {
+            let wording = Wording::words_or_line(how.is_explained);
+            refusal_report(alloc, how.format, wording, source, why, FAULT)
+        }
+        None => Ok(Report {
+            out: Vec::new(alloc),
+            err: Vec::new(alloc),
+            status: FAULT,
+        }),
+    }
+}
+
+/// The report on two texts, of which one is refused or both are.
+fn refusals_report(
+    alloc: Global,
+    how: DiffOptions,
     old: &NamedText<'_>,
     new: &NamedText<'_>,
     before: Option<Diagnosis>,
     after: Option<Diagnosis>,
-    writer: &mut W,
-    errors: &mut E,
-) -> Result<Compared, ProgramFault>
-    ensures ok { IfOk result (λ end. (end ≡ compared.Refused) × spec.RefusesBoth format is_explained (named old.now) (named new.now) before after
-        (W.contents writer.old) (W.contents writer.new) (E.contents errors.old) (E.contents errors.new)) }
-    ensures err { IfErr result (λ fault. spec.CutsRefusingBoth (stream_fault fault) format is_explained (named old.now) (named new.now)
-        before after (W.contents writer.old) (W.contents writer.new) (E.contents errors.old) (E.contents errors.new)) }
+) -> Result<Report, AllocError>
+    ensures { IfOk result (λ report. spec.RefusesBoth how (named old.now) (named new.now) before after (report_of report)) }
 {
-    refuse_if(alloc, format, is_explained, old, before, writer, errors)?;
-    refuse_if(alloc, format, is_explained, new, after, writer, errors)?;
-    Ok(Compared::Refused)
+    let first = refusal_report_if(alloc, how, old, &before)?;
+    let second = refusal_report_if(alloc, how, new, &after)?;
+    first.followed_by(&second)
 }
 
-/// Compares the filters that two texts spell on all routes of domains of `size` nodes, and writes a line for each part of the routes
-/// on which they differ or on which it is not decided, then one line on all other routes. It tries at most `limit` classes of routes, and
-/// decides all where these are all.
-/// A text that is refused is told on `errors` under its name, in words where `is_explained` says so, or is written where lines are JSON; and
-/// then nothing is compared.
-pub fn compare_named<W: Write, E: Write>(
+/// The report of `diff` on the filters that two texts spell, on all routes of a domain: a line for each part of the routes on which they differ
+/// or on which it is not decided, then one line on all other routes. At most so many classes of routes are tried as `how` says, and
+/// all are decided where these are all. Of a text that is refused people are told why, under its name, or a line of JSON says it, and nothing is
+/// compared.
+pub fn diff_report(
     alloc: Global,
-    format: Format,
+    how: DiffOptions,
     old: &NamedText<'_>,
     new: &NamedText<'_>,
-    size: u32,
-    limit: u64,
-    is_explained: bool,
-    writer: &mut W,
-    errors: &mut E,
-) -> Result<Compared, ProgramFault>
-    ensures finished { IfOk result (spec.ComparesNamed format size limit is_explained (named old.now) (named new.now)
-        (W.contents writer.old) (W.contents writer.new) (E.contents errors.old) (E.contents errors.new)) }
-    ensures broken_off { IfErr result (λ fault. spec.ComparesNamedOff (stream_fault fault) format size limit is_explained (named old.now)
-        (named new.now) (W.contents writer.old) (W.contents writer.new) (E.contents errors.old) (E.contents errors.new)) }
+) -> Result<Report, AllocError>
+    ensures { IfOk result (λ report. spec.IsDiffReport how (named old.now) (named new.now) (report_of report)) }
 {
-    let before = judge(alloc, old.text, size)?;
-    let after = judge(alloc, new.text, size)?;
+    let before = judge(alloc, old.text, how.size)?;
+    let after = judge(alloc, new.text, how.size)?;
     match before {
         Ok(old_code) => match after {
-            Ok(new_code) => {
-                write_comparison(alloc, format, new.name, &old_code, &new_code, limit, writer)
-            }
-            Err(diagnosis) => refuse_both(
-                alloc,
-                format,
-                is_explained,
-                old,
-                new,
-                None,
-                Some(diagnosis),
-                writer,
-                errors,
-            ),
+            Ok(new_code) => comparison_report(alloc, how, new.name, &old_code, &new_code),
+            Err(diagnosis) => refusals_report(alloc, how, old, new, None, Some(diagnosis)),
         },
-        Err(diagnosis) => refuse_both(
-            alloc,
-            format,
-            is_explained,
-            old,
-            new,
-            Some(diagnosis),
-            after.err(),
-            writer,
-            errors,
-        ),
+        Err(diagnosis) => refusals_report(alloc, how, old, new, Some(diagnosis), after.err()),
     }
 }

@@ -80,7 +80,7 @@ fn push_tail(out: &mut Vec<u8>, is_explained: bool, why: TestFileFault) -> Resul
 }
 
 /// The line that tells why the text of a file of this name is no test file: in words where `is_explained` says so.
-pub fn fault_text(
+pub(crate) fn fault_text(
     alloc: Global,
     is_explained: bool,
     name: &[u8],

@@ -1,5 +1,5 @@
 //! Laws on comparisons and tests, each the contract of a function with an empty body.
-ghost use Rattle.std.specs.Prelude.{◌≡◌, ◌≢◌, ℕ, Bool, List, Option};
+ghost use Rattle.std.specs.Prelude.{◌≡◌, ◌≢◌, ℕ, List};
 ghost use Rattle.filter_code.specs.CodeView.{CodeView};
 ghost use Rattle.filter_code.specs.RouteView.{RouteView};
 ghost use Rattle.filter_reports.specs.Saying.{Says, SaysTheSame};
@@ -13,11 +13,11 @@ ghost use Rattle.filter_diff.specs.declared.checking.Counterexample.{Counterexam
 ghost use Rattle.filter_diff.specs.declared.expectation.Expectation.{Expectation as TheExpectation};
 ghost use Rattle.filter_diff.specs.declared.route_part.RoutePart.{RoutePart as RoutePartView};
 ghost use Rattle.filter_parser.specs.SyntaxText.{FilterView, IsText};
-ghost use Rattle.filter_reports.specs.Naming.{Named};
+ghost use Rattle.filter_reports.specs.Notices.{Named};
+ghost use Rattle.filter_reports.specs.Reports.{ReportView};
 ghost use Rattle.filter_verifier.specs.Safe.{IsRouteOf};
-ghost use Rattle.report_formats.specs.declared.format.Format.{Format};
-ghost use Rattle.filter_checks.specs.Comparing.{AreParts, ComparesNamed};
-ghost use Rattle.filter_checks.specs.declared.comparing.Compared.TheVariants as compared;
+ghost use Rattle.report_formats.specs.declared.options.DiffOptions.{DiffOptions as HowToCompare};
+ghost use Rattle.filter_checks.specs.Comparing.{AreParts, IsDiffReport, IsPartsReport};
 ghost use Rattle.filter_checks.specs.Filters.{ArePartsOf};
 
 /// What parts say of two codes they say of two filters, where the codes say of each route what the filters say, as verified code does.
@@ -55,17 +55,16 @@ pub fn shown_routes_are_of_filters()
         → Says (meaning f (route_of size shown)) (outcome_at (route_of size shown) expected.ending) → ⊥ }
 {}
 
-/// Two texts of which `compare_named` answers `Same` spell filters of one meaning: the two say the same of every route in a domain of the
-/// size. Where it answers `Differ` they do not say the same of every route.
+/// Two texts whose report of `diff` has status 0 spell filters of one meaning: the two say the same of every route in a domain of the
+/// size. Where the status is 1 they do not say the same of every route. Where the limit leaves out no class of routes, two filters have no other
+/// status.
 pub fn compared_filters_mean_the_same()
-    ensures same { (format : Format) (size limit : ℕ) (is_explained : Bool) (old new : Named) (held holds stderr_before stderr_after : Option (List ℕ))
-        → ComparesNamed format size limit is_explained old new held holds stderr_before stderr_after compared.Same
+    ensures same { (how : HowToCompare) (old new : Named) (report : ReportView) → IsDiffReport how old new report → report.status ≡ 0
         → (f : FilterView) × (g : FilterView) × IsText old.text f × IsText new.text g
-        × ((route : RouteView) → IsRouteOf size route → meaning f route ≡ meaning g route) }
-    ensures differ { (format : Format) (size limit : ℕ) (is_explained : Bool) (old new : Named) (held holds stderr_before stderr_after : Option (List ℕ))
-        → ComparesNamed format size limit is_explained old new held holds stderr_before stderr_after compared.Differ
+        × ((route : RouteView) → IsRouteOf how.size route → meaning f route ≡ meaning g route) }
+    ensures differ { (how : HowToCompare) (old new : Named) (report : ReportView) → IsDiffReport how old new report → report.status ≡ 1
         → (f : FilterView) × (g : FilterView) × IsText old.text f × IsText new.text g
-        × (route : RouteView) × IsRouteOf size route × (meaning f route ≢ meaning g route) }
-    ensures decided { (format : Format) (size limit : ℕ) (is_explained : Bool) (old new : Named) (held holds stderr_before stderr_after : Option (List ℕ)) → IsEnough size limit
-        → ComparesNamed format size limit is_explained old new held holds stderr_before stderr_after compared.Undecided → ⊥ }
+        × (route : RouteView) × IsRouteOf how.size route × (meaning f route ≢ meaning g route) }
+    ensures decided { (how : HowToCompare) (name : List ℕ) (old new : CodeView) (size : ℕ) (report : ReportView) → IsEnough size how.limit
+        → IsPartsReport how name old new size report → report.status ≡ 3 → ⊥ }
 {}

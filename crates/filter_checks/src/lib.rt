@@ -15,14 +15,13 @@ mod tap;
 mod test_file;
 mod testing;
 
-pub use comparing::{Compared, compare_named, difference_text};
-pub use faults::fault_text;
+pub use comparing::{diff_report, difference_text};
 pub use laws::{
     compared_filters_mean_the_same, comparison_is_of_filters, held_tests_are_of_filters,
     parts_are_of_filters, shown_routes_are_of_filters,
 };
 pub use part_lines::{parts_text, push_outcome};
 pub use place::path_beside;
-pub use results::{end_in, head_in, skipped_in};
+pub use results::{end_in, head_in};
 pub use test_file::{Test, TestFile, TestFileFault, read_tests};
-pub use testing::{Failures, RanTest, Tested, test_named};
+pub use testing::{RanTest, TestReport, faulty_tests, skipped_tests, test_report};

@@ -1,7 +1,7 @@
 //! Parts of the routes as they are written: in lines for people, or in lines of JSON.
 ghost use Rattle.std.specs.Prelude.{◌≡◌, ◌++◌, IfOk, OnOk, flat_map, option_map};
 ghost use Rattle.prefix_patterns.specs.Spelling.{prefix_text};
-ghost use Rattle.report_formats.specs.Reports.{report_line};
+ghost use Rattle.report_formats.specs.Findings.{finding_line};
 ghost use Rattle.filter_checks.specs.PartLines.{ending_text, part_words};
 ghost use Rattle.filter_checks.specs.PartReports as spec;
 
@@ -12,7 +12,7 @@ use crate::part_lines::{
 use filter_diff::{Comparison, PartFinding, RoutePart, RunEnding, answer_of, count_undecided};
 use prefix_patterns::Prefix;
 use refusal_words::push_prefix;
-use report_formats::{Format, PartReport, Report, Severity, push_part, push_report};
+use report_formats::{Finding, Format, PartReport, Severity, push_finding, push_part};
 use std::alloc::{AllocError, Global};
 
 /// How much is wrong with a part.
@@ -140,12 +140,12 @@ fn push_whole<'a>(
     found: Comparison,
     words: &'a [u8],
 ) -> Result<(), AllocError>
-    ensures { OnOk result (out.new.items ≡ out.old.items ++ report_line (spec.whole_view name.now found words.now)) }
+    ensures { OnOk result (out.new.items ≡ out.old.items ++ finding_line (spec.whole_view name.now found words.now)) }
 {
-    push_report(
+    push_finding(
         alloc,
         out,
-        &Report {
+        &Finding {
             severity: severity_of_answer(found),
             code: None,
             file: name,

@@ -3,7 +3,7 @@
 //! **JUnit's document has no counts at its head.** They are known at its end, and build servers count the tests themselves.
 ghost use Rattle.std.specs.Prelude.{◌≡◌, ◌+◌, ◌<◌, ◌^◌, ◌++◌, IfOk, OnOk, flat_map, length};
 ghost use Rattle.report_formats.specs.Cases.{broken_case};
-ghost use Rattle.report_formats.specs.Reports.{report_line};
+ghost use Rattle.report_formats.specs.Findings.{finding_line};
 ghost use Rattle.filter_checks.specs.Results as spec;
 
 use crate::tap::{all_lines, plan_line, push_found, skipped_line};
@@ -11,8 +11,8 @@ use crate::testing::RanTest;
 use filter_diff::{Counterexample, ExpectationResult};
 use refusal_words::place_in;
 use report_formats::{
-    Report, Severity, TestFormat, document_end, document_head, push_broken, push_failed,
-    push_passed, push_report,
+    Finding, Severity, TestFormat, document_end, document_head, push_broken, push_failed,
+    push_finding, push_passed,
 };
 use std::alloc::{AllocError, Global};
 
@@ -75,12 +75,12 @@ fn push_report_on_line<'a>(
     line: usize,
     words: &'a [u8],
 ) -> Result<(), AllocError>
-    ensures { OnOk result (out.new.items ≡ out.old.items ++ report_line (spec.view_on_line severity name.now line words.now)) }
+    ensures { OnOk result (out.new.items ≡ out.old.items ++ finding_line (spec.view_on_line severity name.now line words.now)) }
 {
-    push_report(
+    push_finding(
         alloc,
         out,
-        &Report {
+        &Finding {
             severity,
             code: None,
             file: name,
@@ -193,13 +193,13 @@ fn not_run_words(alloc: Global, diagnosis: &[u8]) -> Result<Vec<u8>, AllocError>
 
 /// The report on a file of this name whose tests were not run.
 fn skipped_report<'a>(alloc: Global, name: &'a [u8], words: &'a [u8]) -> Result<Vec<u8>, AllocError>
-    ensures { IfOk result (λ out. out.items ≡ report_line (spec.skipped_view name.now words.now)) }
+    ensures { IfOk result (λ out. out.items ≡ finding_line (spec.skipped_view name.now words.now)) }
 {
     let mut out = Vec::new(alloc);
-    push_report(
+    push_finding(
         alloc,
         &mut out,
-        &Report {
+        &Finding {
             severity: Severity::Undecided,
             code: None,
             file: name,
@@ -222,7 +222,7 @@ fn skipped_case(alloc: Global, name: &[u8], words: &[u8]) -> Result<Vec<u8>, All
 
 /// What is written in place of the tests of a file of this name that were not run, by its number in the stream and by what people are told of the
 /// reason.
-pub fn skipped_in(
+pub(crate) fn skipped_in(
     alloc: Global,
     format: TestFormat,
     number: u64,

@@ -4,30 +4,29 @@
 //! tells the two apart.
 //!
 //! **The tests of a file are all run before their lines are written**, so that a refused allocation leaves nothing written of them.
-ghost use Rattle.std.specs.Prelude.{◌≡◌, ◌+◌, ◌<◌, ◌≤◌, ◌^◌, IfErr, IfOk, OnOk, count_by, length, map, vec_len};
-ghost use Rattle.std.specs.Io.KnownBytes.{Appends};
+//!
+//! **A test file that is refused or not read, or whose filter is, stands in the stream as one test that does not hold.** It has its name and the
+//! reason, and the files behind it are run: a harness takes the stream for failed, and one bad file hides no other. Its status is 3, too. The reason
+//! is in words, whatever `--explain` says: that is about standard error, and the stream is for people.
+ghost use Rattle.std.specs.Prelude.{◌≡◌, ◌+◌, ◌<◌, ◌≤◌, ◌^◌, IfOk, length, map, true, vec_len};
 ghost use Rattle.filter_code.specs.Limits.{largest_size};
-ghost use Rattle.filter_reports.specs.Faults.{stream_fault};
-ghost use Rattle.filter_reports.specs.Naming.{named};
+ghost use Rattle.filter_reports.specs.Notices.{named};
+ghost use Rattle.filter_reports.specs.Reports.{report_of};
+ghost use Rattle.filter_checks.specs.Faults.{fault_text as fault_words};
 ghost use Rattle.filter_checks.specs.Files.{file_view, test_view};
-ghost use Rattle.filter_checks.specs.Results.{results_in as lines_of};
-ghost use Rattle.filter_checks.specs.Tap.{is_undecided, is_wrong, failures_of as words_of};
 ghost use Rattle.filter_checks.specs.Testing as spec;
-ghost use Rattle.filter_checks.specs.declared.testing.Tested.TheVariants as tested;
 
-use crate::results::results_in;
+use crate::faults::fault_text;
+use crate::results::{results_in, skipped_in};
 use crate::tap::{count_undecided, count_wrong, failures_of};
-use crate::test_file::{Test, TestFile};
+use crate::test_file::{Test, TestFile, TestFileFault};
 use filter_code::Code;
 use filter_diff::{ExpectationResult, check_expectation};
-use filter_reports::{NamedText, ProgramFault, tell_refusal, verified_filter};
-use filter_source::Failure;
+use filter_reports::{FAILED, FAULT, NamedText, Report, Wording, refusal_notice, verified_filter};
+use filter_source::{Diagnosis, Failure};
 use filter_verifier::Verified;
-use line_protocol::{StreamFault, write_text};
-use refusal_words::explain;
-use report_formats::TestFormat;
+use report_formats::TestOptions;
 use std::alloc::{AllocError, Global};
-use std::io::Write;
 
 /// A test that was run.
 #[derive(Drop)]
@@ -40,22 +39,13 @@ pub struct RanTest {
     pub checked: ExpectationResult,
 }
 
-/// How many tests of a file do not hold, or may not.
-#[derive(Clone, Copy)]
-pub struct Failures {
-    /// So many do not hold.
-    pub wrong: usize,
-    /// Of so many it is not decided.
-    pub undecided: usize,
-}
-
-/// What comes of the tests of a file.
+/// The report of `test` on a file, which is one part of the stream of all files.
 #[derive(Drop)]
-pub enum Tested {
-    /// The filter is refused, for which this is the explanation, and no test was run.
-    Refused(Vec<u8>),
-    /// The tests were run, and so many of them do not hold or are not decided.
-    Ran(Failures),
+pub struct TestReport {
+    /// What is written and told of its tests. The exit status is 1 where one of them does not hold, and otherwise 3 where one is not decided.
+    pub report: Report,
+    /// How many tests the stream has then.
+    pub count: u64,
 }
 
 /// Runs a test.
@@ -97,155 +87,137 @@ fn run_all(
     Ok(all)
 }
 
-/// What is found of the tests of a file, as it is written and told.
-#[derive(Drop)]
-struct TestReport {
-    /// The lines that are written.
-    lines: Vec<u8>,
-    /// What is told in words.
-    words: Vec<u8>,
-    /// How many tests do not hold, or may not.
-    failed: Failures,
+/// The exit status by how many tests do not hold, and of how many it is not decided.
+fn status_of_tests(wrong: usize, undecided: usize) -> u8
+    ensures { result ≡ spec.status_of_tests wrong undecided }
+{
+    if wrong > 0 {
+        FAILED
+    } else if undecided > 0 {
+        FAULT
+    } else {
+        0
+    }
 }
 
-/// The report on tests that were run, before which the stream has the lines of `before` others.
+/// The report on tests that were run, before which the stream has so many others.
 fn report_on(
     alloc: Global,
-    format: TestFormat,
+    how: TestOptions,
     before: u64,
-    is_explained: bool,
     name: &[u8],
     all: &[RanTest],
-) -> Result<TestReport, AllocError>
+) -> Result<Report, AllocError>
     requires { before + length all.now < 2 ^ 64 }
-    ensures lines { IfOk result (λ report. report.lines.items ≡ lines_of format name.now before all.now) }
-    ensures words { IfOk result (λ report. report.words.items ≡ words_of is_explained name.now all.now) }
-    ensures wrong { IfOk result (λ report. report.failed.wrong ≡ count_by is_wrong all.now) }
-    ensures undecided { IfOk result (λ report. report.failed.undecided ≡ count_by is_undecided all.now) }
+    ensures { IfOk result (λ report. report_of report ≡ spec.report_on how before name.now all.now) }
 {
-    let lines = results_in(alloc, format, name, before, all)?;
-    let words = failures_of(alloc, is_explained, name, all)?;
-    Ok(TestReport {
-        lines,
-        words,
-        failed: Failures {
-            wrong: count_wrong(all),
-            undecided: count_undecided(all),
-        },
+    let out = results_in(alloc, how.format, name, before, all)?;
+    let err = failures_of(alloc, how.is_explained, name, all)?;
+    Ok(Report {
+        out,
+        err,
+        status: status_of_tests(count_wrong(all), count_undecided(all)),
     })
 }
 
 /// Runs the tests of a file by the code of its filter, and reports what is found.
-fn report_of(
+fn run_tests(
     alloc: Global,
-    format: TestFormat,
-    code: &Verified,
+    how: TestOptions,
     before: u64,
-    limit: u64,
-    is_explained: bool,
+    code: &Verified,
     name: &[u8],
     file: &TestFile,
 ) -> Result<TestReport, AllocError>
     requires size { code.now.size ≡ file.now.size }
     requires fits { before + length file.now.tests.items < 2 ^ 64 }
-    ensures { IfOk result (λ report. spec.IsReport format code.now.program before limit is_explained name.now (file_view file.now)
-        report.lines.items report.words.items report.failed) }
+    ensures { IfOk result (λ made. spec.RunsTests how before code.now.program name.now (file_view file.now) (report_of made.report) made.count) }
 {
     let tests = file.tests.as_slice();
-    let all = run_all(alloc, code.code(), code.size(), limit, tests)?;
-    report_on(alloc, format, before, is_explained, name, all.as_slice())
+    let all = run_all(alloc, code.code(), code.size(), how.limit, tests)?;
+    Ok(TestReport {
+        report: report_on(alloc, how, before, name, all.as_slice())?,
+        count: before + tests.len() as u64,
+    })
 }
 
-/// Writes a report.
-fn write_report<W: Write, E: Write>(
-    report: &TestReport,
-    writer: &mut W,
-    errors: &mut E,
-) -> Result<(), ProgramFault>
-    ensures written { OnOk result (Appends (W.contents writer.old) (W.contents writer.new) report.now.lines.items) }
-    ensures diagnosis { OnOk result (Appends (E.contents errors.old) (E.contents errors.new) report.now.words.items) }
-    ensures cut { IfErr result (λ fault. (stream_fault fault ≡ StreamFault.Write)
-        × spec.CutsReport report.now.lines.items report.now.words.items (W.contents writer.old) (W.contents writer.new) (E.contents errors.old) (E.contents errors.new)) }
-{
-    write_text(writer, report.lines.as_slice())?;
-    write_text(errors, report.words.as_slice())?;
-    Ok(())
-}
-
-/// Runs the tests of a file by the code of its filter, and writes and tells what is found.
-fn run_tests<W: Write, E: Write>(
+/// The report on a file of this name whose tests were not run, which people are told in `told`. The first line of `why` says the reason. In the
+/// stream that is one test, and it is not decided.
+pub fn skipped_tests(
     alloc: Global,
-    format: TestFormat,
-    code: &Verified,
+    how: TestOptions,
     before: u64,
-    limit: u64,
-    is_explained: bool,
     name: &[u8],
-    file: &TestFile,
-    writer: &mut W,
-    errors: &mut E,
-) -> Result<Failures, ProgramFault>
-    requires size { code.now.size ≡ file.now.size }
-    requires fits { before + length file.now.tests.items < 2 ^ 64 }
-    ensures finished { IfOk result (spec.RunsTests format code.now.program before limit is_explained name.now (file_view file.now)
-        (W.contents writer.old) (W.contents writer.new) (E.contents errors.old) (E.contents errors.new)) }
-    ensures broken_off { IfErr result (λ fault. spec.StopsTests (stream_fault fault) format code.now.program before limit is_explained name.now (file_view file.now)
-        (W.contents writer.old) (W.contents writer.new) (E.contents errors.old) (E.contents errors.new)) }
+    told: &[u8],
+    why: &[u8],
+) -> Result<TestReport, AllocError>
+    requires { before + 1 < 2 ^ 64 }
+    ensures { IfOk result (λ made. spec.SkipsTests how before name.now told.now why.now (report_of made.report) made.count) }
 {
-    let report = report_of(alloc, format, code, before, limit, is_explained, name, file)?;
-    write_report(&report, writer, errors)?;
-    Ok(report.failed)
+    let count = before + 1;
+    let out = skipped_in(alloc, how.format, count, name, why)?;
+    Ok(TestReport {
+        report: Report {
+            out,
+            err: Vec::from_slice(alloc, told)?,
+            status: FAULT,
+        },
+        count,
+    })
 }
 
-/// Runs the tests of a file by a filter that a text spells, and writes the lines of each, before which the stream has the lines of
-/// `before` others. A test that does not hold is told on `errors` too, under the name of the test file, in words where `is_explained` says so. A
-/// filter that is refused is told on `errors` under its own name, and no test is run: its explanation is returned. Each test tries at most `limit` classes of routes.
-pub fn test_named<W: Write, E: Write>(
+/// The report on a text of this name that is no test file.
+pub fn faulty_tests(
     alloc: Global,
-    format: TestFormat,
+    how: TestOptions,
     before: u64,
-    limit: u64,
-    is_explained: bool,
+    name: &[u8],
+    why: TestFileFault,
+) -> Result<TestReport, AllocError>
+    requires { before + 1 < 2 ^ 64 }
+    ensures { IfOk result (λ made. spec.SkipsTests how before name.now (fault_words how.is_explained name.now why) (fault_words true name.now why)
+        (report_of made.report) made.count) }
+{
+    let told = fault_text(alloc, how.is_explained, name, why)?;
+    let words = fault_text(alloc, true, name, why)?;
+    skipped_tests(alloc, how, before, name, told.as_slice(), words.as_slice())
+}
+
+/// The report on a file whose filter is refused.
+fn refused_tests(
+    alloc: Global,
+    how: TestOptions,
+    before: u64,
+    name: &[u8],
+    filter: &NamedText<'_>,
+    why: &Diagnosis,
+) -> Result<TestReport, AllocError>
+    requires { before + 1 < 2 ^ 64 }
+    ensures { IfOk result (λ made. spec.RefusesTests how before name.now (named filter.now) why.now (report_of made.report) made.count) }
+{
+    let told = refusal_notice(alloc, Wording::words_or_line(how.is_explained), filter, why)?;
+    let words = refusal_notice(alloc, Wording::Words, filter, why)?;
+    skipped_tests(alloc, how, before, name, told.as_slice(), words.as_slice())
+}
+
+/// The report of `test` on a file whose filter a text spells, before which the stream has `before` other tests: the lines of each test. People are
+/// told of a test that does not hold, under the name of the test file, in words where `how` says so; and of a filter that is refused, under its own
+/// name, and then no test is run. Each test tries at most so many classes of routes as `how` says.
+pub fn test_report(
+    alloc: Global,
+    how: TestOptions,
+    before: u64,
     name: &[u8],
     file: &TestFile,
     filter: &NamedText<'_>,
-    writer: &mut W,
-    errors: &mut E,
-) -> Result<Tested, ProgramFault>
-    requires { before + length file.now.tests.items < 2 ^ 64 }
-    ensures finished { IfOk result (spec.TestsNamed format before limit is_explained name.now (file_view file.now) (named filter.now)
-        (W.contents writer.old) (W.contents writer.new) (E.contents errors.old) (E.contents errors.new)) }
-    ensures broken_off { IfErr result (λ fault. spec.TestsNamedOff (stream_fault fault) format before limit is_explained name.now (file_view file.now)
-        (named filter.now) (W.contents writer.old) (W.contents writer.new) (E.contents errors.old) (E.contents errors.new)) }
+) -> Result<TestReport, AllocError>
+    requires one { before + 1 < 2 ^ 64 }
+    requires fits { before + length file.now.tests.items < 2 ^ 64 }
+    ensures { IfOk result (λ made. spec.IsTestReport how before name.now (file_view file.now) (named filter.now) (report_of made.report) made.count) }
 {
     match verified_filter(alloc, filter.text, file.size) {
-        Ok(code) => {
-            let failed = run_tests(
-                alloc,
-                format,
-                &code,
-                before,
-                limit,
-                is_explained,
-                name,
-                file,
-                writer,
-                errors,
-            )?;
-            Ok(Tested::Ran(failed))
-        }
-        Err(Failure::Refused(diagnosis)) => {
-            let words = explain(alloc, filter.name, filter.text, &diagnosis)?;
-            tell_refusal(
-                alloc,
-                errors,
-                filter.name,
-                filter.text,
-                &Some(diagnosis),
-                is_explained,
-            )?;
-            Ok(Tested::Refused(words))
-        }
-        Err(Failure::Memory) => Err(ProgramFault::MEMORY),
+        Ok(code) => run_tests(alloc, how, before, &code, name, file),
+        Err(Failure::Refused(why)) => refused_tests(alloc, how, before, name, filter, &why),
+        Err(Failure::Memory) => Err(AllocError),
     }
 }

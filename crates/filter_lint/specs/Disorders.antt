@@ -1,6 +1,5 @@
 -- Routes of which the lesser one of two metrics comes to more than the other. (This project's own choice.)
-use Rattle.std.specs.Prelude.{ℕ, Bool, true, false, List, [], ◌∷◌, Option, Some, None, slice_get}
-use Rattle.filter_diff.specs.declared.ordering.Disorder.{Disorder}
+use Rattle.std.specs.Prelude.{ℕ, Bool, true, false, Option, Some, None, slice_get}
 use Rattle.filter_diff.specs.declared.ordering.Order.{Order}
 use Rattle.filter_diff.specs.declared.ordering.Order.TheVariants as order
 use Rattle.filter_lint.specs.SurveyedFilters.{SurveyedFilterView}

@@ -1,5 +1,6 @@
 -- What callers cite.
 pub mod Allowing
+pub mod Checking
 pub mod Linting
 pub mod Sets
 pub mod SurveyedFilters

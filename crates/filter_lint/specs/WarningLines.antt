@@ -11,10 +11,10 @@ use Rattle.filter_diff.specs.declared.ordering.Disorder.{Disorder}
 use Rattle.refusal_words.specs.Explanations.{message, position}
 use Rattle.refusal_words.specs.Places.{column_at, line_at}
 use Rattle.refusal_words.specs.Shown.{shown}
-use Rattle.report_formats.specs.Reports.{ReportView, report_line}
+use Rattle.report_formats.specs.Findings.{FindingView, finding_line}
 use Rattle.report_formats.specs.declared.format.Format.{Format}
 use Rattle.report_formats.specs.declared.format.Format.TheVariants as formats
-use Rattle.report_formats.specs.declared.report.Severity.TheVariants as severity
+use Rattle.report_formats.specs.declared.finding.Severity.TheVariants as severity
 use Rattle.filter_lint.specs.declared.host_bits.HostBits.{HostBits}
 use Rattle.filter_lint.specs.declared.site.Site.{Site}
 use Rattle.filter_lint.specs.declared.site.Site.TheVariants as site
@@ -197,7 +197,7 @@ abbrev pub unordered_text : List ℕ → Bool → List ℕ
 unordered_text name is_ordered = if is_ordered then [] else unordered_line name
 
 -- what a report says of what was found at a byte of a text, under a code
-abbrev pub found_view : List ℕ → List ℕ → ℕ → List ℕ → List ℕ → ReportView
+abbrev pub found_view : List ℕ → List ℕ → ℕ → List ℕ → List ℕ → FindingView
 found_view name text byte code words = record {
   severity = severity.Warning;
   code = Some code;
@@ -208,11 +208,11 @@ found_view name text byte code words = record {
 }
 
 -- of a warning
-abbrev pub warning_view : List ℕ → List ℕ → List (List PrefixPattern) → Warning → ReportView
+abbrev pub warning_view : List ℕ → List ℕ → List (List PrefixPattern) → Warning → FindingView
 warning_view name text sets warning = found_view name text warning.byte (code_of warning.cause) (words sets warning.cause)
 
 -- of a prefix with host bits
-abbrev pub host_bits_view : List ℕ → List ℕ → HostBits → ReportView
+abbrev pub host_bits_view : List ℕ → List ℕ → HostBits → FindingView
 host_bits_view name text found = found_view name text found.token.from (codes "W5") (host_bits_words text found)
 
 -- and of a file of which not all routes were tried, or not all metrics
@@ -222,7 +222,7 @@ not_tried_words = codes "not all routes were tried, so W1, W2 and W8 were not lo
 unfoldable pub not_ordered_words : List ℕ
 not_ordered_words = codes "not all metrics of all routes were tried, so W9 was not looked for"
 
-abbrev pub undecided_view : List ℕ → List ℕ → ReportView
+abbrev pub undecided_view : List ℕ → List ℕ → FindingView
 undecided_view name words = record {
   severity = severity.Undecided;
   code = None;
@@ -233,16 +233,16 @@ undecided_view name words = record {
 }
 
 abbrev pub undecided_report : List ℕ → Bool → List ℕ → List ℕ
-undecided_report name is_complete words = if is_complete then [] else report_line (undecided_view name words)
+undecided_report name is_complete words = if is_complete then [] else finding_line (undecided_view name words)
 
 -- the line of each, as it is written
 abbrev pub warning_in : Format → List ℕ → List ℕ → List (List PrefixPattern) → Warning → List ℕ
 warning_in formats.Text name text sets warning = warning_line name text sets warning
-warning_in formats.Json name text sets warning = report_line (warning_view name text sets warning)
+warning_in formats.Json name text sets warning = finding_line (warning_view name text sets warning)
 
 abbrev pub host_bits_in : Format → List ℕ → List ℕ → HostBits → List ℕ
 host_bits_in formats.Text name text found = host_bits_line name text found
-host_bits_in formats.Json name text found = report_line (host_bits_view name text found)
+host_bits_in formats.Json name text found = finding_line (host_bits_view name text found)
 
 abbrev pub undecided_in : Format → List ℕ → Bool → List ℕ
 undecided_in formats.Text name is_complete = undecided_text name is_complete

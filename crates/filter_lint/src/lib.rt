@@ -8,6 +8,7 @@
 
 mod allowing;
 mod arithmetic;
+mod checking;
 mod commands;
 mod conditions;
 mod disorders;
@@ -30,7 +31,8 @@ mod warning_lines;
 mod warning_reports;
 mod watching;
 
-pub use linting::{Linted, lint_named, tell_host_bits, warn_named};
+pub use checking::check_report;
+pub use linting::lint_report;
 pub use members::{overlap_warnings, push_warning_words};
 pub use site::Site;
 pub use warning::{Operation, ValueBounds, Warning, WarningCause};

@@ -23,9 +23,7 @@ use crate::lowering::metrics_not_lowered;
 use crate::surveyed_filter::SurveyedFilter;
 use crate::warning::Warning;
 use crate::watching::watched_places;
-use filter_code::Code;
 use filter_diff::{Mark, Order, Reach, check_order, reach};
-use filter_verifier::survey_code;
 use std::alloc::{AllocError, Global};
 
 /// The warnings of a filter.
@@ -104,8 +102,9 @@ fn order_of(
     Ok(Some(order))
 }
 
-/// The warnings of a filter. At most so many classes of routes are tried as the limit says.
-fn find_in(
+/// The warnings of a filter. At most so many classes of routes are tried as the limit says. Whether the order of metrics is kept is looked for only
+/// where it is asked for.
+pub(crate) fn find_warnings(
     alloc: Global,
     source: &SurveyedFilter,
     limit: u64,
@@ -132,25 +131,4 @@ fn find_in(
         is_complete: reached.is_complete,
         is_ordered: is_decided_order(&order),
     })
-}
-
-/// The warnings of a filter's code, for domains of a size. Whether the order of metrics is kept is looked for only where it is asked for.
-pub(crate) fn find_warnings(
-    alloc: Global,
-    code: &Code,
-    text: &[u8],
-    places: &[usize],
-    size: u32,
-    limit: u64,
-    asks_order: bool,
-) -> Result<Warnings, AllocError>
-    requires { size ≤ largest_size }
-    ensures found { IfOk result (spec.AreFound code.now text.now places.now size asks_order) }
-    ensures sound { IfOk result (λ all. All (IsTrueOf code.now size places.now) all.found.items) }
-    ensures decided { IsEnough size limit → NeverFaults code.now size → IfOk result (λ all. all.is_complete ≡ true) }
-    ensures ordered { IsEnough size limit → IfOk result (λ all. all.is_ordered ≡ true) }
-{
-    let survey = survey_code(alloc, code, size)?;
-    let source = SurveyedFilter::new(text, code, places, size, &survey);
-    find_in(alloc, &source, limit, asks_order)
 }

@@ -1,6 +1,6 @@
 //! Warnings as they are written: in lines for people, or in lines of JSON.
 ghost use Rattle.std.specs.Prelude.{◌≡◌, ◌++◌, IfOk, OnOk};
-ghost use Rattle.report_formats.specs.Reports.{report_line};
+ghost use Rattle.report_formats.specs.Findings.{finding_line};
 ghost use Rattle.filter_lint.specs.WarningLines as spec;
 
 use crate::host_bits::HostBits;
@@ -10,7 +10,7 @@ use crate::warning_lines::{
 };
 use prefix_patterns::PatternSet;
 use refusal_words::place_in;
-use report_formats::{Format, Report, Severity, push_report};
+use report_formats::{Finding, Format, Severity, push_finding};
 use std::alloc::{AllocError, Global};
 
 /// What is said of a cause.
@@ -32,13 +32,13 @@ fn push_found_at<'a>(
     code: &'a [u8],
     words: &'a [u8],
 ) -> Result<(), AllocError>
-    ensures { OnOk result (out.new.items ≡ out.old.items ++ report_line (spec.found_view name.now text.now byte code.now words.now)) }
+    ensures { OnOk result (out.new.items ≡ out.old.items ++ finding_line (spec.found_view name.now text.now byte code.now words.now)) }
 {
     let place = place_in(text, byte);
-    push_report(
+    push_finding(
         alloc,
         out,
-        &Report {
+        &Finding {
             severity: Severity::Warning,
             code: Some(code),
             file: name,
@@ -58,7 +58,7 @@ fn push_warning_report(
     sets: &[PatternSet],
     warning: &Warning,
 ) -> Result<(), AllocError>
-    ensures { OnOk result (out.new.items ≡ out.old.items ++ report_line (spec.warning_view name.now text.now sets.now warning.now)) }
+    ensures { OnOk result (out.new.items ≡ out.old.items ++ finding_line (spec.warning_view name.now text.now sets.now warning.now)) }
 {
     let words = words_of(alloc, sets, warning.cause)?;
     let (byte, code) = (warning.byte, warning.cause.code());
@@ -100,7 +100,7 @@ fn push_host_bits_report(
     text: &[u8],
     found: &HostBits,
 ) -> Result<(), AllocError>
-    ensures { OnOk result (out.new.items ≡ out.old.items ++ report_line (spec.host_bits_view name.now text.now found.now)) }
+    ensures { OnOk result (out.new.items ≡ out.old.items ++ finding_line (spec.host_bits_view name.now text.now found.now)) }
 {
     let words = host_bits_words_of(alloc, text, found)?;
     let byte = found.token.from;
@@ -153,10 +153,10 @@ fn push_undecided_report<'a>(
     if is_complete {
         return Ok(());
     }
-    push_report(
+    push_finding(
         alloc,
         out,
-        &Report {
+        &Finding {
             severity: Severity::Undecided,
             code: None,
             file: name,

@@ -1,16 +1,15 @@
 pub mod CommandsFit
-pub mod Cut
 pub mod FileLength
 pub mod InstructionsFit
 pub mod LexemeLimits
+mod LineRows
 pub mod Listings
 pub mod Printed
-mod ReportRows
-pub mod Reports
 pub mod Rewritten
 pub mod Saying
 pub mod SetMembers
 pub mod SetsFit
+mod Surveyed
 pub mod TextFiles
 pub mod TextLines
 pub mod TextMembers

@@ -22,7 +22,8 @@ use Rattle.filter_verifier.specs.declared.fault.Unverified.{Unverified}
 use Rattle.filter_verifier.specs.declared.fault.VerifyFault.{VerifyFault}
 use Rattle.filter_verifier.specs.declared.survey.RunBounds.{RunBounds}
 use Rattle.filter_reports.specs.Check.{verdict_on}
-use Rattle.filter_reports.specs.Listing.{EndsListing, IsListing, Lists, instruction_line, known_before, place_text, places_text, refusal_in}
+use Rattle.filter_reports.specs.Checking.{EndsLines}
+use Rattle.filter_reports.specs.Listing.{IsListing, Lists, instruction_line, known_before, place_text, places_text, refusal_in}
 
 -- one place more
 pub places_more : (places : List (Option Fact)) (place : Option Fact)
@@ -83,7 +84,7 @@ ended program size origin front text last found why is lists whole line refused 
 pub listing_ends : (program : CodeView) (size : ℕ) (origin : ℕ → List ℕ) (places : List ℕ) (verdict : Result RunBounds Unverified)
     (front text : List ℕ) (diagnosis : Option Diagnosis) → IsVerdict program size verdict
     → Lists program.instrs (known_before program size) origin (surveyed program size (the_fault program size)) front
-    → EndsListing places verdict front text diagnosis → IsListing (Some size) program origin text (refusal_in diagnosis)
+    → EndsLines places verdict front text diagnosis → IsListing (Some size) program origin text (refusal_in diagnosis)
 listing_ends program size origin places (Ok b) front text diagnosis says lists ends =
     ended program size origin front text (bounds_line b.budget b.depth) None (refusal_in diagnosis) says.0 lists ends.0
     (ap (λ (n : ℕ). bounds_line n b.depth) says.1 ∙ ap (bounds_line (cost program.instrs 0)) says.2) (ap refusal_in ends.1)
@@ -91,7 +92,7 @@ listing_ends program size origin places (Err e) front text diagnosis says lists 
     ended program size origin front text _ (Some e.fault) (refusal_in diagnosis) says.0 lists ends.0 refl (ap refusal_in ends.1)
 
 pub listing_told : (program : CodeView) (size : ℕ) (places : List ℕ) (verdict : Result RunBounds Unverified) (front text : List ℕ)
-    (diagnosis : Option Diagnosis) → IsVerdict program size verdict → EndsListing places verdict front text diagnosis
+    (diagnosis : Option Diagnosis) → IsVerdict program size verdict → EndsLines places verdict front text diagnosis
     → IfSome diagnosis (λ diagnosis. IsUnsafe program size diagnosis.refusal × TellsOfCode program places size diagnosis)
 listing_told program size places (Ok b) front text diagnosis says ends = rw ends.1 tt
 listing_told program size places (Err e) front text diagnosis says ends =

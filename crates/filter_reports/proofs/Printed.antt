@@ -14,7 +14,7 @@ use Rattle.code_file.specs.Spelling.{IsCode, spelling}
 use Rattle.filter_code.specs.CodeView.{CodeView}
 use Rattle.filter_source.specs.Sources.{code_in_bytes, code_in_hexadecimal, code_or_fault}
 use Rattle.filter_tokens.specs.Tokenization as gaps
-use Rattle.filter_reports.specs.Check.{FitsLine, IsCodeReport, IsReport, ReportView, printed, without_white_end}
+use Rattle.filter_reports.specs.Check.{FitsLine, AreCodeLines, AreLines, LinesView, printed, without_white_end}
 
 -- no byte of a text of hexadecimal digits has what no digit has
 module _ (p : ℕ → Bool) (digits : list_all (λ x. not (p x)) lower_digits ≡ true) (outside : p 0 ≡ false) where
@@ -52,7 +52,7 @@ digits_again program h = ap code_in_bytes (decode_of-encode_lower (spelling prog
     ∙ ap code_or_fault (file_of_spelling program h)
 
 -- what `check` prints of a code, read by `check --code`, has the report on that code
-pub printed_again : (size : ℕ) (program : CodeView) (report : ReportView) → FitsLine program → IsCodeReport size program report
-    → IsReport size true (printed program) report
+pub printed_again : (size : ℕ) (program : CodeView) (report : LinesView) → FitsLine program → AreCodeLines size program report
+    → AreLines size true (printed program) report
 printed_again size program report within h =
     inr (program, (within, ap code_in_hexadecimal (trimmed_end (spelling program)) ∙ digits_again program h.is_code), h)

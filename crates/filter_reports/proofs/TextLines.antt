@@ -13,7 +13,7 @@ use Rattle.filter_reports.proofs.FileLength.{file_length}
 use Rattle.filter_reports.proofs.TextFiles.{at_most}
 use Rattle.filter_reports.proofs.TextMembers.{members_of_text}
 use Rattle.filter_reports.proofs.Printed.{printed_again}
-use Rattle.filter_reports.specs.Check.{FitsLine, GivesCode, IsCodeReport, IsReport, ReportView, printed}
+use Rattle.filter_reports.specs.Check.{FitsLine, GivesCode, AreCodeLines, AreLines, LinesView, printed}
 
 -- the file of a translation has at most four times as many bytes as the text, and 6,409
 pub file_of_text : (v : Version) (text : List ℕ) (filter : FilterView) (program : CodeView) → Translates text filter program
@@ -35,7 +35,7 @@ text_fits text filter program h =
       length-append (encode_lower (spelling program)) (10 ∷ []),
     )
 
-pub text_checked_alike : (size : ℕ) (text : List ℕ) (program : CodeView) (report : ReportView) → GivesCode false text program
-    → IsCodeReport size program report → IsReport size true (printed program) report
+pub text_checked_alike : (size : ℕ) (text : List ℕ) (program : CodeView) (report : LinesView) → GivesCode false text program
+    → AreCodeLines size program report → AreLines size true (printed program) report
 text_checked_alike size text program report gives h =
     printed_again size program report (text_fits text gives.1.0 program gives.1.1) h

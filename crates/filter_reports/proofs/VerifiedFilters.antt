@@ -1,6 +1,5 @@
 -- A filter's text whose code is verified, or refused.
-use Rattle.std.proofs.Common.{◌≡◌, ℕ, false, List, Option, Some, None, inr, refl, sym, subst, ap}
-use Rattle.std.specs.Io.KnownBytes.{Keeps}
+use Rattle.std.proofs.Common.{◌≡◌, ℕ, false, List, inr, sym, subst, ap}
 use Rattle.filter_code.specs.CodeView.{CodeView}
 use Rattle.filter_source.specs.Diagnoses.{TellsOfCode}
 use Rattle.filter_source.specs.Failures.{OnDiagnosis, OnRefusal}
@@ -12,11 +11,6 @@ use Rattle.filter_verifier.specs.VerifiedView.{VerifiedView}
 use Rattle.filter_reports.specs.Check.{GivesCode}
 use Rattle.filter_reports.specs.Checking.{ArePlaces, IsDiagnosis}
 use Rattle.filter_reports.specs.VerifiedFilters.{IsFilterOf, IsVerifiedOf}
-
--- what is not written to stays as it is
-pub keeps_self : (held : Option (List ℕ)) → Keeps held held
-keeps_self None = tt
-keeps_self (Some bytes) = refl
 
 -- verified code is the translation that was verified
 pub verified_of : (size : ℕ) (text : List ℕ) (program : CodeView) (v : VerifiedView) → GivesCode false text program

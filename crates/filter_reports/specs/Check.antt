@@ -20,13 +20,13 @@ use Rattle.filter_verifier.specs.declared.fault.VerifyFault.{VerifyFault}
 use Rattle.line_protocol.specs.Answers.{refusal}
 
 -- what is written, and how many of its lines are refusals
-pub record ReportView : Type 0 where
+pub record LinesView : Type 0 where
   pub text : List ℕ
   pub refusals : ℕ
 
 -- one line that refuses the input
-abbrev pub refusal_report : Refusal → ReportView
-refusal_report why = record { text = refusal (refusal_code why) (place_in_line why 1); refusals = 1 }
+abbrev pub refusal_lines : Refusal → LinesView
+refusal_lines why = record { text = refusal (refusal_code why) (place_in_line why 1); refusals = 1 }
 
 -- the file of a code in hexadecimal, on a line of its own, as `check --code` and `eval` read it
 abbrev pub printed : CodeView → List ℕ
@@ -41,22 +41,22 @@ abbrev pub code_line : CodeView → List ℕ
 code_line program = codes "code " ++ printed program
 
 -- the second line
-abbrev pub verdict_on : CodeView → Option VerifyFault → ReportView
+abbrev pub verdict_on : CodeView → Option VerifyFault → LinesView
 verdict_on program None = record { text = verified_line program; refusals = 0 }
 verdict_on program (Some why) = record { text = refusal (fault_code why) (fault_place why); refusals = 1 }
 
 -- a line followed by another report
-abbrev pub followed_by : List ℕ → ReportView → ReportView
+abbrev pub followed_by : List ℕ → LinesView → LinesView
 followed_by first report = record { text = first ++ report.text; refusals = report.refusals }
 
 -- both lines on a code, for domains of a size
-abbrev pub code_report : ℕ → CodeView → ReportView
-code_report size program = followed_by (code_line program) (verdict_on program (the_fault program size))
+abbrev pub code_lines : ℕ → CodeView → LinesView
+code_lines size program = followed_by (code_line program) (verdict_on program (the_fault program size))
 
 -- the report on a code that has a file: both lines on it; and where none of them is a refusal, this code is safe for the size
-pub record IsCodeReport (size : ℕ) (program : CodeView) (report : ReportView) : Type 0 where
+pub record AreCodeLines (size : ℕ) (program : CodeView) (report : LinesView) : Type 0 where
   pub is_code : IsCode program
-  pub lines : report ≡ code_report size program
+  pub lines : report ≡ code_lines size program
   pub safe : report.refusals ≡ 0 → IsSafe program size
 
 -- a text without the white space at its end: spaces, tabs, CRs and LFs
@@ -83,6 +83,6 @@ IsRefused is_code input why = ((source_limit < length input) × (why ≡ TooLong
     ⊎ ((length input ≤ source_limit) × IsRefusedWithin is_code input why)
 
 -- the report on an input
-abbrev pub IsReport : ℕ → Bool → List ℕ → ReportView → Type 0
-IsReport size is_code input report = ((why : Refusal) × IsRefused is_code input why × (report ≡ refusal_report why))
-    ⊎ ((program : CodeView) × GivesCode is_code input program × IsCodeReport size program report)
+abbrev pub AreLines : ℕ → Bool → List ℕ → LinesView → Type 0
+AreLines size is_code input report = ((why : Refusal) × IsRefused is_code input why × (report ≡ refusal_lines why))
+    ⊎ ((program : CodeView) × GivesCode is_code input program × AreCodeLines size program report)

@@ -1,35 +1,29 @@
 -- The listing of a code: a line for each instruction, with the place in the text that it comes from, and, for domains of a size, a
 -- line before it that says what the verifier knows there. (This project's own choice.)
 use Rattle.std.specs.Prelude.{◌≡◌, ℕ, zero, suc, ◌+◌, ◌⊎◌, Bool, if◌then◌else◌, List, [], ◌∷◌, ◌++◌, Option}
-use Rattle.std.specs.Prelude.{Some, None, IfSome, Result, Ok, Err, codes, decimal, length, slice_get}
+use Rattle.std.specs.Prelude.{Some, None, IfSome, codes, decimal, is_some, length, slice_get}
 use Rattle.std.specs.Option.{option_map}
-use Rattle.std.specs.Io.KnownBytes.{Appends}
 use Rattle.filter_code.specs.CodeView.{CodeView}
 use Rattle.filter_code.specs.Names.{instruction_text}
 use Rattle.filter_code.specs.declared.instruction.Instr.{Instr}
 use Rattle.filter_code.specs.declared.instruction.Instr.TheVariants as instr
-use Rattle.filter_source.specs.Diagnoses.{TellsOfCode, TellsOfSource, of_code}
+use Rattle.filter_source.specs.Diagnoses.{TellsOfCode, TellsOfSource}
 use Rattle.filter_source.specs.Sources.{IsUnsafe}
-use Rattle.filter_source.specs.BoundsLine.{bounds_line}
 use Rattle.filter_source.specs.declared.diagnosis.Diagnosis.{Diagnosis}
 use Rattle.filter_source.specs.declared.refusal.Refusal.{Refusal}
 use Rattle.filter_source.specs.declared.refusal.Refusal.TheVariants.{Verify}
-use Rattle.filter_verifier.specs.Faults.{fault_code, fault_place}
 use Rattle.filter_verifier.specs.FirstFault.{the_fault}
 use Rattle.filter_verifier.specs.InStateView.{InStateView, Unreached, UnlikeDepths, Known}
 use Rattle.filter_verifier.specs.InStates.{in_state}
 use Rattle.filter_verifier.specs.Surveys.{surveyed}
 use Rattle.filter_verifier.specs.declared.fact.Fact.{Fact}
 use Rattle.filter_verifier.specs.declared.fact.Fact.TheVariants as fact
-use Rattle.filter_verifier.specs.declared.fault.Unverified.{Unverified}
-use Rattle.filter_verifier.specs.declared.survey.RunBounds.{RunBounds}
-use Rattle.line_protocol.specs.Answers.{refusal}
-use Rattle.line_protocol.specs.Runs.{AppendsFront}
-use Rattle.line_protocol.specs.declared.faults.StreamFault.{StreamFault}
-use Rattle.line_protocol.specs.declared.faults.StreamFault.TheVariants.{Read, Write, Memory, TooLong}
 use Rattle.filter_reports.specs.Check.{GivesCode, IsRefused, verdict_on}
 use Rattle.filter_reports.specs.Checking.{ArePlaces}
+use Rattle.filter_reports.specs.Notices.{IsNoticeIf, Named}
+use Rattle.filter_reports.specs.Reports.{ReportView, status_of_found}
 use Rattle.filter_reports.specs.VerifiedFilters.{refusal_line}
+use Rattle.filter_reports.specs.declared.wording.Wording.{Wording}
 use Rattle.refusal_words.specs.Places.{column_at, line_at}
 
 -- the mark of an int that is at least the metric received
@@ -99,12 +93,6 @@ IsListing (Some size) program origin text why = (front : List ℕ)
     × (text ≡ front ++ (verdict_on program (the_fault program size)).text)
     × (why ≡ option_map (λ fault. Verify fault) (the_fault program size))
 
--- A listing ends so: with the bounds that are found, or with the first thing that is not known, and this is told of it.
-abbrev pub EndsListing : List ℕ → Result RunBounds Unverified → List ℕ → List ℕ → Option Diagnosis → Type 0
-EndsListing places (Ok bounds) front text diagnosis = (text ≡ front ++ bounds_line bounds.budget bounds.depth) × (diagnosis ≡ None)
-EndsListing places (Err found) front text diagnosis =
-    (text ≡ front ++ refusal (fault_code found.fault) (fault_place found.fault)) × (diagnosis ≡ Some (of_code found.fault found.range places))
-
 -- the listing of a source, or the line that refuses it
 abbrev pub IsListed : Option ℕ → Bool → List ℕ → List ℕ → Option Refusal → Type 0
 IsListed size is_code source text why =
@@ -129,18 +117,10 @@ IsDiagnosisOfListing size is_code source diagnosis =
     ⊎ ((program : CodeView) × GivesCode is_code source program
     × ((places : List ℕ) × ArePlaces is_code source places × IsDiagnosisOfCode size program places diagnosis))
 
--- A listing was written to its end, and this is told of the refusal with which it ends, if there is one. `held` and `holds` are what
--- the writer held before and holds now.
-pub record WritesListing (size : Option ℕ) (is_code : Bool) (source : List ℕ) (held holds : Option (List ℕ)) (diagnosis : Option Diagnosis) : Type 0 where
-  pub text : List ℕ
-  pub is_listed : IsListed size is_code source text (refusal_in diagnosis)
-  pub written : Appends held holds text
-  pub diagnosed : IfSome diagnosis (IsDiagnosisOfListing size is_code source)
-
--- what was written where a fault cut a listing
-abbrev pub IsCutListing : StreamFault → Option ℕ → Bool → List ℕ → Option (List ℕ) → Option (List ℕ) → Type 0
-IsCutListing Read size is_code source held holds = ⊥
-IsCutListing Write size is_code source held holds =
-    (text : List ℕ) × (why : Option Refusal) × IsListed size is_code source text why × AppendsFront held holds text
-IsCutListing Memory size is_code source held holds = Appends held holds []
-IsCutListing TooLong size is_code source held holds = ⊥
+-- The report on a source that is listed, of which people are told why it is refused, if it is.
+pub record IsListReport (size : Option ℕ) (is_code : Bool) (wording : Wording) (source : Named) (report : ReportView) : Type 0 where
+  pub why : Option Diagnosis
+  pub is_listed : IsListed size is_code source.text report.out (refusal_in why)
+  pub diagnosed : IfSome why (IsDiagnosisOfListing size is_code source.text)
+  pub told : IsNoticeIf wording source why report.err
+  pub ends : report.status ≡ status_of_found (is_some why)

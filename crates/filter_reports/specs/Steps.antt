@@ -1,8 +1,8 @@
--- What is between a report and what is written. (This project's own choice.)
-use Rattle.filter_reports.specs.Check.{ReportView}
+-- What is between lines and what is written. (This project's own choice.)
+use Rattle.filter_reports.specs.Check.{LinesView}
 use Rattle.filter_reports.specs.Checking.{refusals_of}
-use Rattle.filter_reports.specs.declared.report.Report.{Report}
+use Rattle.filter_reports.specs.declared.lines.Lines.{Lines}
 
--- what a contract sees of a report
-abbrev pub report_of : Report → ReportView
-report_of r = record { text = r.text.items; refusals = refusals_of r.diagnosis }
+-- what a contract sees of lines
+abbrev pub lines_of : Lines → LinesView
+lines_of lines = record { text = lines.text.items; refusals = refusals_of lines.diagnosis }

@@ -1,26 +1,22 @@
-//! `ncroute check`: a filter's text, or a code file, becomes code, and the code is verified.
+//! How a source is checked: a filter's text, or a code file, becomes code, and the verifier judges the code.
 //!
-//! **`check` gathers its lines before it writes any**, so that E1 and E3 leave nothing written.
-ghost use Rattle.std.specs.Prelude.{◌≡◌, IfErr, IfOk, IfSome};
+//! **A source is parsed once and its code swept once**, whatever is said of it: the lines of `check` and the warnings of `lint` follow from one survey.
+ghost use Rattle.std.specs.Prelude.{◌≡◌, ℕ, Bool, List, IfErr, IfOk, OnOk};
+ghost use Rattle.code_file.specs.Spelling.{IsCode};
 ghost use Rattle.filter_source.specs.Diagnoses.{TellsOfSource};
 ghost use Rattle.filter_source.specs.Failures.{OnDiagnosis, OnRefusal};
+ghost use Rattle.filter_reports.specs.Check.{GivesCode, IsRefused, code_line, without_white_end};
+ghost use Rattle.filter_reports.specs.Checking.{ArePlaces, AreTokens, EndsLines, IsChecked, IsSurvey, judged};
 ghost use Rattle.filter_tokens.specs.Tokenization.{is_space};
-ghost use Rattle.filter_reports.specs.Check.{GivesCode, IsRefused, IsReport, without_white_end};
-ghost use Rattle.filter_reports.specs.Checking.{ArePlaces, Checks, ChecksOff, AreTokens, AreTokensUnlessRefused};
-ghost use Rattle.filter_reports.specs.Checking.{EndsWith, IsCutOff, IsDiagnosis, Reports};
-ghost use Rattle.filter_reports.specs.Faults.{stream_fault};
-ghost use Rattle.filter_reports.specs.Steps.{report_of};
 
-use crate::fault::ProgramFault;
-use crate::report::{Report, report_code, report_refusal};
+use crate::lines::{Lines, end_lines, line_of_code, refusal_lines};
+use filter_code::Code;
 use filter_source::{
-    CompiledSource, Diagnosis, Failure, SOURCE_LIMIT, check_length, compile_text_mapped,
-    read_hexadecimal,
+    CompiledSource, Diagnosis, Failure, check_length, compile_text_mapped, read_hexadecimal,
 };
 use filter_tokens::Token;
-use line_protocol::{read_input, write_text};
+use filter_verifier::{Survey, survey_code};
 use std::alloc::{AllocError, Global};
-use std::io::{Read, Write};
 
 /// A text without the spaces, tabs, carriage returns and line feeds at its end.
 fn trim_white_end(text: &[u8]) -> &[u8]
@@ -54,87 +50,112 @@ pub fn code_of(alloc: Global, input: &[u8], is_code: bool) -> Result<CompiledSou
     compile_text_mapped(alloc, input)
 }
 
-/// The report on an input, for domains of a size, and the tokens of its text, where it gives code.
-fn report_input(
+/// The code of a source, and what the verifier knows of it.
+#[derive(Drop)]
+pub struct SurveyedSource {
+    /// The code.
+    pub code: Code,
+    /// For each instruction of the code, in order, the place in the text of the part that it translates. A code file has none.
+    pub places: Vec<usize>,
+    /// The tokens that cut the text. A code file has none.
+    pub tokens: Vec<Token>,
+    /// What the verifier knows of the code.
+    pub survey: Survey,
+}
+
+/// The code of a source, and what the verifier knows of it in domains of a size.
+fn survey_source(
     alloc: Global,
-    input: &[u8],
+    source: &[u8],
     size: u32,
     is_code: bool,
-) -> Result<(Report, Vec<Token>), AllocError>
-    ensures lines { IfOk result (λ made. IsReport size is_code input.now (report_of made.0)) }
-    ensures ends { IfOk result (λ made. EndsWith made.0.diagnosis made.0.text.items) }
-    ensures diagnosis { IfOk result (λ made. IfSome made.0.diagnosis (IsDiagnosis size is_code input.now)) }
-    ensures tokens { IfOk result (λ made. AreTokensUnlessRefused made.0.diagnosis is_code input.now made.1.items) }
+) -> Result<SurveyedSource, Failure>
+    ensures surveyed { IfOk result (IsSurvey size is_code source.now) }
+    ensures refused { IfErr result (OnRefusal (IsRefused is_code source.now)) }
+    ensures diagnosis { IfErr result (OnDiagnosis (TellsOfSource is_code source.now)) }
 {
-    match code_of(alloc, input, is_code) {
-        Ok(
-            CompiledSource {
-                code,
-                places,
-                tokens,
-            },
-        ) => {
-            let report = report_code(alloc, code, places.as_slice(), size)?;
-            Ok((report, tokens))
-        }
-        Err(Failure::Refused(diagnosis)) => {
-            let report = report_refusal(alloc, diagnosis)?;
-            Ok((report, Vec::new(alloc)))
-        }
-        Err(Failure::Memory) => Err(AllocError),
+    let CompiledSource {
+        code,
+        places,
+        tokens,
+    } = code_of(alloc, source, is_code)?;
+    match survey_code(alloc, &code, size) {
+        Ok(survey) => Ok(SurveyedSource {
+            code,
+            places,
+            tokens,
+            survey,
+        }),
+        Err(_) => Err(Failure::Memory),
     }
 }
 
-/// What came of checking a source.
+/// What comes of a source that is checked.
 #[derive(Drop)]
 pub struct Checked {
-    /// What is told of the refusal, where the source is refused.
-    pub diagnosis: Option<Diagnosis>,
-    /// The tokens that cut the text, where the source is a filter's text that is not refused.
-    pub tokens: Vec<Token>,
+    /// The lines of the report on it.
+    pub lines: Vec<u8>,
+    /// Its code, which is verified; or why it is refused.
+    pub verdict: Result<SurveyedSource, Diagnosis>,
 }
 
-/// Writes the report on a filter's text, or on a code file in hexadecimal where `is_code` says so, for domains of `size` nodes.
-/// Returns what is told of the refusal in its last line, if there is one, and the tokens of the text.
-pub fn write_report<W: Write>(
-    alloc: Global,
-    source: &[u8],
-    writer: &mut W,
-    size: u32,
-    is_code: bool,
-) -> Result<Checked, ProgramFault>
-    ensures finished { IfOk result (λ checked.
-        Reports size is_code source.now (W.contents writer.old) (W.contents writer.new) checked.diagnosis) }
-    ensures tokens { IfOk result (λ checked. AreTokensUnlessRefused checked.diagnosis is_code source.now checked.tokens.items) }
-    ensures broken_off { IfErr result (λ fault.
-        IsCutOff (stream_fault fault) size is_code source.now (W.contents writer.old) (W.contents writer.new)) }
+/// The code of a source, unless this says why it is refused.
+fn judged(surveyed: SurveyedSource, why: Option<Diagnosis>) -> Result<SurveyedSource, Diagnosis>
+    ensures { result ≡ judged surveyed why }
 {
-    let (report, tokens) = report_input(alloc, source, size, is_code)?;
-    write_text(writer, report.text.as_slice())?;
+    match why {
+        Some(why) => Err(why),
+        None => Ok(surveyed),
+    }
+}
+
+/// The lines on the code of a source, and why it is refused, if it is.
+fn lines_on(alloc: Global, surveyed: &SurveyedSource) -> Result<Lines, AllocError>
+    ensures lines { IfOk result (λ lines. EndsLines surveyed.now.places.items surveyed.now.survey.verdict (code_line surveyed.now.code)
+        lines.text.items lines.diagnosis) }
+    ensures readable { OnOk result (IsCode surveyed.now.code) }
+{
+    let line = line_of_code(alloc, &surveyed.code)?;
+    let lines = end_lines(line, surveyed.places.as_slice(), surveyed.survey.verdict)?;
+    Ok(lines)
+}
+
+/// What comes of a source whose code was surveyed for domains of a size.
+fn check_surveyed(alloc: Global, surveyed: SurveyedSource) -> Result<Checked, AllocError>
+    ensures { (size : ℕ) (is_code : Bool) (source : List ℕ) → IsSurvey size is_code source surveyed
+        → IfOk result (IsChecked size is_code source) }
+{
+    let lines = lines_on(alloc, &surveyed)?;
     Ok(Checked {
-        diagnosis: report.diagnosis,
-        tokens,
+        lines: lines.text,
+        verdict: judged(surveyed, lines.diagnosis),
     })
 }
 
-/// Reads a filter's text, or a code file in hexadecimal where `is_code` says so, and writes the report on it, for domains of
-/// `size` nodes. Returns the number of refusals in the report.
-pub fn check_text<R: Read, W: Write>(
+/// What comes of a source that has no code.
+fn check_refused(alloc: Global, diagnosis: &Diagnosis) -> Result<Checked, AllocError>
+    ensures { (size : ℕ) (is_code : Bool) (source : List ℕ) → IsRefused is_code source diagnosis.now.refusal
+        → TellsOfSource is_code source diagnosis.now → IfOk result (IsChecked size is_code source) }
+{
+    let lines = refusal_lines(alloc, *diagnosis)?;
+    Ok(Checked {
+        lines: lines.text,
+        verdict: Err(*diagnosis),
+    })
+}
+
+/// Checks a filter's text, or a code file in hexadecimal where `is_code` says so, for domains of `size` nodes.
+pub fn check_text(
     alloc: Global,
-    reader: &mut R,
-    writer: &mut W,
+    source: &[u8],
     size: u32,
     is_code: bool,
-) -> Result<u32, ProgramFault>
-    ensures finished { IfOk result (λ refused. IfSome (R.remaining reader.old) (λ input.
-        Checks size is_code input (R.remaining reader.new) (W.contents writer.old) (W.contents writer.new) refused)) }
-    ensures broken_off { IfErr result (λ fault. IfSome (R.remaining reader.old) (λ input.
-        ChecksOff (stream_fault fault) size is_code input (R.remaining reader.new) (W.contents writer.old) (W.contents writer.new))) }
+) -> Result<Checked, AllocError>
+    ensures { IfOk result (IsChecked size is_code source.now) }
 {
-    let input = read_input(alloc, reader, SOURCE_LIMIT)?;
-    let checked = write_report(alloc, input.as_slice(), writer, size, is_code)?;
-    match checked.diagnosis {
-        Some(_) => Ok(1),
-        None => Ok(0),
+    match survey_source(alloc, source, size, is_code) {
+        Ok(surveyed) => check_surveyed(alloc, surveyed),
+        Err(Failure::Refused(diagnosis)) => check_refused(alloc, &diagnosis),
+        Err(Failure::Memory) => Err(AllocError),
     }
 }

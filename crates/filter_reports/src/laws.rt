@@ -10,14 +10,14 @@ ghost use Rattle.filter_compiler.specs.Same.{MeansTheSame};
 ghost use Rattle.filter_parser.specs.SyntaxText.{FilterView};
 ghost use Rattle.filter_source.specs.Sources.{Translates};
 ghost use Rattle.filter_verifier.specs.Safe.{IsSafe};
-ghost use Rattle.filter_reports.specs.Check.{FitsLine, GivesCode, IsCodeReport, IsReport, ReportView, printed};
+ghost use Rattle.filter_reports.specs.Check.{FitsLine, GivesCode, AreCodeLines, AreLines, LinesView, printed};
 ghost use Rattle.filter_reports.specs.Saying.{SaysTheSame};
 
 /// The code that `check` prints is read by `check --code` as the same code, with the same lines: code that is written and read
 /// again has the same verdicts. Its digits have to be within the limit of a source.
 pub fn printed_code_is_checked_alike()
-    ensures { (size : ℕ) (program : CodeView) (report : ReportView) → FitsLine program → IsCodeReport size program report
-        → IsReport size true (printed program) report }
+    ensures { (size : ℕ) (program : CodeView) (report : LinesView) → FitsLine program → AreCodeLines size program report
+        → AreLines size true (printed program) report }
 {}
 
 /// The code of each text has a code file. This has at most four times as many bytes as the text, and 6,409 more, and so has one of the
@@ -28,8 +28,8 @@ pub fn translations_fit_a_line()
     ensures size { (version : Version) (text : List ℕ) (filter : FilterView) (program : CodeView) → Translates text filter program
         → length (spelling_in version program) ≤ 4 * length text + 6409 }
     ensures fits { (text : List ℕ) (filter : FilterView) (program : CodeView) → Translates text filter program → FitsLine program }
-    ensures checked_alike { (size : ℕ) (text : List ℕ) (program : CodeView) (report : ReportView) → GivesCode false text program
-        → IsCodeReport size program report → IsReport size true (printed program) report }
+    ensures checked_alike { (size : ℕ) (text : List ℕ) (program : CodeView) (report : LinesView) → GivesCode false text program
+        → AreCodeLines size program report → AreLines size true (printed program) report }
 {}
 
 /// Code that means what a filter means, and that never goes wrong in domains of a size, says of each route of such a domain

@@ -6,45 +6,39 @@
 //!
 //! **A listing is defined by the verifier's own facts**, those of `verify`'s contract. `survey_code` keeps them as its sweep comes by, and says of
 //! the code what `verify` says, so `list` has one sweep; `verify` keeps none, and does not pay for them.
-ghost use Rattle.std.specs.Prelude.{◌≡◌, ◌≤◌, ◌<◌, ◌++◌, ℕ, List, [], Some, IfOk, IfErr, IfSome, OnOk, length, slice_get};
-ghost use Rattle.std.specs.Io.KnownBytes.{Appends};
+ghost use Rattle.std.specs.Prelude.{◌≡◌, ◌≤◌, ◌<◌, ◌++◌, ℕ, Some, IfOk, IfSome, OnOk, length};
 ghost use Rattle.filter_code.specs.Limits.{instruction_limit};
-ghost use Rattle.filter_reports.specs.Faults.{stream_fault};
 ghost use Rattle.filter_source.specs.Diagnoses.{TellsOfCode};
 ghost use Rattle.filter_source.specs.Sources.{IsUnsafe};
 ghost use Rattle.filter_verifier.specs.InStateView.{Known};
 ghost use Rattle.filter_verifier.specs.InStates.{in_state};
 ghost use Rattle.filter_verifier.specs.Sweep.{in_state_view, state_at};
-ghost use Rattle.filter_reports.specs.Listing.{EndsListing, IsCutListing, IsListed, IsListing, Lists};
+ghost use Rattle.filter_reports.specs.Listing.{IsListReport, IsListed, IsListing, Lists};
 ghost use Rattle.filter_reports.specs.Listing.{fact_text, instruction_line, known_before, mark};
-ghost use Rattle.filter_reports.specs.Listing.{IsDiagnosisOfCode, IsDiagnosisOfListing, WritesListing, refusal_in};
+ghost use Rattle.filter_reports.specs.Listing.{IsDiagnosisOfCode, IsDiagnosisOfListing, refusal_in};
+ghost use Rattle.filter_reports.specs.Notices.{named};
+ghost use Rattle.filter_reports.specs.Reports.{report_of};
 ghost use Rattle.filter_reports.specs.Listing.{nothing_known, origin_in, place_text, places_text, state_text, target_text};
 
 use crate::check::code_of;
-use crate::fault::ProgramFault;
+use crate::lines::{Lines, end_lines};
+use crate::named_text::NamedText;
 use crate::refusal::refusal_line;
+use crate::report::Report;
+use crate::status::status_of_found;
+use crate::wording::{Wording, notice_if};
 use filter_code::{Code, Instr};
-use filter_source::{CompiledSource, Diagnosis, Failure, Refusal, place_at, push_bounds};
-use filter_verifier::{AbstractFrame, Fact, InState, Range, RunBounds, Unverified, survey_code};
-use line_protocol::{push_decimal, push_refusal, write_text};
+use filter_source::{CompiledSource, Failure, place_at};
+use filter_verifier::{AbstractFrame, Fact, InState, Range, survey_code};
+use line_protocol::push_decimal;
 use refusal_words::Positions;
 use std::alloc::{AllocError, Global};
-use std::io::Write;
 
 /// The text that a code was compiled from, and for each instruction the byte that it comes from. A code file has no such bytes.
 #[derive(Drop)]
 struct Origins<'a> {
     source: Positions<'a>,
     places: &'a [usize],
-}
-
-/// The listing of a source, or the line that refuses it.
-#[derive(Drop)]
-struct Listing {
-    /// The lines.
-    text: Vec<u8>,
-    /// What is told of it where the source or its code is refused.
-    diagnosis: Option<Diagnosis>,
 }
 
 /// Puts the range of an int, and its mark, at the end of `out`.
@@ -194,46 +188,19 @@ fn list_visited(
     Ok(out)
 }
 
-/// The end of a listing: the bounds of the code, or why it is refused.
-fn end_listing(
-    text: Vec<u8>,
-    places: &[usize],
-    verdict: Result<RunBounds, Unverified>,
-) -> Result<Listing, AllocError>
-    ensures listing { IfOk result (λ listing. EndsListing places.now verdict text.items listing.text.items listing.diagnosis) }
-{
-    let mut text = text;
-    match verdict {
-        Ok(bounds) => {
-            push_bounds(&mut text, bounds)?;
-            Ok(Listing {
-                text,
-                diagnosis: None,
-            })
-        }
-        Err(Unverified { fault, range }) => {
-            push_refusal(&mut text, fault.code(), fault.at() as u64)?;
-            Ok(Listing {
-                text,
-                diagnosis: Some(Diagnosis::of_code(fault, range, places)),
-            })
-        }
-    }
-}
-
 /// The listing of code for domains of a size: it ends with the bounds of the code, or with why it is refused.
 fn list_verified(
     alloc: Global,
     code: &Code,
     origins: &Origins,
     size: u32,
-) -> Result<Listing, AllocError>
+) -> Result<Lines, AllocError>
     ensures listing { IfOk result (λ listing. IsListing (Some size) code.now (origin_in origins.now.source origins.now.places.now) listing.text.items (refusal_in listing.diagnosis)) }
     ensures diagnosis { IfOk result (λ listing. IfSome listing.diagnosis (λ diagnosis. IsUnsafe code.now size diagnosis.refusal × TellsOfCode code.now origins.now.places.now size diagnosis)) }
 {
     let survey = survey_code(alloc, code, size)?;
     let text = list_visited(alloc, code, origins, size, survey.in_states.as_slice())?;
-    end_listing(text, origins.places, survey.verdict)
+    end_lines(text, origins.places, survey.verdict)
 }
 
 /// The listing of code.
@@ -242,26 +209,29 @@ fn list(
     code: &Code,
     origins: &Origins,
     size: Option<u32>,
-) -> Result<Listing, AllocError>
+) -> Result<Lines, AllocError>
     ensures listing { IfOk result (λ listing. IsListing size code.now (origin_in origins.now.source origins.now.places.now) listing.text.items (refusal_in listing.diagnosis)) }
     ensures diagnosis { IfOk result (λ listing. IfSome listing.diagnosis (IsDiagnosisOfCode size code.now origins.now.places.now)) }
 {
     match size {
         Some(size) => list_verified(alloc, code, origins, size),
-        None => Ok(Listing {
+        None => Ok(Lines {
             text: list_instructions(alloc, code, origins)?,
             diagnosis: None,
         }),
     }
 }
 
-/// The listing of a source.
-fn list_source(
+/// The listing of a filter's code, with the line and the column that each instruction comes from, or of a code file in
+/// hexadecimal where `is_code` says so. For domains of a size what the
+/// verifier knows stands before each instruction, and the listing ends at the instruction that it refuses, or with the bounds of the
+/// code. A source that gives no code has the line that refuses it.
+pub fn list_text(
     alloc: Global,
     source: &[u8],
     size: Option<u32>,
     is_code: bool,
-) -> Result<Listing, AllocError>
+) -> Result<Lines, AllocError>
     ensures listing { IfOk result (λ listing. IsListed size is_code source.now listing.text.items (refusal_in listing.diagnosis)) }
     ensures diagnosis { IfOk result (λ listing. IfSome listing.diagnosis (IsDiagnosisOfListing size is_code source.now)) }
 {
@@ -273,7 +243,7 @@ fn list_source(
             };
             list(alloc, &code, &origins, size)
         }
-        Err(Failure::Refused(diagnosis)) => Ok(Listing {
+        Err(Failure::Refused(diagnosis)) => Ok(Lines {
             text: refusal_line(alloc, diagnosis.refusal)?,
             diagnosis: Some(diagnosis),
         }),
@@ -281,41 +251,21 @@ fn list_source(
     }
 }
 
-/// Writes the listing of a source, as `write_listing` does. Returns what is told of a source or a code that is refused.
-pub(crate) fn write_diagnosed_listing<W: Write>(
+/// The report of `list` on a source: its listing. People are told why the source or its code is refused, as `wording` says.
+pub fn list_report(
     alloc: Global,
-    source: &[u8],
-    writer: &mut W,
+    source: &NamedText<'_>,
     size: Option<u32>,
     is_code: bool,
-) -> Result<Option<Diagnosis>, ProgramFault>
-    ensures finished { IfOk result (WritesListing size is_code source.now (W.contents writer.old) (W.contents writer.new)) }
-    ensures broken_off { IfErr result (λ fault. IsCutListing (stream_fault fault) size is_code source.now
-        (W.contents writer.old) (W.contents writer.new)) }
+    wording: Wording,
+) -> Result<Report, AllocError>
+    ensures { IfOk result (λ report. IsListReport size is_code wording (named source.now) (report_of report)) }
 {
-    let listing = list_source(alloc, source, size, is_code)?;
-    write_text(writer, listing.text.as_slice())?;
-    Ok(listing.diagnosis)
-}
-
-/// Writes the listing of a filter's code, with the line and the column that each instruction comes from, or of a code file in
-/// hexadecimal where `is_code` says so. For domains of a size what the
-/// verifier knows stands before each instruction, and the listing ends at the instruction that it refuses, or with the bounds of the
-/// code. Returns why the source or its code is refused.
-pub fn write_listing<W: Write>(
-    alloc: Global,
-    source: &[u8],
-    writer: &mut W,
-    size: Option<u32>,
-    is_code: bool,
-) -> Result<Option<Refusal>, ProgramFault>
-    ensures finished { IfOk result (λ why. (text : List ℕ) × IsListed size is_code source.now text why
-        × Appends (W.contents writer.old) (W.contents writer.new) text) }
-    ensures broken_off { IfErr result (λ fault. IsCutListing (stream_fault fault) size is_code source.now
-        (W.contents writer.old) (W.contents writer.new)) }
-{
-    match write_diagnosed_listing(alloc, source, writer, size, is_code)? {
-        Some(diagnosis) => Ok(Some(diagnosis.refusal)),
-        None => Ok(None),
-    }
+    let Lines { text, diagnosis } = list_text(alloc, source.text, size, is_code)?;
+    let err = notice_if(alloc, wording, source, &diagnosis)?;
+    Ok(Report {
+        out: text,
+        err,
+        status: status_of_found(diagnosis.is_some()),
+    })
 }

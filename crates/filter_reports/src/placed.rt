@@ -1,16 +1,24 @@
 //! The verified code of a filter's text.
-ghost use Rattle.std.specs.Prelude.{◌≡◌, false, IfErr, IfOk};
+ghost use Rattle.std.specs.Prelude.{◌≡◌, false, IfErr, IfOk, MatchResult};
 ghost use Rattle.filter_source.specs.Failures.{OnDiagnosis};
 ghost use Rattle.filter_source.specs.TextPlaces.{ArePlacesOf};
 ghost use Rattle.filter_tokens.specs.Tokenization.{IsTokenization};
 ghost use Rattle.filter_reports.specs.Checking.{IsDiagnosis};
+ghost use Rattle.filter_reports.specs.Notices.{named};
+ghost use Rattle.filter_reports.specs.Opening.{IsFilterRefusal, IsPlacedOf};
+ghost use Rattle.filter_reports.specs.Reports.{report_of};
 ghost use Rattle.filter_reports.specs.VerifiedFilters.{IsVerifiedOf};
 
 use crate::check::code_of;
+use crate::named_text::NamedText;
+use crate::refusal::refusal_line;
+use crate::report::Report;
+use crate::status::FAILED;
+use crate::wording::{Wording, refusal_notice};
 use filter_source::{CompiledSource, Failure, verify_mapped};
 use filter_tokens::Token;
 use filter_verifier::Verified;
-use std::alloc::Global;
+use std::alloc::{AllocError, Global};
 
 /// The verified code of a text, for each instruction the byte that it comes from, and the text's tokens.
 #[derive(Drop)]
@@ -53,5 +61,27 @@ pub fn verified_filter(alloc: Global, text: &[u8], size: u32) -> Result<Verified
     match placed_code(alloc, text, size) {
         Ok(placed) => Ok(placed.verified),
         Err(failure) => Err(failure),
+    }
+}
+
+/// The verified code of the filter that a text spells, for domains of `size` nodes; or the report that refuses it, of which people are told as
+/// `wording` says. It is all that comes of a filter before its first route.
+pub fn open_filter(
+    alloc: Global,
+    source: &NamedText<'_>,
+    size: u32,
+    wording: Wording,
+) -> Result<Result<PlacedCode, Report>, AllocError>
+    ensures { IfOk result (λ opened. MatchResult opened (IsPlacedOf size source.now.text.now)
+        (λ report. IsFilterRefusal size wording (named source.now) (report_of report))) }
+{
+    match placed_code(alloc, source.text, size) {
+        Ok(placed) => Ok(Ok(placed)),
+        Err(Failure::Refused(why)) => Ok(Err(Report {
+            out: refusal_line(alloc, why.refusal)?,
+            err: refusal_notice(alloc, wording, source, &why)?,
+            status: FAILED,
+        })),
+        Err(Failure::Memory) => Err(AllocError),
     }
 }

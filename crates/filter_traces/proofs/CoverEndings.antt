@@ -1,24 +1,19 @@
 -- How a run of `filter --coverage` ends.
 use Rattle.std.proofs.Common.{◌≡◌, ℕ, ◌+◌, ◌-◌, ◌^◌, ◌<◌, ◌≤◌, true, false, List, ◌++◌, length, min}
-use Rattle.std.proofs.Common.{Option, Some, None, IfSome, inl, inr, refl, ap, subst, ◌∙◌, arith}
+use Rattle.std.proofs.Common.{Option, IfSome, inr, ap, subst, ◌∙◌, arith}
 use Rattle.std.specs.Prelude.{◌⊎◌, slice_index}
 use Rattle.std.specs.Io.KnownBytes.{Appends}
 use Rattle.std.proofs.lemmas.List.Sums.{count_by-le-length}
 use Rattle.filter_parser.specs.SyntaxText.{FilterView}
-use Rattle.filter_source.specs.declared.diagnosis.Diagnosis.{Diagnosis}
 use Rattle.line_protocol.specs.Lines.{numbered}
 use Rattle.line_protocol.specs.declared.faults.StreamFault.{StreamFault}
-use Rattle.line_protocol.specs.declared.faults.StreamFault.TheVariants as stream
 use Rattle.route_answers.proofs.EvalEndings.{if_known}
-use Rattle.filter_reports.specs.Checking.{IsDiagnosis}
 use Rattle.filter_reports.specs.Cuts.{IsCut}
-use Rattle.filter_reports.specs.VerifiedFilters.{refusal_line}
 use Rattle.route_answers.specs.Filtering.{AnswersEach, AnswersFirst, routes_limit}
-use Rattle.route_answers.specs.declared.filter.Filtered.TheVariants as filtered
 use Rattle.filter_traces.proofs.Counts.{below, few_lines}
 use Rattle.filter_traces.proofs.Lists.{same_lines}
 use Rattle.filter_traces.specs.Commands.{chosen_lines, coverage_text, lines_among}
-use Rattle.filter_traces.specs.Coverage.{Covers, CoversCut, CoversEach, CoversOff, HasCounted, cover_answer, hits, line_comes_to}
+use Rattle.filter_traces.specs.Coverage.{Covers, CoversCut, CoversEach, CoversFirst, CoversOff, HasCounted, cover_answer, hits, line_comes_to}
 use Rattle.filter_traces.specs.TracedView.{TracedView}
 use Rattle.filter_traces.specs.Whys.{IsTraceOf}
 use Rattle.filter_traces.specs.declared.coverage.Counter.{Counter}
@@ -65,10 +60,10 @@ told_off t s fault known left held mid holds n counted cut_short =
 -- what was counted of a filter of a text
 module _ (text : List ℕ) (size : ℕ) (filter : FilterView) (t : TracedView) (is : IsTraceOf text size filter t) where
   pub covered : (known left held holds : Option (List ℕ)) (n : ℕ) → IfSome known (λ input. CoversEach t input left held holds n)
-      → IfSome known (λ input. Covers size text input left held holds (filtered.Answered n))
+      → IfSome known (λ input. Covers size text input left held holds n)
   covered known left held holds n = if_known known (λ input f. (filter, t, is, f))
 
   pub broken_off : (known left held holds : Option (List ℕ)) (fault : StreamFault)
-      → IfSome known (λ input. AnswersFirst (cover_answer t.size) fault input left held holds ⊎ CoversCut t fault input left held holds)
+      → IfSome known (λ input. CoversFirst t fault input left held holds)
       → IfSome known (λ input. CoversOff fault size text input left held holds)
-  broken_off known left held holds fault = if_known known (λ input f. inr (inr (filter, t, is, f)))
+  broken_off known left held holds fault = if_known known (λ input f. inr (filter, t, is, f))

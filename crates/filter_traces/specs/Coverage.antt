@@ -9,19 +9,15 @@ use Rattle.line_protocol.specs.Answers.{Answer, refusal}
 use Rattle.line_protocol.specs.Lines.{numbered}
 use Rattle.line_protocol.specs.declared.answers.LineReply.TheVariants as reply
 use Rattle.line_protocol.specs.declared.faults.StreamFault.{StreamFault}
-use Rattle.filter_reports.specs.Checking.{IsDiagnosis}
 use Rattle.route_answers.specs.Eval.{Line}
 use Rattle.filter_reports.specs.Cuts.{IsCut}
 use Rattle.route_answers.specs.RouteLine.{line_code, route_in}
 use Rattle.route_answers.specs.declared.line_fault.LineFault.{LineFault}
-use Rattle.filter_reports.specs.VerifiedFilters.{refusal_line}
-use Rattle.route_answers.specs.Filtering.{AnswersEach, AnswersFirst, BreaksOff}
-use Rattle.route_answers.specs.declared.filter.Filtered.{Filtered}
-use Rattle.route_answers.specs.declared.filter.Filtered.TheVariants.{Refused, Answered}
+use Rattle.route_answers.specs.Filtering.{AnswersEach, AnswersFirst}
 use Rattle.filter_traces.specs.Commands.{coverage_text}
 use Rattle.filter_traces.specs.Hits.{comes_to, counted_up}
 use Rattle.filter_traces.specs.TracedView.{TracedView}
-use Rattle.filter_traces.specs.Whys.{IsTraceOf}
+use Rattle.filter_traces.specs.Whys.{IsTraceOf, LacksMemory}
 use Rattle.filter_traces.specs.declared.coverage.Counter.{Counter}
 
 -- whether a line that was read so is a route whose run comes to the instruction at a place
@@ -70,12 +66,9 @@ pub record CoversEach (t : TracedView) (input : List ℕ) (left held holds : Opt
   pub answered : AnswersEach (cover_answer t.size) input left held mid refused
   pub written : Appends mid holds (coverage_text t (hits t (numbered input)))
 
--- A run was answered to its end. A refused filter answers no route, and no line is read; otherwise the commands of the text are told, each
--- with the number of the routes that came to it.
-abbrev pub Covers : ℕ → List ℕ → List ℕ → Option (List ℕ) → Option (List ℕ) → Option (List ℕ) → Filtered → Type 0
-Covers size text input left held holds (Refused diagnosis) =
-    IsDiagnosis size false text diagnosis × (left ≡ Some input) × Appends held holds (refusal_line diagnosis.refusal)
-Covers size text input left held holds (Answered refused) =
+-- A run was answered to its end: the commands of the text are told, each with the number of the routes that came to it.
+abbrev pub Covers : ℕ → List ℕ → List ℕ → Option (List ℕ) → Option (List ℕ) → Option (List ℕ) → ℕ → Type 0
+Covers size text input left held holds refused =
     (filter : FilterView) × (t : TracedView) × IsTraceOf text size filter t × CoversEach t input left held holds refused
 
 -- A fault cut what is told of the commands, when each line had been counted.
@@ -85,8 +78,11 @@ pub record CoversCut (t : TracedView) (fault : StreamFault) (input : List ℕ) (
   pub answered : AnswersEach (cover_answer t.size) input left held mid refused
   pub cut : IsCut fault mid holds (coverage_text t (hits t (numbered input)))
 
--- A fault ended it: nothing was written for want of memory, a refusal was cut, only the first lines were read, or the commands were cut.
+-- A fault ended it: nothing was read or written for want of memory, only the first lines were read, or the commands were cut.
+abbrev pub CoversFirst : TracedView → StreamFault → List ℕ → Option (List ℕ) → Option (List ℕ) → Option (List ℕ) → Type 0
+CoversFirst t fault input left held holds = LacksMemory fault input left held holds
+    ⊎ (AnswersFirst (cover_answer t.size) fault input left held holds ⊎ CoversCut t fault input left held holds)
+
 abbrev pub CoversOff : StreamFault → ℕ → List ℕ → List ℕ → Option (List ℕ) → Option (List ℕ) → Option (List ℕ) → Type 0
-CoversOff fault size text input left held holds = BreaksOff fault size text input left held holds
-    ((filter : FilterView) × (t : TracedView) × IsTraceOf text size filter t
-    × (AnswersFirst (cover_answer t.size) fault input left held holds ⊎ CoversCut t fault input left held holds))
+CoversOff fault size text input left held holds = LacksMemory fault input left held holds
+    ⊎ ((filter : FilterView) × (t : TracedView) × IsTraceOf text size filter t × CoversFirst t fault input left held holds)

@@ -1,7 +1,6 @@
 -- Why routes got their verdicts: for each route a line with what the filter's text means for it and where that was decided, and below it
 -- what is told of the run. (This project's own choice.)
-use Rattle.std.specs.Prelude.{◌≡◌, ℕ, false, List, [], ◌∷◌, ◌++◌, map, Option, Some, Result, Ok, Err, codes, decimal, slice_get}
-use Rattle.std.specs.Io.KnownBytes.{Appends}
+use Rattle.std.specs.Prelude.{◌≡◌, ◌⊎◌, ℕ, List, [], ◌∷◌, ◌++◌, map, Option, Some, Result, Ok, Err, codes, decimal, slice_get}
 use Rattle.prefix_patterns.specs.Spelling.{prefix_text}
 use Rattle.filter_code.specs.Machine.{outcome_of}
 use Rattle.filter_code.specs.RouteView.{RouteView}
@@ -15,15 +14,12 @@ use Rattle.filter_verifier.specs.Safe.{IsSafe}
 use Rattle.line_protocol.specs.Answers.{Answer, refusal}
 use Rattle.line_protocol.specs.declared.answers.LineReply.TheVariants as reply
 use Rattle.line_protocol.specs.declared.faults.StreamFault.{StreamFault}
-use Rattle.filter_reports.specs.Checking.{IsDiagnosis}
+use Rattle.line_protocol.specs.declared.faults.StreamFault.TheVariants.{Memory}
 use Rattle.route_answers.specs.Eval.{Line}
 use Rattle.route_answers.specs.RouteLine.{line_code, route_in}
 use Rattle.route_answers.specs.declared.line_fault.LineFault.{LineFault}
-use Rattle.filter_reports.specs.VerifiedFilters.{refusal_line}
-use Rattle.route_answers.specs.Filtering.{AnswersEach, AnswersFirst, BreaksOff}
+use Rattle.route_answers.specs.Filtering.{AnswersEach, AnswersFirst}
 use Rattle.refusal_words.specs.Places.{column_at, line_at}
-use Rattle.route_answers.specs.declared.filter.Filtered.{Filtered}
-use Rattle.route_answers.specs.declared.filter.Filtered.TheVariants.{Refused, Answered}
 use Rattle.filter_traces.specs.Sites.{site_text}
 use Rattle.filter_traces.specs.Steps.{all_lines, deciding_place}
 use Rattle.filter_traces.specs.TracedView.{TracedView}
@@ -86,15 +82,16 @@ why_run t number (Err found) = record { text = refusal (line_code found) number;
 abbrev pub code_why : TracedView → Line → Answer
 code_why t line = why_run t line.0 (route_in (Some t.size) line.1)
 
--- A run was answered to its end. A refused filter answers no route, and no line is read; otherwise it is told of each line what the
--- text means for its route, and why.
-abbrev pub Whys : ℕ → List ℕ → List ℕ → Option (List ℕ) → Option (List ℕ) → Option (List ℕ) → Filtered → Type 0
-Whys size text input left held holds (Refused diagnosis) =
-    IsDiagnosis size false text diagnosis × (left ≡ Some input) × Appends held holds (refusal_line diagnosis.refusal)
-Whys size text input left held holds (Answered refused) =
+-- Nothing was read or written for want of memory.
+abbrev pub LacksMemory : StreamFault → List ℕ → Option (List ℕ) → Option (List ℕ) → Option (List ℕ) → Type 0
+LacksMemory fault input left held holds = (fault ≡ Memory) × (left ≡ Some input) × (holds ≡ held)
+
+-- A run was answered to its end: it is told of each line what the text means for its route, and why.
+abbrev pub Whys : ℕ → List ℕ → List ℕ → Option (List ℕ) → Option (List ℕ) → Option (List ℕ) → ℕ → Type 0
+Whys size text input left held holds refused =
     (filter : FilterView) × (t : TracedView) × IsTraceOf text size filter t × AnswersEach (why_answer filter t) input left held holds refused
 
--- A fault ended it: nothing was written for want of memory, a refusal was cut, or the first lines were answered.
+-- A fault ended it: nothing was read or written for want of memory, or the first lines were answered.
 abbrev pub WhysOff : StreamFault → ℕ → List ℕ → List ℕ → Option (List ℕ) → Option (List ℕ) → Option (List ℕ) → Type 0
-WhysOff fault size text input left held holds = BreaksOff fault size text input left held holds
-    ((filter : FilterView) × (t : TracedView) × IsTraceOf text size filter t × AnswersFirst (why_answer filter t) fault input left held holds)
+WhysOff fault size text input left held holds = LacksMemory fault input left held holds
+    ⊎ ((filter : FilterView) × (t : TracedView) × IsTraceOf text size filter t × AnswersFirst (why_answer filter t) fault input left held holds)

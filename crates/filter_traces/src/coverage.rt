@@ -5,15 +5,15 @@ ghost use Rattle.filter_reports.specs.Cuts.{IsCut};
 ghost use Rattle.filter_reports.specs.Faults.{stream_fault};
 ghost use Rattle.route_answers.specs.Filtering.{AnswersEach, AnswersFirst, routes_limit};
 ghost use Rattle.filter_traces.specs.Commands.{lines_among};
-ghost use Rattle.filter_traces.specs.Coverage.{Covers, CoversCut, CoversEach, CoversOff, HasCounted, IsCounted, cover_answer, fault_in};
+ghost use Rattle.filter_reports.specs.Opening.{IsPlacedOf};
+ghost use Rattle.filter_traces.specs.Coverage.{Covers, CoversCut, CoversEach, CoversFirst, CoversOff, HasCounted, IsCounted, cover_answer, fault_in};
 ghost use Rattle.route_answers.specs.RouteLine.{route_in};
 ghost use Rattle.line_protocol.specs.Lines.{numbered};
 
 use crate::traced::{Traced, trace_filter};
-use filter_reports::{ProgramFault, write_refusal};
-use filter_source::Failure;
+use filter_reports::{PlacedCode, ProgramFault};
 use line_protocol::{LineReply, Service, answer_lines_within, push_refusal, write_text};
-use route_answers::{Filtered, LineFault, ROUTES_LIMIT, read_route};
+use route_answers::{LineFault, ROUTES_LIMIT, read_route};
 use std::alloc::{AllocError, Global};
 use std::io::{Read, Write};
 
@@ -129,31 +129,41 @@ fn cover_lines<'a, R: Read, W: Write>(
     Ok(refused)
 }
 
-/// Verifies the filter that a text spells, for domains of `size` nodes, and takes each line of `reader`, a route `PREFIX METRIC`, through
-/// it. When all are through, it writes a line for each command of the filter: how many routes came to it, its line and column in the text,
-/// and its word. Those that no route came to are last. A line that gives no route is refused as by `filter_named`, and so is a filter.
+/// Counts each line of `reader` at the commands of a filter, and writes these on `writer`, each with its count.
+fn cover_traced<'a, R: Read, W: Write>(
+    alloc: Global,
+    traced: Traced<'a>,
+    reader: &mut R,
+    writer: &mut W,
+) -> Result<u32, ProgramFault>
+    ensures finished { IfOk result (λ refused. IfSome (R.remaining reader.old) (λ input.
+        CoversEach traced.entry input (R.remaining reader.new) (W.contents writer.old) (W.contents writer.new) refused)) }
+    ensures broken_off { IfErr result (λ fault. IfSome (R.remaining reader.old) (λ input.
+        CoversFirst traced.entry (stream_fault fault) input (R.remaining reader.new) (W.contents writer.old) (W.contents writer.new))) }
+{
+    match Counter::new(alloc, traced) {
+        Ok(counter) => cover_lines(alloc, counter, reader, writer),
+        Err(_) => Err(ProgramFault::MEMORY),
+    }
+}
+
+/// Takes each line of `reader`, a route, through the verified code of a filter's text. When all are through, it writes a line for each command of the
+/// filter: how many routes came to it, its line and column in the text, and its word. Those that no route came to are last. A line that gives no
+/// route is refused as by `filter_routes`.
 pub fn cover_routes<R: Read, W: Write>(
     alloc: Global,
     text: &[u8],
-    size: u32,
+    placed: PlacedCode,
     reader: &mut R,
     writer: &mut W,
-) -> Result<Filtered, ProgramFault>
-    ensures finished { IfOk result (λ filtered. IfSome (R.remaining reader.old) (λ input.
-        Covers size text.now input (R.remaining reader.new) (W.contents writer.old) (W.contents writer.new) filtered)) }
-    ensures broken_off { IfErr result (λ fault. IfSome (R.remaining reader.old) (λ input.
+) -> Result<u32, ProgramFault>
+    ensures finished { (size : ℕ) → IsPlacedOf size text.now placed → IfOk result (λ refused. IfSome (R.remaining reader.old) (λ input.
+        Covers size text.now input (R.remaining reader.new) (W.contents writer.old) (W.contents writer.new) refused)) }
+    ensures broken_off { (size : ℕ) → IsPlacedOf size text.now placed → IfErr result (λ fault. IfSome (R.remaining reader.old) (λ input.
         CoversOff (stream_fault fault) size text.now input (R.remaining reader.new) (W.contents writer.old) (W.contents writer.new))) }
 {
-    match trace_filter(alloc, text, size) {
-        Ok(traced) => {
-            let counter = Counter::new(alloc, traced)?;
-            let refused = cover_lines(alloc, counter, reader, writer)?;
-            Ok(Filtered::Answered(refused))
-        }
-        Err(Failure::Refused(diagnosis)) => {
-            write_refusal(alloc, writer, diagnosis.refusal)?;
-            Ok(Filtered::Refused(diagnosis))
-        }
-        Err(Failure::Memory) => Err(ProgramFault::MEMORY),
+    match trace_filter(alloc, text, placed) {
+        Ok(traced) => cover_traced(alloc, traced, reader, writer),
+        Err(_) => Err(ProgramFault::MEMORY),
     }
 }

@@ -1,15 +1,13 @@
 //! A verified filter, and where in its text each instruction comes from.
-ghost use Rattle.std.specs.Prelude.{◌≡◌, ◌≤◌, false, map, slice_get, IfErr, IfOk, IfSome};
+ghost use Rattle.std.specs.Prelude.{◌≡◌, ◌≤◌, ℕ, map, slice_get, IfOk, IfSome};
 ghost use Rattle.filter_code.specs.Limits.{instruction_limit};
-ghost use Rattle.filter_reports.specs.Checking.{IsDiagnosis};
 ghost use Rattle.filter_parser.specs.SyntaxText.{FilterView};
-ghost use Rattle.filter_source.specs.Failures.{OnDiagnosis};
+ghost use Rattle.filter_reports.specs.Opening.{IsPlacedOf};
 ghost use Rattle.filter_traces.specs.Whys.{IsTraceOf, site_in};
 
 use crate::site::InstructionSite;
 use filter_code::{Code, Instr};
-use filter_reports::{PlacedCode, placed_code};
-use filter_source::Failure;
+use filter_reports::PlacedCode;
 use filter_verifier::Verified;
 use refusal_words::Positions;
 use std::alloc::{AllocError, Global};
@@ -115,16 +113,19 @@ fn sites_in(
     Ok(sites)
 }
 
-/// The filter that a text spells, verified for domains of `size` nodes, and where in the text each of its instructions comes from.
-pub(crate) fn trace_filter(alloc: Global, text: &[u8], size: u32) -> Result<Traced<'_>, Failure>
-    ensures traced { IfOk result (λ traced. (filter : FilterView) × IsTraceOf text.now size filter traced) }
-    ensures refused { IfErr result (OnDiagnosis (IsDiagnosis size false text.now)) }
+/// The filter that a text spells, by its verified code, and where in the text each of its instructions comes from.
+pub(crate) fn trace_filter<'a>(
+    alloc: Global,
+    text: &'a [u8],
+    placed: PlacedCode,
+) -> Result<Traced<'a>, AllocError>
+    ensures { (size : ℕ) → IsPlacedOf size text.now placed → IfOk result (λ traced. (filter : FilterView) × IsTraceOf text.now size filter traced) }
 {
     let PlacedCode {
         verified,
         places,
         ..
-    } = placed_code(alloc, text, size)?;
+    } = placed;
     let sites = sites_in(alloc, text, places.as_slice())?;
     Ok(Traced::new(verified, text, sites))
 }

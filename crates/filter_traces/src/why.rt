@@ -1,8 +1,9 @@
 //! `ncroute filter --why`: routes through a filter that is verified first, and why each of them got its verdict.
-ghost use Rattle.std.specs.Prelude.{◌≡◌, ◌++◌, [], ◌∷◌, IfErr, IfOk, IfSome, OnErr, OnOk, slice_get};
+ghost use Rattle.std.specs.Prelude.{◌≡◌, ◌++◌, ℕ, [], ◌∷◌, IfErr, IfOk, IfSome, OnErr, OnOk, slice_get};
 ghost use Rattle.std.specs.Io.{StartsWith};
 ghost use Rattle.filter_code.specs.Machine.{outcome_of};
 ghost use Rattle.filter_reports.specs.Faults.{stream_fault};
+ghost use Rattle.filter_reports.specs.Opening.{IsPlacedOf};
 ghost use Rattle.route_answers.specs.Filtering.{AnswersEach, AnswersFirst};
 ghost use Rattle.filter_traces.specs.Sites.{site_text};
 ghost use Rattle.filter_traces.specs.Whys.{Whys, WhysOff, code_why, outcome_words, route_text, why_text};
@@ -11,11 +12,10 @@ use crate::run::ShownRun;
 use crate::site::push_site;
 use crate::traced::{Traced, trace_filter};
 use filter_code::{Outcome, Route};
-use filter_reports::{ProgramFault, write_refusal};
-use filter_source::Failure;
+use filter_reports::{PlacedCode, ProgramFault};
 use line_protocol::{LineReply, Service, answer_lines_within, push_decimal, push_refusal};
 use refusal_words::push_prefix;
-use route_answers::{Filtered, ROUTES_LIMIT, read_route};
+use route_answers::{ROUTES_LIMIT, read_route};
 use std::alloc::{AllocError, Global};
 use std::io::{Read, Write};
 
@@ -144,30 +144,23 @@ fn answer_whys<'a, R: Read, W: Write>(
     Ok(answer_lines_within(alloc, ROUTES_LIMIT, reader, writer, &mut service)?)
 }
 
-/// Does what `filter_named` does, and says why each route gets its verdict: the answer to a route begins with its own line, with the
-/// verdict and where in the text it was decided, and below it is a line for each assignment that was carried out, each comparison and
-/// each condition, in the order in which they were.
+/// Answers each line of `reader`, a route, on `writer` by the verified code of a filter's text, and says why each route gets its verdict: the answer
+/// to a route begins with its own line, with the verdict and where in the text it was decided, and below it is a line for each assignment that was
+/// carried out, each comparison and each condition, in the order in which they were.
 pub fn explain_routes<R: Read, W: Write>(
     alloc: Global,
     text: &[u8],
-    size: u32,
+    placed: PlacedCode,
     reader: &mut R,
     writer: &mut W,
-) -> Result<Filtered, ProgramFault>
-    ensures finished { IfOk result (λ filtered. IfSome (R.remaining reader.old) (λ input.
-        Whys size text.now input (R.remaining reader.new) (W.contents writer.old) (W.contents writer.new) filtered)) }
-    ensures broken_off { IfErr result (λ fault. IfSome (R.remaining reader.old) (λ input.
+) -> Result<u32, ProgramFault>
+    ensures finished { (size : ℕ) → IsPlacedOf size text.now placed → IfOk result (λ refused. IfSome (R.remaining reader.old) (λ input.
+        Whys size text.now input (R.remaining reader.new) (W.contents writer.old) (W.contents writer.new) refused)) }
+    ensures broken_off { (size : ℕ) → IsPlacedOf size text.now placed → IfErr result (λ fault. IfSome (R.remaining reader.old) (λ input.
         WhysOff (stream_fault fault) size text.now input (R.remaining reader.new) (W.contents writer.old) (W.contents writer.new))) }
 {
-    match trace_filter(alloc, text, size) {
-        Ok(traced) => {
-            let refused = answer_whys(alloc, traced, reader, writer)?;
-            Ok(Filtered::Answered(refused))
-        }
-        Err(Failure::Refused(diagnosis)) => {
-            write_refusal(alloc, writer, diagnosis.refusal)?;
-            Ok(Filtered::Refused(diagnosis))
-        }
-        Err(Failure::Memory) => Err(ProgramFault::MEMORY),
+    match trace_filter(alloc, text, placed) {
+        Ok(traced) => answer_whys(alloc, traced, reader, writer),
+        Err(_) => Err(ProgramFault::MEMORY),
     }
 }

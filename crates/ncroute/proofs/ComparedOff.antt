@@ -6,7 +6,7 @@ use Rattle.report_formats.specs.declared.format.Format.{Format}
 use Rattle.domain_routes.specs.PlanView.{PlanView}
 use Rattle.domain_cmds.specs.Left.{ComparesOff}
 use Rattle.ncroute.specs.Domains.{StopsDomains}
-use Rattle.ncroute.proofs.Unreported.{none_appended}
+use Rattle.program_console.proofs.Unreported.{none_appended}
 
 pub nothing_compared : (format : Format) (held holds : Option (List ℕ)) → holds ≡ held → StopsDomains format held holds
 unfolding StopsDomains

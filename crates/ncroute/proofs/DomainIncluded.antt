@@ -2,9 +2,9 @@
 use Rattle.std.proofs.Common.{◌≡◌, ℕ, Bool, true, false, List, [], ◌∷◌, Option, None, Result, inl, inr, refl, subst, sym}
 use Rattle.std.specs.Str.Lines.{lines}
 use Rattle.std.specs.declared.io.Error.{Error}
-use Rattle.command_line.specs.declared.requests.Source.{Source}
+use Rattle.program_words.specs.declared.source.Source.{Source}
 use Rattle.ncroute.specs.DomainLoading.{AddsLineOf, AddsLines, Includes, LacksIncluded, StopsAtLine, size_behind}
-use Rattle.ncroute.specs.Streaming.{Streams}
+use Rattle.program_console.specs.Streaming.{Streams}
 
 module _ (opens : List ℕ → Result (Option (List ℕ)) Error → Type 0) (by : Source) (text : List ℕ) (before : Streams) where
   -- what comes of the lines that are left is what comes of the text

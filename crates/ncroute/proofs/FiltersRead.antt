@@ -5,11 +5,11 @@ use Rattle.std.proofs.lemmas.Option.{slice_get_read}
 use Rattle.std.specs.Prelude.{OnOk}
 use Rattle.std.specs.declared.io.Error.{Error}
 use Rattle.router_script.specs.declared.filter_naming.NamedFilter.{NamedFilter}
-use Rattle.command_line.specs.declared.requests.Source.{Source}
+use Rattle.program_words.specs.declared.source.Source.{Source}
 use Rattle.command_line.specs.declared.filter_words.NamedFile.{NamedFile}
 use Rattle.ncroute.specs.Filters.{LeavesFilter, ReadsFilter, ReadsFirst, StopsAtFilter}
-use Rattle.ncroute.specs.declared.texts.Unread.{Unread}
-use Rattle.ncroute.specs.declared.texts.Unread.TheVariants as unread
+use Rattle.program_console.specs.declared.sources.Unread.{Unread}
+use Rattle.program_console.specs.declared.sources.Unread.TheVariants as unread
 
 module _ (opens : List ℕ → Result (Option (List ℕ)) Error → Type 0) (files : List NamedFile) where
   pub none_read : (known : Option (List ℕ)) → ReadsFirst opens files 0 [] known known

@@ -2,9 +2,9 @@
 use Rattle.std.proofs.Common.{◌≡◌, ℕ, ◌+◌, ◌<◌, List, [], length, get_or, Option, Result, refl, add-one}
 use Rattle.std.proofs.lemmas.Option.{slice_get_read}
 use Rattle.std.specs.declared.io.Error.{Error}
-use Rattle.command_line.specs.declared.requests.Source.{Source}
+use Rattle.program_words.specs.declared.source.Source.{Source}
 use Rattle.ncroute.specs.Joining.{JoinsFirst, JoinsNext, LeavesNext, StopsAtSource}
-use Rattle.ncroute.specs.declared.texts.Unread.{Unread}
+use Rattle.program_console.specs.declared.sources.Unread.{Unread}
 
 module _ (opens : List ℕ → Result (Option (List ℕ)) Error → Type 0) (sources : List Source) where
   pub none_joined : (known : Option (List ℕ)) → JoinsFirst opens sources 0 [] known known

@@ -16,7 +16,7 @@ use Rattle.router_options.specs.PlanView.{PlanView}
 use Rattle.command_line.specs.declared.router_words.RouterWords.{RouterWords}
 use Rattle.ncroute.specs.Routing.{CutsPlan, Operated, RunsPlan, ServesRouter, StopsSettingUp, fault_status, router_line, setup_line, setup_status}
 use Rattle.router_words.specs.Stated.{OriginView}
-use Rattle.ncroute.specs.Streaming.{Streams}
+use Rattle.program_console.specs.Streaming.{Streams}
 use Rattle.ncroute.specs.declared.routing.SetupFault.{SetupFault}
 use Rattle.ncroute.specs.declared.routing.Unreported.{Unreported}
 

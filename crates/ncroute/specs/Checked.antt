@@ -14,7 +14,7 @@ use Rattle.ncroute.specs.Loading.{LacksFilters, LoadsFilters, StopsLoading}
 use Rattle.ncroute.specs.Planning.{IsPlanOf, LacksPlan, is_memory}
 use Rattle.ncroute.specs.Routing.{CutsRouter, ServesRouter, setup_line, setup_status}
 use Rattle.router_words.specs.Stated.{OriginView}
-use Rattle.ncroute.specs.Streaming.{Streams}
+use Rattle.program_console.specs.Streaming.{Streams}
 use Rattle.ncroute.specs.declared.planning.PlanFault.{PlanFault}
 use Rattle.ncroute.specs.declared.routing.SetupFault.{SetupFault}
 use Rattle.ncroute.specs.declared.routing.SetupFault.TheVariants.{Program, Words}

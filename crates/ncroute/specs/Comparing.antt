@@ -1,60 +1,35 @@
 -- What the program does with two filters that are compared. (This project's own choice.)
 use Rattle.std.specs.Prelude.{◌≡◌, ◌⊎◌, ℕ, List, Option, Result}
 use Rattle.std.specs.declared.io.Error.{Error}
+use Rattle.filter_checks.specs.Comparing.{IsDiffReport}
+use Rattle.filter_reports.specs.Reports.{ReportView}
 use Rattle.filter_source.specs.Limits.{source_limit}
-use Rattle.filter_checks.specs.Comparing.{ComparesNamed, ComparesNamedOff}
-use Rattle.filter_reports.specs.Naming.{Named}
-use Rattle.filter_checks.specs.declared.comparing.Compared.{Compared}
-use Rattle.filter_checks.specs.declared.comparing.Compared.TheVariants.{Refused, Same, Differ, Undecided}
 use Rattle.line_protocol.specs.declared.faults.StreamFault.{StreamFault}
-use Rattle.command_line.specs.declared.requests.Source.{Source}
-use Rattle.command_line.specs.declared.diff_words.Comparing.{Comparing}
-use Rattle.ncroute.specs.Reading.{Reads, SkipsUnread, StopsReading, name_of}
-use Rattle.ncroute.specs.Streaming.{Streams}
-
--- the exit status of a comparison: 0 where two filters do the same on all routes
-abbrev pub status_of_comparison : Compared → ℕ
-status_of_comparison Same = 0
-status_of_comparison Differ = 1
-status_of_comparison Undecided = 3
-status_of_comparison Refused = 3
-
--- Two texts were compared, which was told, and the exit status says what came of it.
-pub record ComparesTexts (how : Comparing) (old new : Named) (before after : Streams) (status : ℕ) : Type 0 where
-  pub found : Compared
-  pub compared : ComparesNamed how.format how.size how.limit how.is_explained old new before.holds after.holds before.tells after.tells found
-  pub ends : status ≡ status_of_comparison found
-  pub reads : after.reads ≡ before.reads
-
--- A fault ended it.
-pub record StopsComparison (fault : StreamFault) (how : Comparing) (old new : Named) (before after : Streams) : Type 0 where
-  pub compared : ComparesNamedOff fault how.format how.size how.limit how.is_explained old new before.holds after.holds before.tells after.tells
-  pub reads : after.reads ≡ before.reads
+use Rattle.program_console.specs.Commands.{ReportsSource, StopsSource, text_of, unread_report}
+use Rattle.program_console.specs.Putting.{CutsPut, Puts}
+use Rattle.program_console.specs.Reading.{IsRead, IsUnreadBy, StopsLoading}
+use Rattle.program_console.specs.Streaming.{Streams}
+use Rattle.program_words.specs.declared.source.Source.{Source}
+use Rattle.report_formats.specs.declared.options.DiffOptions.{DiffOptions}
 
 -- `opens name` says what may come of opening a file of this name.
 module _ (opens : List ℕ → Result (Option (List ℕ)) Error → Type 0) where
-  -- The newer filter was read too, and the two were compared; or it was not read.
-  unfoldable pub ComparesWith : Comparing → Named → Source → Streams → Streams → ℕ → Type 0
-  ComparesWith how old new before after status =
-      ((text : List ℕ) × (mid : Streams) × Reads opens source_limit new text before mid
-      × ComparesTexts how old (record { name = name_of new; text = text }) mid after status)
-      ⊎ (SkipsUnread opens source_limit new before after × (status ≡ 3))
+  -- The older filter was read, and this is the report on it and the newer one, which was read behind it; or one of them was not read.
+  abbrev pub DiffsSources : DiffOptions → Source → Source → ReportView → Option (List ℕ) → Option (List ℕ) → Type 0
+  DiffsSources how old new report known left =
+      ((text : List ℕ) × (mid : Option (List ℕ)) × IsRead opens source_limit old text known mid
+      × ReportsSource opens (IsDiffReport how (text_of old text)) 3 new report mid left)
+      ⊎ ((line : List ℕ) × IsUnreadBy opens source_limit old line known left × (report ≡ unread_report 3 line))
 
-  -- A fault ended it.
-  unfoldable pub StopsWith : StreamFault → Comparing → Named → Source → Streams → Streams → Type 0
-  StopsWith fault how old new before after = StopsReading opens fault source_limit new before after
-      ⊎ ((text : List ℕ) × (mid : Streams) × Reads opens source_limit new text before mid
-      × StopsComparison fault how old (record { name = name_of new; text = text }) mid after)
+  -- A fault kept one of them from being read, or memory was refused.
+  abbrev pub StopsDiff : StreamFault → DiffOptions → Source → Source → Option (List ℕ) → Option (List ℕ) → Type 0
+  StopsDiff fault how old new known left = StopsLoading opens fault source_limit old known left
+      ⊎ ((text : List ℕ) × (mid : Option (List ℕ)) × IsRead opens source_limit old text known mid
+      × StopsSource opens (IsDiffReport how (text_of old text)) 3 fault new mid left)
 
-  -- The older filter was read, then the newer one, and the two were compared; or one of them was not read.
-  unfoldable pub ComparesSources : Comparing → Source → Source → Streams → Streams → ℕ → Type 0
-  ComparesSources how old new before after status =
-      ((text : List ℕ) × (mid : Streams) × Reads opens source_limit old text before mid
-      × ComparesWith how (record { name = name_of old; text = text }) new mid after status)
-      ⊎ (SkipsUnread opens source_limit old before after × (status ≡ 3))
+  -- The report was written.
+  abbrev pub ComparesSources : DiffOptions → Source → Source → Streams → Streams → ℕ → Type 0
+  ComparesSources how old new before after status = Puts (DiffsSources how old new) before after status
 
-  -- A fault ended it.
-  unfoldable pub StopsComparing : StreamFault → Comparing → Source → Source → Streams → Streams → Type 0
-  StopsComparing fault how old new before after = StopsReading opens fault source_limit old before after
-      ⊎ ((text : List ℕ) × (mid : Streams) × Reads opens source_limit old text before mid
-      × StopsWith fault how (record { name = name_of old; text = text }) new mid after)
+  abbrev pub StopsComparing : StreamFault → DiffOptions → Source → Source → Streams → Streams → Type 0
+  StopsComparing fault how old new before after = CutsPut fault (DiffsSources how old new) (StopsDiff fault how old new) before after

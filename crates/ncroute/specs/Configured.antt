@@ -13,15 +13,17 @@ use Rattle.line_protocol.specs.declared.faults.StreamFault.TheVariants.{Memory}
 use Rattle.router_files.specs.Files.{IsFileFault, StatementView, file_in}
 use Rattle.router_files.specs.declared.reading.WrongLine.{WrongLine}
 use Rattle.router_files.specs.declared.said.LineFault.TheVariants as line
-use Rattle.command_line.specs.declared.requests.Source.{Source}
+use Rattle.program_words.specs.Sources.{path_of}
+use Rattle.program_words.specs.declared.source.Source.{Source}
 use Rattle.command_line.specs.declared.router_words.RouterWords.{RouterWords}
 use Rattle.ncroute.specs.DomainRouter.{CutsInDomain, ServesInDomain}
-use Rattle.ncroute.specs.Ending.{fault_line}
-use Rattle.router_words.specs.Gathering.{Fit, Gathers, IsClash, path_of}
-use Rattle.ncroute.specs.Inclusions.{IsBeside}
-use Rattle.ncroute.specs.Including.{IsText, StopsText}
+use Rattle.program_console.specs.declared.ending.Program.TheVariants.{Ncroute}
+use Rattle.program_console.specs.Ending.{fault_line}
+use Rattle.router_words.specs.Gathering.{Fit, Gathers, IsClash}
+use Rattle.program_console.specs.Beside.{IsBeside}
+use Rattle.program_console.specs.Limited.{IsText, StopsText}
 use Rattle.router_words.specs.Stated.{OriginView, no_file}
-use Rattle.ncroute.specs.Streaming.{Streams}
+use Rattle.program_console.specs.Streaming.{Streams}
 use Rattle.ncroute.specs.WrongLines.{clash_line, refused_line, wrong_of}
 use Rattle.router_words.specs.declared.gathering.Clash.{Clash}
 
@@ -31,7 +33,7 @@ Telling = Option (List ℕ) → Option (List ℕ) → List ℕ → Type 0
 
 -- memory was refused
 abbrev pub EndsByMemory : Telling → Option (List ℕ) → Option (List ℕ) → ℕ → Type 0
-EndsByMemory TellsLine stderr_before stderr_after status = TellsLine stderr_before stderr_after (fault_line (Stream Memory)) × (status ≡ 1)
+EndsByMemory TellsLine stderr_before stderr_after status = TellsLine stderr_before stderr_after (fault_line Ncroute (Stream Memory)) × (status ≡ 1)
 
 -- a line of the file is refused by itself, or memory was refused before that was known
 abbrev pub EndsByWrong : Telling → List ℕ → WrongLine → Option (List ℕ) → Option (List ℕ) → ℕ → Type 0
@@ -93,7 +95,7 @@ module _ (opens : List ℕ → Result (Option (List ℕ)) Error → Type 0) wher
         ((source : Source) × (path_of source ≡ Some name)
         × (((text : List ℕ) × (mid : Streams) × IsText opens source (Some text) before mid × Does text words mid after status)
         ⊎ ((fault : ProgramFault) × (mid : Streams) × StopsText opens (stream_fault fault) source before mid
-        × EndsBy (λ stderr_before stderr_after ended. TellsLine stderr_before stderr_after (fault_line fault) × (ended ≡ 1)) mid after status)))
+        × EndsBy (λ stderr_before stderr_after ended. TellsLine stderr_before stderr_after (fault_line Ncroute fault) × (ended ≡ 1)) mid after status)))
         ⊎ EndsBy (EndsByMemory TellsLine) before after status
 
     -- ... or it was not read, with status 1.

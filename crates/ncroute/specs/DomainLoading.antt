@@ -4,7 +4,7 @@ use Rattle.std.specs.Io.KnownBytes.{Appends}
 use Rattle.std.specs.Str.Lines.{lines}
 use Rattle.std.specs.declared.io.Error.{Error}
 use Rattle.code_file.specs.Spelling.{spelling}
-use Rattle.command_line.specs.declared.requests.Source.{Source}
+use Rattle.program_words.specs.declared.source.Source.{Source}
 use Rattle.domain_cmds.specs.CommandView.{CommandView, Domain}
 use Rattle.domain_cmds.specs.Commands.{Read, command_in}
 use Rattle.domain_files.specs.Files.{IsFile, IsNoFile}
@@ -15,7 +15,7 @@ use Rattle.domain_files.specs.declared.file.WrongFile.{WrongFile}
 use Rattle.domain_files.specs.declared.file.WrongFile.TheVariants as wrong
 use Rattle.domain_files.specs.declared.file.WrongLine.{WrongLine}
 use Rattle.filter_code.specs.CodeView.{CodeView}
-use Rattle.filter_reports.specs.Telling.{Explains, IsCutExplanation}
+use Rattle.ncroute.specs.Filters.{Explains, IsCutExplanation}
 use Rattle.filter_source.specs.Limits.{source_limit}
 use Rattle.filter_source.specs.declared.diagnosis.Diagnosis.{Diagnosis}
 use Rattle.filter_verifier.specs.VerifiedView.{VerifiedView}
@@ -27,14 +27,14 @@ use Rattle.line_protocol.specs.declared.faults.StreamFault.TheVariants.{Memory}
 use Rattle.operator_cmds.specs.Script.{GivesText, IsTextDiagnosis, IsVerified}
 use Rattle.operator_cmds.specs.declared.watch.RefusedLine.{RefusedLine}
 use Rattle.refusal_words.specs.Shown.{shown}
-use Rattle.ncroute.specs.Including.{IsText}
-use Rattle.ncroute.specs.Inclusions.{IsIncludedPath}
-use Rattle.ncroute.specs.Places.{path_of}
-use Rattle.ncroute.specs.Reading.{Reads, SkipsUnread, StopsReading, name_of}
-use Rattle.ncroute.specs.Streaming.{Streams}
+use Rattle.program_console.specs.Limited.{IsText}
+use Rattle.program_console.specs.Beside.{IsIncludedPath}
+use Rattle.program_words.specs.Sources.{path_of}
+use Rattle.program_console.specs.Reading.{Reads, SkipsUnread, StopsReading, name_of}
+use Rattle.program_console.specs.Streaming.{Streams}
 use Rattle.ncroute.specs.Watching.{IsReported}
-use Rattle.ncroute.specs.declared.console.Loaded.{Loaded}
-use Rattle.ncroute.specs.declared.console.Loaded.TheVariants as loaded
+use Rattle.program_console.specs.declared.console.Loaded.{Loaded}
+use Rattle.program_console.specs.declared.console.Loaded.TheVariants as loaded
 use Rattle.ncroute.specs.declared.domain_loading.DomainRead.{DomainRead}
 use Rattle.ncroute.specs.declared.domain_loading.DomainRead.TheVariants as read
 
@@ -69,7 +69,7 @@ code_line name program = codes "code " ++ name ++ 32 ∷ encode_lower (spelling 
 
 -- Standard error was told why the filter of a text is refused, and nothing else was done.
 pub record TellsRefusal (source : Source) (text : List ℕ) (why : Diagnosis) (before after : Streams) : Type 0 where
-  pub told : Explains (name_of source) text (Some why) before.tells after.tells
+  pub told : Explains (name_of source) text why before.tells after.tells
   pub reads : after.reads ≡ before.reads
   pub holds : after.holds ≡ before.holds
 

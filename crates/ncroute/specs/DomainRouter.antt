@@ -13,6 +13,9 @@ use Rattle.filter_reports.specs.declared.fault.ProgramFault.{ProgramFault}
 use Rattle.filter_reports.specs.declared.fault.ProgramFault.TheVariants.{Stream}
 use Rattle.history_saver.specs.Folders.{FolderView}
 use Rattle.line_protocol.specs.declared.faults.StreamFault.{StreamFault}
+use Rattle.program_console.specs.Ending.{fault_line}
+use Rattle.program_console.specs.Streaming.{Streams}
+use Rattle.program_console.specs.declared.ending.Program.TheVariants.{Ncroute}
 use Rattle.line_protocol.specs.declared.faults.StreamFault.TheVariants.{Memory}
 use Rattle.router_files.specs.declared.options.RouterOption.{RouterOption}
 use Rattle.router_files.specs.declared.options.RouterOption.TheVariants as option
@@ -23,11 +26,9 @@ use Rattle.ncroute.specs.Checked.{CutsWords, ServesWords}
 use Rattle.ncroute.specs.DomainLines.{domain_line}
 use Rattle.ncroute.specs.DomainLoading.{CutsDomain, LoadsDomain}
 use Rattle.ncroute.specs.DomainWords.{SaysDomain, said_beside, unfit_of}
-use Rattle.ncroute.specs.Ending.{fault_line}
 use Rattle.ncroute.specs.Planning.{IsPlanOf, LacksPlan, is_memory}
 use Rattle.ncroute.specs.Routing as routing
 use Rattle.ncroute.specs.Routing.{CutsSave, LacksSave, MakesSave, setup_line}
-use Rattle.ncroute.specs.Streaming.{Streams}
 use Rattle.ncroute.specs.declared.domain_loading.DomainRead.TheVariants as read
 use Rattle.ncroute.specs.declared.domain_words.DomainFault.{DomainFault}
 use Rattle.ncroute.specs.declared.domain_words.DomainFault.TheVariants.{Beside}
@@ -44,7 +45,7 @@ Telling = Option (List ℕ) → Option (List ℕ) → List ℕ → Type 0
 
 -- a fault of the program ended a run
 abbrev pub EndsByProgram : Telling → ProgramFault → Option (List ℕ) → Option (List ℕ) → ℕ → Type 0
-EndsByProgram TellsLine fault stderr_before stderr_after status = TellsLine stderr_before stderr_after (fault_line fault) × (status ≡ 1)
+EndsByProgram TellsLine fault stderr_before stderr_after status = TellsLine stderr_before stderr_after (fault_line Ncroute fault) × (status ≡ 1)
 
 -- words that are no plan did, or memory was refused
 abbrev pub EndsByPlan : Telling → OriginView → PlanFault → Option (List ℕ) → Option (List ℕ) → ℕ → Type 0
@@ -59,7 +60,7 @@ EndsBy TellsLine line wanted before after status =
 
 -- by one of a fault of the program
 abbrev pub EndsByFault : Telling → Streams → Streams → ℕ → Type 0
-EndsByFault TellsLine before after status = (fault : ProgramFault) × EndsBy TellsLine (fault_line fault) 1 before after status
+EndsByFault TellsLine before after status = (fault : ProgramFault) × EndsBy TellsLine (fault_line Ncroute fault) 1 before after status
 
 -- the plan with the mark of the domain that a file sets up
 abbrev pub marked : PlanView → FileView → RouterWords → PlanView
@@ -85,7 +86,7 @@ module _ (makes : List ℕ → Result (Option FolderView) Error → Type 0) wher
   FolderRan Ran TellsLine words before after status =
       ((kept : Option (Option FolderView)) × (mid : Streams) × MakesFolder words kept before mid × Ran kept mid after)
       ⊎ ((fault : ProgramFault) × (mid : Streams) × CutsFolder (stream_fault fault) words before mid
-      × EndsBy TellsLine (fault_line fault) 1 mid after status)
+      × EndsBy TellsLine (fault_line Ncroute fault) 1 mid after status)
 
   -- The router of a plan was run with the filters of the file. `keeps name` says what a folder of this name held when it was left.
   unfoldable pub RunsMarked : (List ℕ → Option FolderView → Type 0) → Names → RouterWords → PlanView → Streams → Streams → ℕ → Type 0
@@ -183,7 +184,7 @@ module _ (opens : List ℕ → Result (Option (List ℕ)) Error → Type 0) wher
   DoesFile Does TellsLine name before after status = ((file : FileView) × (mid : Streams) × LoadsDomain opens name before mid (read.File file)
       × Does file mid after status)
       ⊎ ((fault : ProgramFault) × (mid : Streams) × CutsDomain opens (stream_fault fault) name before mid
-      × EndsBy TellsLine (fault_line fault) 1 mid after status)
+      × EndsBy TellsLine (fault_line Ncroute fault) 1 mid after status)
 
   -- ... or it is not there or wrong, which was told.
   abbrev pub LacksFile : List ℕ → Streams → Streams → ℕ → Type 0

@@ -9,12 +9,12 @@ use Rattle.domain_cmds.specs.Comparing.{ComparisonView, IsComparison}
 use Rattle.domain_cmds.specs.Left.{Compares, Leaves, text_of}
 use Rattle.domain_cmds.specs.declared.left.Left.{Left}
 use Rattle.domain_cmds.specs.declared.left.Left.TheVariants as left
-use Rattle.command_line.specs.declared.requests.Source.{Source}
+use Rattle.program_words.specs.declared.source.Source.{Source}
+use Rattle.filter_reports.specs.Reports.{status_of_found}
+use Rattle.program_console.specs.Reading.{name_of, notice_line}
 use Rattle.ncroute.specs.DomainLoading.{ReadsScript, SkipsScript}
-use Rattle.ncroute.specs.Ending.{status_of_found}
-use Rattle.ncroute.specs.Reading.{name_of, notice_line}
 use Rattle.ncroute.specs.Scripts.{IsQuiet}
-use Rattle.ncroute.specs.Streaming.{Streams, Tells}
+use Rattle.program_console.specs.Streaming.{Streams, Tells}
 
 -- what is told of a script that leaves no domain behind, of two scripts whose domains cannot be compared
 unfoldable pub nothing_words : List ℕ

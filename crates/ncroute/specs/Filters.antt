@@ -4,18 +4,21 @@ use Rattle.std.specs.declared.io.Error.{Error}
 use Rattle.filter_reports.specs.Faults.{stream_fault}
 use Rattle.filter_source.specs.Limits.{source_limit}
 use Rattle.filter_source.specs.declared.diagnosis.Diagnosis.{Diagnosis}
-use Rattle.filter_reports.specs.Telling.{Explains, IsCutExplanation}
+use Rattle.filter_reports.specs.Cuts.{IsCut}
+use Rattle.refusal_words.specs.Explanations.{IsExplanation}
+use Rattle.std.specs.Io.KnownBytes.{Appends}
 use Rattle.line_protocol.specs.declared.faults.StreamFault.{StreamFault}
+use Rattle.line_protocol.specs.declared.faults.StreamFault.TheVariants.{Memory}
 use Rattle.router_script.specs.declared.filter_naming.NamedFilter.{NamedFilter}
 use Rattle.router_script.specs.declared.filter_naming.Unfit.{Unfit}
-use Rattle.command_line.specs.declared.requests.Source.{Source}
+use Rattle.program_words.specs.declared.source.Source.{Source}
 use Rattle.command_line.specs.declared.filter_words.NamedFile.{NamedFile}
-use Rattle.ncroute.specs.Reading.{IsRead, IsUnread, StopsTelling, TellsUnread, name_of}
-use Rattle.ncroute.specs.Streaming.{Streams}
+use Rattle.program_console.specs.Reading.{IsRead, IsUnread, StopsTelling, TellsUnread, name_of}
+use Rattle.program_console.specs.Streaming.{Streams}
 use Rattle.ncroute.specs.declared.filters.LoadedFilters.{LoadedFilters}
 use Rattle.ncroute.specs.declared.filters.LoadedFilters.TheVariants as loaded
-use Rattle.ncroute.specs.declared.texts.Unread.{Unread}
-use Rattle.ncroute.specs.declared.texts.Unread.TheVariants as unread
+use Rattle.program_console.specs.declared.sources.Unread.{Unread}
+use Rattle.program_console.specs.declared.sources.Unread.TheVariants as unread
 
 -- `opens name` says what may come of opening a file of this name.
 module _ (opens : List ℕ → Result (Option (List ℕ)) Error → Type 0) where
@@ -82,17 +85,26 @@ module _ (opens : List ℕ → Result (Option (List ℕ)) Error → Type 0) wher
   AreLoaded files loaded.Skipped before after = SkipsFilter files before after
   AreLoaded files (loaded.Stopped fault) before after = StopsAtFault (stream_fault fault) files before after
 
--- Standard error was told why a filter is refused, at its place in its source. `stderr_before` is what it held before, `stderr_after` what it holds now.
+-- Standard error was told why the filter of a text is refused, at its place in its source. `stderr_before` is what it held before, `stderr_after`
+-- what it holds now.
+abbrev pub Explains : List ℕ → List ℕ → Diagnosis → Option (List ℕ) → Option (List ℕ) → Type 0
+Explains name text why stderr_before stderr_after = (words : List ℕ) × IsExplanation name text why words × Appends stderr_before stderr_after words
+
+-- it was told so of one of the filters that a script is started with
 abbrev pub TellsOfFilter : Option NamedFilter → Diagnosis → Option (List ℕ) → Option (List ℕ) → Type 0
 TellsOfFilter None why stderr_before stderr_after = stderr_after ≡ stderr_before
-TellsOfFilter (Some filter) why stderr_before stderr_after = Explains filter.origin.items filter.text.items (Some why) stderr_before stderr_after
+TellsOfFilter (Some filter) why stderr_before stderr_after = Explains filter.origin.items filter.text.items why stderr_before stderr_after
 
 -- so it was where one of these filters is
 abbrev pub TellsUnfit : List NamedFilter → Option Unfit → Option (List ℕ) → Option (List ℕ) → Type 0
 TellsUnfit filters None stderr_before stderr_after = stderr_after ≡ stderr_before
 TellsUnfit filters (Some unfit) stderr_before stderr_after = TellsOfFilter (slice_get filters unfit.index) unfit.diagnosis stderr_before stderr_after
 
--- A fault cut what was told of a filter.
+-- Memory was refused before that, or a fault cut it.
+abbrev pub IsCutExplanation : StreamFault → List ℕ → List ℕ → Diagnosis → Option (List ℕ) → Option (List ℕ) → Type 0
+IsCutExplanation fault name text why stderr_before stderr_after = ((fault ≡ Memory) × (stderr_after ≡ stderr_before))
+    ⊎ ((words : List ℕ) × IsExplanation name text why words × IsCut fault stderr_before stderr_after words)
+
 abbrev pub IsCutFilter : StreamFault → Option NamedFilter → Diagnosis → Option (List ℕ) → Option (List ℕ) → Type 0
 IsCutFilter fault None why stderr_before stderr_after = ⊥
 IsCutFilter fault (Some filter) why stderr_before stderr_after = IsCutExplanation fault filter.origin.items filter.text.items why stderr_before stderr_after

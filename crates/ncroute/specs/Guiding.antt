@@ -15,10 +15,10 @@ use Rattle.router_script.specs.declared.filter_naming.NamedFilter.{NamedFilter}
 use Rattle.router_script.specs.declared.filter_naming.Unfit.{Unfit}
 use Rattle.command_line.specs.declared.requests.RunOptions.{RunOptions}
 use Rattle.ncroute.specs.Filters.{IsCutUnfit, TellsUnfit}
-use Rattle.ncroute.specs.Reading.{uncreated_line, unwritten_line}
+use Rattle.program_console.specs.Reading.{uncreated_line, unwritten_line}
 use Rattle.ncroute.specs.Scripts.{IsQuiet, TakesLines}
-use Rattle.ncroute.specs.Ending.{status_of}
-use Rattle.ncroute.specs.Streaming.{Streams}
+use Rattle.filter_reports.specs.Reports.{status_of}
+use Rattle.program_console.specs.Streaming.{Streams}
 
 -- A script that was started with these filters was carried out, and the exit status says whether a line was refused. Its lines are those of
 -- this text, or else of standard input. `kept` and `keeps` are what the saver held before and holds now. Standard error is told nothing where

@@ -6,15 +6,15 @@ use Rattle.line_protocol.specs.Limits.{input_limit}
 use Rattle.line_protocol.specs.Lines.{is_line_feed}
 use Rattle.line_protocol.specs.declared.faults.StreamFault.{StreamFault}
 use Rattle.router_script.specs.declared.filter_naming.NamedFilter.{NamedFilter}
-use Rattle.command_line.specs.Readings.{is_input}
+use Rattle.program_words.specs.Sources.{is_input}
 use Rattle.command_line.specs.declared.requests.RunOptions.{RunOptions}
-use Rattle.command_line.specs.declared.requests.Source.{Source}
+use Rattle.program_words.specs.declared.source.Source.{Source}
 use Rattle.ncroute.specs.Filters.{ReadsThem, SkipsFilter, StopsAtFault}
 use Rattle.ncroute.specs.Guiding.{GuidesScript, StopsGuided}
-use Rattle.ncroute.specs.Reading.{IsRead, IsUnread, StopsTelling, TellsUnread, name_of}
-use Rattle.ncroute.specs.Streaming.{Streams}
-use Rattle.ncroute.specs.declared.texts.Unread.{Unread}
-use Rattle.ncroute.specs.declared.texts.Unread.TheVariants as unread
+use Rattle.program_console.specs.Reading.{IsRead, IsUnread, StopsTelling, TellsUnread, name_of}
+use Rattle.program_console.specs.Streaming.{Streams}
+use Rattle.program_console.specs.declared.sources.Unread.{Unread}
+use Rattle.program_console.specs.declared.sources.Unread.TheVariants as unread
 use Rattle.ncroute.specs.declared.watcher.ScriptPart.{ScriptPart}
 
 -- a text has no line that no line feed ends: its last byte is one, or it has none

@@ -1,7 +1,5 @@
 -- What callers cite.
-pub mod CheckReports
 pub mod Checked
-pub mod Checking
 pub mod Comparing
 pub mod Configured
 pub mod DomainLines
@@ -9,34 +7,22 @@ pub mod DomainLoading
 pub mod DomainRouter
 pub mod DomainWords
 pub mod Domains
-pub mod Ending
 pub mod Filters
 pub mod Guiding
-pub mod Importing
-pub mod Including
 pub mod Joining
-pub mod Linting
 pub mod Loading
-pub mod Marking
 pub mod Networking
-pub mod Noting
 pub mod Paging
-pub mod Places
 pub mod Planning
-pub mod Reading
 pub mod Reloading
 pub mod Replaying
-pub mod Segments
 pub mod Requests
 pub mod Responding
 pub mod Routing
 pub mod Scripts
-pub mod Streaming
 pub mod Testing
 pub mod Trying
 pub mod WrongLines
 pub mod WrongWords
 -- What only the bodies of this crate are proved against.
-pub mod Following
-pub mod Inclusions
 pub mod Watching

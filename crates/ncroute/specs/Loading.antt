@@ -9,11 +9,11 @@ use Rattle.router_operator.specs.OperatorView.{Names, filter_of}
 use Rattle.router_script.specs.Naming.{AreNamed}
 use Rattle.router_script.specs.declared.filter_naming.NamedFilter.{NamedFilter}
 use Rattle.router_script.specs.declared.filter_naming.Unfit.{Unfit}
-use Rattle.command_line.specs.declared.requests.Source.{Source}
+use Rattle.program_words.specs.declared.source.Source.{Source}
 use Rattle.command_line.specs.declared.filter_words.NamedFile.{NamedFile}
 use Rattle.ncroute.specs.Filters.{IsCutUnfit, ReadsFilters, StopsAtFilter, TellsUnfit}
-use Rattle.ncroute.specs.Reading.{StopsTelling, TellsUnread}
-use Rattle.ncroute.specs.declared.texts.Unread.{Unread}
+use Rattle.program_console.specs.Reading.{StopsTelling, TellsUnread}
+use Rattle.program_console.specs.declared.sources.Unread.{Unread}
 
 -- the filters of names, as a script has them before its first event
 abbrev pub script_with : Names → ScriptView

@@ -3,7 +3,7 @@ use Rattle.std.specs.Prelude.{◌≡◌, ◌⊎◌, ℕ, List, [], ◌∷◌, �
 use Rattle.std.specs.Io.KnownBytes.{Appends}
 use Rattle.line_protocol.specs.Runs.{AppendsFront}
 use Rattle.ring_network.specs.declared.fault.NetworkFault.{NetworkFault}
-use Rattle.ncroute.specs.Streaming.{Streams, Writes}
+use Rattle.program_console.specs.Streaming.{Streams, Writes}
 use Rattle.ring_network.specs.Network.{LeavesOff, network_code, replayed_lines}
 
 -- the line that tells of a fault

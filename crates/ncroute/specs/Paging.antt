@@ -4,13 +4,13 @@ use Rattle.std.specs.Io.KnownBytes.{Appends}
 use Rattle.std.specs.declared.io.Error.{Error}
 use Rattle.domain_cmds.specs.Paging.{PagesDomain}
 use Rattle.domain_cmds.specs.declared.paged.Paged.{Paged}
-use Rattle.command_line.specs.declared.requests.Source.{Source}
-use Rattle.command_line.specs.declared.requests.Source.TheVariants.{Input, File}
+use Rattle.program_words.specs.declared.source.Source.{Source}
+use Rattle.program_words.specs.declared.source.Source.TheVariants.{Input, File}
+use Rattle.filter_reports.specs.Reports.{status_of}
+use Rattle.program_console.specs.Reading.{name_of, uncreated_line, unwritten_line}
 use Rattle.ncroute.specs.DomainLoading.{ReadsScript, SkipsScript}
-use Rattle.ncroute.specs.Ending.{status_of}
-use Rattle.ncroute.specs.Reading.{name_of, uncreated_line, unwritten_line}
 use Rattle.ncroute.specs.Scripts.{IsQuiet, TakesLines}
-use Rattle.ncroute.specs.Streaming.{Streams, Tells}
+use Rattle.program_console.specs.Streaming.{Streams, Tells}
 
 -- A page that did not get all is told of. `stderr_before` is what standard error held, `stderr_after` what it holds now.
 abbrev pub TellsPaged : List ℕ → Paged → Option (List ℕ) → Option (List ℕ) → ℕ → Type 0

@@ -6,11 +6,12 @@ use Rattle.command_line.specs.declared.words.Invocation.TheVariants.{Asked, Netw
 use Rattle.filter_reports.specs.declared.fault.ProgramFault.TheVariants.{Stream}
 use Rattle.history_saver.specs.Folders.{FolderView}
 use Rattle.line_protocol.specs.declared.faults.StreamFault.{StreamFault}
-use Rattle.ncroute.specs.Ending.{fault_line}
+use Rattle.program_console.specs.declared.ending.Program.TheVariants.{Ncroute}
+use Rattle.program_console.specs.Ending.{fault_line}
 use Rattle.ncroute.specs.Networking.{FailsToReportNetwork, ServesNetwork}
 use Rattle.ncroute.specs.Requests.{FailsToReport, Serves, fault_status}
 use Rattle.ncroute.specs.Configured.{CutsConfigured, ServesConfigured}
-use Rattle.ncroute.specs.Streaming.{Streams, TellsFront}
+use Rattle.program_console.specs.Streaming.{Streams, TellsFront}
 
 -- What was asked for was served, with its status; where standard error did not take the whole line of a fault, the status is that of a fault.
 -- Words that were shown something have their status, and nothing else is done. `opens name` and `creates name` say what may come of opening
@@ -26,4 +27,4 @@ module _ (opens creates : List ℕ → Result (Option (List ℕ)) Error → Type
   Responds (Ok (Router words)) before after status = ServesConfigured opens makes keeps words before after status
       ⊎ ((cut : StreamFault) × CutsConfigured opens makes keeps cut words before after status)
   Responds (Ok (Shown shown)) before after status = (status ≡ shown) × (after ≡ before)
-  Responds (Err fault) before after status = (status ≡ 1) × TellsFront (fault_line (Stream fault)) before after
+  Responds (Err fault) before after status = (status ≡ 1) × TellsFront (fault_line Ncroute (Stream fault)) before after

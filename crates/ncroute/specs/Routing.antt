@@ -23,10 +23,11 @@ use Rattle.command_line.specs.declared.router_words.RouterWords.{RouterWords}
 use Rattle.ncroute.specs.Guiding.{IsUncreated}
 use Rattle.ncroute.specs.Loading.{LacksFilters, LoadsFilters, StopsLoading}
 use Rattle.ncroute.specs.Planning.{IsPlanOf, LacksPlan, is_memory}
-use Rattle.ncroute.specs.Reading.{uncreated_line}
-use Rattle.ncroute.specs.Ending.{fault_line}
+use Rattle.program_console.specs.Reading.{uncreated_line}
+use Rattle.program_console.specs.declared.ending.Program.TheVariants.{Ncroute}
+use Rattle.program_console.specs.Ending.{fault_line}
 use Rattle.router_words.specs.Stated.{OriginView}
-use Rattle.ncroute.specs.Streaming.{Streams}
+use Rattle.program_console.specs.Streaming.{Streams}
 use Rattle.ncroute.specs.WrongWords.{wrong_line}
 use Rattle.ncroute.specs.declared.planning.PlanFault.{PlanFault}
 use Rattle.ncroute.specs.declared.routing.SetupFault.{SetupFault}
@@ -53,7 +54,7 @@ fault_status fault.Memory = 1
 -- the line that tells what kept a router from being set up, and the exit status
 abbrev pub setup_line : OriginView → SetupFault → List ℕ
 setup_line origin (Words why) = wrong_line origin why
-setup_line origin (Program fault) = fault_line fault
+setup_line origin (Program fault) = fault_line Ncroute fault
 
 abbrev pub setup_status : SetupFault → ℕ
 setup_status (Words why) = 2

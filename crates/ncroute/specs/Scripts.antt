@@ -3,11 +3,11 @@ use Rattle.std.specs.Prelude.{◌≡◌, ◌⊎◌, ℕ, Bool, true, List, Optio
 use Rattle.std.specs.declared.io.Error.{Error}
 use Rattle.line_protocol.specs.declared.faults.StreamFault.{StreamFault}
 use Rattle.domain_cmds.specs.Running.{IsBrokenOff, IsCarriedOut}
-use Rattle.command_line.specs.declared.requests.Source.{Source}
-use Rattle.command_line.specs.declared.requests.Source.TheVariants.{Input, File}
+use Rattle.program_words.specs.declared.source.Source.{Source}
+use Rattle.program_words.specs.declared.source.Source.TheVariants.{Input, File}
+use Rattle.filter_reports.specs.Reports.{status_of}
 use Rattle.ncroute.specs.DomainLoading.{CutsScript, ReadsScript, SkipsScript}
-use Rattle.ncroute.specs.Ending.{status_of}
-use Rattle.ncroute.specs.Streaming.{Streams}
+use Rattle.program_console.specs.Streaming.{Streams}
 use Rattle.ncroute.specs.declared.script.Lines.{Lines}
 use Rattle.ncroute.specs.declared.script.Lines.TheVariants as lines
 

@@ -5,7 +5,7 @@ use Rattle.line_protocol.specs.Runs.{AppendsFront}
 use Rattle.refusal_words.specs.Shown.{shown}
 use Rattle.operator_cmds.specs.declared.watch.RefusedLine.{RefusedLine}
 use Rattle.script_words.specs.Telling.{Tells}
-use Rattle.ncroute.specs.Places.{last_such}
+use Rattle.program_console.specs.Lists.{last_such}
 use Rattle.ncroute.specs.declared.watcher.ScriptPart.{ScriptPart}
 
 -- the part that has the line of a number: the last one before which there are fewer lines

@@ -11,16 +11,14 @@ ghost use Rattle.filter_reports.specs.Faults.{stream_fault};
 ghost use Rattle.ncroute.specs.Configured as spec;
 ghost use Rattle.router_words.specs.Stated.{origin_of};
 
-use crate::console::Console;
 use crate::domain_router::serve_in_domain;
-use crate::ending::{FAILED, fault_line};
 use crate::folders::HistoryFolders;
-use crate::including::{path_beside, read_config};
 use crate::routing::{Outlets, Unreported, end_by_line};
-use crate::texts::Folder;
 use crate::wrong_lines::{clash_line, refused_line};
-use command_line::{RouterWords, Source};
-use filter_reports::ProgramFault;
+use command_line::RouterWords;
+use filter_reports::{FAILED, ProgramFault};
+use program_console::{Console, Folder, Program, fault_line, path_beside, read_config};
+use program_words::Source;
 use router_daemon::LinkFolder;
 use router_files::{LineFault, WrongLine, read_statements};
 use router_words::{Clash, Origin, find_clash, gather, no_file};
@@ -40,7 +38,11 @@ fn end_by_memory<E: Write>(errors: &mut E) -> Result<u8, Unreported>
     ensures cut { IfErr result (λ unreported. spec.EndsByMemory (IsCut (stream_fault unreported.why)) (E.contents errors.old) (E.contents errors.new)
         unreported.status) }
 {
-    end_by_line(errors, FAILED, fault_line(ProgramFault::MEMORY).as_bytes())
+    end_by_line(
+        errors,
+        FAILED,
+        fault_line(Program::Ncroute, ProgramFault::MEMORY).as_bytes(),
+    )
 }
 
 /// Tells people of a line of the file that is refused by itself: the exit status.
@@ -240,7 +242,11 @@ where
         ),
         Ok(None) => Ok(FAILED),
         Err(fault) => {
-            return end_by_line(&mut console.errors, FAILED, fault_line(fault).as_bytes());
+            return end_by_line(
+                &mut console.errors,
+                FAILED,
+                fault_line(Program::Ncroute, fault).as_bytes(),
+            );
         }
     }
 }

@@ -11,13 +11,9 @@ ghost use Rattle.filter_reports.specs.Faults.{stream_fault};
 ghost use Rattle.line_protocol.specs.declared.faults.StreamFault.TheVariants.{Memory};
 ghost use Rattle.ncroute.specs.DomainLoading as spec;
 
-use crate::console::{Console, Loaded};
-use crate::filters::tell_source;
-use crate::including::{included_path, read_config};
-use crate::texts::{Folder, name_of, write_line};
+use crate::filters::explain_refusal;
 use crate::watcher::tell_refused;
 use code_file::write_code;
-use command_line::Source;
 use domain_cmds::{DomainCommand, read_command};
 use domain_files::{DomainFile, Include, WrongFile, WrongLine, include_in, read_domain};
 use filter_reports::ProgramFault;
@@ -25,6 +21,8 @@ use filter_source::{Diagnosis, Failure, SOURCE_LIMIT};
 use filter_verifier::Verified;
 use line_protocol::{INPUT_LIMIT, push_decimal};
 use operator_cmds::verify_text;
+use program_console::{Console, Folder, Loaded, included_path, name_of, read_config, write_line};
+use program_words::Source;
 use refusal_words::push_shown;
 use router_files::cut_line;
 use script_words::ScriptKind;
@@ -106,7 +104,7 @@ fn tell_diagnosis<R: Read, W: Write, E: Write>(
     ensures cut { IfErr result (λ fault. spec.CutsRefusal (stream_fault fault) source.now text.now diagnosis.now console.old console.new) }
     ensures unwritten { console.new.holds ≡ console.old.holds }
 {
-    tell_source(alloc, &mut console.errors, source, text, diagnosis)
+    explain_refusal(alloc, &mut console.errors, name_of(source), text, diagnosis)
 }
 
 /// Adds the line that gives a name to the filter of this text, for a domain of this size. None is added where it is refused, which people are told.

@@ -14,11 +14,9 @@ ghost use Rattle.ncroute.specs.DomainWords.{SaysDomain, said_beside, unfit_of};
 ghost use Rattle.ncroute.specs.Routing.{IsEmpty};
 ghost use Rattle.router_words.specs.Stated.{origin_of};
 
-use crate::console::Console;
 use crate::domain_lines::domain_line;
 use crate::domain_loading::{DomainRead, load_domain};
 use crate::domain_words::{DomainFault, find_unfit, said_beside, with_domain};
-use crate::ending::{FAILED, fault_line};
 use crate::folders::HistoryFolders;
 use crate::planning::{PlanFault, is_memory, plan_of};
 use crate::reloading::RouterFiles;
@@ -26,10 +24,10 @@ use crate::routing::{
     Outlets, SetupFault, Unreported, WRONG_WORDS, end_by_line, end_unset, make_save, run_setting,
     serve_words, surroundings_of,
 };
-use crate::texts::Folder;
 use command_line::RouterWords;
 use domain_files::{DomainFile, NodeFile, domain_digest};
-use filter_reports::ProgramFault;
+use filter_reports::{FAILED, ProgramFault};
+use program_console::{Console, Folder, Program, fault_line};
 use router_daemon::{LinkFolder, Setting, VerifiedFilters};
 use router_files::RouterOption;
 use router_options::{DomainMark, RouterPlan};
@@ -77,7 +75,11 @@ fn end_by_program<E: Write>(errors: &mut E, fault: ProgramFault) -> Result<u8, U
     ensures cut { IfErr result (λ unreported. spec.EndsByProgram (IsCut (stream_fault unreported.why)) fault
         (E.contents errors.old) (E.contents errors.new) unreported.status) }
 {
-    end_by_line(errors, FAILED, fault_line(fault).as_bytes())
+    end_by_line(
+        errors,
+        FAILED,
+        fault_line(Program::Ncroute, fault).as_bytes(),
+    )
 }
 
 /// Tells people why words are no plan: the exit status.

@@ -4,10 +4,11 @@
 ghost use Rattle.std.specs.Prelude.{◌≡◌, ◌<◌, ◌∷◌, ◌++◌, [], IfOk, OnOk, length, map, string_bytes};
 ghost use Rattle.ncroute.specs.DomainWords as spec;
 
-use command_line::{NamedFile, RouterWords, Source};
+use command_line::{NamedFile, RouterWords};
 use domain_files::{DomainFile, FilterAt, NodeFile};
 use operator_cmds::Direction;
 use prefix_patterns::Prefix;
+use program_words::Source;
 use router_daemon::VerifiedFilters;
 use router_files::RouterOption;
 use router_options::LinkFiles;

@@ -6,19 +6,17 @@ ghost use Rattle.std.specs.Prelude.{◌≡◌, ◌∷◌, [], IfErr, IfOk, None}
 ghost use Rattle.std.specs.Io.KnownBytes.{Appends};
 ghost use Rattle.domain_cmds.specs.Left.{Leaves};
 ghost use Rattle.ncroute.specs.Domains as spec;
-ghost use Rattle.ncroute.specs.Reading.{notice_line};
+ghost use Rattle.program_console.specs.Reading.{notice_line};
 ghost use Rattle.ncroute.specs.Scripts.{IsQuiet};
 
-use crate::console::{Console, Loaded};
 use crate::domain_loading::read_script;
-use crate::ending::{FAULT, status_of_found};
-use crate::texts::{Folder, name_of, tell_of};
 use crate::watcher::Teller;
-use command_line::Source;
 use domain_cmds::{Left, LeftDomain, compare_domains, leave_domain};
-use filter_reports::ProgramFault;
+use filter_reports::{FAULT, ProgramFault, status_of_found};
 use line_protocol::StreamFault;
 use operator_cmds::NoWatcher;
+use program_console::{Console, Folder, Loaded, name_of, tell_of};
+use program_words::Source;
 use report_formats::Format;
 use std::alloc::Global;
 use std::io::{Read, Write};

@@ -1,18 +1,17 @@
 //! The filters that a script is started with: they are read before its first line is answered, and people are told if one is refused.
 ghost use Rattle.std.specs.Option.{option_map};
-ghost use Rattle.std.specs.Prelude.{◌≡◌, [], ◌∷◌, ◌++◌, IfErr, IfOk, OnOk, Some, slice_get};
+ghost use Rattle.std.specs.Prelude.{◌≡◌, [], ◌∷◌, ◌++◌, IfErr, IfOk, OnOk, slice_get};
 ghost use Rattle.filter_reports.specs.Faults.{stream_fault};
-ghost use Rattle.filter_reports.specs.Telling.{Explains, IsCutExplanation};
 ghost use Rattle.router_script.specs.declared.filter_naming.NamedFilter.{NamedFilter as TheFilter};
-ghost use Rattle.ncroute.specs.Reading.{name_of as source_name};
-ghost use Rattle.ncroute.specs.Filters.{AreLoaded, IsCutFilter, IsCutUnfit, LeavesFilter, ReadsFilter};
+ghost use Rattle.ncroute.specs.Filters.{AreLoaded, Explains, IsCutExplanation, IsCutFilter, IsCutUnfit, LeavesFilter, ReadsFilter};
 ghost use Rattle.ncroute.specs.Filters.{ReadsFilters, StopsAtFilter, TellsOfFilter, TellsUnfit};
 
-use crate::console::Console;
-use crate::texts::{Folder, Unread, name_of, read_source, tell_unread};
-use command_line::{NamedFile, Source};
-use filter_reports::{ProgramFault, tell};
+use command_line::NamedFile;
+use filter_reports::ProgramFault;
 use filter_source::{Diagnosis, SOURCE_LIMIT};
+use program_console::{Console, Folder, Unread, name_of, read_source, tell_unread, write_line};
+use program_words::Source;
+use refusal_words::explain;
 use router_script::{NamedFilter, Unfit};
 use std::alloc::Global;
 use std::io::{Read, Write};
@@ -152,19 +151,22 @@ fn filter_at(filters: &[NamedFilter], index: usize) -> Option<&NamedFilter>
     }
 }
 
-/// Tells why the filter of this source is refused.
-pub(crate) fn tell_source<E: Write>(
+/// Tells why the filter of a text is refused, at its place in its source.
+pub(crate) fn explain_refusal<E: Write>(
     alloc: Global,
     errors: &mut E,
-    source: &Source,
+    name: &[u8],
     text: &[u8],
     diagnosis: &Diagnosis,
 ) -> Result<(), ProgramFault>
-    ensures ok { OnOk result (Explains (source_name source.now) text.now (Some diagnosis.now) (E.contents errors.old) (E.contents errors.new)) }
-    ensures err { IfErr result (λ fault. IsCutExplanation (stream_fault fault) (source_name source.now) text.now diagnosis.now
+    ensures ok { OnOk result (Explains name.now text.now diagnosis.now (E.contents errors.old) (E.contents errors.new)) }
+    ensures err { IfErr result (λ fault. IsCutExplanation (stream_fault fault) name.now text.now diagnosis.now
         (E.contents errors.old) (E.contents errors.new)) }
 {
-    tell(alloc, errors, name_of(source), text, diagnosis)
+    match explain(alloc, name, text, diagnosis) {
+        Ok(words) => write_line(errors, words.as_slice()),
+        Err(_) => Err(ProgramFault::MEMORY),
+    }
 }
 
 /// Tells why this filter is refused.
@@ -182,7 +184,7 @@ fn tell_filter<E: Write>(
     match filter {
         Some(filter) => {
             let (origin, text) = (filter.origin.as_slice(), filter.text.as_slice());
-            tell(alloc, errors, origin, text, diagnosis)
+            explain_refusal(alloc, errors, origin, text, diagnosis)
         }
         None => Ok(()),
     }

@@ -6,10 +6,10 @@
 ghost use Rattle.std.specs.Prelude.{◌≡◌, ◌++◌, [], ◌∷◌, IfErr, IfOk, OnErr, OnOk};
 ghost use Rattle.ncroute.specs.Joining.{AddsPart, JoinsAll, JoinsNext, LeavesNext, StopsAtSource, ended, ends_line, lines_of};
 
-use crate::texts::{Folder, Unread, name_of, read_source};
 use crate::watcher::ScriptPart;
-use command_line::Source;
 use line_protocol::INPUT_LIMIT;
+use program_console::{Folder, Unread, name_of, read_source};
+use program_words::Source;
 use refusal_words::place_in;
 use std::alloc::{AllocError, Global};
 use std::io::Read;

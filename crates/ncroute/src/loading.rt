@@ -9,9 +9,9 @@ ghost use Rattle.filter_reports.specs.Faults.{stream_fault};
 ghost use Rattle.ncroute.specs.Loading as spec;
 
 use crate::filters::{read_filters, tell_unfit};
-use crate::texts::{Folder, tell_unread};
 use command_line::NamedFile;
 use filter_reports::ProgramFault;
+use program_console::{Folder, tell_unread};
 use router_daemon::VerifiedFilters;
 use router_script::{NamedFilter, Script, Unfit, name_filters};
 use std::alloc::{AllocError, Global};

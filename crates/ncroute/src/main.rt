@@ -6,51 +6,41 @@
 //! ends with the status alone.
 #![tactic(auto)]
 
-mod check_reports;
-mod checking;
+mod commands;
 mod comparing;
 mod configured;
-mod console;
 mod domain_lines;
 mod domain_loading;
 mod domain_router;
 mod domain_words;
 mod domains;
-mod ending;
 mod filters;
 mod folders;
-mod importing;
-mod including;
 mod joined;
-mod lines;
-mod linting;
 mod loading;
 mod network;
 mod origins;
 mod paging;
-mod placed;
 mod planning;
 mod relinking;
 mod reloading;
-mod replay;
+mod replaying;
 mod requests;
 mod respond;
 mod routing;
 mod running;
 mod script;
-mod segments;
 mod testing;
-mod texts;
 mod trying;
 mod watcher;
 mod wrong_lines;
 mod wrong_words;
 
-use command_line::{Invocation, Terminals, tell_that_input_is_read, waits_for_people};
-use console::Console;
-use ending::end_by_fault;
+use command_line::{Invocation, Terminals, waits_for_people};
 use filter_reports::ProgramFault;
 use origins::Origins;
+use program_console::{Console, Program, end_by_fault};
+use program_words::tell_that_input_is_read;
 use respond::respond;
 use router_daemon::{InputPipe, StandardInput};
 use routing::Outlets;
@@ -71,10 +61,18 @@ fn main(rt: HostRuntime) -> ExitCode {
         fs::open(&rt, NO_STREAM),
     ];
     let Ok(pipe) = Arc::new(rt.alloc(), InputPipe::new()) else {
-        return ExitCode::from(end_by_fault(&mut rt.stderr(), ProgramFault::MEMORY));
+        return ExitCode::from(end_by_fault(
+            &mut rt.stderr(),
+            Program::Ncroute,
+            ProgramFault::MEMORY,
+        ));
     };
     let Ok(shared) = Arc::try_clone(&pipe) else {
-        return ExitCode::from(end_by_fault(&mut rt.stderr(), ProgramFault::MEMORY));
+        return ExitCode::from(end_by_fault(
+            &mut rt.stderr(),
+            Program::Ncroute,
+            ProgramFault::MEMORY,
+        ));
     };
     let mut console = Console {
         reader: StandardInput::new(rt, rt.stdin(), shared),
@@ -93,7 +91,7 @@ fn main(rt: HostRuntime) -> ExitCode {
         .as_ref()
         .is_ok_and(|words| waits_for_people(words, terminals))
     {
-        tell_that_input_is_read(&rt);
+        tell_that_input_is_read(&rt, "ncroute");
     }
     let outlets = Outlets {
         voice: rt.stderr(),

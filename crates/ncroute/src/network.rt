@@ -2,10 +2,9 @@
 ghost use Rattle.std.specs.Prelude.{◌≡◌, IfErr, IfOk};
 ghost use Rattle.ncroute.specs.Networking.{FailsToReportNetwork, ServesNetwork, network_line};
 
-use crate::console::Console;
-use crate::ending::{FAILED, fault_line};
-use filter_reports::ProgramFault;
+use filter_reports::{FAILED, ProgramFault};
 use line_protocol::{StreamFault, write_text};
+use program_console::{Console, Program, fault_line};
 use ring_network::{NetworkFault, net_lines};
 use route_history::CallFault;
 use route_session::RunFault;
@@ -21,7 +20,7 @@ fn network_line(fault: NetworkFault) -> &'static str
     ensures { result.now ≡ network_line fault }
 {
     match fault {
-        NetworkFault::Stream(fault) => fault_line(ProgramFault::Stream(fault)),
+        NetworkFault::Stream(fault) => fault_line(Program::Ncroute, ProgramFault::Stream(fault)),
         NetworkFault::Call(CallFault::Full) => "ncroute: J1\n",
         NetworkFault::Call(CallFault::Memory) => "ncroute: J2\n",
         NetworkFault::Lock(LockFault::Held) => "ncroute: L2\n",

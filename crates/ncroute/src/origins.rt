@@ -1,8 +1,9 @@
 //! The files by which a router was started, as they were then.
 
-use command_line::{RouterWords, Source};
+use command_line::RouterWords;
 use domain_files::{DomainFile, NodeFile};
 use prefix_patterns::Prefix;
+use program_words::Source;
 use router_files::{RouterOption, Statement};
 use router_words::Origin;
 use std::alloc::{AllocError, Global};

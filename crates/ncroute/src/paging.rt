@@ -6,17 +6,15 @@ ghost use Rattle.domain_cmds.specs.Paging.{PagesDomain};
 ghost use Rattle.ncroute.specs.Paging as spec;
 ghost use Rattle.ncroute.specs.Scripts.{IsQuiet, TakesLines, text_of};
 
-use crate::console::{Console, Loaded};
 use crate::domain_loading::read_script;
-use crate::ending::{FAILED, FAULT, status_of};
 use crate::script::Lines;
-use crate::texts::{Folder, name_of, tell_uncreated, tell_unwritten};
 use crate::watcher::Teller;
-use command_line::Source;
 use domain_cmds::{Paged, run_paged_domain};
-use filter_reports::ProgramFault;
+use filter_reports::{FAILED, FAULT, ProgramFault, status_of};
 use line_protocol::StreamFault;
 use operator_cmds::NoWatcher;
+use program_console::{Console, Folder, Loaded, name_of, tell_uncreated, tell_unwritten};
+use program_words::Source;
 use std::alloc::Global;
 use std::io::{Read, Write};
 

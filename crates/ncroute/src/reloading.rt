@@ -9,20 +9,20 @@ ghost use Rattle.std.specs.Prelude.{◌≡◌, ◌==◌, ◌++◌, ◌<◌, ◌^
 ghost use Rattle.operator_cmds.specs.Script.{GivesText, IsVerified};
 ghost use Rattle.ncroute.specs.Reloading as spec;
 
-use crate::console::{Console, Loaded};
 use crate::domain_loading::{DomainRead, load_domain};
-use crate::filters::tell_source;
-use crate::including::{included_path, path_beside, read_config};
 use crate::origins::{DomainOrigin, OptionFile, Origins, is_link};
 use crate::relinking::{find_new_streams, links_again};
-use crate::texts::Folder;
 use crate::wrong_lines::refused_line;
-use command_line::Source;
 use domain_files::{DomainFile, FilterAt, NodeFile, domain_digest};
 use filter_source::{Failure, SOURCE_LIMIT};
 use filter_verifier::Verified;
 use operator_cmds::{Direction, verify_text};
 use prefix_patterns::Prefix;
+use program_console::{
+    Console, Folder, SourceText, included_path, load, name_of, path_beside, read_config,
+};
+use program_words::Source;
+use refusal_words::explain;
 use router_daemon::VerifiedFilters;
 use router_files::{Said, Statement, cut_line, read_statements};
 use router_operator::{Configuration, ConfigurationFault, Configured, NamedUse};
@@ -86,9 +86,8 @@ fn verified_text(
     match verify_text(alloc, text.as_slice(), size) {
         Ok(_) => Ok(text),
         Err(Failure::Refused(diagnosis)) => {
-            let mut told = Vec::new(alloc);
-            let _ = tell_source(alloc, &mut told, source, text.as_slice(), &diagnosis);
-            Err(first_told(alloc, told.as_slice()))
+            let line = explain(alloc, name_of(source), text.as_slice(), &diagnosis);
+            Err(refused_by(alloc, line))
         }
         Err(Failure::Memory) => Err(ConfigurationFault::Memory),
     }
@@ -502,11 +501,10 @@ impl<F: Folder> Configuration for RouterFiles<F> {
         };
         let by = self.origins.origin(alloc)?;
         let source = Source::File(included_path(alloc, &by, file)?);
-        let mut console = unseen(alloc);
-        match console.read(&self.files, alloc, &source, SOURCE_LIMIT) {
-            Loaded::Text(text) => verified_text(alloc, size, &source, text),
-            Loaded::Skipped => Err(first_told(alloc, console.errors.as_slice())),
-            Loaded::Stopped(_) => Err(ConfigurationFault::Memory),
+        match load(&self.files, alloc, &source, SOURCE_LIMIT, &mut io::empty()) {
+            Ok(SourceText::Text(text)) => verified_text(alloc, size, &source, text),
+            Ok(SourceText::Unread(line)) => Err(first_told(alloc, line.as_slice())),
+            Err(_) => Err(ConfigurationFault::Memory),
         }
     }
 

@@ -4,30 +4,24 @@
 //! words are, and 3 that this is undecided, or not known since something was not read. What is wrong counts before what is undecided.
 ghost use Rattle.std.specs.Prelude.{◌≡◌, IfErr, IfOk};
 ghost use Rattle.filter_reports.specs.Faults.{stream_fault};
-ghost use Rattle.ncroute.specs.Requests.{Answers, EvaluatesLines, FailsToReport, ListsSource, ListsText};
-ghost use Rattle.ncroute.specs.Requests.{RewritesInput, Serves, StopsAnswer, StopsEvaluating};
-ghost use Rattle.ncroute.specs.Requests.{StopsList, StopsListing, StopsRewriting, fault_status};
-ghost use Rattle.ncroute.specs.Streaming.{CutsWriting, Writes};
+ghost use Rattle.ncroute.specs.Requests.{Answers, EvaluatesLines, FailsToReport, Serves, StopsAnswer, StopsEvaluating, fault_status};
+ghost use Rattle.program_console.specs.Streaming.{CutsWriting, Writes};
 
-use crate::checking::check_sources;
+use crate::commands::{CheckCommand, LintCommand, ListCommand, RewriteCommand};
 use crate::comparing::compare_sources;
-use crate::console::{Console, Loaded};
 use crate::domains::compare_scripts;
-use crate::ending::{FAILED, FAULT, status_of, status_of_found};
-use crate::importing::import_source;
-use crate::linting::lint_sources;
 use crate::paging::page_source;
+use crate::replaying::replay_sources;
 use crate::running::run_sources;
 use crate::script::run_source;
-use crate::segments::replay_sources;
 use crate::testing::test_sources;
-use crate::texts::{Folder, name_of};
 use crate::trying::try_filter;
-use command_line::{Request, Source};
-use filter_reports::{ProgramFault, list_named, rewrite_text};
-use filter_source::SOURCE_LIMIT;
+use command_line::Request;
+use filter_reports::{FAILED, FAULT, ProgramFault, status_of};
 use line_protocol::StreamFault;
-use route_answers::{Routes, eval_named};
+use program_console::{Console, Folder, Program, name_of, run_on, run_on_all};
+use program_words::Source;
+use route_answers::{Routes, eval_routes};
 use std::alloc::Global;
 use std::io::{Read, Write};
 
@@ -45,28 +39,13 @@ fn evaluate<R: Read, W: Write, E: Write>(
         name: name_of(&Source::Input),
         tells_people,
     };
-    match eval_named(
+    match eval_routes(
         alloc,
         routes,
         &mut console.reader,
         &mut console.writer,
         &mut console.errors,
     ) {
-        Ok(refused) => Ok(status_of(refused)),
-        Err(fault) => Err(fault),
-    }
-}
-
-/// Writes the code file of standard input in its other form, and returns the exit status.
-fn rewrite<R: Read, W: Write, E: Write>(
-    alloc: Global,
-    is_old: bool,
-    console: &mut Console<R, W, E>,
-) -> Result<u8, ProgramFault>
-    ensures finished { IfOk result (RewritesInput is_old console.old console.new) }
-    ensures stopped { IfErr result (λ fault. StopsRewriting (stream_fault fault) is_old console.old console.new) }
-{
-    match rewrite_text(alloc, &mut console.reader, &mut console.writer, is_old) {
         Ok(refused) => Ok(status_of(refused)),
         Err(fault) => Err(fault),
     }
@@ -86,57 +65,6 @@ fn show<R: Read, W: Write, E: Write>(
     }
 }
 
-/// Lists the text of a source, tells why it is refused, and returns the exit status.
-fn list<R: Read, W: Write, E: Write>(
-    alloc: Global,
-    size: Option<u32>,
-    is_code: bool,
-    is_explained: bool,
-    name: &[u8],
-    text: &[u8],
-    console: &mut Console<R, W, E>,
-) -> Result<u8, ProgramFault>
-    ensures finished { IfOk result (ListsText size is_code is_explained name.now text.now console.old console.new) }
-    ensures stopped { IfErr result (λ fault. StopsList (stream_fault fault) size is_code name.now text.now console.old console.new) }
-{
-    match list_named(
-        alloc,
-        text,
-        &mut console.writer,
-        &mut console.errors,
-        name,
-        size,
-        is_code,
-        is_explained,
-    ) {
-        Ok(why) => Ok(status_of_found(why.is_some())),
-        Err(fault) => Err(fault),
-    }
-}
-
-/// Lists a source, and returns the exit status.
-fn list_source<F: Folder, R: Read, W: Write, E: Write>(
-    files: &F,
-    alloc: Global,
-    size: Option<u32>,
-    is_code: bool,
-    is_explained: bool,
-    source: &Source,
-    console: &mut Console<R, W, E>,
-) -> Result<u8, ProgramFault>
-    ensures finished { IfOk result (ListsSource (F.opens files.now) size is_code is_explained source.now console.old console.new) }
-    ensures stopped { IfErr result (λ fault. StopsListing (F.opens files.now) (stream_fault fault) size is_code source.now console.old console.new) }
-{
-    match console.read(files, alloc, source, SOURCE_LIMIT) {
-        Loaded::Text(text) => {
-            let (name, text) = (name_of(source), text.as_slice());
-            list(alloc, size, is_code, is_explained, name, text, console)
-        }
-        Loaded::Skipped => Ok(FAULT),
-        Loaded::Stopped(fault) => Err(fault),
-    }
-}
-
 /// Does what is asked for, and returns the exit status: 0, or 1 where something was refused.
 fn answer<F: Folder, R: Read, W: Write, E: Write>(
     files: &F,
@@ -150,7 +78,8 @@ fn answer<F: Folder, R: Read, W: Write, E: Write>(
 {
     match request {
         Request::Check { how, sources } => {
-            check_sources(files, alloc, *how, sources.as_slice(), console)
+            let command = CheckCommand { how: *how };
+            run_on_all(files, alloc, &command, FAILED, sources.as_slice(), console)
         }
         Request::Compare {
             format,
@@ -166,31 +95,33 @@ fn answer<F: Folder, R: Read, W: Write, E: Write>(
         Request::Eval { tells_people } => evaluate(alloc, *tells_people, console),
         Request::Explain { page } => show(page.as_str(), console),
         Request::Filter { how, source } => try_filter(files, alloc, *how, source, console),
-        Request::Import { how, source } => import_source(files, alloc, how, source, console),
         Request::Lint { how, sources } => {
-            lint_sources(files, alloc, how, sources.as_slice(), console)
+            let command = LintCommand { how };
+            run_on_all(files, alloc, &command, FAULT, sources.as_slice(), console)
         }
         Request::List {
             size,
             is_code,
             source,
             is_explained,
-        } => list_source(
-            files,
-            alloc,
-            *size,
-            *is_code,
-            *is_explained,
-            source,
-            console,
-        ),
+        } => {
+            let command = ListCommand {
+                size: *size,
+                is_code: *is_code,
+                is_explained: *is_explained,
+            };
+            run_on(files, alloc, &command, FAULT, source, console)
+        }
         Request::Page {
             source,
             is_explained,
             page,
         } => page_source(files, alloc, source, *is_explained, page.as_str(), console),
         Request::Replay { sources } => replay_sources(files, alloc, sources.as_slice(), console),
-        Request::Rewrite { is_old } => rewrite(alloc, *is_old, console),
+        Request::Rewrite { is_old } => {
+            let command = RewriteCommand { is_old: *is_old };
+            run_on(files, alloc, &command, FAILED, &Source::Input, console)
+        }
         Request::Run { how, sources } => {
             run_sources(files, alloc, how, sources.as_slice(), console)
         }
@@ -208,7 +139,6 @@ pub(crate) fn fault_status(request: &Request) -> u8
         Request::Check { .. }
         | Request::Eval { .. }
         | Request::Explain { .. }
-        | Request::Import { .. }
         | Request::Rewrite { .. }
         | Request::Run { .. } => FAILED,
         Request::Compare { .. }
@@ -237,7 +167,7 @@ pub(crate) fn serve<F: Folder, R: Read, W: Write, E: Write>(
 {
     match answer(files, alloc, request, console) {
         Ok(status) => Ok(status),
-        Err(fault) => match console.report(fault) {
+        Err(fault) => match console.report(Program::Ncroute, fault) {
             Ok(()) => Ok(fault_status(request)),
             Err(fault) => Err(fault),
         },

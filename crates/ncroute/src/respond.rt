@@ -1,24 +1,23 @@
 //! From the words of the command line to the exit status.
 ghost use Rattle.std.specs.Prelude.{◌≡◌, ◌⊎◌};
 ghost use Rattle.filter_reports.specs.declared.fault.ProgramFault.TheVariants.{Stream};
-ghost use Rattle.ncroute.specs.Ending.{fault_line};
+ghost use Rattle.program_console.specs.Ending.{fault_line};
+ghost use Rattle.program_console.specs.declared.ending.Program.TheVariants.{Ncroute};
 ghost use Rattle.ncroute.specs.Networking.{FailsToReportNetwork, ServesNetwork};
 ghost use Rattle.ncroute.specs.Requests.{FailsToReport, Serves, fault_status};
 ghost use Rattle.ncroute.specs.Responding.{Responds};
 ghost use Rattle.ncroute.specs.Configured.{CutsConfigured, ServesConfigured};
-ghost use Rattle.ncroute.specs.Streaming.{TellsFront};
+ghost use Rattle.program_console.specs.Streaming.{TellsFront};
 
 use crate::configured::serve_router;
-use crate::console::Console;
-use crate::ending::{FAILED, end_by_fault};
 use crate::folders::HistoryFolders;
 use crate::network::serve_network;
 use crate::requests::{fault_status, serve};
 use crate::routing::Outlets;
-use crate::texts::Folder;
 use command_line::{Invocation, Request, RouterWords};
-use filter_reports::ProgramFault;
+use filter_reports::{FAILED, ProgramFault};
 use line_protocol::StreamFault;
+use program_console::{Console, Folder, Program, end_by_fault};
 use router_daemon::LinkFolder;
 use std::alloc::Global;
 use std::io::{Read, Write};
@@ -103,9 +102,13 @@ fn status_of_fault<R: Read, W: Write, E: Write>(
     fault: StreamFault,
 ) -> u8
     ensures status { result ≡ FAILED }
-    ensures told { TellsFront (fault_line (Stream fault)) console.old console.new }
+    ensures told { TellsFront (fault_line Ncroute (Stream fault)) console.old console.new }
 {
-    end_by_fault(&mut console.errors, ProgramFault::Stream(fault))
+    end_by_fault(
+        &mut console.errors,
+        Program::Ncroute,
+        ProgramFault::Stream(fault),
+    )
 }
 
 /// Does what the words of the command line ask for, and returns the exit status. `outlets` is what a router has besides the console.

@@ -22,20 +22,19 @@ ghost use Rattle.ncroute.specs.Routing as spec;
 ghost use Rattle.router_words.specs.Stated.{origin_of};
 ghost use Rattle.ncroute.specs.WrongWords.{wrong_line};
 
-use crate::console::Console;
-use crate::ending::{FAILED, fault_line};
 use crate::folders::HistoryFolders;
 use crate::loading::load_filters;
 use crate::origins::Origins;
 use crate::planning::{PlanFault, is_memory, plan_of};
 use crate::reloading::RouterFiles;
-use crate::texts::{Folder, tell_uncreated, write_line};
 use crate::wrong_words::wrong_line;
-use command_line::{RouterWords, VERSION};
+use command_line::RouterWords;
 use domain_files::{DomainFile, NodeFile};
-use filter_reports::ProgramFault;
+use filter_reports::{FAILED, ProgramFault};
 use history_saver::{SaveFault, SegmentSaver};
 use line_protocol::StreamFault;
+use program_console::{Console, Folder, Program, fault_line, tell_uncreated, write_line};
+use program_words::VERSION;
 use route_history::CallFault;
 use router_daemon::{
     DaemonFault, FeedFile, InputPipe, LinkFolder, Setting, Surroundings, run_router,
@@ -181,7 +180,11 @@ pub(crate) fn end_unset<E: Write>(
 {
     match fault {
         SetupFault::Words(fault) => end_by_words(alloc, errors, origin, fault),
-        SetupFault::Program(fault) => end_by_line(errors, FAILED, fault_line(fault).as_bytes()),
+        SetupFault::Program(fault) => end_by_line(
+            errors,
+            FAILED,
+            fault_line(Program::Ncroute, fault).as_bytes(),
+        ),
     }
 }
 
@@ -190,8 +193,8 @@ fn save_line(fault: SaveFault) -> &'static str
     ensures { result.now ≡ spec.save_line fault }
 {
     match fault {
-        SaveFault::Write => fault_line(ProgramFault::Stream(StreamFault::Write)),
-        SaveFault::Memory => fault_line(ProgramFault::MEMORY),
+        SaveFault::Write => fault_line(Program::Ncroute, ProgramFault::Stream(StreamFault::Write)),
+        SaveFault::Memory => fault_line(Program::Ncroute, ProgramFault::MEMORY),
     }
 }
 
@@ -200,14 +203,14 @@ fn router_line(fault: DaemonFault) -> &'static str
     ensures { result.now ≡ spec.router_line fault }
 {
     match fault {
-        DaemonFault::Stream(fault) => fault_line(ProgramFault::Stream(fault)),
+        DaemonFault::Stream(fault) => fault_line(Program::Ncroute, ProgramFault::Stream(fault)),
         DaemonFault::Call(CallFault::Full) => "ncroute: J1\n",
         DaemonFault::Call(CallFault::Memory) => "ncroute: J2\n",
         DaemonFault::Lock(LockFault::Held) => "ncroute: L2\n",
         DaemonFault::Lock(LockFault::Memory) => "ncroute: L3\n",
         DaemonFault::NotBegun(fault) | DaemonFault::Save(fault) => save_line(fault),
         DaemonFault::NotStarted => "ncroute: X2\n",
-        DaemonFault::Memory => fault_line(ProgramFault::MEMORY),
+        DaemonFault::Memory => fault_line(Program::Ncroute, ProgramFault::MEMORY),
     }
 }
 

@@ -5,15 +5,13 @@ ghost use Rattle.filter_reports.specs.Faults.{stream_fault};
 ghost use Rattle.ncroute.specs.Scripts.{IsQuiet, RunsFile, RunsScript, RunsSource, StopsFile, StopsScript, StopsSource};
 ghost use Rattle.ncroute.specs.Scripts.{TakesLines, text_of};
 
-use crate::console::{Console, Loaded};
 use crate::domain_loading::read_script;
-use crate::ending::{FAULT, status_of};
-use crate::texts::{Folder, name_of};
 use crate::watcher::Teller;
-use command_line::Source;
 use domain_cmds::{run_domain, run_watched_domain};
-use filter_reports::ProgramFault;
+use filter_reports::{FAULT, ProgramFault, status_of};
 use line_protocol::StreamFault;
+use program_console::{Console, Folder, Loaded, name_of};
+use program_words::Source;
 use std::alloc::Global;
 use std::io::{Read, Write};
 

@@ -3,381 +3,282 @@
 //! **`test` ends with 0 only where each test holds, and with 1 only where one does not.** Where none is found that does not, but one is undecided,
 //! it is 3.
 //!
-//! **A test file that is refused or not read, or whose filter is, stands in the stream as one test that does not hold.** It has its name and the
-//! reason, and the files behind it are run: a harness takes the stream for failed, and one bad file hides no other. Its status is 3, too. The reason
-//! is in words, whatever `--explain` says: that is about standard error, and the stream is for people.
-ghost use Rattle.std.specs.Prelude.{◌≡◌, ◌+◌, ◌<◌, ◌^◌, IfErr, IfOk, OnOk};
+//! **The report on a file is a part of the stream of all files**: it is written before the next file is read, and numbers its tests behind those before.
+ghost use Rattle.std.specs.Prelude.{◌≡◌, ◌+◌, ◌<◌, ◌^◌, IfErr, IfOk, length};
 ghost use Rattle.filter_checks.specs.Files.{file_view};
-ghost use Rattle.filter_checks.specs.Results.{end_in, head_in};
 ghost use Rattle.filter_reports.specs.Faults.{stream_fault};
-ghost use Rattle.filter_reports.specs.Naming.{named};
-ghost use Rattle.ncroute.specs.Streaming.{CutsWriting, Writes};
+ghost use Rattle.filter_reports.specs.Reports.{report_of};
+ghost use Rattle.program_console.specs.Following.{CutsLater, DoesAll};
 ghost use Rattle.ncroute.specs.Testing as spec;
 
-use crate::console::{Console, Kept};
-use crate::ending::{FAILED, FAULT};
-use crate::texts::{Folder, name_of};
-use command_line::{Source, Testing};
 use filter_checks::{
-    TestFile, TestFileFault, Tested, end_in, fault_text, head_in, path_beside, read_tests,
-    skipped_in, test_named,
+    TestFile, TestFileFault, TestReport, end_in, faulty_tests, head_in, path_beside, read_tests,
+    skipped_tests, test_report,
 };
-use filter_reports::{NamedText, ProgramFault};
+use filter_reports::{NamedText, ProgramFault, Report};
 use filter_source::SOURCE_LIMIT;
 use line_protocol::StreamFault;
+use program_console::{Console, Folder, SourceText, load, name_of, worst_status};
+use program_words::Source;
+use report_formats::TestOptions;
 use std::alloc::{AllocError, Global};
 use std::io::{Read, Write};
 
-/// How many tests were run, and whether one of them does not hold.
+/// What came of the tests of some files.
 #[derive(Clone, Copy)]
 pub struct Tally {
-    /// How many were run.
+    /// How many tests the stream has.
     pub count: u64,
-    /// One of them does not hold.
-    pub has_failed: bool,
-    /// Of one of them it is not decided.
-    pub has_undecided: bool,
+    /// The exit status.
+    pub status: u8,
 }
 
-/// What comes of the tests of a source.
-#[derive(Drop)]
-pub enum Outcome {
-    /// They were run, and this is the tally by then.
-    Ran(Tally),
-    /// They were not run, since a file was refused or not read. The first line of these words says why.
-    Skipped(Vec<u8>),
-}
-
-/// What comes of tests that are so many more than those of the tally.
-fn tally_after(tally: Tally, more: usize, tested: Tested) -> Outcome
-    requires { tally.count + more < 2 ^ 64 }
-    ensures { result ≡ spec.tally_after tally more tested }
-{
-    match tested {
-        Tested::Refused(words) => Outcome::Skipped(words),
-        Tested::Ran(failed) => Outcome::Ran(Tally {
-            count: tally.count + more as u64,
-            has_failed: tally.has_failed || failed.wrong > 0,
-            has_undecided: tally.has_undecided || failed.undecided > 0,
-        }),
-    }
-}
-
-/// Tells why the text of a file of this name is no test file, and keeps it in words.
-fn tell_fault<R: Read, W: Write, E: Write>(
-    alloc: Global,
-    how: Testing,
-    name: &[u8],
-    why: TestFileFault,
-    console: &mut Console<R, W, E>,
-) -> Result<Outcome, ProgramFault>
-    ensures finished { IfOk result (spec.TellsFault how name.now why console.old console.new) }
-    ensures cut { IfErr result (λ fault. spec.CutsFault (stream_fault fault) how name.now why console.old console.new) }
-{
-    match fault_text(alloc, true, name, why) {
-        Ok(words) => match fault_text(alloc, how.is_explained, name, why) {
-            Ok(text) => match console.tell(text.as_slice()) {
-                Ok(()) => Ok(Outcome::Skipped(words)),
-                Err(fault) => Err(fault),
-            },
-            Err(_) => Err(ProgramFault::MEMORY),
-        },
-        Err(_) => Err(ProgramFault::MEMORY),
-    }
-}
-
-/// Runs the tests of a file by the filter of a text, if they can be counted. Returns how many were run by then, or why the filter is refused.
-#[tactic(auto, unfolding(crate::specs::Testing::StopsBy))]
-fn run_by<R: Read, W: Write, E: Write>(
-    alloc: Global,
-    how: Testing,
-    name: &[u8],
-    file: &TestFile,
-    filter: &NamedText<'_>,
-    tally: Tally,
-    console: &mut Console<R, W, E>,
-) -> Result<Outcome, ProgramFault>
-    ensures finished { IfOk result (spec.RunsBy how name.now (file_view file.now) (named filter.now) tally console.old console.new) }
-    ensures stopped { IfErr result (λ fault. spec.StopsBy (stream_fault fault) how name.now (file_view file.now) (named filter.now) tally
-        console.old console.new) }
-{
-    let count = file.tests.len();
-    let room = u64::MAX - tally.count;
-    if count as u64 > room {
-        return Err(ProgramFault::Stream(StreamFault::TooLong));
-    }
-    match test_named(
-        alloc,
-        how.format,
-        tally.count,
-        how.limit,
-        how.is_explained,
-        name,
-        file,
-        filter,
-        &mut console.writer,
-        &mut console.errors,
-    ) {
-        Ok(tested) => Ok(tally_after(tally, count, tested)),
-        Err(fault) => Err(fault),
-    }
-}
-
-/// Runs the tests of a file, whose filter is read from a source.
-#[tactic(auto, unfolding(crate::specs::Testing::RunsBeside, crate::specs::Testing::StopsBeside))]
-fn run_beside<F: Folder, R: Read, W: Write, E: Write>(
+/// The report on a test file, whose filter is read from a source.
+fn test_beside<F: Folder, R: Read>(
     files: &F,
     alloc: Global,
-    how: Testing,
+    how: TestOptions,
+    before: u64,
     name: &[u8],
     file: &TestFile,
     source: &Source,
-    tally: Tally,
-    console: &mut Console<R, W, E>,
-) -> Result<Outcome, ProgramFault>
-    ensures finished { IfOk result (spec.RunsBeside (F.opens files.now) how name.now (file_view file.now) source.now tally
-        console.old console.new) }
-    ensures stopped { IfErr result (λ fault. spec.StopsBeside (F.opens files.now) (stream_fault fault) how name.now (file_view file.now) source.now tally
-        console.old console.new) }
+    reader: &mut R,
+) -> Result<TestReport, ProgramFault>
+    requires one { before + 1 < 2 ^ 64 }
+    requires fits { before + length file.now.tests.items < 2 ^ 64 }
+    ensures made { IfOk result (λ made. spec.TestsBeside (F.opens files.now) how before name.now (file_view file.now) source.now
+        (report_of made.report) made.count (R.remaining reader.old) (R.remaining reader.new)) }
+    ensures stopped { IfErr result (λ fault. spec.StopsBeside (F.opens files.now) (stream_fault fault) source.now
+        (R.remaining reader.old) (R.remaining reader.new)) }
 {
-    match console.read_keeping(files, alloc, source, SOURCE_LIMIT) {
-        Kept::Text(text) => {
+    match load(files, alloc, source, SOURCE_LIMIT, reader) {
+        Ok(SourceText::Text(text)) => {
             let filter = NamedText {
                 name: name_of(source),
                 text: text.as_slice(),
             };
-            run_by(alloc, how, name, file, &filter, tally, console)
+            Ok(test_report(alloc, how, before, name, file, &filter)?)
         }
-        Kept::Skipped(line) => Ok(Outcome::Skipped(line)),
-        Kept::Stopped(fault) => Err(fault),
+        Ok(SourceText::Unread(line)) => {
+            let line = line.as_slice();
+            Ok(skipped_tests(alloc, how, before, name, line, line)?)
+        }
+        Err(fault) => Err(fault),
     }
 }
 
-/// Runs the tests of a file, whose filter is in the file of this name. There is none if the name is not UTF-8.
-#[tactic(auto, unfolding(crate::specs::Testing::RunsAt, crate::specs::Testing::StopsAt))]
-fn run_at<F: Folder, R: Read, W: Write, E: Write>(
+/// The report on a test file, whose filter is in the file of this name. There is none if the name is not UTF-8.
+#[tactic(auto, unfolding(crate::specs::Testing::TestsAt, crate::specs::Testing::StopsAt))]
+fn test_at<F: Folder, R: Read>(
     files: &F,
     alloc: Global,
-    how: Testing,
+    how: TestOptions,
+    before: u64,
     name: &[u8],
     file: &TestFile,
     path: &[u8],
-    tally: Tally,
-    console: &mut Console<R, W, E>,
-) -> Result<Outcome, ProgramFault>
-    ensures finished { IfOk result (spec.RunsAt (F.opens files.now) how name.now (file_view file.now) path.now tally console.old console.new) }
-    ensures stopped { IfErr result (λ fault. spec.StopsAt (F.opens files.now) (stream_fault fault) how name.now (file_view file.now) path.now tally
-        console.old console.new) }
+    reader: &mut R,
+) -> Result<TestReport, ProgramFault>
+    requires one { before + 1 < 2 ^ 64 }
+    requires fits { before + length file.now.tests.items < 2 ^ 64 }
+    ensures made { IfOk result (λ made. spec.TestsAt (F.opens files.now) how before name.now (file_view file.now) path.now
+        (report_of made.report) made.count (R.remaining reader.old) (R.remaining reader.new)) }
+    ensures stopped { IfErr result (λ fault. spec.StopsAt (F.opens files.now) (stream_fault fault) path.now
+        (R.remaining reader.old) (R.remaining reader.new)) }
 {
     match str::from_utf8(path) {
         Ok(path) => match String::from_str(alloc, path) {
             Ok(path) => {
                 let source = Source::File(path);
-                run_beside(files, alloc, how, name, file, &source, tally, console)
+                test_beside(files, alloc, how, before, name, file, &source, reader)
             }
             Err(_) => Err(ProgramFault::MEMORY),
         },
-        Err(_) => tell_fault(alloc, how, name, TestFileFault::Name, console),
+        Err(_) => Ok(faulty_tests(alloc, how, before, name, TestFileFault::Name)?),
     }
 }
 
-/// Runs the tests of a file, whose filter is in the file beside it that it names.
+/// The report on a test file, whose filter is in the file beside it that it names, if its tests can be counted.
 #[tactic(auto, unfolding(crate::specs::Testing::StopsFile))]
-fn run_file<F: Folder, R: Read, W: Write, E: Write>(
+fn test_file<F: Folder, R: Read>(
     files: &F,
     alloc: Global,
-    how: Testing,
+    how: TestOptions,
+    before: u64,
     name: &[u8],
     file: &TestFile,
-    tally: Tally,
-    console: &mut Console<R, W, E>,
-) -> Result<Outcome, ProgramFault>
-    ensures finished { IfOk result (spec.RunsFile (F.opens files.now) how name.now (file_view file.now) tally console.old console.new) }
-    ensures stopped { IfErr result (λ fault. spec.StopsFile (F.opens files.now) (stream_fault fault) how name.now (file_view file.now) tally
-        console.old console.new) }
+    reader: &mut R,
+) -> Result<TestReport, ProgramFault>
+    requires { before + 1 < 2 ^ 64 }
+    ensures made { IfOk result (λ made. spec.TestsFile (F.opens files.now) how before name.now (file_view file.now)
+        (report_of made.report) made.count (R.remaining reader.old) (R.remaining reader.new)) }
+    ensures stopped { IfErr result (λ fault. spec.StopsFile (F.opens files.now) (stream_fault fault) before name.now (file_view file.now)
+        (R.remaining reader.old) (R.remaining reader.new)) }
 {
-    match path_beside(alloc, name, file.filter.as_slice()) {
-        Ok(path) => run_at(
-            files,
-            alloc,
-            how,
-            name,
-            file,
-            path.as_slice(),
-            tally,
-            console,
-        ),
-        Err(_) => Err(ProgramFault::MEMORY),
-    }
-}
-
-/// Runs the tests that a text has, of a source of this name.
-#[tactic(auto, unfolding(crate::specs::Testing::RunsText, crate::specs::Testing::StopsText))]
-fn run_text<F: Folder, R: Read, W: Write, E: Write>(
-    files: &F,
-    alloc: Global,
-    how: Testing,
-    name: &[u8],
-    text: &[u8],
-    tally: Tally,
-    console: &mut Console<R, W, E>,
-) -> Result<Outcome, ProgramFault>
-    ensures finished { IfOk result (spec.RunsText (F.opens files.now) how name.now text.now tally console.old console.new) }
-    ensures stopped { IfErr result (λ fault. spec.StopsText (F.opens files.now) (stream_fault fault) how name.now text.now tally
-        console.old console.new) }
-{
-    match read_tests(alloc, text) {
-        Ok(file) => run_file(files, alloc, how, name, &file, tally, console),
-        Err(TestFileFault::Memory) => Err(ProgramFault::MEMORY),
-        Err(why) => tell_fault(alloc, how, name, why, console),
-    }
-}
-
-/// Runs the tests of a source. Returns how many were run by then, or why a file is refused or not read, which is told.
-#[tactic(auto, unfolding(crate::specs::Testing::RunsTests, crate::specs::Testing::StopsTests))]
-fn run_source<F: Folder, R: Read, W: Write, E: Write>(
-    files: &F,
-    alloc: Global,
-    how: Testing,
-    source: &Source,
-    tally: Tally,
-    console: &mut Console<R, W, E>,
-) -> Result<Outcome, ProgramFault>
-    ensures finished { IfOk result (spec.RunsTests (F.opens files.now) how source.now tally console.old console.new) }
-    ensures stopped { IfErr result (λ fault. spec.StopsTests (F.opens files.now) (stream_fault fault) how source.now tally
-        console.old console.new) }
-{
-    match console.read_keeping(files, alloc, source, SOURCE_LIMIT) {
-        Kept::Text(text) => {
-            let (name, text) = (name_of(source), text.as_slice());
-            run_text(files, alloc, how, name, text, tally, console)
-        }
-        Kept::Skipped(line) => Ok(Outcome::Skipped(line)),
-        Kept::Stopped(fault) => Err(fault),
-    }
-}
-
-/// Writes that the tests of a source of this name were not run, and why, by what people are told of it. In the stream that is one test that does
-/// not hold, and it is undecided.
-#[tactic(auto, unfolding(crate::specs::Testing::StopsSkipping))]
-fn skip_source<R: Read, W: Write, E: Write>(
-    alloc: Global,
-    how: Testing,
-    name: &[u8],
-    told: &[u8],
-    tally: Tally,
-    console: &mut Console<R, W, E>,
-) -> Result<Tally, ProgramFault>
-    ensures finished { IfOk result (spec.Skips how name.now told.now tally console.old console.new) }
-    ensures stopped { IfErr result (λ fault. spec.StopsSkipping (stream_fault fault) how name.now told.now tally console.old console.new) }
-{
-    if tally.count == u64::MAX {
+    let count = file.tests.len();
+    let room = u64::MAX - before;
+    if count as u64 > room {
         return Err(ProgramFault::Stream(StreamFault::TooLong));
     }
-    let count = tally.count + 1;
-    match skipped_in(alloc, how.format, count, name, told) {
-        Ok(line) => match console.write(line.as_slice()) {
-            Ok(()) => Ok(Tally {
-                count,
-                has_failed: tally.has_failed,
-                has_undecided: true,
-            }),
-            Err(fault) => Err(fault),
-        },
+    match path_beside(alloc, name, file.filter.as_slice()) {
+        Ok(path) => {
+            let path = path.as_slice();
+            test_at(files, alloc, how, before, name, file, path, reader)
+        }
         Err(_) => Err(ProgramFault::MEMORY),
     }
 }
 
-/// Runs the tests of a source, or writes that they were not run.
-#[tactic(auto, unfolding(crate::specs::Testing::RunsOrSkips, crate::specs::Testing::StopsOrSkips))]
-fn run_or_skip<F: Folder, R: Read, W: Write, E: Write>(
+/// The report on the tests that a text has, of a source of this name.
+#[tactic(auto, unfolding(crate::specs::Testing::TestsText, crate::specs::Testing::StopsText))]
+fn test_text<F: Folder, R: Read>(
     files: &F,
     alloc: Global,
-    how: Testing,
-    source: &Source,
-    tally: Tally,
-    console: &mut Console<R, W, E>,
-) -> Result<Tally, ProgramFault>
-    ensures finished { IfOk result (spec.RunsOrSkips (F.opens files.now) how source.now tally console.old console.new) }
-    ensures stopped { IfErr result (λ fault. spec.StopsOrSkips (F.opens files.now) (stream_fault fault) how source.now tally
-        console.old console.new) }
+    how: TestOptions,
+    before: u64,
+    name: &[u8],
+    text: &[u8],
+    reader: &mut R,
+) -> Result<TestReport, ProgramFault>
+    requires { before + 1 < 2 ^ 64 }
+    ensures made { IfOk result (λ made. spec.TestsText (F.opens files.now) how before name.now text.now
+        (report_of made.report) made.count (R.remaining reader.old) (R.remaining reader.new)) }
+    ensures stopped { IfErr result (λ fault. spec.StopsText (F.opens files.now) (stream_fault fault) before name.now text.now
+        (R.remaining reader.old) (R.remaining reader.new)) }
 {
-    match run_source(files, alloc, how, source, tally, console) {
-        Ok(Outcome::Ran(after)) => Ok(after),
-        Ok(Outcome::Skipped(told)) => {
-            let (name, told) = (name_of(source), told.as_slice());
-            skip_source(alloc, how, name, told, tally, console)
+    match read_tests(alloc, text) {
+        Ok(file) => test_file(files, alloc, how, before, name, &file, reader),
+        Err(TestFileFault::Memory) => Err(ProgramFault::MEMORY),
+        Err(why) => Ok(faulty_tests(alloc, how, before, name, why)?),
+    }
+}
+
+/// The report on the tests of a source, before which the stream has `before` others.
+#[tactic(auto, unfolding(crate::specs::Testing::StopsSource))]
+fn test_source<F: Folder, R: Read>(
+    files: &F,
+    alloc: Global,
+    how: TestOptions,
+    before: u64,
+    source: &Source,
+    reader: &mut R,
+) -> Result<TestReport, ProgramFault>
+    ensures made { IfOk result (λ made. spec.TestsSource (F.opens files.now) how before source.now
+        (report_of made.report) made.count (R.remaining reader.old) (R.remaining reader.new)) }
+    ensures stopped { IfErr result (λ fault. spec.StopsSource (F.opens files.now) (stream_fault fault) before source.now
+        (R.remaining reader.old) (R.remaining reader.new)) }
+{
+    if before == u64::MAX {
+        return Err(ProgramFault::Stream(StreamFault::TooLong));
+    }
+    match load(files, alloc, source, SOURCE_LIMIT, reader) {
+        Ok(SourceText::Text(text)) => {
+            let (name, text) = (name_of(source), text.as_slice());
+            test_text(files, alloc, how, before, name, text, reader)
+        }
+        Ok(SourceText::Unread(line)) => {
+            let (name, line) = (name_of(source), line.as_slice());
+            Ok(skipped_tests(alloc, how, before, name, line, line)?)
         }
         Err(fault) => Err(fault),
     }
 }
 
-/// Runs the tests of sources, in order. Where those of one are not run, those of the others are.
-fn run_all<F: Folder, R: Read, W: Write, E: Write>(
+/// Writes the report on the tests of a source behind those of others.
+fn test_next<F: Folder, R: Read, W: Write, E: Write>(
     files: &F,
     alloc: Global,
-    how: Testing,
+    how: TestOptions,
+    earlier: Tally,
+    source: &Source,
+    console: &mut Console<R, W, E>,
+) -> Result<Tally, ProgramFault>
+    ensures finished { IfOk result (spec.TestsNext (F.opens files.now) how earlier source.now console.old console.new) }
+    ensures stopped { IfErr result (λ fault. spec.StopsNext (F.opens files.now) (stream_fault fault) how earlier source.now
+        console.old console.new) }
+{
+    match test_source(
+        files,
+        alloc,
+        how,
+        earlier.count,
+        source,
+        &mut console.reader,
+    ) {
+        Ok(made) => match console.put(&made.report) {
+            Ok(status) => Ok(Tally {
+                count: made.count,
+                status: worst_status(earlier.status, status),
+            }),
+            Err(fault) => Err(fault),
+        },
+        Err(fault) => Err(fault),
+    }
+}
+
+/// Writes the reports on the tests of sources, in order.
+fn test_all<F: Folder, R: Read, W: Write, E: Write>(
+    files: &F,
+    alloc: Global,
+    how: TestOptions,
     sources: &[Source],
     console: &mut Console<R, W, E>,
 ) -> Result<Tally, ProgramFault>
-    ensures finished { IfOk result (spec.RunsAll (F.opens files.now) how sources.now console.old console.new) }
-    ensures stopped { IfErr result (λ fault. spec.StopsSome (F.opens files.now) (stream_fault fault) how sources.now console.old console.new) }
+    ensures finished { IfOk result (DoesAll spec.none_run (spec.TestsNext (F.opens files.now) how) sources.now console.old console.new) }
+    ensures stopped { IfErr result (λ fault. CutsLater spec.none_run (spec.TestsNext (F.opens files.now) how)
+        (spec.StopsNext (F.opens files.now) (stream_fault fault) how) sources.now console.old console.new) }
 {
     let mut tally = Tally {
         count: 0,
-        has_failed: false,
-        has_undecided: false,
+        status: 0,
     };
     for source in sources {
-        let after = run_or_skip(files, alloc, how, source, tally, console)?;
-        tally = after;
+        let now = test_next(files, alloc, how, tally, source, console)?;
+        tally = now;
     }
     Ok(tally)
 }
 
-/// Writes what stands behind all tests.
-fn write_last<R: Read, W: Write, E: Write>(
+/// What stands behind all tests.
+fn end_report(alloc: Global, how: TestOptions, tally: Tally) -> Result<Report, AllocError>
+    ensures { IfOk result (λ report. report_of report ≡ spec.end_report how tally) }
+{
+    Ok(Report {
+        out: end_in(alloc, how.format, tally.count)?,
+        err: Vec::new(alloc),
+        status: tally.status,
+    })
+}
+
+/// Writes it, and returns the exit status.
+fn put_end<R: Read, W: Write, E: Write>(
     alloc: Global,
-    how: Testing,
+    how: TestOptions,
     tally: Tally,
     console: &mut Console<R, W, E>,
-) -> Result<(), ProgramFault>
-    ensures ok { OnOk result (Writes (end_in how.format tally.count) console.old console.new) }
-    ensures err { IfErr result (λ fault. CutsWriting (stream_fault fault) (end_in how.format tally.count) console.old console.new) }
+) -> Result<u8, ProgramFault>
+    ensures finished { IfOk result (spec.EndsTests how tally console.old console.new) }
+    ensures stopped { IfErr result (λ fault. spec.StopsEnd (stream_fault fault) how tally console.old console.new) }
 {
-    match end_in(alloc, how.format, tally.count) {
-        Ok(line) => console.write(line.as_slice()),
+    match end_report(alloc, how, tally) {
+        Ok(report) => console.put(&report),
         Err(_) => Err(ProgramFault::MEMORY),
     }
 }
 
-/// The exit status.
-fn status_of(tally: Tally) -> u8
-    ensures { result ≡ spec.status_of_tests tally }
-{
-    if tally.has_failed {
-        FAILED
-    } else if tally.has_undecided {
-        FAULT
-    } else {
-        0
-    }
-}
-
 /// Runs the tests of sources, between what stands before all tests and behind them, and returns the exit status.
-#[tactic(auto, unfolding(crate::specs::Testing::StopsSources))]
+#[tactic(auto, unfolding(crate::specs::Testing::StopsTesting))]
 pub(crate) fn test_sources<F: Folder, R: Read, W: Write, E: Write>(
     files: &F,
     alloc: Global,
-    how: Testing,
+    how: TestOptions,
     sources: &[Source],
     console: &mut Console<R, W, E>,
 ) -> Result<u8, ProgramFault>
     ensures finished { IfOk result (spec.TestsSources (F.opens files.now) how sources.now console.old console.new) }
-    ensures stopped { IfErr result (λ fault. spec.StopsSources (F.opens files.now) (stream_fault fault) how sources.now console.old console.new) }
+    ensures stopped { IfErr result (λ fault. spec.StopsTesting (F.opens files.now) (stream_fault fault) how sources.now console.old console.new) }
 {
     console.write(head_in(how.format))?;
-    let found = run_all(files, alloc, how, sources, console)?;
-    write_last(alloc, how, found, console)?;
-    Ok(status_of(found))
+    let tally = test_all(files, alloc, how, sources, console)?;
+    put_end(alloc, how, tally, console)
 }

@@ -1,8 +1,8 @@
-//! Why a source is refused, as it is told or written: to people on standard error, or on standard output in a line of JSON.
+//! Why a source is refused, as a report says it: to people on standard error, or on standard output in a line of JSON.
 #![tactic(auto)]
 
 mod line;
 mod refusing;
 
-pub use line::refusal_report;
-pub use refusing::{refuse, refuse_if};
+pub use line::{check_finding, refusal_finding};
+pub use refusing::refusal_report;

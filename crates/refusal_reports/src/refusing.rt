@@ -1,78 +1,37 @@
-//! Where it is said that a source is refused.
-ghost use Rattle.std.specs.Prelude.{IfErr, OnOk};
-ghost use Rattle.filter_reports.specs.Faults.{stream_fault};
-ghost use Rattle.filter_reports.specs.Naming.{named};
-ghost use Rattle.refusal_reports.specs.Refusing.{CutsRefusing, CutsRefusingIf, IsCutRefusal, Refuses, RefusesIf, WritesRefusal};
+//! The report on a source that is refused.
+ghost use Rattle.std.specs.Prelude.{◌≡◌, IfOk};
+ghost use Rattle.filter_reports.specs.Notices.{named};
+ghost use Rattle.filter_reports.specs.Reports.{report_of};
+ghost use Rattle.refusal_reports.specs.Refusing.{IsRefusalReport};
 
-use crate::line::refusal_report;
-use filter_reports::{NamedText, ProgramFault, tell_refusal};
+use crate::line::refusal_finding;
+use filter_reports::{NamedText, Report, Wording, refusal_notice};
 use filter_source::Diagnosis;
-use line_protocol::write_text;
 use report_formats::Format;
 use std::alloc::{AllocError, Global};
-use std::io::Write;
 
-/// Writes the report on a refusal.
-fn write_refusal<W: Write>(
-    alloc: Global,
-    source: &NamedText<'_>,
-    told: &Diagnosis,
-    writer: &mut W,
-) -> Result<(), ProgramFault>
-    ensures ok { OnOk result (WritesRefusal (named source.now) told.now (W.contents writer.old) (W.contents writer.new)) }
-    ensures err { IfErr result (λ fault. IsCutRefusal (stream_fault fault) (named source.now) told.now
-        (W.contents writer.old) (W.contents writer.new)) }
-{
-    let line = refusal_report(alloc, source, told)?;
-    write_text(writer, line.as_slice())?;
-    Ok(())
-}
-
-/// Says why a source is refused: on `errors` under its name, in words where `is_explained` says so; or on `writer` in a line of JSON.
-pub fn refuse<W: Write, E: Write>(
+/// The report on a source that is refused, with this exit status: people are told why, as `wording` says, or a line of JSON says it.
+pub fn refusal_report(
     alloc: Global,
     format: Format,
-    is_explained: bool,
+    wording: Wording,
     source: &NamedText<'_>,
-    told: Diagnosis,
-    writer: &mut W,
-    errors: &mut E,
-) -> Result<(), ProgramFault>
-    ensures ok { OnOk result (Refuses format is_explained (named source.now) told (W.contents writer.old) (W.contents writer.new)
-        (E.contents errors.old) (E.contents errors.new)) }
-    ensures err { IfErr result (λ fault. CutsRefusing (stream_fault fault) format is_explained (named source.now) told
-        (W.contents writer.old) (W.contents writer.new) (E.contents errors.old) (E.contents errors.new)) }
+    why: &Diagnosis,
+    status: u8,
+) -> Result<Report, AllocError>
+    ensures said { IfOk result (λ report. IsRefusalReport format wording (named source.now) why.now (report_of report)) }
+    ensures status { IfOk result (λ report. report.status ≡ status) }
 {
     match format {
-        Format::Text => tell_refusal(
-            alloc,
-            errors,
-            source.name,
-            source.text,
-            &Some(told),
-            is_explained,
-        ),
-        Format::Json => write_refusal(alloc, source, &told, writer),
-    }
-}
-
-/// Says so of a source that is refused, if it is.
-pub fn refuse_if<W: Write, E: Write>(
-    alloc: Global,
-    format: Format,
-    is_explained: bool,
-    source: &NamedText<'_>,
-    told: Option<Diagnosis>,
-    writer: &mut W,
-    errors: &mut E,
-) -> Result<(), ProgramFault>
-    ensures ok { OnOk result (RefusesIf format is_explained (named source.now) told (W.contents writer.old) (W.contents writer.new)
-        (E.contents errors.old) (E.contents errors.new)) }
-    ensures err { IfErr result (λ fault. CutsRefusingIf (stream_fault fault) format is_explained (named source.now) told
-        (W.contents writer.old) (W.contents writer.new) (E.contents errors.old) (E.contents errors.new)) }
-{
-    match told {
-        Some(told) => refuse(alloc, format, is_explained, source, told, writer, errors),
-        None => Ok(()),
+        Format::Text => Ok(Report {
+            out: Vec::new(alloc),
+            err: refusal_notice(alloc, wording, source, why)?,
+            status,
+        }),
+        Format::Json => Ok(Report {
+            out: refusal_finding(alloc, source, why)?,
+            err: Vec::new(alloc),
+            status,
+        }),
     }
 }

@@ -162,7 +162,7 @@ Place: its first byte
     refused Y1 11
 
 Declare the variable before the first command, or correct the name. The attributes are `net` and `rip_metric`.
-A name that BIRD has from a `define` is put in its place by `ncroute import`.
+A name that BIRD has from a `define` is put in its place by `ncimport`.
 ",
     },
     Page {

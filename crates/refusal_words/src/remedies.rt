@@ -186,9 +186,7 @@ fn is_call(around: Around) -> bool {
 /// What to write where this is expected, if that is no plain slip.
 pub(crate) fn in_place_of_found(expected: Expected, around: Around) -> Option<&'static str> {
     if is_call(around) {
-        return Some(
-            "there are no functions: write the commands in place, as `ncroute import` does",
-        );
+        return Some("there are no functions: write the commands in place, as `ncimport` does");
     }
     match expected {
         Expected::Semicolon => in_place_of_semicolon(around),

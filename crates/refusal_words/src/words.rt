@@ -420,7 +420,7 @@ fn name_words(
             format!(in alloc; "`{name}` is no variable and no attribute; did you mean `{near}`?")
         }
         None if is_constant(name) => format!(in alloc;
-            "`{name}` is no variable: `ncroute import` puts in place what `define` names"
+            "`{name}` is no variable: `ncimport` puts in place what `define` names"
         ),
         None => format!(in alloc;
             "`{name}` is no variable, and a route has only `net` and `rip_metric`"

@@ -1,7 +1,7 @@
 -- What callers cite.
 pub mod Cases
 pub mod Escaping
+pub mod Findings
 pub mod Lines
 pub mod Parts
-pub mod Reports
 pub mod Values

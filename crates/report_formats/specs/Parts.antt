@@ -3,10 +3,10 @@ use Rattle.std.specs.Prelude.{ℕ, List, Option, codes}
 use Rattle.std.specs.Option.{option_map}
 use Rattle.serde_json.specs.Data.{Data, member, no_members, number, object, string, unsigned}
 use Rattle.report_formats.specs.Lines.{json_line, readable}
-use Rattle.report_formats.specs.Reports.{severity_word}
+use Rattle.report_formats.specs.Findings.{severity_word}
 use Rattle.report_formats.specs.Values.{text_or_null}
 use Rattle.report_formats.specs.declared.part.PartReport.{PartReport}
-use Rattle.report_formats.specs.declared.report.Severity.{Severity}
+use Rattle.report_formats.specs.declared.finding.Severity.{Severity}
 
 -- what is said of the routes within a prefix, of these lengths and metrics: what the older filter does with them, and what the newer one does
 pub record PartView : Type 0 where

@@ -1,4 +1,4 @@
-//! What a command found, as programs read it: a line of JSON for each report, and an element of JUnit's XML for each test.
+//! What a command found, as programs read it: a line of JSON for each finding, and an element of JUnit's XML for each test.
 //!
 //! **JSON is written line by line**, an object on each, so that what is found of one file is written before the next one is read, and what a fault
 //! cuts is the last line alone. All objects of a command have the same members; one that says nothing is `null`.
@@ -9,15 +9,17 @@
 
 mod case;
 mod escaping;
+mod finding;
 mod format;
 mod laws;
+mod options;
 mod part;
-mod report;
 mod text;
 
 pub use case::{document_end, document_head, push_broken, push_failed, push_passed};
+pub use finding::{Finding, Severity, push_finding};
 pub use format::{Format, TestFormat};
 pub use laws::{attributes_are_closed, readable_text_is_kept};
+pub use options::{CheckOptions, DiffOptions, LintOptions, TestOptions};
 pub use part::{PartReport, push_part};
-pub use report::{Report, Severity, push_report};
 pub use text::{number_or_null, push_value, text_or_null, text_value};

@@ -3,7 +3,7 @@ ghost use Rattle.std.specs.Prelude.{◌≡◌, ◌++◌, IfOk, OnOk};
 ghost use Rattle.serde_json.specs.View.{view};
 ghost use Rattle.report_formats.specs.Parts as spec;
 
-use crate::report::{Severity, severity_word};
+use crate::finding::{Severity, severity_word};
 use crate::text::{push_value, text_or_null, text_value};
 use serde_json::{Value, json};
 use std::alloc::{AllocError, Global};

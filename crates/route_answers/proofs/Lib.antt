@@ -10,4 +10,3 @@ pub mod PrintedLines
 pub mod Reading
 pub mod RouteLines
 mod Rows
-pub mod Told

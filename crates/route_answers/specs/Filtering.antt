@@ -1,24 +1,19 @@
 -- What `filter` answers to route lines: what the filter's text means for each route. (This project's own choice.)
-use Rattle.std.specs.Prelude.{◌≡◌, ◌⊎◌, ◌+◌, ◌≤◌, ℕ, false, List, [], ◌∷◌, ◌++◌, length, map, take, Option, Some, Result, Ok, Err, codes, decimal, ⊤}
+use Rattle.std.specs.Prelude.{◌≡◌, ◌+◌, ◌≤◌, ℕ, List, [], ◌∷◌, ◌++◌, length, map, take, Option, Some, Result, Ok, Err, codes, decimal, ⊤}
 use Rattle.std.specs.Io.KnownBytes.{Appends, Consumes}
 use Rattle.filter_code.specs.CodeView.{CodeView}
 use Rattle.filter_code.specs.RouteView.{RouteView}
 use Rattle.filter_compiler.specs.Verdicts.{Verdict, accepted, rejected, divided, meaning}
 use Rattle.filter_parser.specs.SyntaxText.{FilterView}
-use Rattle.filter_source.specs.declared.diagnosis.Diagnosis.{Diagnosis}
 use Rattle.line_protocol.specs.Answers.{Answer, refusal, refusals, text_of}
 use Rattle.line_protocol.specs.Lines.{numbered, whole_lines}
-use Rattle.line_protocol.specs.Runs.{AppendsFront, IsWritten}
+use Rattle.line_protocol.specs.Runs.{IsWritten}
 use Rattle.line_protocol.specs.declared.answers.LineReply.TheVariants as reply
 use Rattle.line_protocol.specs.declared.faults.StreamFault.{StreamFault}
 use Rattle.line_protocol.specs.declared.faults.StreamFault.TheVariants.{Read, Write, Memory, TooLong}
-use Rattle.filter_reports.specs.Checking.{IsDiagnosis}
-use Rattle.filter_reports.specs.VerifiedFilters.{IsFilterOf, refusal_line}
 use Rattle.route_answers.specs.Eval.{Line, answer_of}
 use Rattle.route_answers.specs.RouteLine.{line_code, route_in}
 use Rattle.route_answers.specs.declared.line_fault.LineFault.{LineFault}
-use Rattle.route_answers.specs.declared.filter.Filtered.{Filtered}
-use Rattle.route_answers.specs.declared.filter.Filtered.TheVariants.{Refused, Answered}
 
 -- the line of a verdict; a filter that divides by zero rejects
 abbrev pub verdict_line : Verdict → List ℕ
@@ -68,24 +63,3 @@ pub record AnswersFirst (answer_to : Line → Answer) (fault : StreamFault) (inp
   pub read : List ℕ
   pub consumed : Consumes (Some input) left read
   pub reach : ReachesTo answer_to fault read given
-
--- A run was answered to its end. A refused filter answers no route, and no line is read; otherwise each line is answered by what
--- the text means for its route.
-abbrev pub Filters : ℕ → List ℕ → List ℕ → Option (List ℕ) → Option (List ℕ) → Option (List ℕ) → Filtered → Type 0
-Filters size text input left held holds (Refused diagnosis) =
-    IsDiagnosis size false text diagnosis × (left ≡ Some input) × Appends held holds (refusal_line diagnosis.refusal)
-Filters size text input left held holds (Answered refused) =
-    (filter : FilterView) × IsFilterOf text size filter × AnswersEach (filter_answer filter size) input left held holds refused
-
--- A fault ended a run: nothing was written for want of memory, the refusal of the filter was cut, or what else there was to write.
-abbrev pub BreaksOff : StreamFault → ℕ → List ℕ → List ℕ → Option (List ℕ) → Option (List ℕ) → Option (List ℕ) → Type 0 → Type 0
-BreaksOff fault size text input left held holds Else =
-    ((fault ≡ Memory) × (left ≡ Some input) × Appends held holds [])
-    ⊎ (((diagnosis : Diagnosis) × IsDiagnosis size false text diagnosis × (fault ≡ Write) × (left ≡ Some input)
-    × AppendsFront held holds (refusal_line diagnosis.refusal))
-    ⊎ Else)
-
--- It ended this one: if neither, the first lines were answered.
-abbrev pub FiltersOff : StreamFault → ℕ → List ℕ → List ℕ → Option (List ℕ) → Option (List ℕ) → Option (List ℕ) → Type 0
-FiltersOff fault size text input left held holds = BreaksOff fault size text input left held holds
-    ((filter : FilterView) × IsFilterOf text size filter × AnswersFirst (filter_answer filter size) fault input left held holds)

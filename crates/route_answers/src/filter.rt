@@ -15,7 +15,6 @@ use crate::verdict_line::push_accept;
 use crate::watch::{RefusedRoute, WatchRoutes, WhyRefused};
 use filter_machine::{Verdict, run};
 use filter_reports::ProgramFault;
-use filter_source::Diagnosis;
 use filter_verifier::Verified;
 use line_protocol::{LineReply, Service, answer_lines_within, push_refusal};
 use std::alloc::{AllocError, Global};
@@ -23,15 +22,6 @@ use std::io::{Read, Write};
 
 /// How many bytes of routes a run answers at most: about 200 times the routes of the whole Internet. Lines are numbered below 2^32.
 pub const ROUTES_LIMIT: usize = 4_000_000_000;
-
-/// What became of a filter.
-#[derive(Clone, Copy)]
-pub enum Filtered {
-    /// It is refused, and no route was answered.
-    Refused(Diagnosis),
-    /// Each line was answered, and so many of them were refused.
-    Answered(u32),
-}
 
 /// The service that answers route lines by a verified filter, and who watches them.
 #[derive(Drop)]

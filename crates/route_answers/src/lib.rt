@@ -17,7 +17,7 @@ mod watch;
 mod watched_routes;
 
 pub use eval::{eval_lines, eval_watched_lines};
-pub use filter::{Filtered, ROUTES_LIMIT};
+pub use filter::ROUTES_LIMIT;
 pub use laws::{
     printed_code_is_evaluated, route_lines, smaller_domains_clip_the_metric,
     translations_are_evaluated,
@@ -25,4 +25,4 @@ pub use laws::{
 pub use line_fault::LineFault;
 pub use route_line::read_route;
 pub use watch::{NoRouteWatcher, RefusedRoute, WatchRoutes, WhyRefused};
-pub use watched_routes::{Routes, eval_named, filter_named};
+pub use watched_routes::{Routes, eval_routes, filter_routes};

@@ -1,9 +1,9 @@
 //! Routes that somebody watches: they are shown each line that is refused.
 //!
-//! **Who watches the lines of `eval_named` is one type, whether people are told or not.** With a second type the program had a second copy of the
+//! **Who watches the lines of `eval_routes` is one type, whether people are told or not.** With a second type the program had a second copy of the
 //! engine of `eval`, and the compiler put other functions in line in the first: 1.1 % more instructions for a set of 1,024 patterns, 1.6 for a
 //! filter that adds to the metric, 4.4 for arithmetic. With one copy for both it takes from 0.01 % more to 1.7 % fewer than `eval_lines` alone.
-//! (`filter_named` has two types: one alone took it 1.2 % more.)
+//! (`filter_routes` has two types: one alone took it 1.2 % more.)
 
 use crate::line_fault::LineFault;
 use filter_source::Diagnosis;

@@ -5,8 +5,7 @@ use Rattle.std.specs.List.{flat_map, list_any}
 use Rattle.std.specs.Option.{option_map}
 use Rattle.std.specs.Str.{bytes_eq}
 use Rattle.command_line.specs.declared.filter_words.NamedFile.{NamedFile}
-use Rattle.command_line.specs.declared.requests.Source.{Source}
-use Rattle.command_line.specs.declared.requests.Source.TheVariants.{Input, File}
+use Rattle.program_words.specs.Sources.{path_of}
 use Rattle.command_line.specs.declared.router_words.RouterWords.{RouterWords}
 use Rattle.operator_cmds.specs.Names.{is_name}
 use Rattle.router_files.specs.Again.{IsAgain, NoneAgain}
@@ -126,10 +125,6 @@ abbrev pub texts_of : RouterOption → List StatementView → List (List ℕ) �
 texts_of option statements given = flat_map (texts_in option) statements ++ given
 
 -- a filter: its name, and the file of its text; none where that is standard input
-abbrev pub path_of : Source → Option (List ℕ)
-path_of Input = None
-path_of (File name) = Some (string_bytes name)
-
 abbrev pub filter_of : NamedFile → List ℕ × Option (List ℕ)
 filter_of named = (string_bytes named.name, path_of named.source)
 

@@ -5,13 +5,15 @@
 ghost use Rattle.std.specs.Prelude.{◌≡◌, ◌++◌, ◌||◌, IfOk, MatchOption, OnOk, is_some, map, string_bytes};
 ghost use Rattle.std.specs.Option.{option_map};
 ghost use Rattle.std.specs.List.{flat_map};
+ghost use Rattle.program_words.specs.Sources.{path_of};
 ghost use Rattle.router_files.specs.Files.{statement_of};
 ghost use Rattle.router_words.specs.Gathering as spec;
 ghost use Rattle.router_words.specs.Stated.{nth_stated};
 
 use crate::stated::{is_of, nth_stated};
-use command_line::{NamedFile, RouterWords, Source};
+use command_line::{NamedFile, RouterWords};
 use operator_cmds::is_name;
+use program_words::Source;
 use router_files::{RouterOption, Said, Statement, find_again};
 use std::alloc::{AllocError, Global};
 
@@ -292,7 +294,7 @@ fn stated_filters(alloc: Global, statements: &[Statement]) -> Result<Vec<NamedFi
 
 /// A copy of a source.
 fn copy_of_source(alloc: Global, source: &Source) -> Result<Source, AllocError>
-    ensures { IfOk result (λ copy. spec.path_of copy ≡ spec.path_of source.now) }
+    ensures { IfOk result (λ copy. path_of copy ≡ path_of source.now) }
 {
     match source {
         Source::Input => Ok(Source::Input),

@@ -3,19 +3,18 @@
 use crate::asserts::{Host, must, must_bytes};
 use crate::line_tests::Echo;
 use crate::streams::{Pieces, Sink, Terminal, TypedLine};
-use filter_reports::{ProgramFault, check_text};
+use filter_reports::ProgramFault;
 use line_protocol::{StreamFault, answer_lines};
 use route_answers::eval_lines;
 use router_script::run_script;
 use std::alloc::Global;
 use std::io::{ErrorKind, Read, Write};
 
-/// What answers an input: lines that are echoed, routes, a filter's text, or a script.
+/// What answers an input: lines that are echoed, routes, or a script.
 #[derive(Clone, Copy)]
 enum Engine {
     Echo,
     Eval,
-    Check,
     Script,
 }
 
@@ -30,7 +29,6 @@ fn run<R: Read, W: Write>(
         Engine::Echo => return answer_lines(alloc, reader, writer, &mut Echo),
         Engine::Script => return run_script(alloc, reader, writer),
         Engine::Eval => eval_lines(alloc, reader, writer),
-        Engine::Check => check_text(alloc, reader, writer, 8, false),
     };
     match ran {
         Ok(refused) => Ok(refused),
@@ -49,11 +47,6 @@ const KINDS: [ErrorKind; 4] = [
 /// An engine, an input, its answers, and how many bytes of them an output takes; none where the input fails at its end.
 type Row = (Engine, &'static [u8], &'static [u8], Option<usize>);
 
-/// A filter's text, and the report on it.
-const FILTER: &[u8] = b"filter q { accept; }";
-
-const REPORT: &[u8] = b"code 4e43463200000000027071\nverified 1 0\n";
-
 /// Routes, and their verdicts.
 const ROUTES: &[u8] = b"4e4346310000000170\n10.0.0.0/8 3 8\n10.0.0.0/8 4 8\n";
 
@@ -66,7 +59,7 @@ const REPLIES: &[u8] = b"ok\nopened 1\n";
 
 /// Inputs that fail at their end, each of which answers all of its whole lines. Then outputs that fail, the last of each input only once it has all
 /// answers and is flushed.
-const ROWS: [Row; 21] = [
+const ROWS: [Row; 16] = [
     (Engine::Echo, b"a\nbegun", b"1a\n", None),
     (
         Engine::Eval,
@@ -74,7 +67,6 @@ const ROWS: [Row; 21] = [
         b"accept 3\n",
         None,
     ),
-    (Engine::Check, FILTER, b"", None),
     (
         Engine::Script,
         b"network 4 0\nup 1\nsh",
@@ -89,10 +81,6 @@ const ROWS: [Row; 21] = [
     (Engine::Eval, ROUTES, VERDICTS, Some(9)),
     (Engine::Eval, ROUTES, VERDICTS, Some(12)),
     (Engine::Eval, ROUTES, VERDICTS, Some(18)),
-    (Engine::Check, FILTER, REPORT, Some(0)),
-    (Engine::Check, FILTER, REPORT, Some(5)),
-    (Engine::Check, FILTER, REPORT, Some(30)),
-    (Engine::Check, FILTER, REPORT, Some(39)),
     (Engine::Script, SCRIPT, REPLIES, Some(0)),
     (Engine::Script, SCRIPT, REPLIES, Some(2)),
     (Engine::Script, SCRIPT, REPLIES, Some(3)),

@@ -282,13 +282,11 @@ fn lines_and_scripts(rt: HostRuntime) {
         matches!(refused, Ok(1)) && out.as_slice() == b"refused O3 1\n".as_slice(),
         "routes through code",
     );
-    let mut out = Vec::new(rt.alloc());
-    let mut text: &[u8] = TEXT;
-    let refused: Result<u32, ProgramFault> = check_text(rt.alloc(), &mut text, &mut out, 16, false);
+    let checked = done(&rt, check_text(rt.alloc(), TEXT, 16, false));
     let wanted = b"code 4e43463200000000027071\nverified 1 0\n";
     must(
         &rt,
-        matches!(refused, Ok(0)) && out.as_slice() == wanted.as_slice(),
+        checked.verdict.is_ok() && checked.lines.as_slice() == wanted.as_slice(),
         "a filter that is checked",
     );
     let mut out = Vec::new(rt.alloc());

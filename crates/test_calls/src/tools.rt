@@ -1,32 +1,24 @@
 //! What no command shows of `filter_reports` and `route_answers`: a listing of a text without a name, and words about the lines of `eval`.
 
 use crate::asserts::{done, must, must_bytes};
-use filter_reports::write_listing;
-use route_answers::{Routes, eval_named};
+use filter_reports::list_text;
+use route_answers::{Routes, eval_routes};
 
 /// A filter and its listing.
 const ACCEPT: &[u8] = b"filter a { accept; }";
 
 const LISTING: &[u8] = b"0 ACCEPT ; 1:12\n1 REJECT ; 1:20\n";
 
-/// A text is listed, and a writer that takes no more is told.
+/// A text is listed.
 #[test]
 fn instructions_are_listed(rt: HostRuntime) {
-    let mut writer = Vec::new(rt.alloc());
-    let why = done(
-        &rt,
-        write_listing(rt.alloc(), ACCEPT, &mut writer, None, false),
-    );
-    must(&rt, why.is_none(), "a filter that is not refused");
-    must_bytes(&rt, &writer, LISTING);
-    let mut room = [0; 4];
-    let mut short = room.as_mut_slice();
-    let listed = write_listing(rt.alloc(), ACCEPT, &mut short, None, false);
+    let listing = done(&rt, list_text(rt.alloc(), ACCEPT, None, false));
     must(
         &rt,
-        matches!(listed, Err(fault) if fault.code() == "E2"),
-        "an output that fails",
-    )
+        listing.diagnosis.is_none(),
+        "a filter that is not refused",
+    );
+    must_bytes(&rt, &listing.text, LISTING)
 }
 
 /// Routes through a code file, of which the second is none.
@@ -45,7 +37,7 @@ fn refused_routes_are_told(rt: HostRuntime) {
         name: b"r",
         tells_people: true,
     };
-    let evaluated = eval_named(rt.alloc(), routes, &mut reader, &mut writer, &mut errors);
+    let evaluated = eval_routes(rt.alloc(), routes, &mut reader, &mut writer, &mut errors);
     must(&rt, matches!(evaluated, Ok(1)), "one line is refused");
     must_bytes(&rt, &writer, b"accept 3\nrefused O8 3\n");
     must_bytes(&rt, &errors, TOLD)

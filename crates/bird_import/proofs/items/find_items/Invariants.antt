@@ -1,7 +1,7 @@
-use Rattle.std.proofs.Common.{◌≡◌}
-use Rattle.bird_import.specs.Items.{view_of_walk, walk_before}
+use Rattle.std.proofs.Common.{map}
+use Rattle.bird_import.specs.Items.{AreUpTo, view_of_item}
 use Rattle.bird_import.proofs.items.find_items.Given as goal
 
--- the walk so far
-abbrev pub invariant-loop-at : goal.invariant-loop-at
-invariant-loop-at l = view_of_walk l.walk ≡ walk_before l.words l.at
+-- the items so far
+abbrev pub invariant-loop-statement : goal.invariant-loop-statement
+invariant-loop-statement l = AreUpTo l.words l.walk.next (map view_of_item l.walk.found.items)

@@ -4,9 +4,9 @@ use Rattle.command_line.proofs.router_words.routing_in.Goals as goal
 pub returns : goal.returns
 returns c = record {
   sets = record {
-    config = c.in_ok-text_in.ensures;
+    config = c.in_ok-text_given.ensures;
     checks = c.is_given.ensures;
-    domain = c.in_ok-text_in-2.ensures;
+    domain = c.in_ok-text_given-2.ensures;
     allows_other = c.is_given-2.ensures;
     size = c.number_given.ensures;
     node = c.number_given-2.ensures;
@@ -14,11 +14,11 @@ returns c = record {
     queue = c.number_given-4.ensures;
     retry = c.number_given-5.ensures;
     hold = c.number_given-6.ensures;
-    save = c.in_ok-text_in-3.ensures;
+    save = c.in_ok-text_given-3.ensures;
     segments = c.number_given-7.ensures;
-    routes = c.in_ok-text_in-4.ensures;
+    routes = c.in_ok-text_given-4.ensures;
     settle = c.number_given-8.ensures;
-    log = c.in_ok-text_in-5.ensures;
+    log = c.in_ok-text_given-5.ensures;
     stays = c.is_given-3.ensures;
     prefixes = c.in_ok-values_of.ensures;
     filters = c.requires;

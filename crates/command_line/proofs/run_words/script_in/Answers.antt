@@ -1,8 +1,8 @@
 use Rattle.std.proofs.Common.{◌∙◌, Bool, ap, subst}
 use Rattle.std.specs.List.{list_any}
-use Rattle.command_line.specs.Given.{given_in}
+use Rattle.program_words.specs.Given.{given_in}
 use Rattle.command_line.specs.Meaning.{IsRunning}
-use Rattle.command_line.specs.Readings.{is_file}
+use Rattle.program_words.specs.Sources.{is_file}
 use Rattle.command_line.proofs.Naming.{filters_named, named_append}
 use Rattle.command_line.proofs.run_words.script_in.Goals as goal
 

@@ -1,19 +1,17 @@
-use Rattle.std.proofs.Common.{ℕ, sym, subst}
-use Rattle.filter_code.specs.CodeView.{CodeView}
-use Rattle.filter_diff.specs.Parts.{IsEnough}
 use Rattle.filter_diff.specs.Reaching.{NeverFaults}
+use Rattle.filter_verifier.proofs.Sound.{faultless}
 use Rattle.filter_lint.proofs.linting.warnings_of.Goals as goal
 
-pub returns-clause-ordered : goal.returns-clause-ordered
-returns-clause-ordered c enough = c.find_warnings.ensures.ordered (subst (λ (n : ℕ). IsEnough n c.args.limit) (sym c.size.ensures.value) enough)
+pub new-filter-requires : goal.new-filter-requires
+new-filter-requires c = record { count = c.requires.survey.known.count; each = c.requires.survey.known.each }
+
+pub find_warnings-requires : goal.find_warnings-requires
+find_warnings-requires c = rw c.new-filter.ensures ((faultless c.args.surveyed.now.code c.args.how.now.size c.requires.faultless).small)
 
 -- verified code never faults
 pub returns-clause-decided : goal.returns-clause-decided
 returns-clause-decided c enough =
-    let verified = c.args.verified.now in
-    let never : NeverFaults verified.program verified.size =
-    λ route is_in. c.code.ensures.safe.never_faults route
+    let never : NeverFaults c.args.surveyed.now.code c.args.how.now.size =
+    λ route is_in. c.requires.safe.never_faults route
     (record { size_is = is_in.domain; reachable = is_in.reachable; net_fits = is_in.fits }) in
-    c.find_warnings.ensures.decided (subst (λ (n : ℕ). IsEnough n c.args.limit) (sym c.size.ensures.value) enough)
-    (subst (λ (p : CodeView). NeverFaults p c.size.result) (sym c.code.ensures.value)
-    (subst (λ (n : ℕ). NeverFaults verified.program n) (sym c.size.ensures.value) never))
+    (rw c.new-filter.ensures at c.find_warnings.ensures.decided) enough never

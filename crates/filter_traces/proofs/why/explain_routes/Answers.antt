@@ -1,38 +1,26 @@
--- Each exit follows from how the routes were answered, or from how the refusal was written.
-use Rattle.std.proofs.Common.{false, subst}
-use Rattle.filter_source.proofs.Refused.{of_error}
-use Rattle.filter_source.specs.Failures.{OnDiagnosis}
+-- Each exit follows from how the routes were answered.
+use Rattle.std.proofs.lemmas.Result.{IfErr-weaker, IfOk-weaker}
 use Rattle.filter_reports.specs.Faults.{stream_fault}
-use Rattle.filter_reports.specs.Checking.{IsDiagnosis}
-use Rattle.route_answers.proofs.FilterEndings.{cut_off}
-use Rattle.filter_traces.proofs.Endings.{broken_off, explained}
+use Rattle.filter_traces.proofs.Endings.{broken_off, explained, lacks_memory}
 use Rattle.filter_traces.proofs.why.explain_routes.Goals as goal
 
-pub returns-in_err-refused-in-Ok-clause-broken_off : goal.returns-in_err-refused-in-Ok-clause-broken_off
-returns-in_err-refused-in-Ok-clause-broken_off g c =
-    let t = c.in-Ok.ensures.traced in
-    let fault = c.in_err-refused-in-Ok.field-0.0 in
-    of_error c.from_residual.result _ fault c.from_residual.ensures.1
-    (broken_off c.args.text.now c.args.size t.0 c.in-Ok.traced t.1
+pub returns-in-Ok-clause-finished : goal.returns-in-Ok-clause-finished
+returns-in-Ok-clause-finished g c = λ size is.
+    let t = c.in-Ok.ensures size is in
+    IfOk-weaker c.answer_whys.result _ _
+    (λ refused each. explained c.args.text.now size t.0 c.in-Ok.traced t.1
     (g.R.Read.remaining c.args.reader.now) (g.R.Read.remaining c.answer_whys.new.reader)
-    (g.W.Write.contents c.args.writer.now) (g.W.Write.contents c.answer_whys.new.writer) (stream_fault fault)
-    c.in_err-refused-in-Ok.ensures.broken_off)
+    (g.W.Write.contents c.args.writer.now) (g.W.Write.contents c.answer_whys.new.writer) refused each)
+    c.answer_whys.ensures.finished
 
-pub returns-in_err-write_refusal-in-Err-Refused-clause-broken_off : goal.returns-in_err-write_refusal-in-Err-Refused-clause-broken_off
-returns-in_err-write_refusal-in-Err-Refused-clause-broken_off g c =
-    let fault = c.in_err-write_refusal-in-Err-Refused.field-0.0 in
-    let known = g.R.Read.remaining c.args.reader.now in
-    of_error c.from_residual-in_err-write_refusal-in-Err-Refused.result _ fault
-    c.from_residual-in_err-write_refusal-in-Err-Refused.ensures.1
-    (cut_off _ (stream_fault fault) c.args.size c.args.text.now known
-    (g.W.Write.contents c.args.writer.now) (g.W.Write.contents c.write_refusal.new.writer) c.in-Err-Refused.diagnosis
-    (subst (OnDiagnosis (IsDiagnosis c.args.size false c.args.text.now)) c.in-Err-Refused.field-0-is c.in-Err-Refused.ensures.refused)
-    c.in_err-write_refusal-in-Err-Refused.ensures.err)
-
-pub returns-in_ok-refused-in-Ok-clause-finished : goal.returns-in_ok-refused-in-Ok-clause-finished
-returns-in_ok-refused-in-Ok-clause-finished g c =
-    let t = c.in-Ok.ensures.traced in
-    explained c.args.text.now c.args.size t.0 c.in-Ok.traced t.1
+pub returns-in-Ok-clause-broken_off : goal.returns-in-Ok-clause-broken_off
+returns-in-Ok-clause-broken_off g c = λ size is.
+    let t = c.in-Ok.ensures size is in
+    IfErr-weaker c.answer_whys.result _ _
+    (λ fault first. broken_off c.args.text.now size t.0 c.in-Ok.traced t.1
     (g.R.Read.remaining c.args.reader.now) (g.R.Read.remaining c.answer_whys.new.reader)
-    (g.W.Write.contents c.args.writer.now) (g.W.Write.contents c.answer_whys.new.writer)
-    c.in_ok-refused-in-Ok.refused c.in_ok-refused-in-Ok.ensures.finished
+    (g.W.Write.contents c.args.writer.now) (g.W.Write.contents c.answer_whys.new.writer) (stream_fault fault) first)
+    c.answer_whys.ensures.broken_off
+
+pub returns-in-Err-clause-broken_off : goal.returns-in-Err-clause-broken_off
+returns-in-Err-clause-broken_off g c = λ size is. lacks_memory _ (g.R.Read.remaining c.args.reader.now) (g.W.Write.contents c.args.writer.now)

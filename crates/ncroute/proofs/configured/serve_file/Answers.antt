@@ -1,6 +1,6 @@
 use Rattle.std.proofs.Common.{Some, ap, inl, inr, refl}
 use Rattle.std.proofs.lemmas.Result.{IfErr-weaker, IfOk-weaker}
-use Rattle.command_line.specs.declared.requests.Source.TheVariants.{File}
+use Rattle.program_words.specs.declared.source.Source.TheVariants.{File}
 use Rattle.ncroute.specs.Configured.{CutsFile, ServesFile}
 use Rattle.ncroute.proofs.configured.serve_file.Goals as goal
 

@@ -1,7 +1,7 @@
 -- The source is the file of that name.
 use Rattle.std.proofs.Common.{Some, ap}
 use Rattle.std.proofs.lemmas.Result.{IfOk-weaker}
-use Rattle.command_line.specs.declared.requests.Source.TheVariants.{File}
+use Rattle.program_words.specs.declared.source.Source.TheVariants.{File}
 use Rattle.ncroute.proofs.domain_loading.load_domain.Goals as goal
 
 pub returns-in-Ok-clause-finished : goal.returns-in-Ok-clause-finished

@@ -2,7 +2,7 @@
 use Rattle.std.proofs.Common.{◌≡◌, ℕ, List, IfErr, refl, subst, ◌∙◌}
 use Rattle.filter_reports.specs.Cuts.{IsCut}
 use Rattle.filter_reports.specs.Faults.{stream_fault}
-use Rattle.ncroute.proofs.Unreported.{none_appended}
+use Rattle.program_console.proofs.Unreported.{none_appended}
 use Rattle.ncroute.proofs.domain_router.end_by_domain.Goals as goal
 
 pub returns-in-Ok-clause-cut : goal.returns-in-Ok-clause-cut

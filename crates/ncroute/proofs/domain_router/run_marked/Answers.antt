@@ -3,7 +3,7 @@ use Rattle.std.proofs.Common.{inl, inr, refl}
 use Rattle.std.proofs.lemmas.Result.{IfErr-weaker, IfOk-weaker}
 use Rattle.std.specs.Option.{option_map}
 use Rattle.ncroute.specs.DomainRouter.{CutsMarked, RunsMarked}
-use Rattle.ncroute.specs.Streaming.{Streams}
+use Rattle.program_console.specs.Streaming.{Streams}
 use Rattle.ncroute.proofs.domain_router.run_marked.Goals as goal
 
 pub returns-in-Ok-Some-clause-served : goal.returns-in-Ok-Some-clause-served

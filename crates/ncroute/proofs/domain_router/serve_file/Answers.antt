@@ -2,7 +2,7 @@
 use Rattle.std.proofs.Common.{◌∙◌, ap, inl, inr, refl}
 use Rattle.std.proofs.lemmas.Result.{IfErr-weaker, IfOk-weaker}
 use Rattle.ncroute.specs.DomainRouter.{CutsFile, ServesFile}
-use Rattle.ncroute.specs.Streaming.{Streams}
+use Rattle.program_console.specs.Streaming.{Streams}
 use Rattle.ncroute.proofs.domain_router.serve_file.Goals as goal
 
 pub returns-in-Ok-File-clause-served : goal.returns-in-Ok-File-clause-served

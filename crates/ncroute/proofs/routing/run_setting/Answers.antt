@@ -1,7 +1,7 @@
 -- The router was run to its end, and the folder of its history was left.
 use Rattle.std.proofs.Common.{◌≡◌, ap, inl, refl}
 use Rattle.std.specs.Option.{option_map}
-use Rattle.ncroute.specs.Streaming.{Streams}
+use Rattle.program_console.specs.Streaming.{Streams}
 use Rattle.ncroute.specs.Routing.{Operated}
 use Rattle.ncroute.proofs.Routed.{cut_short, faulted, untouched}
 use Rattle.ncroute.proofs.routing.run_setting.Goals as goal

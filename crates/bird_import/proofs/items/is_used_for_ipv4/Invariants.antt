@@ -1,7 +1,0 @@
-use Rattle.std.proofs.Common.{◌≡◌, false, take}
-use Rattle.bird_import.specs.Items.{is_used_for_ipv4}
-use Rattle.bird_import.proofs.items.is_used_for_ipv4.Given as goal
-
--- none so far
-abbrev pub invariant-loop-one : goal.invariant-loop-one
-invariant-loop-one l = is_used_for_ipv4 l.words (take l.one-index l.uses) l.name ≡ false

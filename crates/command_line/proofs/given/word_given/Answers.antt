@@ -1,6 +1,0 @@
-use Rattle.std.proofs.Common.{◌∙◌}
-use Rattle.command_line.proofs.Giving.{word_found}
-use Rattle.command_line.proofs.given.word_given.Goals as goal
-
-pub returns : goal.returns
-returns c = c.get_str.ensures ∙ word_found c.args.matches.now c.args.name.now

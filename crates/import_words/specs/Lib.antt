@@ -1,0 +1,3 @@
+-- What callers cite.
+pub mod Meaning
+pub mod Program

@@ -1,0 +1,6 @@
+mod FileNames
+mod FilePlaces
+mod Gathered
+mod Imported
+mod NotedTexts
+mod ResultTexts

@@ -1,0 +1,7 @@
+use Rattle.std.proofs.Common.{◌≡◌, ◌++◌, take}
+use Rattle.std.specs.List.{flat_map}
+use Rattle.ncimport.proofs.including.push_texts.Given as goal
+
+-- the texts so far were put there
+abbrev pub invariant-loop-text : goal.invariant-loop-text
+invariant-loop-text l = l.out.items ≡ l.fn.out.items ++ flat_map (λ text. text.now) (take l.text-index l.texts)

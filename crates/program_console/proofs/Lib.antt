@@ -1,0 +1,3 @@
+pub mod Following
+mod PathBeside
+pub mod Unreported

@@ -1,0 +1,4 @@
+-- What callers cite.
+pub mod Given
+pub mod Showing
+pub mod Sources
