@@ -3,10 +3,10 @@ use Rattle.std.proofs.Common.{◌≡◌, ◌∙◌, ℕ, ◌+◌, ◌<◌, ◌�
 use Rattle.std.proofs.Common.{refl, slice_get, subst, sym, arith}
 use Rattle.std.specs.Prelude.{IfSome}
 use Rattle.std.proofs.lemmas.Option.{slice_get-map, slice_get_within}
-use Rattle.filter_parser.specs.SyntaxCommands.{CommandsView, DeclView, commands_of, view_command, view_decl}
-use Rattle.filter_parser.specs.SyntaxText.{FilterView}
-use Rattle.filter_parser.specs.declared.tree.command.Command.{Command}
-use Rattle.filter_parser.specs.declared.tree.decl.Decl.{Decl}
+use Rattle.filter_syntax.specs.SyntaxCommands.{CommandsView, DeclView, commands_of, view_command, view_decl}
+use Rattle.filter_syntax.specs.SyntaxText.{FilterView}
+use Rattle.filter_syntax.specs.declared.tree.command.Command.{Command}
+use Rattle.filter_syntax.specs.declared.tree.decl.Decl.{Decl}
 use Rattle.bird_import.specs.Unassigned.{AreAssigned, MayReadUnset, reads_first_in}
 use Rattle.bird_import.specs.declared.unset.Unset.{Unset}
 use Rattle.bird_import.proofs.Below.{below_or_at, same_some}

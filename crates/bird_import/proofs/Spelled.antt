@@ -2,7 +2,7 @@
 use Rattle.std.proofs.Common.{◌≡◌, ◌≢◌, IfOk, Result, Ok, Err, false, true, ℕ, zero, suc, ◌+◌, ◌<◌, ◌≤◌, ◌⊎◌, List}
 use Rattle.std.proofs.Common.{[], ◌∷◌, Some, length, get_or, slice_get, ap, ◌∙◌, refl, subst, sym, inl, inr, arith}
 use Rattle.std.proofs.lemmas.Option.{slice_get-get_or, slice_get_read, slice_get_within}
-use Rattle.filter_parser.specs.SyntaxText.{FilterView, IsText}
+use Rattle.filter_syntax.specs.SyntaxText.{FilterView, IsText}
 use Rattle.filter_parser.specs.Unspelled.{IsUnspelled}
 use Rattle.filter_tokens.specs.Tokenization.{AreInOrder}
 use Rattle.filter_tokens.specs.declared.token.Token.{Token}
@@ -13,7 +13,7 @@ use Rattle.bird_import.specs.Unassigned.{AreAssigned}
 use Rattle.bird_import.specs.declared.text.TextOutcome.{TextOutcome}
 use Rattle.bird_import.specs.declared.text.TextOutcome.TheVariants as fates
 use Rattle.bird_import.specs.declared.word.Word.{Word}
-use Rattle.filter_parser.specs.Surroundings.{TellsRound}
+use Rattle.filter_parser.specs.Telling.{TellsRound}
 use Rattle.filter_parser.specs.declared.unparsed.Unparsed.{Unparsed}
 use Rattle.expression_parser.specs.declared.fault.ParseFault.TheVariants as faults
 

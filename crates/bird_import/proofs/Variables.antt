@@ -2,9 +2,9 @@
 use Rattle.std.proofs.Common.{◌≡◌, ◌∙◌, ◌<◌, ◌⊎◌, ◌++◌, ℕ, zero, suc, List, [], ◌∷◌, Some, length, map}
 use Rattle.std.proofs.Common.{get_or, option_map, slice_get, ap, refl, subst, sym, inl, inr, arith}
 use Rattle.std.proofs.lemmas.Option.{slice_get-map, slice_get_read, slice_get_within}
-use Rattle.filter_parser.specs.SyntaxCommands.{CommandsView, DeclView, spelling_decls, view_decl}
-use Rattle.filter_parser.specs.SyntaxText.{FilterView, IsText, spelling_filter}
-use Rattle.filter_parser.specs.declared.tree.decl.Decl.{Decl}
+use Rattle.filter_syntax.specs.SyntaxCommands.{CommandsView, DeclView, spelling_decls, view_decl}
+use Rattle.filter_syntax.specs.SyntaxText.{FilterView, IsText, spelling_filter}
+use Rattle.filter_syntax.specs.declared.tree.decl.Decl.{Decl}
 use Rattle.filter_tokens.specs.Lexemes.{Lexeme, lexeme, lexeme_of, lexemes}
 use Rattle.filter_tokens.specs.declared.token.Token.{Token}
 use Rattle.filter_tokens.specs.declared.token_kind.TokenKind.{TokenKind}

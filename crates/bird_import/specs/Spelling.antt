@@ -1,7 +1,7 @@
 -- What words of a configuration are, and which text is written for them.
 use Rattle.std.specs.Prelude.{◌≡◌, ◌≤◌, ℕ, List}
 use Rattle.bird_import.specs.Alike.{AreAlike}
-use Rattle.filter_parser.specs.SyntaxText.{FilterView, IsText}
+use Rattle.filter_syntax.specs.SyntaxText.{FilterView, IsText}
 use Rattle.filter_tokens.specs.Lexemes.{covered}
 use Rattle.filter_tokens.specs.declared.token.Token.{Token}
 use Rattle.filter_tokens.specs.declared.token_kind.TokenKind.{TokenKind}

@@ -1,7 +1,7 @@
 -- What becomes of a text that was written for some words.
 use Rattle.std.specs.Prelude.{List, ℕ}
-use Rattle.filter_parser.specs.Surroundings.{TellsRound}
-use Rattle.filter_parser.specs.SyntaxCommands.{DeclView}
+use Rattle.filter_parser.specs.Telling.{TellsRound}
+use Rattle.filter_syntax.specs.SyntaxCommands.{DeclView}
 use Rattle.filter_parser.specs.Unspelled.{IsUnspelled}
 use Rattle.bird_import.specs.Indices.{IsNamedAt}
 use Rattle.bird_import.specs.Spelling.{IsWritten}

@@ -1,12 +1,12 @@
 -- Variables that a filter may read before it assigns them: they are void in BIRD 2.0.12 then, and 0 here.
 use Rattle.std.specs.Prelude.{◌≡◌, ◌&&◌, ◌||◌, not, ℕ, Bool, true, false, List, [], ◌∷◌, Some, slice_get}
 use Rattle.std.specs.Str.{bytes_eq}
-use Rattle.expression_parser.specs.Syntax.{ExprView, name, group, negation, binary, member, suffixed}
-use Rattle.expression_parser.specs.declared.tree.op.Op.{Op}
-use Rattle.filter_parser.specs.SyntaxCommands.{CommandView, CommandsView, PartsView, DeclView, TargetView, to_name, has_ranges}
-use Rattle.filter_parser.specs.SyntaxCommands.{empty, block, if_then, if_else, case, assign, accept, reject, no_commands, command_then}
-use Rattle.filter_parser.specs.SyntaxCommands.{no_parts, part_then}
-use Rattle.filter_parser.specs.SyntaxText.{FilterView}
+use Rattle.filter_syntax.specs.Syntax.{ExprView, name, group, negation, binary, member, suffixed}
+use Rattle.filter_syntax.specs.declared.tree.op.Op.{Op}
+use Rattle.filter_syntax.specs.SyntaxCommands.{CommandView, CommandsView, PartsView, DeclView, TargetView, to_name, has_ranges}
+use Rattle.filter_syntax.specs.SyntaxCommands.{empty, block, if_then, if_else, case, assign, accept, reject, no_commands, command_then}
+use Rattle.filter_syntax.specs.SyntaxCommands.{no_parts, part_then}
+use Rattle.filter_syntax.specs.SyntaxText.{FilterView}
 
 -- an expression reads a variable
 abbrev pub reads : List ℕ → ExprView → Bool

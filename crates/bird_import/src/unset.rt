@@ -4,10 +4,10 @@
 //! variable of the first sort for void, and rejects each route at the second. Both are 0 here.
 
 ghost use Rattle.std.specs.Prelude.{◌≡◌, ◌⊎◌, ◌<◌, ◌||◌, IfSome, IsTrue, None, Some, is_some, length, map, not, true};
-ghost use Rattle.expression_parser.specs.Syntax.{view, view_more};
-ghost use Rattle.filter_parser.specs.Places.{decls_of};
-ghost use Rattle.filter_parser.specs.SyntaxCommands.{DeclView, commands_of, has_ranges, parts_of, view_command, view_label, view_part, view_target};
-ghost use Rattle.filter_parser.specs.SyntaxText.{view_filter};
+ghost use Rattle.filter_syntax.specs.Syntax.{view, view_more};
+ghost use Rattle.filter_syntax.specs.Places.{decls_of};
+ghost use Rattle.filter_syntax.specs.SyntaxCommands.{DeclView, commands_of, has_ranges, parts_of, view_command, view_label, view_part, view_target};
+ghost use Rattle.filter_syntax.specs.SyntaxText.{view_filter};
 ghost use Rattle.bird_import.specs.Unassigned as spec;
 
 use filter_parser::{Command, Expr, Filter, Label, Op, Target};

@@ -2,7 +2,7 @@
 use Rattle.std.specs.Prelude.{◌≡◌, ◌&&◌, ◌++◌, ◌==◌, ℕ, zero, suc, Bool, true, false, nat_lt, List, [], ◌∷◌, Some, length, slice_get, string_bytes}
 use Rattle.std.specs.List.{after_first, before_first, list_any, position_or_len}
 use Rattle.std.specs.Str.{bytes_eq}
-use Rattle.operator_cmds.specs.Names.{is_name}
+use Rattle.line_protocol.specs.Names.{is_name}
 use Rattle.program_words.specs.Sources.{IsNamed}
 use Rattle.command_line.specs.declared.filter_words.NamedFile.{NamedFile}
 use Rattle.command_line.specs.declared.filter_words.WrongFilter.{WrongFilter}

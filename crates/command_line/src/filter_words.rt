@@ -5,7 +5,7 @@ ghost use Rattle.program_words.specs.Given.{given_in, words_of};
 ghost use Rattle.command_line.specs.Meaning.{AreFilters};
 
 use clap::ArgMatches;
-use operator_cmds::is_name;
+use line_protocol::is_name;
 use program_words::{Source, source_of, words_given};
 use std::alloc::{AllocError, Global};
 

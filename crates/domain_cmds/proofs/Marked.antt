@@ -9,7 +9,7 @@ use Rattle.filter_source.specs.Sources.{IsRefusedText}
 use Rattle.filter_source.specs.declared.refusal.Refusal.{Refusal}
 use Rattle.filter_verifier.specs.VerifiedView.{VerifiedView}
 use Rattle.line_protocol.specs.Answers.{Answer}
-use Rattle.operator_cmds.specs.Domain.{default_prefixes}
+use Rattle.netchange_core.specs.Openings.{default_prefixes}
 use Rattle.operator_cmds.specs.Script.{GivesFile, GivesText, IsRefusedFile}
 use Rattle.operator_cmds.specs.declared.event.Direction.{Direction}
 use Rattle.operator_cmds.specs.declared.event.Direction.TheVariants as direction

@@ -2,9 +2,9 @@
 use Rattle.std.proofs.Common.{◌≡◌, ℕ, Bool, true, List, length, arith}
 use Rattle.std.proofs.lemmas.Bool.Decides.{nat_tests}
 use Rattle.domain_routes.specs.PlanView.{IsSize}
-use Rattle.operator_cmds.specs.Networks.{is_network}
-use Rattle.operator_cmds.specs.Domain.{default_prefixes}
-use Rattle.operator_cmds.proofs.Openings.{is_opening}
+use Rattle.netchange_core.specs.Openings.{is_network}
+use Rattle.netchange_core.specs.Openings.{default_prefixes}
+use Rattle.netchange_core.proofs.Openings.{is_opening}
 use Rattle.domain_cmds.specs.Sizes.{is_size}
 
 is_first : (size : ℕ) → is_size size ≡ true → is_network size 0 ≡ true

@@ -12,7 +12,7 @@ use Rattle.filter_source.specs.Limits.{source_limit}
 use Rattle.line_protocol.specs.Limits.{line_limit}
 use Rattle.line_protocol.specs.Words.{is_blank, is_word, words, without_front_blanks}
 use Rattle.operator_cmds.specs.Commands.{code_in, code_parts, load_in, made, node_in, node_prefix_in, text_in}
-use Rattle.operator_cmds.specs.Names.{is_name}
+use Rattle.line_protocol.specs.Names.{is_name}
 use Rattle.operator_cmds.specs.WordLists.{after_word, first_length, one_of, two_of, three_of}
 use Rattle.operator_cmds.specs.declared.event.Direction.TheVariants as direction
 use Rattle.operator_cmds.specs.declared.fault.CommandFault.{CommandFault}

@@ -6,7 +6,7 @@ use Rattle.line_protocol.specs.Words.{words}
 use Rattle.prefix_patterns.specs.Reading.{number_in}
 use Rattle.operator_cmds.specs.Commands.{code_in, load_in, made, node_in, node_prefix_in, text_in}
 use Rattle.line_protocol.specs.Limits.{number_limit}
-use Rattle.operator_cmds.specs.Names.{is_name}
+use Rattle.line_protocol.specs.Names.{is_name}
 use Rattle.operator_cmds.specs.WordLists.{one_of, two_of, three_of}
 use Rattle.operator_cmds.specs.declared.event.Direction.TheVariants as direction
 use Rattle.operator_cmds.specs.declared.fault.CommandFault.{CommandFault}

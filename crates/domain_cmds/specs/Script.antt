@@ -7,7 +7,7 @@ use Rattle.filter_source.specs.declared.refusal.Refusal.{Refusal}
 use Rattle.filter_verifier.specs.VerifiedView.{VerifiedView}
 use Rattle.line_protocol.specs.Answers.{Answer}
 use Rattle.line_protocol.specs.declared.answers.LineReply.TheVariants.{Answered}
-use Rattle.operator_cmds.specs.Domain.{default_prefixes}
+use Rattle.netchange_core.specs.Openings.{default_prefixes}
 use Rattle.operator_cmds.specs.Faults.{fault_code}
 use Rattle.operator_cmds.specs.Replies.{answered, refused}
 use Rattle.operator_cmds.specs.Script.{AnswersSource, GivesFile, GivesText, IsRefusedFile}

@@ -14,7 +14,7 @@ use Rattle.filter_verifier.specs.VerifiedView.{VerifiedView}
 use Rattle.line_protocol.specs.Answers.{Answer}
 use Rattle.line_protocol.specs.Lines.{is_skipped}
 use Rattle.line_protocol.specs.declared.answers.LineReply.TheVariants as reply
-use Rattle.operator_cmds.specs.Domain.{default_prefixes}
+use Rattle.netchange_core.specs.Openings.{default_prefixes}
 use Rattle.operator_cmds.specs.Script.{AnswersSource, GivesFile, GivesText, IsRefusedFile}
 use Rattle.operator_cmds.specs.declared.event.Direction.{Direction}
 use Rattle.operator_cmds.specs.declared.event.Direction.TheVariants as direction

@@ -2,7 +2,7 @@
 use Rattle.std.specs.Prelude.{ℕ, List, [], ◌∷◌, Option, Some, None, if◌then◌else◌, codes}
 use Rattle.std.specs.Str.{bytes_eq}
 use Rattle.line_protocol.specs.Words.{words}
-use Rattle.operator_cmds.specs.Names.{is_name}
+use Rattle.line_protocol.specs.Names.{is_name}
 use Rattle.operator_cmds.specs.WordLists.{two_of}
 use Rattle.domain_files.specs.declared.include.Include.{Include}
 

@@ -3,7 +3,8 @@ ghost use Rattle.std.specs.Prelude.{◌≡◌};
 ghost use Rattle.std.specs.Option.{option_map};
 ghost use Rattle.domain_files.specs.Including as spec;
 
-use operator_cmds::{cut_word, is_name, two_words};
+use operator_cmds::{cut_word, two_words};
+use line_protocol::is_name;
 
 /// What a line `include NAME FILE` says.
 #[derive(Clone, Copy)]

@@ -3,9 +3,9 @@ use Rattle.std.proofs.Common.{◌≡◌, ℕ, suc, Result, refl, sym, ap, subst,
 use Rattle.filter_tokens.specs.Lexemes.{Lexeme}
 use Rattle.filter_tokens.specs.declared.symbol.Symbol.TheVariants as symbols
 use Rattle.expression_parser.specs.declared.expr_level.Level.{Level}
-use Rattle.expression_parser.specs.declared.tree.expr.Expr.{Expr}
-use Rattle.expression_parser.specs.declared.tree.op.Op.{Op}
-use Rattle.expression_parser.specs.declared.tree.op.Suffix.{Suffix}
+use Rattle.filter_syntax.specs.declared.tree.expr.Expr.{Expr}
+use Rattle.filter_syntax.specs.declared.tree.op.Op.{Op}
+use Rattle.filter_syntax.specs.declared.tree.op.Suffix.{Suffix}
 use Rattle.expression_parser.specs.Reading.{set_opening, member_of, right_operand_with, group_with, primary_with, inner_at, expr_at, read_of}
 use Rattle.expression_parser.specs.Reading.{chain_from, chain_with, comparison_with, join_from, level_by, level_of, unmixed}
 use Rattle.expression_parser.specs.declared.fault.ParseFault.{ParseFault}
@@ -16,7 +16,7 @@ use Rattle.expression_parser.specs.Reading.{a_set_pattern, adds_set_pattern, set
 use Rattle.expression_parser.specs.Reading.{joins, an_operator, suffix_of, suffixes}
 use Rattle.prefix_patterns.specs.Reading.{◌>>=◌}
 use Rattle.expression_parser.specs.Steps.{ReadsAs}
-use Rattle.expression_parser.specs.Syntax.{SetPatternView, ExprView, view, view_more}
+use Rattle.filter_syntax.specs.Syntax.{SetPatternView, ExprView, view, view_more}
 use Rattle.expression_parser.proofs.Turns.{Goes, goes_on, ends, refuses}
 
 pub map_one : {A B : Type 0} (f : A → B) (xs : List A) (x : A) → map f (xs ++ (x ∷ [])) ≡ map f xs ++ (f x ∷ [])

@@ -6,13 +6,13 @@ use Rattle.filter_tokens.specs.Lexemes.{Lexeme}
 use Rattle.filter_tokens.specs.declared.symbol.Symbol.TheVariants as symbols
 use Rattle.expression_parser.specs.declared.expr_level.Level.{Level}
 use Rattle.expression_parser.specs.declared.expr_level.Level.TheVariants as l
-use Rattle.expression_parser.specs.declared.tree.op.Op.{Op}
-use Rattle.expression_parser.specs.declared.tree.op.Op.TheVariants as o
+use Rattle.filter_syntax.specs.declared.tree.op.Op.{Op}
+use Rattle.filter_syntax.specs.declared.tree.op.Op.TheVariants as o
 use Rattle.expression_parser.specs.Readers.{Reader, refused, with_some, symbol}
 use Rattle.expression_parser.specs.Reading.{an_operator, chain_from, comparison_with, level_by, level_of, unmixed, expr_with}
 use Rattle.expression_parser.specs.Reading.{unary_at, expr_at}
 use Rattle.prefix_patterns.specs.Reading.{◌>>=◌}
-use Rattle.expression_parser.specs.Syntax.{ExprView, Fits, rank, rank_of, op_symbol, spelling}
+use Rattle.filter_syntax.specs.Syntax.{ExprView, Fits, rank, rank_of, op_symbol, spelling}
 use Rattle.expression_parser.proofs.Operators.{FitsLeft, left_cases, op_read, side, top}
 use Rattle.expression_parser.proofs.Stops.{Stops, binds_op_symbol, op_stops, or_stops, stops_less}
 use Rattle.expression_parser.proofs.CompleteComparisons.{comparison_at, comparison_complete}

@@ -4,11 +4,11 @@ use Rattle.std.proofs.Common.{length-append, arith}
 use Rattle.filter_tokens.specs.Lexemes.{Lexeme}
 use Rattle.expression_parser.specs.declared.expr_level.Level.{Level}
 use Rattle.expression_parser.specs.declared.expr_level.Level.TheVariants as l
-use Rattle.expression_parser.specs.declared.tree.op.Op.{Op}
+use Rattle.filter_syntax.specs.declared.tree.op.Op.{Op}
 use Rattle.expression_parser.specs.Readers.{Reader}
 use Rattle.expression_parser.specs.Reading.{an_operator, joins, chain_from, product_with, sum_with}
 use Rattle.prefix_patterns.specs.Reading.{◌>>=◌}
-use Rattle.expression_parser.specs.Syntax.{ExprView, Fits, rank, rank_of, op_symbol, spelling}
+use Rattle.filter_syntax.specs.Syntax.{ExprView, Fits, rank, rank_of, op_symbol, spelling}
 use Rattle.expression_parser.proofs.Operators.{FitsLeft, left_cases, op_read, side, top}
 use Rattle.expression_parser.proofs.Chains.{chain_on, chain_ends}
 use Rattle.expression_parser.proofs.Stops.{Stops, binds_op_symbol, op_stops, stops_less}

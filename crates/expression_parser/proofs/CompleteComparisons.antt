@@ -5,18 +5,18 @@ use Rattle.std.proofs.Math.Nat.{eq-or-lt_of_le}
 use Rattle.filter_tokens.specs.Lexemes.{Lexeme}
 use Rattle.filter_tokens.specs.declared.symbol.Symbol.TheVariants as symbols
 use Rattle.expression_parser.specs.declared.expr_level.Level.TheVariants as l
-use Rattle.expression_parser.specs.declared.tree.expr.Attribute.TheVariants as attributes
-use Rattle.expression_parser.specs.declared.tree.op.Membership.{Membership}
-use Rattle.expression_parser.specs.declared.tree.op.Membership.TheVariants as membership
-use Rattle.expression_parser.specs.declared.tree.op.Op.{Op}
-use Rattle.expression_parser.specs.declared.tree.op.Op.TheVariants as o
+use Rattle.filter_syntax.specs.declared.tree.expr.Attribute.TheVariants as attributes
+use Rattle.filter_syntax.specs.declared.tree.op.Membership.{Membership}
+use Rattle.filter_syntax.specs.declared.tree.op.Membership.TheVariants as membership
+use Rattle.filter_syntax.specs.declared.tree.op.Op.{Op}
+use Rattle.filter_syntax.specs.declared.tree.op.Op.TheVariants as o
 use Rattle.expression_parser.specs.Readers.{given, Reader, with_some, symbol}
 use Rattle.expression_parser.specs.Reading.{an_operator, set_of, sum_with, membership_of, set_opening, member_of, right_operand_with}
 use Rattle.expression_parser.specs.Reading.{comparison_with}
 use Rattle.prefix_patterns.specs.Reading.{◌>>=◌}
-use Rattle.expression_parser.specs.Syntax.{SetView, ExprView, Fits, FitsSet, membership_symbol, rank}
-use Rattle.expression_parser.specs.Syntax.{rank_of, op_symbol, spelling, spelling_set_pattern}
-use Rattle.expression_parser.specs.Syntax.{spelling_ranges, spelling_set_patterns, spelling_set, spelling_suffix}
+use Rattle.filter_syntax.specs.Syntax.{SetView, ExprView, Fits, FitsSet, membership_symbol, rank}
+use Rattle.filter_syntax.specs.Syntax.{rank_of, op_symbol, spelling, spelling_set_pattern}
+use Rattle.filter_syntax.specs.Syntax.{spelling_ranges, spelling_set_patterns, spelling_set, spelling_suffix}
 use Rattle.expression_parser.proofs.CompleteWords.{range_set_back, set_back}
 use Rattle.expression_parser.proofs.Operators.{op_read}
 use Rattle.expression_parser.proofs.Stops.{Stops, binds_op_symbol, op_stops, stops_less}

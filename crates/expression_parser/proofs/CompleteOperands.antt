@@ -3,13 +3,13 @@ use Rattle.std.proofs.Common.{◌≡◌, refl, sym, ap, subst, ◌∙◌, ℕ, z
 use Rattle.std.proofs.Common.{append_assoc, arith}
 use Rattle.filter_tokens.specs.Lexemes.{Lexeme}
 use Rattle.filter_tokens.specs.declared.symbol.Symbol.TheVariants as symbols
-use Rattle.expression_parser.specs.declared.tree.expr.Attribute.TheVariants as attributes
-use Rattle.expression_parser.specs.declared.tree.op.Op.{Op}
-use Rattle.expression_parser.specs.declared.tree.op.Op.TheVariants as o
+use Rattle.filter_syntax.specs.declared.tree.expr.Attribute.TheVariants as attributes
+use Rattle.filter_syntax.specs.declared.tree.op.Op.{Op}
+use Rattle.filter_syntax.specs.declared.tree.op.Op.TheVariants as o
 use Rattle.expression_parser.specs.Readers.{Reader, with_some, symbol}
 use Rattle.expression_parser.specs.Reading.{suffixes, suffixes_from, group_end, group_with, postfix_with, not_with, unary_with}
 use Rattle.prefix_patterns.specs.Reading.{◌>>=◌}
-use Rattle.expression_parser.specs.Syntax.{ExprView, Fits, rank, rank_of, spelling, spelling_suffix}
+use Rattle.filter_syntax.specs.Syntax.{ExprView, Fits, rank, rank_of, spelling, spelling_suffix}
 use Rattle.expression_parser.proofs.CompleteWords.{suffix_back}
 use Rattle.expression_parser.proofs.Chains.{suffix_on, suffix_ends}
 use Rattle.expression_parser.proofs.Stops.{Stops, dot_stops, stops_less}

@@ -3,14 +3,14 @@ use Rattle.std.proofs.Common.{◌≡◌, refl, sym, ap, subst, ◌∙◌, ℕ, �
 use Rattle.std.proofs.Common.{append_assoc, append-nil, length-append, codes, arith}
 use Rattle.filter_tokens.specs.Lexemes.{Lexeme}
 use Rattle.filter_tokens.specs.declared.symbol.Symbol.TheVariants as symbols
-use Rattle.expression_parser.specs.declared.tree.op.Suffix.{Suffix}
-use Rattle.expression_parser.specs.declared.tree.op.Suffix.TheVariants as suffix
+use Rattle.filter_syntax.specs.declared.tree.op.Suffix.{Suffix}
+use Rattle.filter_syntax.specs.declared.tree.op.Suffix.TheVariants as suffix
 use Rattle.expression_parser.specs.Reading.{suffix_of, a_set_pattern, adds_set_pattern, set_patterns_from}
 use Rattle.expression_parser.specs.Reading.{set_after_first, pattern_set_of, range_set_from, set_of}
 use Rattle.prefix_patterns.specs.Reading.{◌>>=◌}
 use Rattle.expression_parser.specs.Readers.{a_number, symbol, with_some}
-use Rattle.expression_parser.specs.Syntax.{SetPatternView, RangeView, SetView, FitsMoreRanges, FitsRange, spelling_more_ranges, spelling_ranges}
-use Rattle.expression_parser.specs.Syntax.{FitsSetPattern, FitsSetPatterns, FitsSuffix, spelling_set_pattern, spelling_set_patterns, spelling_suffix}
+use Rattle.filter_syntax.specs.Syntax.{SetPatternView, RangeView, SetView, FitsMoreRanges, FitsRange, spelling_more_ranges, spelling_ranges}
+use Rattle.filter_syntax.specs.Syntax.{FitsSetPattern, FitsSetPatterns, FitsSuffix, spelling_set_pattern, spelling_set_patterns, spelling_suffix}
 use Rattle.expression_parser.proofs.Chains.{set_pattern_on, set_pattern_ends}
 use Rattle.expression_parser.proofs.Ranges.{after_int, first_int, ranges_back}
 use Rattle.expression_parser.proofs.Turns.{Goes, starts}

@@ -11,13 +11,13 @@ use Rattle.expression_parser.specs.Levels.{strength, level_at, least, most, IsBe
 use Rattle.expression_parser.specs.Levels.{compared_with, level_with, rest_down, rest_with}
 use Rattle.expression_parser.specs.Readers.{Reader, symbol}
 use Rattle.expression_parser.specs.Reading.{an_operator, chain_from, comparison_with, joins, level_by, level_of, product_with}
-use Rattle.expression_parser.specs.Placed.{Kept, expr_kept, expr_kept_step, joined, kept_more, operand_kept}
-use Rattle.expression_parser.specs.Syntax.{ExprView, view, view_expr_step}
-use Rattle.expression_parser.specs.declared.tree.expr.Expr.{Expr}
-use Rattle.expression_parser.specs.declared.tree.expr.Expr.TheFolds.{fold-roll-Expr}
-use Rattle.expression_parser.specs.declared.tree.expr.Expr.TheOpen.{Expr-F}
-use Rattle.expression_parser.specs.declared.tree.expr.Expr.TheVariants as e
-use Rattle.expression_parser.specs.declared.tree.op.Op.{Op}
+use Rattle.filter_syntax.specs.Placed.{Kept, expr_kept, expr_kept_step, joined, kept_more, operand_kept}
+use Rattle.filter_syntax.specs.Syntax.{ExprView, view, view_expr_step}
+use Rattle.filter_syntax.specs.declared.tree.expr.Expr.{Expr}
+use Rattle.filter_syntax.specs.declared.tree.expr.Expr.TheFolds.{fold-roll-Expr}
+use Rattle.filter_syntax.specs.declared.tree.expr.Expr.TheOpen.{Expr-F}
+use Rattle.filter_syntax.specs.declared.tree.expr.Expr.TheVariants as e
+use Rattle.filter_syntax.specs.declared.tree.op.Op.{Op}
 use Rattle.std.specs.Prelude.{Box}
 use Rattle.std.specs.declared.alloc.Global.{Global}
 use Rattle.expression_parser.proofs.Chains.{chain_ends}

@@ -14,5 +14,4 @@ pub mod SoundWords
 pub mod Steps
 pub mod Stops
 pub mod Turns
-pub mod Views
 pub mod Within

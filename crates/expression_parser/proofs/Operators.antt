@@ -5,10 +5,10 @@ use Rattle.filter_tokens.specs.declared.symbol.Symbol.{Symbol}
 use Rattle.filter_tokens.specs.declared.symbol.Symbol.TheVariants as symbols
 use Rattle.expression_parser.specs.declared.expr_level.Level.{Level}
 use Rattle.expression_parser.specs.declared.expr_level.Level.TheVariants as l
-use Rattle.expression_parser.specs.declared.tree.op.Op.{Op}
-use Rattle.expression_parser.specs.declared.tree.op.Op.TheVariants as o
+use Rattle.filter_syntax.specs.declared.tree.op.Op.{Op}
+use Rattle.filter_syntax.specs.declared.tree.op.Op.TheVariants as o
 use Rattle.expression_parser.specs.Reading.{op_of}
-use Rattle.expression_parser.specs.Syntax.{FitsSides, rank_of, op_symbol}
+use Rattle.filter_syntax.specs.Syntax.{FitsSides, rank_of, op_symbol}
 use Rattle.expression_parser.proofs.Steps.{some_is}
 
 -- how loosely a level's operators bind

@@ -4,17 +4,17 @@ use Rattle.std.proofs.lemmas.List.{append-nil}
 use Rattle.filter_tokens.specs.declared.token.Token.{Token}
 use Rattle.std.specs.Prelude.{Result, Ok, Err, IfOk}
 use Rattle.expression_parser.specs.declared.input.Input.{Input}
-use Rattle.expression_parser.specs.declared.tree.op.Op.{Op}
-use Rattle.expression_parser.specs.declared.tree.set.SetPattern.{SetPattern}
-use Rattle.expression_parser.specs.declared.tree.set.SetRange.{SetRange}
-use Rattle.expression_parser.specs.declared.tree.expr.Attribute.{Attribute}
-use Rattle.expression_parser.specs.declared.tree.expr.Expr.{Expr}
-use Rattle.expression_parser.specs.declared.tree.expr.Expr.TheFolds.{fold-roll-Expr}
-use Rattle.expression_parser.specs.declared.tree.expr.Expr.TheOpen.{Expr-F}
-use Rattle.expression_parser.specs.declared.tree.expr.Expr.TheVariants as e
-use Rattle.expression_parser.specs.Placed.{Kept, AreAt, joined, operand_kept, kept_more, next_pattern_kept}
-use Rattle.expression_parser.specs.Placed.{set_pattern_kept, set_patterns_kept, next_range_kept, range_kept}
-use Rattle.expression_parser.specs.Placed.{ranges_kept, expr_kept, expr_kept_step}
+use Rattle.filter_syntax.specs.declared.tree.op.Op.{Op}
+use Rattle.filter_syntax.specs.declared.tree.set.SetPattern.{SetPattern}
+use Rattle.filter_syntax.specs.declared.tree.set.SetRange.{SetRange}
+use Rattle.filter_syntax.specs.declared.tree.expr.Attribute.{Attribute}
+use Rattle.filter_syntax.specs.declared.tree.expr.Expr.{Expr}
+use Rattle.filter_syntax.specs.declared.tree.expr.Expr.TheFolds.{fold-roll-Expr}
+use Rattle.filter_syntax.specs.declared.tree.expr.Expr.TheOpen.{Expr-F}
+use Rattle.filter_syntax.specs.declared.tree.expr.Expr.TheVariants as e
+use Rattle.filter_syntax.specs.Placed.{Kept, AreAt, joined, operand_kept, kept_more, next_pattern_kept}
+use Rattle.filter_syntax.specs.Placed.{set_pattern_kept, set_patterns_kept, next_range_kept, range_kept}
+use Rattle.filter_syntax.specs.Placed.{ranges_kept, expr_kept, expr_kept_step}
 use Rattle.expression_parser.specs.Steps.{Spans, Grown}
 
 at_both : (a b : Kept) (s t : List Token) → AreAt a s → AreAt b t → AreAt (a ++ b) (s ++ t)

@@ -6,7 +6,7 @@ use Rattle.filter_tokens.specs.declared.symbol.Symbol.TheVariants as symbols
 use Rattle.prefix_patterns.specs.Reading.{◌>>=◌}
 use Rattle.expression_parser.specs.Readers.{turns, symbol, a_number}
 use Rattle.expression_parser.specs.Reading.{from_to_of, range_up_from, range_from, a_range, adds_range, more_ranges, ranges_from}
-use Rattle.expression_parser.specs.Syntax.{RangeView, FitsMoreRanges, FitsRange, FitsRanges, spelling_more_ranges, spelling_range, spelling_ranges}
+use Rattle.filter_syntax.specs.Syntax.{RangeView, FitsMoreRanges, FitsRange, FitsRanges, spelling_more_ranges, spelling_range, spelling_ranges}
 use Rattle.expression_parser.proofs.SoundWords.{number_found}
 use Rattle.expression_parser.proofs.Steps.{bind_some, symbol_found, some_is, with_some_cases}
 use Rattle.expression_parser.proofs.Turns.{Goes, goes_on, ends, refuses, starts}

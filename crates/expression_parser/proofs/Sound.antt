@@ -6,15 +6,15 @@ use Rattle.filter_tokens.specs.declared.symbol.Symbol.{Symbol}
 use Rattle.filter_tokens.specs.declared.symbol.Symbol.TheVariants as symbols
 use Rattle.expression_parser.specs.declared.expr_level.Level.{Level}
 use Rattle.expression_parser.specs.declared.expr_level.Level.TheVariants as l
-use Rattle.expression_parser.specs.declared.tree.op.Membership.{Membership}
-use Rattle.expression_parser.specs.declared.tree.op.Op.{Op}
-use Rattle.expression_parser.specs.declared.tree.op.Op.TheVariants as o
+use Rattle.filter_syntax.specs.declared.tree.op.Membership.{Membership}
+use Rattle.filter_syntax.specs.declared.tree.op.Op.{Op}
+use Rattle.filter_syntax.specs.declared.tree.op.Op.TheVariants as o
 use Rattle.expression_parser.specs.Readers.{Reader, turns, refused, symbol}
 use Rattle.expression_parser.specs.Reading.{op_of, an_operator, joins, chain_from, suffix_of, suffixes, set_of, group_with}
 use Rattle.expression_parser.specs.Reading.{primary_with, postfix_with, not_with, unary_with, product_with, sum_with, membership_of, set_opening}
 use Rattle.expression_parser.specs.Reading.{member_of, right_operand_with, comparison_with, level_by, level_of, unmixed, expr_with, unary_at}
 use Rattle.expression_parser.specs.Reading.{expr_at}
-use Rattle.expression_parser.specs.Syntax.{ExprView, Fits, membership_symbol, rank, rank_of, op_symbol, spelling, spelling_set, spelling_suffix}
+use Rattle.filter_syntax.specs.Syntax.{ExprView, Fits, membership_symbol, rank, rank_of, op_symbol, spelling, spelling_set, spelling_suffix}
 use Rattle.expression_parser.proofs.Operators.{FitsLeft, IsOp, op_found, side, top}
 use Rattle.expression_parser.proofs.SoundSets.{atom_sound, set_sound}
 use Rattle.expression_parser.proofs.SoundWords.{suffix_sound}

@@ -8,9 +8,9 @@ use Rattle.expression_parser.specs.Readers.{turns, symbol, a_number}
 use Rattle.expression_parser.specs.Reading.{an_attribute, a_set_pattern, adds_set_pattern, set_patterns_from, set_after_first}
 use Rattle.expression_parser.specs.Reading.{pattern_set_of, ranges_from, range_set_from, set_of, defined_of, keyword_of}
 use Rattle.expression_parser.specs.Reading.{single_of, a_single, atom_of}
-use Rattle.expression_parser.specs.Syntax.{SetPatternView, SetView, ExprView, Fits, FitsSetPattern, FitsSetPatterns}
-use Rattle.expression_parser.specs.Syntax.{FitsSet, attribute_symbol, rank, spelling, spelling_set_pattern}
-use Rattle.expression_parser.specs.Syntax.{spelling_ranges, spelling_set_patterns, spelling_set}
+use Rattle.filter_syntax.specs.Syntax.{SetPatternView, SetView, ExprView, Fits, FitsSetPattern, FitsSetPatterns}
+use Rattle.filter_syntax.specs.Syntax.{FitsSet, attribute_symbol, rank, spelling, spelling_set_pattern}
+use Rattle.filter_syntax.specs.Syntax.{spelling_ranges, spelling_set_patterns, spelling_set}
 use Rattle.expression_parser.proofs.Ranges.{ranges_sound}
 use Rattle.expression_parser.proofs.SoundWords.{an_attribute_found, number_found, set_pattern_sound}
 use Rattle.expression_parser.proofs.Steps.{bind_some, symbol_found, some_is, with_some_cases}

@@ -7,13 +7,13 @@ use Rattle.prefix_patterns.specs.Matching.{HasOrderedLengths}
 use Rattle.filter_tokens.specs.Lexemes.{Lexeme}
 use Rattle.filter_tokens.specs.declared.symbol.Symbol.{Symbol}
 use Rattle.filter_tokens.specs.declared.symbol.Symbol.TheVariants as symbols
-use Rattle.expression_parser.specs.declared.tree.expr.Attribute.{Attribute}
-use Rattle.expression_parser.specs.declared.tree.op.Suffix.{Suffix}
-use Rattle.expression_parser.specs.declared.tree.op.Suffix.TheVariants as suffix
+use Rattle.filter_syntax.specs.declared.tree.expr.Attribute.{Attribute}
+use Rattle.filter_syntax.specs.declared.tree.op.Suffix.{Suffix}
+use Rattle.filter_syntax.specs.declared.tree.op.Suffix.TheVariants as suffix
 use Rattle.expression_parser.specs.Reading.{attribute_of, an_attribute, mask_suffix, mask_of, suffix_of, between_of, braces_of, lengths_of}
 use Rattle.expression_parser.specs.Reading.{a_set_pattern}
 use Rattle.expression_parser.specs.Readers.{symbol, word, a_number, a_prefix}
-use Rattle.expression_parser.specs.Syntax.{SetPatternView, FitsSetPattern, FitsSuffix, attribute_symbol, spelling_set_pattern, spelling_suffix}
+use Rattle.filter_syntax.specs.Syntax.{SetPatternView, FitsSetPattern, FitsSuffix, attribute_symbol, spelling_set_pattern, spelling_suffix}
 use Rattle.expression_parser.proofs.Steps.{bind_given, bind_some, symbol_found, some_is, with_some_cases}
 
 -- what a word was found before

@@ -4,11 +4,11 @@ use Rattle.filter_tokens.specs.Lexemes.{Lexeme}
 use Rattle.filter_tokens.specs.declared.symbol.Symbol.{Symbol}
 use Rattle.filter_tokens.specs.declared.symbol.Symbol.TheVariants as symbols
 use Rattle.expression_parser.specs.declared.expr_level.Level.{Level}
-use Rattle.expression_parser.specs.declared.tree.op.Op.{Op}
-use Rattle.expression_parser.specs.declared.tree.op.Op.TheVariants as o
+use Rattle.filter_syntax.specs.declared.tree.op.Op.{Op}
+use Rattle.filter_syntax.specs.declared.tree.op.Op.TheVariants as o
 use Rattle.expression_parser.specs.Reading.{op_of, an_operator}
 use Rattle.expression_parser.specs.Readers.{is_symbol, symbol}
-use Rattle.expression_parser.specs.Syntax.{rank_of, op_symbol}
+use Rattle.filter_syntax.specs.Syntax.{rank_of, op_symbol}
 use Rattle.expression_parser.proofs.Operators.{op_found, top}
 use Rattle.expression_parser.proofs.Steps.{symbol_is}
 

@@ -1,12 +1,9 @@
 -- The codes and places of the faults of a filter's text. (This project's own choice.)
 use Rattle.std.specs.Prelude.{◌≡◌, ℕ, ◌<◌, List, codes, ⊤}
 use Rattle.filter_tokens.specs.Codes.{fault_code as token_fault_code, fault_place as token_fault_place}
+use Rattle.filter_syntax.specs.Syntax.{text_limit}
 use Rattle.expression_parser.specs.declared.fault.ParseFault.{ParseFault}
 use Rattle.expression_parser.specs.declared.fault.ParseFault.TheVariants as fault
-
--- the greatest number of bytes in a filter's text
-abbrev pub text_limit : ℕ
-text_limit = 65536
 
 -- the code, as ASCII text, and the place; refused memory has none, which is 0
 abbrev pub code_and_place : ParseFault → List ℕ × ℕ

@@ -5,12 +5,12 @@ use Rattle.filter_tokens.specs.declared.symbol.Symbol.{Symbol}
 use Rattle.filter_tokens.specs.declared.symbol.Symbol.TheVariants as symbols
 use Rattle.expression_parser.specs.declared.expr_level.Level.{Level}
 use Rattle.expression_parser.specs.declared.expr_level.Level.TheVariants as l
-use Rattle.expression_parser.specs.declared.tree.op.Op.{Op}
-use Rattle.expression_parser.specs.declared.tree.op.Op.TheVariants as o
+use Rattle.filter_syntax.specs.declared.tree.op.Op.{Op}
+use Rattle.filter_syntax.specs.declared.tree.op.Op.TheVariants as o
 use Rattle.expression_parser.specs.Readers.{Reader, ◌>>=◌, with◌then◌else◌, done}
 use Rattle.expression_parser.specs.Reading.{an_operator, chain_with, comparison_with, expr_with, join_from}
 use Rattle.expression_parser.specs.Reading.{next_with, right_operand_with, sum_with, unmixed}
-use Rattle.expression_parser.specs.Syntax.{ExprView}
+use Rattle.filter_syntax.specs.Syntax.{ExprView}
 
 -- the operator that a symbol stands for
 abbrev pub operator_of : Symbol → Option Op

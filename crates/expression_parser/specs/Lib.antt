@@ -1,9 +1,5 @@
 -- What callers cite.
 pub mod Codes
-pub mod Names
-pub mod Placed
-pub mod Places
-pub mod Syntax
 -- What the bodies of this crate and of `filter_parser` are proved against.
 pub mod Levels
 pub mod Readers

@@ -9,22 +9,22 @@ use Rattle.filter_tokens.specs.declared.symbol.Symbol.TheVariants as symbols
 use Rattle.expression_parser.specs.declared.expr_level.Level.{Level}
 use Rattle.expression_parser.specs.declared.expr_level.Level.TheVariants as l
 use Rattle.expression_parser.specs.declared.input.Input.{Input}
-use Rattle.expression_parser.specs.declared.tree.expr.Attribute.{Attribute}
-use Rattle.expression_parser.specs.declared.tree.expr.Attribute.TheVariants as attributes
-use Rattle.expression_parser.specs.declared.tree.expr.Expr.{Expr}
-use Rattle.expression_parser.specs.declared.tree.op.Membership.{Membership}
-use Rattle.expression_parser.specs.declared.tree.op.Membership.TheVariants as membership
-use Rattle.expression_parser.specs.declared.tree.op.Op.{Op}
-use Rattle.expression_parser.specs.declared.tree.op.Op.TheVariants as o
-use Rattle.expression_parser.specs.declared.tree.op.Suffix.{Suffix}
-use Rattle.expression_parser.specs.declared.tree.op.Suffix.TheVariants as suffix
-use Rattle.expression_parser.specs.declared.tree.set.Set.{Set}
-use Rattle.expression_parser.specs.declared.tree.set.SetPattern.{SetPattern}
-use Rattle.expression_parser.specs.declared.tree.set.SetRange.{SetRange}
+use Rattle.filter_syntax.specs.declared.tree.expr.Attribute.{Attribute}
+use Rattle.filter_syntax.specs.declared.tree.expr.Attribute.TheVariants as attributes
+use Rattle.filter_syntax.specs.declared.tree.expr.Expr.{Expr}
+use Rattle.filter_syntax.specs.declared.tree.op.Membership.{Membership}
+use Rattle.filter_syntax.specs.declared.tree.op.Membership.TheVariants as membership
+use Rattle.filter_syntax.specs.declared.tree.op.Op.{Op}
+use Rattle.filter_syntax.specs.declared.tree.op.Op.TheVariants as o
+use Rattle.filter_syntax.specs.declared.tree.op.Suffix.{Suffix}
+use Rattle.filter_syntax.specs.declared.tree.op.Suffix.TheVariants as suffix
+use Rattle.filter_syntax.specs.declared.tree.set.Set.{Set}
+use Rattle.filter_syntax.specs.declared.tree.set.SetPattern.{SetPattern}
+use Rattle.filter_syntax.specs.declared.tree.set.SetRange.{SetRange}
 use Rattle.expression_parser.specs.Readers.{Reader, Turn, ◌>>=◌, ◌>>◌, after◌then◌else◌, with◌then◌else◌, done, given, refused, again, stop}
 use Rattle.expression_parser.specs.Readers.{turns, symbol, word, a_number, a_prefix}
 use Rattle.expression_parser.specs.Steps.{remaining}
-use Rattle.expression_parser.specs.Syntax.{SetPatternView, RangeView, SetView, ExprView, view, view_members, view_range, view_set_pattern}
+use Rattle.filter_syntax.specs.Syntax.{SetPatternView, RangeView, SetView, ExprView, view, view_members, view_range, view_set_pattern}
 
 -- what the program read, as the reading functions answer it
 abbrev pub read_of : Expr × Input → ExprView × List Lexeme

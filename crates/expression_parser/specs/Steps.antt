@@ -12,7 +12,7 @@ use Rattle.expression_parser.specs.declared.fault.ParseFault.{ParseFault}
 use Rattle.expression_parser.specs.declared.fault.ParseFault.TheVariants as fault
 use Rattle.expression_parser.specs.declared.input.Input.{Input}
 use Rattle.expression_parser.specs.Codes.{LiesWithin}
-use Rattle.expression_parser.specs.Placed.{Kept, AreAt, joined}
+use Rattle.filter_syntax.specs.Placed.{Kept, AreAt, joined}
 use Rattle.expression_parser.specs.Readers.{Reader}
 
 -- the lexemes that are left

@@ -1,11 +1,11 @@
 ghost use Rattle.std.specs.Prelude.{◌≡◌, ◌∷◌, ◌++◌, ℕ, ◌<◌, ◌≤◌, [], Some, None, IfOk, IfSome, length};
 ghost use Rattle.expression_parser.specs.Codes.{LiesWithin};
 ghost use Rattle.expression_parser.specs.Levels as levels;
-ghost use Rattle.expression_parser.specs.Placed.{expr_kept};
+ghost use Rattle.filter_syntax.specs.Placed.{expr_kept};
 ghost use Rattle.expression_parser.specs.Readers.{turns};
 ghost use Rattle.expression_parser.specs.Reading as spec;
 ghost use Rattle.expression_parser.specs.Steps.{Continues, Reads, ReadsOn, Finds, Follows, ReadsAs, Spans, StaysWithin, first_place, remaining};
-ghost use Rattle.expression_parser.specs.Syntax.{ExprView, view};
+ghost use Rattle.filter_syntax.specs.Syntax.{ExprView, view};
 ghost use Rattle.expression_parser.specs.declared.fault.ParseFault.TheVariants.{Memory};
 ghost use Rattle.expression_parser.specs.declared.input.Input.{Input as TheInput};
 
@@ -16,7 +16,7 @@ use crate::expr_make::{binary, chain, group, member, negation};
 use crate::fault::ParseFault;
 use crate::input::Input;
 use crate::set_reader::parse_set;
-use crate::tree::{Expr, Membership, Op};
+use filter_syntax::{Expr, Membership, Op};
 use filter_tokens::Symbol;
 use std::alloc::Global;
 

@@ -1,14 +1,14 @@
 ghost use Rattle.std.specs.Prelude.{◌≡◌, ◌∷◌, ◌<◌, [], Some, None, IfSome};
-ghost use Rattle.expression_parser.specs.Placed.{expr_kept, suffix_kept};
+ghost use Rattle.filter_syntax.specs.Placed.{expr_kept, suffix_kept};
 ghost use Rattle.expression_parser.specs.Reading as spec;
 ghost use Rattle.expression_parser.specs.Steps.{Reads, ReadsOn, Finds, first_place};
-ghost use Rattle.expression_parser.specs.Syntax.{view};
+ghost use Rattle.filter_syntax.specs.Syntax.{view};
 
 use crate::expected::Expected;
 use crate::expr_make::{suffixed, suffixed_once};
 use crate::fault::ParseFault;
 use crate::input::Input;
-use crate::tree::{Attribute, Expr, MaskLength, Suffix};
+use filter_syntax::{Attribute, Expr, MaskLength, Suffix};
 use filter_tokens::{Symbol, TokenKind};
 use std::alloc::Global;
 

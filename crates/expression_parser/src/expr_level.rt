@@ -11,7 +11,7 @@ ghost use Rattle.expression_parser.specs.Reading as spec;
 ghost use Rattle.expression_parser.specs.Steps.{Finds, Follows, Spans, first_place, remaining};
 
 use crate::input::Input;
-use crate::tree::Op;
+use filter_syntax::Op;
 use filter_tokens::{Symbol, TokenKind};
 
 /// Operators that bind equally.

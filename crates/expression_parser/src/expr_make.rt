@@ -1,8 +1,8 @@
 ghost use Rattle.std.specs.Prelude.{◌≡◌, ◌∷◌, ◌++◌, [], Some, None, IfOk, map};
-ghost use Rattle.expression_parser.specs.Placed.{expr_kept, joined, kept_more, operand_kept, set_kept, suffix_kept};
-ghost use Rattle.expression_parser.specs.Syntax.{ExprView, chain_of, suffixes_of, view, view_members, view_more};
+ghost use Rattle.filter_syntax.specs.Placed.{expr_kept, joined, kept_more, operand_kept, set_kept, suffix_kept};
+ghost use Rattle.filter_syntax.specs.Syntax.{ExprView, chain_of, suffixes_of, view, view_members, view_more};
 
-use crate::tree::{Expr, Membership, Op, Set, Suffix};
+use filter_syntax::{Expr, Membership, Op, Set, Suffix};
 use std::alloc::{AllocError, Global};
 
 /// An expression in parentheses, the first of which has the place `at`.

@@ -7,7 +7,7 @@ ghost use Rattle.expression_parser.specs.declared.fault.ParseFault.TheVariants.{
 
 use crate::expected::Expected;
 use crate::fault::ParseFault;
-use crate::tree::Name;
+use filter_syntax::Name;
 use filter_tokens::{Symbol, Token, TokenFault, TokenKind};
 use prefix_patterns::Prefix;
 use std::alloc::{AllocError, Global};

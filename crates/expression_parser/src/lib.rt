@@ -16,13 +16,9 @@ mod fault;
 mod input;
 mod range_reader;
 mod set_reader;
-mod tree;
 
 pub use expected::Expected;
 pub use expr::parse_expr;
 pub use fault::{ParseFault, TEXT_LIMIT};
 pub use input::{Input, LexedText};
 pub use range_reader::parse_ranges_from;
-pub use tree::{
-    Attribute, Expr, MaskLength, Members, Membership, Name, Op, Set, SetPattern, SetRange, Suffix,
-};

@@ -1,14 +1,14 @@
 //! Ranges of ints, as sets of ints and labels have them.
 
 ghost use Rattle.std.specs.Prelude.{◌∷◌, ◌<◌, ◌≤◌, [], Some, None, IfOk, length, map};
-ghost use Rattle.expression_parser.specs.Placed.{next_range_kept, range_kept, ranges_kept};
+ghost use Rattle.filter_syntax.specs.Placed.{next_range_kept, range_kept, ranges_kept};
 ghost use Rattle.expression_parser.specs.Reading as spec;
 ghost use Rattle.expression_parser.specs.Steps.{Reads, Continues, Grown, ReadsAs, StaysWithin, StaysWithinAfter, remaining};
-ghost use Rattle.expression_parser.specs.Syntax.{view_range};
+ghost use Rattle.filter_syntax.specs.Syntax.{view_range};
 
 use crate::fault::ParseFault;
 use crate::input::Input;
-use crate::tree::SetRange;
+use filter_syntax::SetRange;
 use filter_tokens::Symbol;
 use int_sets::IntRange;
 use std::alloc::Global;

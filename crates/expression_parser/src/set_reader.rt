@@ -1,15 +1,15 @@
 ghost use Rattle.std.specs.Prelude.{◌∷◌, ◌<◌, ◌≤◌, [], Some, None, IfOk, length, map};
-ghost use Rattle.expression_parser.specs.Placed.{next_pattern_kept, set_kept, set_pattern_kept};
+ghost use Rattle.filter_syntax.specs.Placed.{next_pattern_kept, set_kept, set_pattern_kept};
 ghost use Rattle.expression_parser.specs.Reading as spec;
 ghost use Rattle.expression_parser.specs.Steps.{Reads, ReadsOn, Continues, Finds, Grown, ReadsAs, Spans, StaysWithin, StaysWithinAfter, remaining};
-ghost use Rattle.expression_parser.specs.Syntax.{SetPatternView, view_set_pattern};
+ghost use Rattle.filter_syntax.specs.Syntax.{SetPatternView, view_set_pattern};
 ghost use Rattle.expression_parser.specs.declared.input.Input.{Input as TheInput};
 
 use crate::expected::Expected;
 use crate::fault::ParseFault;
 use crate::input::Input;
 use crate::range_reader::parse_ranges_from;
-use crate::tree::{Members, Set, SetPattern};
+use filter_syntax::{Members, Set, SetPattern};
 use filter_tokens::Symbol;
 use prefix_patterns::{ADDRESS_LENGTH, Pattern, Prefix};
 use std::alloc::Global;

@@ -1,5 +1,3 @@
-pub mod Joined
-pub mod EqualCodes
 pub mod Comparisons
 pub mod FirstLine
 pub mod MoreTests

@@ -17,10 +17,11 @@ use Rattle.filter_diff.specs.Parts.{Has, HasRoute, Holds, InOne, IsIn, IsDecided
 use Rattle.filter_diff.specs.declared.answer.Comparison.{Comparison}
 use Rattle.filter_diff.specs.declared.route_part.PartFinding.{PartFinding}
 use Rattle.filter_diff.specs.declared.route_part.RoutePart.{RoutePart}
-use Rattle.filter_parser.specs.SyntaxText.{FilterView, IsText}
+use Rattle.filter_syntax.specs.SyntaxText.{FilterView, IsText}
 use Rattle.filter_verifier.specs.Safe.{IsRouteOf}
 use Rattle.report_formats.specs.declared.options.DiffOptions.{DiffOptions}
-use Rattle.filter_checks.specs.Comparing.{AreParts, IsDiffReport, IsPartsReport, status_of_comparison}
+use Rattle.filter_checks.specs.Comparing.{IsDiffReport, IsPartsReport, status_of_comparison}
+use Rattle.filter_differences.specs.Differences.{AreParts}
 use Rattle.filter_reports.proofs.Saying.{says_the_same}
 use Rattle.filter_reports.specs.Notices.{Named}
 use Rattle.filter_reports.specs.Reports.{ReportView}

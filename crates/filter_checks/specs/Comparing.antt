@@ -3,18 +3,17 @@ use Rattle.std.specs.Prelude.{◌≡◌, ◌≢◌, ◌⊎◌, ℕ, false, List,
 use Rattle.filter_code.specs.CodeView.{CodeView}
 use Rattle.filter_reports.specs.Checking.{IsDiagnosis}
 use Rattle.filter_diff.specs.Answers.{answer_of}
-use Rattle.filter_diff.specs.Parts.{Cover, IsDecided, IsEnough, IsReal, IsTrueOf}
 use Rattle.filter_diff.specs.declared.answer.Comparison.{Comparison}
 use Rattle.filter_diff.specs.declared.answer.Comparison.TheVariants as answer
 use Rattle.filter_diff.specs.declared.route_part.RoutePart.{RoutePart}
-use Rattle.filter_parser.specs.SyntaxText.{FilterView}
+use Rattle.filter_syntax.specs.SyntaxText.{FilterView}
 use Rattle.filter_source.specs.declared.diagnosis.Diagnosis.{Diagnosis}
 use Rattle.filter_reports.specs.VerifiedFilters.{IsFilterOf}
 use Rattle.filter_reports.specs.Notices.{Named, words_or_line}
 use Rattle.filter_reports.specs.Reports.{ReportView, followed_by}
-use Rattle.refusal_reports.specs.Refusing.{IsRefusalReport}
+use Rattle.filter_reports.specs.Refusing.{IsRefusalReport}
 use Rattle.report_formats.specs.declared.options.DiffOptions.{DiffOptions}
-use Rattle.filter_checks.specs.PartLines.{parts_text}
+use Rattle.filter_differences.specs.Differences.{AreParts}
 use Rattle.filter_checks.specs.PartReports.{parts_in}
 
 -- This is told of a text: nothing where it spells a filter whose code never goes wrong in domains of the size, and otherwise why it
@@ -22,19 +21,6 @@ use Rattle.filter_checks.specs.PartReports.{parts_in}
 abbrev pub IsJudged : ℕ → List ℕ → Option Diagnosis → Type 0
 IsJudged size text None = (filter : FilterView) × IsFilterOf text size filter
 IsJudged size text (Some diagnosis) = IsDiagnosis size false text diagnosis
-
--- These are parts of the routes outside of which the two codes have the same outcome; each has a route, and on each of its routes holds
--- what is found of it. None is undecided where the limit leaves out no class of routes. Equal codes have no parts, whatever the limit is.
-pub record AreParts (old new : CodeView) (size limit : ℕ) (parts : List RoutePart) : Type 0 where
-  pub complete : Cover old new size parts
-  pub sound : All (IsTrueOf old new size) parts
-  pub real : All (IsReal size) parts
-  pub decided : IsEnough size limit → All IsDecided parts
-  pub none : old ≡ new → parts ≡ []
-
--- such parts are told in lines
-abbrev pub TellsParts : CodeView → CodeView → ℕ → ℕ → List ℕ → Type 0
-TellsParts old new size limit text = (parts : List RoutePart) × AreParts old new size limit parts × (text ≡ parts_text size parts)
 
 -- the exit status: 0 where the two do the same on all routes, 1 where they differ
 abbrev pub status_of_comparison : Comparison → ℕ

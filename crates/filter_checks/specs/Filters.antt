@@ -9,7 +9,7 @@ use Rattle.filter_diff.specs.Parts.{Has, HasRoute, InOne}
 use Rattle.filter_diff.specs.declared.route_part.PartFinding.{PartFinding}
 use Rattle.filter_diff.specs.declared.route_part.PartFinding.TheVariants as finding
 use Rattle.filter_diff.specs.declared.route_part.RoutePart.{RoutePart}
-use Rattle.filter_parser.specs.SyntaxText.{FilterView}
+use Rattle.filter_syntax.specs.SyntaxText.{FilterView}
 use Rattle.filter_verifier.specs.Safe.{IsRouteOf}
 
 -- two filters say these things of a route, which differ

@@ -1,5 +1,4 @@
 -- What callers cite.
-pub mod PartLines
 pub mod PartReports
 pub mod Comparing
 pub mod Filters

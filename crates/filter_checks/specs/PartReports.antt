@@ -14,7 +14,7 @@ use Rattle.report_formats.specs.declared.format.Format.{Format}
 use Rattle.report_formats.specs.declared.format.Format.TheVariants as formats
 use Rattle.report_formats.specs.declared.finding.Severity.{Severity}
 use Rattle.report_formats.specs.declared.finding.Severity.TheVariants as severity
-use Rattle.filter_checks.specs.PartLines.{ending_text, hidden_words, last_words, part_words, parts_text, shown_limit}
+use Rattle.filter_differences.specs.PartLines.{ending_text, hidden_words, last_words, part_words, parts_text, shown_limit}
 
 -- how much is wrong with a part, and with a comparison
 abbrev pub severity_of : PartFinding → Severity

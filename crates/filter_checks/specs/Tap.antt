@@ -4,7 +4,7 @@ use Rattle.filter_diff.specs.declared.checking.ExpectationResult.{ExpectationRes
 use Rattle.filter_diff.specs.declared.checking.ExpectationResult.TheVariants as checked
 use Rattle.filter_diff.specs.declared.checking.Counterexample.{Counterexample}
 use Rattle.refusal_words.specs.Shown.{shown}
-use Rattle.filter_checks.specs.PartLines.{outcome_text}
+use Rattle.filter_differences.specs.PartLines.{outcome_text}
 use Rattle.prefix_patterns.specs.Spelling.{prefix_text}
 use Rattle.filter_checks.specs.declared.testing.RanTest.{RanTest}
 

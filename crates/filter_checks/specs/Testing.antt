@@ -5,7 +5,7 @@ use Rattle.filter_reports.specs.Checking.{IsDiagnosis}
 use Rattle.filter_diff.specs.Expectations.{IsFoundOf}
 use Rattle.filter_diff.specs.Parts.{IsEnough}
 use Rattle.filter_diff.specs.declared.checking.ExpectationResult.TheVariants as checked
-use Rattle.filter_parser.specs.SyntaxText.{FilterView}
+use Rattle.filter_syntax.specs.SyntaxText.{FilterView}
 use Rattle.filter_source.specs.declared.diagnosis.Diagnosis.{Diagnosis}
 use Rattle.filter_reports.specs.VerifiedFilters.{IsFilterOf}
 use Rattle.filter_reports.specs.Notices.{IsNotice, Named, words_or_line}

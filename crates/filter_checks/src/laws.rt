@@ -12,12 +12,13 @@ ghost use Rattle.filter_diff.specs.declared.answer.Comparison.TheVariants as ans
 ghost use Rattle.filter_diff.specs.declared.checking.Counterexample.{Counterexample as TheCounterexample};
 ghost use Rattle.filter_diff.specs.declared.expectation.Expectation.{Expectation as TheExpectation};
 ghost use Rattle.filter_diff.specs.declared.route_part.RoutePart.{RoutePart as RoutePartView};
-ghost use Rattle.filter_parser.specs.SyntaxText.{FilterView, IsText};
+ghost use Rattle.filter_syntax.specs.SyntaxText.{FilterView, IsText};
 ghost use Rattle.filter_reports.specs.Notices.{Named};
 ghost use Rattle.filter_reports.specs.Reports.{ReportView};
 ghost use Rattle.filter_verifier.specs.Safe.{IsRouteOf};
 ghost use Rattle.report_formats.specs.declared.options.DiffOptions.{DiffOptions as HowToCompare};
-ghost use Rattle.filter_checks.specs.Comparing.{AreParts, IsDiffReport, IsPartsReport};
+ghost use Rattle.filter_checks.specs.Comparing.{IsDiffReport, IsPartsReport};
+ghost use Rattle.filter_differences.specs.Differences.{AreParts};
 ghost use Rattle.filter_checks.specs.Filters.{ArePartsOf};
 
 /// What parts say of two codes they say of two filters, where the codes say of each route what the filters say, as verified code does.

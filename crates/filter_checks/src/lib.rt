@@ -6,7 +6,6 @@ mod faults;
 mod keyword;
 mod laws;
 mod lines;
-mod part_lines;
 mod part_reports;
 mod place;
 mod reading;
@@ -15,12 +14,11 @@ mod tap;
 mod test_file;
 mod testing;
 
-pub use comparing::{diff_report, difference_text};
+pub use comparing::diff_report;
 pub use laws::{
     compared_filters_mean_the_same, comparison_is_of_filters, held_tests_are_of_filters,
     parts_are_of_filters, shown_routes_are_of_filters,
 };
-pub use part_lines::{parts_text, push_outcome};
 pub use place::path_beside;
 pub use results::{end_in, head_in};
 pub use test_file::{Test, TestFile, TestFileFault, read_tests};

@@ -2,14 +2,14 @@
 ghost use Rattle.std.specs.Prelude.{◌≡◌, ◌++◌, IfOk, OnOk, flat_map, option_map};
 ghost use Rattle.prefix_patterns.specs.Spelling.{prefix_text};
 ghost use Rattle.report_formats.specs.Findings.{finding_line};
-ghost use Rattle.filter_checks.specs.PartLines.{ending_text, part_words};
+ghost use Rattle.filter_differences.specs.PartLines.{ending_text, part_words};
 ghost use Rattle.filter_checks.specs.PartReports as spec;
 
-use crate::part_lines::{
+use filter_diff::{Comparison, PartFinding, RoutePart, RunEnding, answer_of, count_undecided};
+use filter_differences::{
     hidden_count, parts_text, push_ending, push_hidden_words, push_last_words, push_part_words,
     shown_parts,
 };
-use filter_diff::{Comparison, PartFinding, RoutePart, RunEnding, answer_of, count_undecided};
 use prefix_patterns::Prefix;
 use refusal_words::push_prefix;
 use report_formats::{Finding, Format, PartReport, Severity, push_finding, push_part};

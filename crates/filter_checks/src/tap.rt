@@ -9,9 +9,9 @@ ghost use Rattle.std.specs.Prelude.{◌≡◌, ◌+◌, ◌<◌, ◌^◌, ◌++�
 ghost use Rattle.prefix_patterns.specs.Spelling.{prefix_text};
 ghost use Rattle.filter_checks.specs.Tap as spec;
 
-use crate::part_lines::push_outcome;
 use crate::testing::RanTest;
 use filter_diff::{Counterexample, ExpectationResult};
+use filter_differences::push_outcome;
 use line_protocol::push_decimal;
 use refusal_words::{push_prefix, push_shown};
 use std::alloc::{AllocError, Global};

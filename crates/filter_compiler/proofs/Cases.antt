@@ -3,10 +3,10 @@ use Rattle.std.proofs.Common.{◌≡◌, ℕ, ◌+◌, ◌<◌, min, Bool, true,
 use Rattle.std.proofs.Common.{append_assoc, length-append}
 use Rattle.filter_code.specs.declared.instruction.Instr.{Instr}
 use Rattle.filter_code.specs.declared.instruction.Instr.TheVariants as instr
-use Rattle.expression_parser.specs.declared.tree.op.Membership.{Membership}
-use Rattle.expression_parser.specs.declared.tree.op.Membership.TheVariants as membership
-use Rattle.expression_parser.specs.Syntax.{ExprView, RangeView, SetPatternView, of_patterns, of_ranges}
-use Rattle.filter_parser.specs.SyntaxCommands.{CommandsView, DeclView, PartsView, case, else_label, no_commands, part_then, ranges_label}
+use Rattle.filter_syntax.specs.declared.tree.op.Membership.{Membership}
+use Rattle.filter_syntax.specs.declared.tree.op.Membership.TheVariants as membership
+use Rattle.filter_syntax.specs.Syntax.{ExprView, RangeView, SetPatternView, of_patterns, of_ranges}
+use Rattle.filter_syntax.specs.SyntaxCommands.{CommandsView, DeclView, PartsView, case, else_label, no_commands, part_then, ranges_label}
 use Rattle.filter_compiler.specs.InstructionPlaces.{all_at}
 use Rattle.filter_compiler.specs.SetOrder.{SetCounts, no_sets, past, with_sets}
 use Rattle.filter_compiler.specs.Translation.{commands_code, commands_sets, expression_code, has_labelled, member_code, one_set, opening_code}

@@ -3,16 +3,16 @@ use Rattle.std.proofs.Common.{◌≡◌, ℕ, Box, Global, List, Vec, ◌∷◌,
 use Rattle.std.proofs.Common.{append_assoc}
 use Rattle.std.specs.Prelude.{flat_map}
 use Rattle.std.proofs.lemmas.List.Folds.{flat_map-map}
-use Rattle.filter_parser.specs.declared.tree.command.Command.{Command}
-use Rattle.filter_parser.specs.declared.tree.command.Command.TheFolds.{fold-roll-Command}
-use Rattle.filter_parser.specs.declared.tree.command.Command.TheOpen.{Command-F}
-use Rattle.filter_parser.specs.declared.tree.command.Command.TheVariants as command
-use Rattle.filter_parser.specs.declared.tree.command.Label.{Label}
-use Rattle.filter_parser.specs.declared.tree.command.Label.TheVariants as label
-use Rattle.expression_parser.specs.declared.tree.set.SetRange.{SetRange}
-use Rattle.filter_parser.specs.SyntaxCommands.{parts_of, view_part}
-use Rattle.filter_parser.specs.declared.tree.command.Target.{Target}
-use Rattle.expression_parser.specs.declared.tree.expr.Expr.{Expr}
+use Rattle.filter_syntax.specs.declared.tree.command.Command.{Command}
+use Rattle.filter_syntax.specs.declared.tree.command.Command.TheFolds.{fold-roll-Command}
+use Rattle.filter_syntax.specs.declared.tree.command.Command.TheOpen.{Command-F}
+use Rattle.filter_syntax.specs.declared.tree.command.Command.TheVariants as command
+use Rattle.filter_syntax.specs.declared.tree.command.Label.{Label}
+use Rattle.filter_syntax.specs.declared.tree.command.Label.TheVariants as label
+use Rattle.filter_syntax.specs.declared.tree.set.SetRange.{SetRange}
+use Rattle.filter_syntax.specs.SyntaxCommands.{parts_of, view_part}
+use Rattle.filter_syntax.specs.declared.tree.command.Target.{Target}
+use Rattle.filter_syntax.specs.declared.tree.expr.Expr.{Expr}
 use Rattle.filter_compiler.specs.InstructionPlaces.{case_places, command_places, command_places_step, expression_places}
 use Rattle.filter_compiler.specs.InstructionPlaces.{label_place, part_of, part_places}
 use Rattle.filter_compiler.specs.InstructionPlaces.{part_step, parts_places, some_labelled, target_places}

@@ -15,13 +15,13 @@ use Rattle.filter_code.specs.RouteView.{RouteView}
 use Rattle.filter_code.specs.Machine.{Going, carry_out, outcome_of}
 use Rattle.filter_code.specs.CodeView.{CodeView}
 use Rattle.filter_compiler.proofs.Reaching.{carried_over}
-use Rattle.filter_parser.specs.declared.tree.decl.Kind.{Kind}
-use Rattle.filter_parser.specs.declared.tree.decl.Kind.TheVariants as kind
-use Rattle.expression_parser.specs.Syntax.{ExprView, range_of}
-use Rattle.filter_parser.specs.SyntaxCommands.{CommandView, empty, block, if_then, if_else, case, assign}
-use Rattle.filter_parser.specs.SyntaxCommands.{accept, reject, CommandsView, no_commands, command_then}
-use Rattle.filter_parser.specs.SyntaxCommands.{TargetView, to_name, to_metric, to_net, DeclView, PartsView}
-use Rattle.filter_parser.specs.SyntaxCommands.{no_parts, part_then, ranges_label, else_label}
+use Rattle.filter_syntax.specs.declared.tree.decl.Kind.{Kind}
+use Rattle.filter_syntax.specs.declared.tree.decl.Kind.TheVariants as kind
+use Rattle.filter_syntax.specs.Syntax.{ExprView, range_of}
+use Rattle.filter_syntax.specs.SyntaxCommands.{CommandView, empty, block, if_then, if_else, case, assign}
+use Rattle.filter_syntax.specs.SyntaxCommands.{accept, reject, CommandsView, no_commands, command_then}
+use Rattle.filter_syntax.specs.SyntaxCommands.{TargetView, to_name, to_metric, to_net, DeclView, PartsView}
+use Rattle.filter_syntax.specs.SyntaxCommands.{no_parts, part_then, ranges_label, else_label}
 use Rattle.filter_types.specs.Kinds.{kind_in, kind_named, number_of, target_kind, HasSameKind, KindsFit, KindsFitAll, KindsFitParts}
 use Rattle.filter_compiler.specs.Meaning.{Scene, value_of}
 use Rattle.filter_compiler.specs.Need.{expression_need, target_need, command_need, commands_need, parts_need}

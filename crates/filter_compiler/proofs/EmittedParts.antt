@@ -1,10 +1,10 @@
 -- The parts of a `case`, as a walk over them has put them into an output.
 use Rattle.std.proofs.Common.{◌≡◌, Vec, Global, List, [], ◌∷◌, map, sym, ap, subst, ◌∙◌}
 use Rattle.filter_code.specs.declared.instruction.Instr.{Instr}
-use Rattle.filter_parser.specs.SyntaxCommands.{CommandsView, DeclView, commands_of, else_label, no_parts}
-use Rattle.filter_parser.specs.SyntaxCommands.{part_then, parts_of, view_command, view_label, view_part}
-use Rattle.filter_parser.specs.declared.tree.command.Command.{Command}
-use Rattle.filter_parser.specs.declared.tree.command.Label.{Label}
+use Rattle.filter_syntax.specs.SyntaxCommands.{CommandsView, DeclView, commands_of, else_label, no_parts}
+use Rattle.filter_syntax.specs.SyntaxCommands.{part_then, parts_of, view_command, view_label, view_part}
+use Rattle.filter_syntax.specs.declared.tree.command.Command.{Command}
+use Rattle.filter_syntax.specs.declared.tree.command.Label.{Label}
 use Rattle.filter_compiler.specs.SetOrder.{SetCounts}
 use Rattle.filter_compiler.specs.Translation.{commands_code}
 use Rattle.filter_compiler.specs.Written.{Emits, IsCounted, commands_part, parts_part}

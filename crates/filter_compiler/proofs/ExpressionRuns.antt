@@ -11,17 +11,17 @@ use Rattle.filter_code.specs.declared.value.Value.TheVariants as value
 use Rattle.filter_code.specs.RouteView.{RouteView}
 use Rattle.filter_code.specs.Machine.{Going, unless_full, carry_out}
 use Rattle.filter_code.specs.CodeView.{CodeView}
-use Rattle.filter_parser.specs.declared.tree.decl.Kind.{Kind}
-use Rattle.filter_parser.specs.declared.tree.decl.Kind.TheVariants as kind
-use Rattle.expression_parser.specs.declared.tree.expr.Attribute.{Attribute}
-use Rattle.expression_parser.specs.declared.tree.expr.Attribute.TheVariants as attributes
+use Rattle.filter_syntax.specs.declared.tree.decl.Kind.{Kind}
+use Rattle.filter_syntax.specs.declared.tree.decl.Kind.TheVariants as kind
+use Rattle.filter_syntax.specs.declared.tree.expr.Attribute.{Attribute}
+use Rattle.filter_syntax.specs.declared.tree.expr.Attribute.TheVariants as attributes
 use Rattle.int_sets.specs.Holding.{holds_any}
-use Rattle.expression_parser.specs.declared.tree.op.Membership.TheVariants as membership
-use Rattle.expression_parser.specs.declared.tree.op.Op.{Op}
-use Rattle.expression_parser.specs.declared.tree.op.Op.TheVariants as o
-use Rattle.expression_parser.specs.Syntax.{ExprView, number, address, prefix, truth, name, attribute, defined, group, negation, binary, member}
-use Rattle.expression_parser.specs.Syntax.{suffixed, RangeView, of_ranges, range_of}
-use Rattle.filter_parser.specs.SyntaxCommands.{DeclView}
+use Rattle.filter_syntax.specs.declared.tree.op.Membership.TheVariants as membership
+use Rattle.filter_syntax.specs.declared.tree.op.Op.{Op}
+use Rattle.filter_syntax.specs.declared.tree.op.Op.TheVariants as o
+use Rattle.filter_syntax.specs.Syntax.{ExprView, number, address, prefix, truth, name, attribute, defined, group, negation, binary, member}
+use Rattle.filter_syntax.specs.Syntax.{suffixed, RangeView, of_ranges, range_of}
+use Rattle.filter_syntax.specs.SyntaxCommands.{DeclView}
 use Rattle.filter_types.specs.Kinds.{kind_in, of_one, of_two, number_of}
 use Rattle.filter_types.specs.Table.{operator, logic, attribute_kind, in_set, suffixed_by}
 use Rattle.filter_types.specs.Table as table

@@ -4,14 +4,14 @@ use Rattle.std.proofs.Common.{Bool, true, false, refl, sym, ap, subst, ◌∙◌
 use Rattle.std.specs.Prelude.{slice_index_or}
 use Rattle.std.specs.List.{Any}
 use Rattle.std.proofs.lemmas.List.{append-nil}
-use Rattle.filter_parser.specs.declared.tree.command.Command.{Command}
-use Rattle.expression_parser.specs.declared.tree.expr.Expr.{Expr}
-use Rattle.expression_parser.specs.declared.tree.op.Op.{Op}
-use Rattle.expression_parser.specs.declared.tree.op.Suffix.{Suffix}
-use Rattle.expression_parser.specs.Syntax.{ExprView, RangeView, SetPatternView, chain_of, of_patterns, pattern_of}
-use Rattle.expression_parser.specs.Syntax.{range_of, suffixed, suffixes_of, view, view_more}
-use Rattle.filter_parser.specs.SyntaxCommands.{commands_of, parts_of, view_command, view_label, view_part}
-use Rattle.filter_parser.specs.declared.tree.command.Label.{Label}
+use Rattle.filter_syntax.specs.declared.tree.command.Command.{Command}
+use Rattle.filter_syntax.specs.declared.tree.expr.Expr.{Expr}
+use Rattle.filter_syntax.specs.declared.tree.op.Op.{Op}
+use Rattle.filter_syntax.specs.declared.tree.op.Suffix.{Suffix}
+use Rattle.filter_syntax.specs.Syntax.{ExprView, RangeView, SetPatternView, chain_of, of_patterns, pattern_of}
+use Rattle.filter_syntax.specs.Syntax.{range_of, suffixed, suffixes_of, view, view_more}
+use Rattle.filter_syntax.specs.SyntaxCommands.{commands_of, parts_of, view_command, view_label, view_part}
+use Rattle.filter_syntax.specs.declared.tree.command.Label.{Label}
 use Rattle.filter_types.proofs.Lists.{map_next}
 use Rattle.filter_compiler.specs.Limits.{AreTooMany}
 use Rattle.filter_compiler.specs.SetOrder.{Sets, SetCounts, no_sets, none_before, past, with_sets}

@@ -3,17 +3,17 @@ use Rattle.std.proofs.Common.{◌≡◌, ℕ, Box, Global, List, Vec, [], ◌∷
 use Rattle.std.specs.Prelude.{flat_map, replicate}
 use Rattle.std.proofs.lemmas.List.Folds.{flat_map-map}
 use Rattle.filter_code.specs.declared.instruction.Instr.TheVariants as instr
-use Rattle.expression_parser.specs.declared.tree.expr.Attribute.{Attribute}
-use Rattle.expression_parser.specs.declared.tree.expr.Expr.{Expr}
-use Rattle.expression_parser.specs.declared.tree.expr.Expr.TheFolds.{fold-roll-Expr, ind-Expr, map-Expr}
-use Rattle.expression_parser.specs.declared.tree.expr.Expr.TheOpen.{Expr-F}
-use Rattle.expression_parser.specs.declared.tree.expr.Expr.TheVariants as e
-use Rattle.expression_parser.specs.declared.tree.op.Membership.{Membership}
-use Rattle.expression_parser.specs.declared.tree.op.Op.{Op}
-use Rattle.expression_parser.specs.declared.tree.op.Op.TheVariants as op
-use Rattle.expression_parser.specs.declared.tree.op.Suffix.{Suffix}
-use Rattle.expression_parser.specs.declared.tree.set.Set.{Set}
-use Rattle.expression_parser.specs.Places.{expr_place, expr_place_step}
+use Rattle.filter_syntax.specs.declared.tree.expr.Attribute.{Attribute}
+use Rattle.filter_syntax.specs.declared.tree.expr.Expr.{Expr}
+use Rattle.filter_syntax.specs.declared.tree.expr.Expr.TheFolds.{fold-roll-Expr, ind-Expr, map-Expr}
+use Rattle.filter_syntax.specs.declared.tree.expr.Expr.TheOpen.{Expr-F}
+use Rattle.filter_syntax.specs.declared.tree.expr.Expr.TheVariants as e
+use Rattle.filter_syntax.specs.declared.tree.op.Membership.{Membership}
+use Rattle.filter_syntax.specs.declared.tree.op.Op.{Op}
+use Rattle.filter_syntax.specs.declared.tree.op.Op.TheVariants as op
+use Rattle.filter_syntax.specs.declared.tree.op.Suffix.{Suffix}
+use Rattle.filter_syntax.specs.declared.tree.set.Set.{Set}
+use Rattle.filter_syntax.specs.Places.{expr_place, expr_place_step}
 use Rattle.filter_compiler.specs.InstructionPlaces.{Origins, all_at, expression_places, origins, origins_step, right_places}
 use Rattle.filter_compiler.specs.InstructionPlaces.{suffixes_places}
 use Rattle.filter_compiler.specs.Translation.{member_code, operator_code}

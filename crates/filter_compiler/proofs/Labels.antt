@@ -4,11 +4,11 @@ use Rattle.std.proofs.Common.{List, [], ◌∷◌, length, map, get_or, refl, sy
 use Rattle.std.proofs.Common.{add-one, arith}
 use Rattle.std.proofs.Math.ListN.{drop}
 use Rattle.std.proofs.Math.Seq.{drop-cons}
-use Rattle.filter_parser.specs.SyntaxCommands.{commands_of, parts_of, part_then, view_command, view_label, view_part}
-use Rattle.filter_parser.specs.declared.tree.command.Command.{Command}
-use Rattle.filter_parser.specs.declared.tree.command.Label.{Label}
-use Rattle.filter_parser.specs.declared.tree.command.Label.TheVariants as label
-use Rattle.expression_parser.specs.declared.tree.set.SetRange.{SetRange}
+use Rattle.filter_syntax.specs.SyntaxCommands.{commands_of, parts_of, part_then, view_command, view_label, view_part}
+use Rattle.filter_syntax.specs.declared.tree.command.Command.{Command}
+use Rattle.filter_syntax.specs.declared.tree.command.Label.{Label}
+use Rattle.filter_syntax.specs.declared.tree.command.Label.TheVariants as label
+use Rattle.filter_syntax.specs.declared.tree.set.SetRange.{SetRange}
 use Rattle.filter_compiler.specs.Translation.{has_labelled}
 
 abbrev CasePart : Type 0

@@ -14,15 +14,15 @@ use Rattle.filter_code.specs.Machine.{Going, unless_full, carry_out}
 use Rattle.filter_code.specs.CodeView.{CodeView}
 use Rattle.filter_compiler.proofs.Reaching.{carried_over}
 use Rattle.int_sets.specs.Holding.{NumberRange, holds_any}
-use Rattle.filter_parser.specs.declared.tree.decl.Kind.{Kind}
-use Rattle.filter_parser.specs.declared.tree.decl.Kind.TheVariants as kind
-use Rattle.expression_parser.specs.declared.tree.op.Membership.{Membership}
-use Rattle.expression_parser.specs.declared.tree.op.Membership.TheVariants as membership
-use Rattle.expression_parser.specs.declared.tree.op.Op.{Op}
-use Rattle.expression_parser.specs.declared.tree.op.Op.TheVariants as o
-use Rattle.expression_parser.specs.declared.tree.op.Suffix.{Suffix}
-use Rattle.expression_parser.specs.declared.tree.op.Suffix.TheVariants as suffix
-use Rattle.expression_parser.specs.Syntax.{SetView, of_patterns, of_ranges}
+use Rattle.filter_syntax.specs.declared.tree.decl.Kind.{Kind}
+use Rattle.filter_syntax.specs.declared.tree.decl.Kind.TheVariants as kind
+use Rattle.filter_syntax.specs.declared.tree.op.Membership.{Membership}
+use Rattle.filter_syntax.specs.declared.tree.op.Membership.TheVariants as membership
+use Rattle.filter_syntax.specs.declared.tree.op.Op.{Op}
+use Rattle.filter_syntax.specs.declared.tree.op.Op.TheVariants as o
+use Rattle.filter_syntax.specs.declared.tree.op.Suffix.{Suffix}
+use Rattle.filter_syntax.specs.declared.tree.op.Suffix.TheVariants as suffix
+use Rattle.filter_syntax.specs.Syntax.{SetView, of_patterns, of_ranges}
 use Rattle.filter_types.specs.Table.{arithmetic, equality, order, within, operator, in_set, suffixed_by, negated}
 use Rattle.filter_compiler.specs.Meaning as meaning
 use Rattle.filter_compiler.specs.Meaning.{Scene, quotient, result_of, suffix_of, member_of}

@@ -5,15 +5,15 @@ use Rattle.filter_code.specs.declared.instruction.Instr.{Instr}
 use Rattle.filter_code.specs.declared.instruction.Instr.TheVariants as instr
 use Rattle.filter_code.specs.RouteView.{RouteView}
 use Rattle.filter_code.specs.CodeView as code
-use Rattle.filter_parser.specs.declared.tree.decl.Kind.TheVariants as kind
-use Rattle.expression_parser.specs.declared.tree.expr.Attribute.TheVariants as attributes
-use Rattle.expression_parser.specs.declared.tree.op.Membership.TheVariants as membership
-use Rattle.expression_parser.specs.declared.tree.op.Op.TheVariants as o
-use Rattle.expression_parser.specs.Syntax.{ExprView, number, truth, name, attribute, defined, binary, member}
-use Rattle.expression_parser.specs.Syntax.{group, between, of_patterns, of_ranges, one, from_to}
-use Rattle.filter_parser.specs.SyntaxCommands.{CommandView, block, if_then, if_else, assign, accept, reject, to_name, to_metric, DeclView}
-use Rattle.filter_parser.specs.SyntaxCommands.{case, commands_of, else_label, parts_of, ranges_label}
-use Rattle.filter_parser.specs.SyntaxText as syntax
+use Rattle.filter_syntax.specs.declared.tree.decl.Kind.TheVariants as kind
+use Rattle.filter_syntax.specs.declared.tree.expr.Attribute.TheVariants as attributes
+use Rattle.filter_syntax.specs.declared.tree.op.Membership.TheVariants as membership
+use Rattle.filter_syntax.specs.declared.tree.op.Op.TheVariants as o
+use Rattle.filter_syntax.specs.Syntax.{ExprView, number, truth, name, attribute, defined, binary, member}
+use Rattle.filter_syntax.specs.Syntax.{group, between, of_patterns, of_ranges, one, from_to}
+use Rattle.filter_syntax.specs.SyntaxCommands.{CommandView, block, if_then, if_else, assign, accept, reject, to_name, to_metric, DeclView}
+use Rattle.filter_syntax.specs.SyntaxCommands.{case, commands_of, else_label, parts_of, ranges_label}
+use Rattle.filter_syntax.specs.SyntaxText as syntax
 use Rattle.filter_compiler.specs.Need.{need}
 use Rattle.filter_compiler.specs.Translation.{code_of}
 use Rattle.filter_compiler.specs.Verdicts.{accepted, rejected, divided, meaning}

@@ -7,16 +7,16 @@ use Rattle.int_sets.specs.Holding.{NumberRange}
 use Rattle.prefix_patterns.specs.Matching.{PrefixPattern}
 use Rattle.filter_code.specs.declared.instruction.Instr.{Instr}
 use Rattle.filter_code.specs.declared.instruction.Instr.TheVariants as instr
-use Rattle.filter_parser.specs.declared.tree.command.Command.{Command}
-use Rattle.filter_parser.specs.declared.tree.decl.Decl.{Decl}
-use Rattle.expression_parser.specs.declared.tree.expr.Expr.{Expr}
-use Rattle.expression_parser.specs.declared.tree.op.Membership.{Membership}
-use Rattle.expression_parser.specs.declared.tree.op.Membership.TheVariants as membership
-use Rattle.expression_parser.specs.declared.tree.op.Op.{Op}
-use Rattle.expression_parser.specs.declared.tree.op.Op.TheVariants as o
-use Rattle.expression_parser.specs.declared.tree.op.Suffix.{Suffix}
-use Rattle.expression_parser.specs.Syntax.{ExprView, binary, suffixed, chain_of, suffixes_of, view, view_more}
-use Rattle.filter_parser.specs.SyntaxCommands.{CommandView, CommandsView, DeclView, LabelView, commands_of, parts_of, view_command, view_decl}
+use Rattle.filter_syntax.specs.declared.tree.command.Command.{Command}
+use Rattle.filter_syntax.specs.declared.tree.decl.Decl.{Decl}
+use Rattle.filter_syntax.specs.declared.tree.expr.Expr.{Expr}
+use Rattle.filter_syntax.specs.declared.tree.op.Membership.{Membership}
+use Rattle.filter_syntax.specs.declared.tree.op.Membership.TheVariants as membership
+use Rattle.filter_syntax.specs.declared.tree.op.Op.{Op}
+use Rattle.filter_syntax.specs.declared.tree.op.Op.TheVariants as o
+use Rattle.filter_syntax.specs.declared.tree.op.Suffix.{Suffix}
+use Rattle.filter_syntax.specs.Syntax.{ExprView, binary, suffixed, chain_of, suffixes_of, view, view_more}
+use Rattle.filter_syntax.specs.SyntaxCommands.{CommandView, CommandsView, DeclView, LabelView, commands_of, parts_of, view_command, view_decl}
 use Rattle.filter_types.proofs.Lists.{map_next}
 use Rattle.filter_compiler.specs.declared.output.Output.{Output}
 use Rattle.filter_compiler.specs.Translation.{joined_code, operator_code, commands_code, command_code, commands_sets, command_sets}

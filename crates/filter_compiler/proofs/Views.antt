@@ -1,19 +1,19 @@
 -- What is seen at an attribute with a suffix, at a negation, at a question for a set and at an assignment.
 use Rattle.std.proofs.Common.{◌≡◌, ℕ, Box, Global, ap, sym, ◌∙◌}
-use Rattle.expression_parser.specs.Syntax.{ExprView, attribute, member, negation, suffixed, view, view_expr_step, view_members}
-use Rattle.filter_parser.specs.SyntaxCommands.{CommandView, assign, view_command, view_step, view_target}
-use Rattle.filter_parser.specs.declared.tree.command.Command.TheFolds.{fold-roll-Command}
-use Rattle.filter_parser.specs.declared.tree.command.Command.TheOpen.{Command-F}
-use Rattle.filter_parser.specs.declared.tree.command.Command.TheVariants as c
-use Rattle.filter_parser.specs.declared.tree.command.Target.{Target}
-use Rattle.expression_parser.specs.declared.tree.expr.Attribute.{Attribute}
-use Rattle.expression_parser.specs.declared.tree.expr.Expr.{Expr}
-use Rattle.expression_parser.specs.declared.tree.expr.Expr.TheFolds.{fold-roll-Expr}
-use Rattle.expression_parser.specs.declared.tree.expr.Expr.TheOpen.{Expr-F}
-use Rattle.expression_parser.specs.declared.tree.expr.Expr.TheVariants as e
-use Rattle.expression_parser.specs.declared.tree.op.Membership.{Membership}
-use Rattle.expression_parser.specs.declared.tree.op.Suffix.{Suffix}
-use Rattle.expression_parser.specs.declared.tree.set.Set.{Set}
+use Rattle.filter_syntax.specs.Syntax.{ExprView, attribute, member, negation, suffixed, view, view_expr_step, view_members}
+use Rattle.filter_syntax.specs.SyntaxCommands.{CommandView, assign, view_command, view_step, view_target}
+use Rattle.filter_syntax.specs.declared.tree.command.Command.TheFolds.{fold-roll-Command}
+use Rattle.filter_syntax.specs.declared.tree.command.Command.TheOpen.{Command-F}
+use Rattle.filter_syntax.specs.declared.tree.command.Command.TheVariants as c
+use Rattle.filter_syntax.specs.declared.tree.command.Target.{Target}
+use Rattle.filter_syntax.specs.declared.tree.expr.Attribute.{Attribute}
+use Rattle.filter_syntax.specs.declared.tree.expr.Expr.{Expr}
+use Rattle.filter_syntax.specs.declared.tree.expr.Expr.TheFolds.{fold-roll-Expr}
+use Rattle.filter_syntax.specs.declared.tree.expr.Expr.TheOpen.{Expr-F}
+use Rattle.filter_syntax.specs.declared.tree.expr.Expr.TheVariants as e
+use Rattle.filter_syntax.specs.declared.tree.op.Membership.{Membership}
+use Rattle.filter_syntax.specs.declared.tree.op.Suffix.{Suffix}
+use Rattle.filter_syntax.specs.declared.tree.set.Set.{Set}
 
 pub view_part : (x : Expr) (at : ℕ) (a : Attribute) (s : Suffix) → x ≡ e.AttributePart at a s → view x ≡ suffixed (attribute a) s
 view_part x at a s is =

@@ -11,10 +11,10 @@ use Rattle.filter_code.specs.Machine.{Going, carry_out, outcome_of}
 use Rattle.filter_code.specs.CodeView.{CodeView}
 use Rattle.filter_code.specs.Steps.{config_of}
 use Rattle.filter_compiler.proofs.Reaching.{Reaches, begun, carried_on, carried_over}
-use Rattle.filter_parser.specs.declared.tree.decl.Kind.{Kind}
-use Rattle.filter_parser.specs.declared.tree.decl.Kind.TheVariants as kind
-use Rattle.filter_parser.specs.SyntaxCommands.{DeclView}
-use Rattle.filter_parser.specs.SyntaxText as syntax
+use Rattle.filter_syntax.specs.declared.tree.decl.Kind.{Kind}
+use Rattle.filter_syntax.specs.declared.tree.decl.Kind.TheVariants as kind
+use Rattle.filter_syntax.specs.SyntaxCommands.{DeclView}
+use Rattle.filter_syntax.specs.SyntaxText as syntax
 use Rattle.filter_types.specs.Kinds.{IsTyped}
 use Rattle.filter_compiler.specs.Meaning.{Scene}
 use Rattle.filter_compiler.specs.Need.{need, commands_need}

@@ -13,16 +13,16 @@ use Rattle.prefix_patterns.specs.Matching.{lies_within, matches_any}
 use Rattle.filter_code.specs.declared.value.Value.{Value}
 use Rattle.filter_code.specs.declared.value.Value.TheVariants as value
 use Rattle.filter_code.specs.RouteView.{RouteView}
-use Rattle.expression_parser.specs.declared.tree.expr.Attribute.{Attribute}
-use Rattle.expression_parser.specs.declared.tree.expr.Attribute.TheVariants as attributes
-use Rattle.expression_parser.specs.declared.tree.op.Membership.{Membership}
-use Rattle.expression_parser.specs.declared.tree.op.Membership.TheVariants as membership
-use Rattle.expression_parser.specs.declared.tree.op.Op.{Op}
-use Rattle.expression_parser.specs.declared.tree.op.Op.TheVariants as o
-use Rattle.expression_parser.specs.declared.tree.op.Suffix.{Suffix}
-use Rattle.expression_parser.specs.declared.tree.op.Suffix.TheVariants as suffix
-use Rattle.expression_parser.specs.Syntax.{ExprView, number, address, prefix, truth, name, attribute, defined, group, negation, binary, member}
-use Rattle.expression_parser.specs.Syntax.{suffixed, SetView, of_patterns, of_ranges, pattern_of, range_of}
+use Rattle.filter_syntax.specs.declared.tree.expr.Attribute.{Attribute}
+use Rattle.filter_syntax.specs.declared.tree.expr.Attribute.TheVariants as attributes
+use Rattle.filter_syntax.specs.declared.tree.op.Membership.{Membership}
+use Rattle.filter_syntax.specs.declared.tree.op.Membership.TheVariants as membership
+use Rattle.filter_syntax.specs.declared.tree.op.Op.{Op}
+use Rattle.filter_syntax.specs.declared.tree.op.Op.TheVariants as o
+use Rattle.filter_syntax.specs.declared.tree.op.Suffix.{Suffix}
+use Rattle.filter_syntax.specs.declared.tree.op.Suffix.TheVariants as suffix
+use Rattle.filter_syntax.specs.Syntax.{ExprView, number, address, prefix, truth, name, attribute, defined, group, negation, binary, member}
+use Rattle.filter_syntax.specs.Syntax.{suffixed, SetView, of_patterns, of_ranges, pattern_of, range_of}
 
 -- a variable and its value
 pub record Bound : Type 0 where

@@ -1,13 +1,13 @@
 -- How many operands a filter needs at one time. (This project's own choice.)
 use Rattle.std.specs.Prelude.{ℕ, ◌+◌, max, List, [], ◌∷◌}
-use Rattle.expression_parser.specs.declared.tree.op.Op.{Op}
-use Rattle.expression_parser.specs.declared.tree.op.Op.TheVariants as o
-use Rattle.expression_parser.specs.Syntax.{ExprView, number, address, prefix, truth, name, attribute, defined, group, negation, binary, member}
-use Rattle.expression_parser.specs.Syntax.{suffixed}
-use Rattle.filter_parser.specs.SyntaxCommands.{CommandView, empty, block, if_then, if_else, case, assign}
-use Rattle.filter_parser.specs.SyntaxCommands.{accept, reject, CommandsView, no_commands, command_then}
-use Rattle.filter_parser.specs.SyntaxCommands.{TargetView, to_metric, DeclView, PartsView, no_parts, part_then}
-use Rattle.filter_parser.specs.SyntaxText as syntax
+use Rattle.filter_syntax.specs.declared.tree.op.Op.{Op}
+use Rattle.filter_syntax.specs.declared.tree.op.Op.TheVariants as o
+use Rattle.filter_syntax.specs.Syntax.{ExprView, number, address, prefix, truth, name, attribute, defined, group, negation, binary, member}
+use Rattle.filter_syntax.specs.Syntax.{suffixed}
+use Rattle.filter_syntax.specs.SyntaxCommands.{CommandView, empty, block, if_then, if_else, case, assign}
+use Rattle.filter_syntax.specs.SyntaxCommands.{accept, reject, CommandsView, no_commands, command_then}
+use Rattle.filter_syntax.specs.SyntaxCommands.{TargetView, to_metric, DeclView, PartsView, no_parts, part_then}
+use Rattle.filter_syntax.specs.SyntaxText as syntax
 
 -- the left operand waits while the right one is worked out; of `&&` and `||` it does not
 abbrev pub joined_need : Op → ℕ → ℕ → ℕ

@@ -7,7 +7,7 @@ use Rattle.filter_code.specs.Limits.{stack_limit}
 use Rattle.filter_code.specs.RouteView.{RouteView}
 use Rattle.filter_code.specs.Machine.{outcome_of}
 use Rattle.filter_code.specs.CodeView as code
-use Rattle.filter_parser.specs.SyntaxText as syntax
+use Rattle.filter_syntax.specs.SyntaxText as syntax
 use Rattle.filter_compiler.specs.Need.{need}
 use Rattle.filter_compiler.specs.Verdicts.{Verdict, accepted, rejected, divided, meaning}
 

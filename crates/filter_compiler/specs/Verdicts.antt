@@ -7,13 +7,13 @@ use Rattle.int_sets.specs.Holding.{holds_any}
 use Rattle.filter_code.specs.declared.value.Value.{Value}
 use Rattle.filter_code.specs.declared.value.Value.TheVariants as value
 use Rattle.filter_code.specs.RouteView.{RouteView}
-use Rattle.filter_parser.specs.declared.tree.decl.Kind.{Kind}
-use Rattle.filter_parser.specs.declared.tree.decl.Kind.TheVariants as kind
-use Rattle.filter_parser.specs.SyntaxCommands.{CommandView, empty, block, if_then, if_else, case, assign}
-use Rattle.filter_parser.specs.SyntaxCommands.{accept, reject, CommandsView, no_commands, command_then}
-use Rattle.filter_parser.specs.SyntaxCommands.{TargetView, to_name, to_metric, DeclView, ranges_label, else_label, PartsView, no_parts, part_then}
-use Rattle.expression_parser.specs.Syntax.{range_of}
-use Rattle.filter_parser.specs.SyntaxText as syntax
+use Rattle.filter_syntax.specs.declared.tree.decl.Kind.{Kind}
+use Rattle.filter_syntax.specs.declared.tree.decl.Kind.TheVariants as kind
+use Rattle.filter_syntax.specs.SyntaxCommands.{CommandView, empty, block, if_then, if_else, case, assign}
+use Rattle.filter_syntax.specs.SyntaxCommands.{accept, reject, CommandsView, no_commands, command_then}
+use Rattle.filter_syntax.specs.SyntaxCommands.{TargetView, to_name, to_metric, DeclView, ranges_label, else_label, PartsView, no_parts, part_then}
+use Rattle.filter_syntax.specs.Syntax.{range_of}
+use Rattle.filter_syntax.specs.SyntaxText as syntax
 use Rattle.filter_compiler.specs.Meaning.{Bound, Scene, value_of}
 
 -- what a filter says of a route: it accepts it with a metric, rejects it, or is divided, which counts as rejected

@@ -5,10 +5,10 @@ use Rattle.prefix_patterns.specs.Matching.{pattern_limit}
 use Rattle.filter_code.specs.Limits.{instruction_limit, set_limit, int_set_limit}
 use Rattle.filter_code.specs.declared.instruction.Instr.{Instr}
 use Rattle.filter_code.specs.declared.instruction.Instr.TheVariants as instr
-use Rattle.expression_parser.specs.declared.tree.op.Membership.{Membership}
-use Rattle.expression_parser.specs.declared.tree.op.Op.{Op}
-use Rattle.expression_parser.specs.Syntax.{ExprView, RangeView, SetView}
-use Rattle.filter_parser.specs.SyntaxCommands.{CommandView, CommandsView, DeclView, PartsView}
+use Rattle.filter_syntax.specs.declared.tree.op.Membership.{Membership}
+use Rattle.filter_syntax.specs.declared.tree.op.Op.{Op}
+use Rattle.filter_syntax.specs.Syntax.{ExprView, RangeView, SetView}
+use Rattle.filter_syntax.specs.SyntaxCommands.{CommandView, CommandsView, DeclView, PartsView}
 use Rattle.filter_compiler.specs.Limits.{AreTooMany}
 use Rattle.filter_compiler.specs.SetOrder.{Sets, SetCounts, no_sets, none_before, past, with_sets}
 use Rattle.filter_compiler.specs.Translation.{sets_of, expression_code, joined_code, member_code, command_sets, command_code}

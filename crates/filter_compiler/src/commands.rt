@@ -2,10 +2,10 @@
 
 ghost use Rattle.std.specs.Prelude.{◌≡◌, ◌≤◌, List, ◌∷◌, [], ◌++◌, flat_map, length, map};
 ghost use Rattle.filter_code.specs.CodeView.{HasMask};
-ghost use Rattle.expression_parser.specs.Syntax.{RangeView, view};
-ghost use Rattle.filter_parser.specs.SyntaxCommands.{case, commands_of, parts_of, view_command, view_decl, view_part, view_target};
-ghost use Rattle.filter_parser.specs.SyntaxText.{view_filter};
-ghost use Rattle.filter_parser.specs.Surroundings.{variable_limit};
+ghost use Rattle.filter_syntax.specs.Syntax.{RangeView, view};
+ghost use Rattle.filter_syntax.specs.SyntaxCommands.{case, commands_of, parts_of, view_command, view_decl, view_part, view_target};
+ghost use Rattle.filter_syntax.specs.SyntaxText.{view_filter};
+ghost use Rattle.filter_syntax.specs.Surroundings.{variable_limit};
 ghost use Rattle.filter_compiler.specs.InstructionPlaces.{case_places, command_places, decl_places, expression_places};
 ghost use Rattle.filter_compiler.specs.InstructionPlaces.{label_place, part_of, parts_places, target_places};
 ghost use Rattle.filter_compiler.specs.Translation.{commands_code, declarations_code, expression_code, first_value, metric_code, target_code};
@@ -17,7 +17,7 @@ use crate::numbers::SetNumbers;
 use crate::output::Output;
 use crate::sets::{after_commands, after_expr, after_parts, has_labelled};
 use filter_code::{INSTRUCTION_LIMIT, Instr};
-use filter_parser::{Command, Decl, Expr, Kind, Label, SetRange, Target};
+use filter_syntax::{Command, Decl, Expr, Kind, Label, SetRange, Target};
 use filter_types::Typed;
 use prefix_patterns::{Ip, Prefix};
 

@@ -1,9 +1,9 @@
 //! A filter becomes code.
 
 ghost use Rattle.std.specs.Prelude.{◌≡◌, ◌↔◌, ◌≤◌, true, IfOk, IsErrOf, length};
-ghost use Rattle.filter_parser.specs.Places.{end_place};
-ghost use Rattle.filter_parser.specs.SyntaxText.{view_filter};
-ghost use Rattle.filter_parser.specs.Surroundings.{variable_limit};
+ghost use Rattle.filter_syntax.specs.Places.{end_place};
+ghost use Rattle.filter_syntax.specs.SyntaxText.{view_filter};
+ghost use Rattle.filter_syntax.specs.Surroundings.{variable_limit};
 ghost use Rattle.filter_code.specs.CodeView.{IsAllowed, CodeView};
 ghost use Rattle.filter_compiler.specs.InstructionPlaces.{places_of};
 ghost use Rattle.filter_compiler.specs.Limits.{HasTooMany, IsTooLong};
@@ -17,7 +17,7 @@ use crate::numbers::SetNumbers;
 use crate::output::Output;
 use crate::sets::{SetLists, build_int_sets, build_sets, sets_in};
 use filter_code::{Code, INSTRUCTION_LIMIT, Instr};
-use filter_parser::Filter;
+use filter_syntax::Filter;
 use filter_types::Typed;
 use int_sets::IntSet;
 use prefix_patterns::PatternSet;

@@ -2,9 +2,9 @@
 
 ghost use Rattle.std.specs.Prelude.{◌≡◌, ℕ, [], ◌∷◌, ◌++◌, flat_map, length, map, min, replicate};
 ghost use Rattle.filter_code.specs.CodeView.{HasMask};
-ghost use Rattle.expression_parser.specs.Places.{expr_place};
-ghost use Rattle.expression_parser.specs.Syntax.{ExprView, chain_of, suffixes_of, view, view_members, view_more};
-ghost use Rattle.filter_parser.specs.SyntaxText.{view_filter};
+ghost use Rattle.filter_syntax.specs.Places.{expr_place};
+ghost use Rattle.filter_syntax.specs.Syntax.{ExprView, chain_of, suffixes_of, view, view_members, view_more};
+ghost use Rattle.filter_syntax.specs.SyntaxText.{view_filter};
 ghost use Rattle.filter_compiler.specs.InstructionPlaces.{all_at, expression_places, right_places, suffixes_places};
 ghost use Rattle.filter_compiler.specs.SetOrder.{SetCounts};
 ghost use Rattle.filter_compiler.specs.Translation.{attribute_code, expression_code, member_code, operator_code, suffix_code};
@@ -15,7 +15,7 @@ ghost use Rattle.filter_compiler.specs.Written.{Emits, IsCounted, Notes, Puts, c
 use crate::numbers::SetNumbers;
 use crate::output::Output;
 use filter_code::{INT_SET_LIMIT, Instr, SET_LIMIT};
-use filter_parser::{Attribute, Expr, Members, Membership, Op, Set, Suffix};
+use filter_syntax::{Attribute, Expr, Members, Membership, Op, Set, Suffix};
 use filter_types::Typed;
 
 /// The instruction that puts an attribute of the route on the stack.

@@ -14,7 +14,7 @@ pub(crate) struct SetNumbers {
 
 impl SetNumbers {
     ghost use Rattle.std.specs.Prelude.{List};
-    ghost use Rattle.expression_parser.specs.Syntax.{RangeView, SetPatternView, of_patterns};
+    ghost use Rattle.filter_syntax.specs.Syntax.{RangeView, SetPatternView, of_patterns};
 
     /// Those of the first sets.
     pub(crate) fn first() -> SetNumbers

@@ -4,10 +4,10 @@
 //! patterns.
 
 ghost use Rattle.std.specs.Prelude.{◌≡◌, ◌≤◌, [], ◌∷◌, ◌++◌, All, IfOk, OnOk, length, map};
-ghost use Rattle.expression_parser.specs.Syntax.{ExprView, chain_of, of_patterns, pattern_of, range_of, view};
-ghost use Rattle.expression_parser.specs.Syntax.{view_members, view_more, view_range, view_set_pattern};
-ghost use Rattle.filter_parser.specs.SyntaxCommands.{commands_of, parts_of, view_command, view_label, view_part};
-ghost use Rattle.filter_parser.specs.SyntaxText.{view_filter};
+ghost use Rattle.filter_syntax.specs.Syntax.{ExprView, chain_of, of_patterns, pattern_of, range_of, view};
+ghost use Rattle.filter_syntax.specs.Syntax.{view_members, view_more, view_range, view_set_pattern};
+ghost use Rattle.filter_syntax.specs.SyntaxCommands.{commands_of, parts_of, view_command, view_label, view_part};
+ghost use Rattle.filter_syntax.specs.SyntaxText.{view_filter};
 ghost use Rattle.filter_compiler.specs.SetOrder.{SetCounts, no_sets, past};
 ghost use Rattle.filter_compiler.specs.Translation.{command_sets, commands_sets, has_labelled, label_sets, one_set};
 ghost use Rattle.filter_compiler.specs.Translation.{opening_sets, parts_sets, ranges_set, sets_of};
@@ -18,7 +18,7 @@ ghost use Rattle.prefix_patterns.specs.Matching.{pattern_limit};
 
 use crate::numbers::SetNumbers;
 use filter_code::{INT_SET_LIMIT, SET_LIMIT};
-use filter_parser::{Command, Expr, Label, Members, Op, SetPattern, SetRange};
+use filter_syntax::{Command, Expr, Label, Members, Op, SetPattern, SetRange};
 use filter_types::Typed;
 use int_sets::{IntRange, IntSet, RANGE_LIMIT};
 use prefix_patterns::{PATTERN_LIMIT, Pattern, PatternSet, SetFault};

@@ -1,6 +1,6 @@
 -- What `check` says of a source. (This project's own choice.)
 use Rattle.std.specs.Prelude.{◌≡◌, ◌⊎◌, ℕ, Bool, true, false, if◌then◌else◌, is_some, List, [], Option, Some, None}
-use Rattle.filter_parser.specs.SyntaxText.{FilterView}
+use Rattle.filter_syntax.specs.SyntaxText.{FilterView}
 use Rattle.filter_reports.specs.Check.{AreLines}
 use Rattle.filter_reports.specs.Checking.{EndsWith, IsDiagnosis}
 use Rattle.filter_reports.specs.Marking.{written_lines}
@@ -11,7 +11,7 @@ use Rattle.filter_reports.specs.declared.wording.Wording.{Wording}
 use Rattle.filter_reports.specs.declared.wording.Wording.TheVariants.{Nothing}
 use Rattle.filter_source.specs.TextPlaces.{ArePlacesOf}
 use Rattle.filter_source.specs.declared.diagnosis.Diagnosis.{Diagnosis}
-use Rattle.refusal_reports.specs.Refusing.{IsCheckFinding}
+use Rattle.filter_reports.specs.Refusing.{IsCheckFinding}
 use Rattle.report_formats.specs.declared.format.Format.{Format}
 use Rattle.report_formats.specs.declared.format.Format.TheVariants as formats
 use Rattle.report_formats.specs.declared.options.CheckOptions.{CheckOptions}

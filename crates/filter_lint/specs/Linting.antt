@@ -4,13 +4,13 @@ use Rattle.std.specs.declared.alloc.Global.{Global}
 use Rattle.filter_code.specs.CodeView.{CodeView}
 use Rattle.filter_diff.specs.Parts.{IsEnough}
 use Rattle.filter_reports.specs.Checking.{IsDiagnosis}
-use Rattle.filter_parser.specs.SyntaxText.{FilterView}
+use Rattle.filter_syntax.specs.SyntaxText.{FilterView}
 use Rattle.filter_source.specs.TextPlaces.{ArePlacesOf}
 use Rattle.filter_source.specs.declared.diagnosis.Diagnosis.{Diagnosis}
 use Rattle.filter_reports.specs.VerifiedFilters.{IsFilterOf}
 use Rattle.filter_reports.specs.Notices.{Named, words_or_line}
 use Rattle.filter_reports.specs.Reports.{ReportView}
-use Rattle.refusal_reports.specs.Refusing.{IsRefusalReport}
+use Rattle.filter_reports.specs.Refusing.{IsRefusalReport}
 use Rattle.report_formats.specs.declared.format.Format.{Format}
 use Rattle.report_formats.specs.declared.options.LintOptions.{LintOptions}
 use Rattle.filter_lint.specs.Allowing.{shown_host_bits, shown_of}

@@ -7,11 +7,10 @@ ghost use Rattle.filter_lint.specs.Checking as spec;
 
 use crate::linting::{host_bits_lines, warn};
 use filter_reports::{
-    Checked, NamedText, Report, SurveyedSource, Wording, check_text, notice_if, status_of_found,
-    written_lines,
+    Checked, NamedText, Report, SurveyedSource, Wording, check_finding, check_text, notice_if,
+    status_of_found, written_lines,
 };
 use filter_source::Diagnosis;
-use refusal_reports::check_finding;
 use report_formats::{CheckOptions, Format, LintOptions};
 use std::alloc::{AllocError, Global};
 

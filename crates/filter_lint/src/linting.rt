@@ -21,11 +21,10 @@ use crate::surveyed_filter::SurveyedFilter;
 use crate::warning::Warning;
 use crate::warning_lines::{host_bits_text, warnings_text};
 use filter_reports::{
-    Checked, FAILED, FAULT, NamedText, Report, SurveyedSource, Wording, check_text,
+    Checked, FAILED, FAULT, NamedText, Report, SurveyedSource, Wording, check_text, refusal_report,
 };
 use filter_tokens::Token;
 use prefix_patterns::PatternSet;
-use refusal_reports::refusal_report;
 use report_formats::{Format, LintOptions};
 use std::alloc::{AllocError, Global};
 

@@ -7,7 +7,7 @@ use Rattle.filter_parser.specs.ReadingCommands.{command_at, block_at, case_at, c
 use Rattle.expression_parser.specs.Readers.{Reader}
 use Rattle.expression_parser.specs.Reading.{expr_at}
 use Rattle.prefix_patterns.specs.Reading.{◌>>=◌}
-use Rattle.filter_parser.specs.SyntaxCommands.{CommandView, CommandsView, commands_of}
+use Rattle.filter_syntax.specs.SyntaxCommands.{CommandView, CommandsView, commands_of}
 
 -- a command where this many more levels may nest, by its first lexeme
 pub command_is : (depth : ℕ) (ws : List Lexeme) → command_at depth ws ≡ command_with (expr_at depth) (block_at depth) (if_at depth) (case_at depth) ws

@@ -5,7 +5,7 @@ use Rattle.filter_tokens.specs.Lexemes.{Lexeme}
 use Rattle.filter_parser.specs.ReadingCommands.{part_begins, part_of, parts_from, parts_with}
 use Rattle.expression_parser.specs.Readers.{Reader}
 use Rattle.prefix_patterns.specs.Reading.{◌>>=◌}
-use Rattle.filter_parser.specs.SyntaxCommands.{CommandsView, LabelView, PartsView, has_ranges, parts_of}
+use Rattle.filter_syntax.specs.SyntaxCommands.{CommandsView, LabelView, PartsView, has_ranges, parts_of}
 
 -- a part: its label and its commands
 abbrev pub CasePartView : Type 0

@@ -8,11 +8,11 @@ use Rattle.filter_parser.specs.ReadingCommands.{an_else, case_with, command_begi
 use Rattle.filter_parser.specs.ReadingCommands.{part_begins, parts_from, parts_with, ranges_label_from}
 use Rattle.expression_parser.specs.Readers.{Reader, symbol}
 use Rattle.expression_parser.specs.Reading.{expr_at}
-use Rattle.expression_parser.specs.Syntax.{ExprView, RangeView, Fits, FitsMoreRanges, FitsRange, spelling, spelling_more_ranges}
-use Rattle.filter_parser.specs.SyntaxCommands.{TargetView, CommandView, CommandsView, FitsCommand, FitsCommands}
-use Rattle.filter_parser.specs.SyntaxCommands.{is_open, spelling_command, spelling_commands}
-use Rattle.filter_parser.specs.SyntaxCommands.{FitsLabel, FitsParts, LabelView, PartsView, has_ranges, spelling_label}
-use Rattle.filter_parser.specs.SyntaxCommands.{spelling_parts, spelling_target, spelling_end}
+use Rattle.filter_syntax.specs.Syntax.{ExprView, RangeView, Fits, FitsMoreRanges, FitsRange, spelling, spelling_more_ranges}
+use Rattle.filter_syntax.specs.SyntaxCommands.{TargetView, CommandView, CommandsView, FitsCommand, FitsCommands}
+use Rattle.filter_syntax.specs.SyntaxCommands.{is_open, spelling_command, spelling_commands}
+use Rattle.filter_syntax.specs.SyntaxCommands.{FitsLabel, FitsParts, LabelView, PartsView, has_ranges, spelling_label}
+use Rattle.filter_syntax.specs.SyntaxCommands.{spelling_parts, spelling_target, spelling_end}
 use Rattle.filter_parser.proofs.Bodies.{command_is}
 use Rattle.expression_parser.proofs.Ranges.{after_int, first_int, ranges_back}
 

@@ -11,11 +11,11 @@ use Rattle.filter_parser.specs.ReadingCommands.{an_else, case_with, command_begi
 use Rattle.filter_parser.specs.ReadingCommands.{label_of, part_begins, part_of, parts_from, parts_with}
 use Rattle.filter_parser.specs.ReadingCommands.{ranges_label_from, rejects}
 use Rattle.expression_parser.specs.Reading.{expr_at, ranges_from}
-use Rattle.expression_parser.specs.Syntax.{ExprView, Fits, spelling, spelling_ranges}
-use Rattle.filter_parser.specs.SyntaxCommands.{TargetView, CommandView, CommandsView, FitsCommand, FitsCommands}
-use Rattle.filter_parser.specs.SyntaxCommands.{is_open, spelling_command, spelling_commands}
-use Rattle.filter_parser.specs.SyntaxCommands.{FitsLabel, FitsParts, LabelView, PartsView, has_ranges, spelling_label}
-use Rattle.filter_parser.specs.SyntaxCommands.{spelling_parts, spelling_target, spelling_end}
+use Rattle.filter_syntax.specs.Syntax.{ExprView, Fits, spelling, spelling_ranges}
+use Rattle.filter_syntax.specs.SyntaxCommands.{TargetView, CommandView, CommandsView, FitsCommand, FitsCommands}
+use Rattle.filter_syntax.specs.SyntaxCommands.{is_open, spelling_command, spelling_commands}
+use Rattle.filter_syntax.specs.SyntaxCommands.{FitsLabel, FitsParts, LabelView, PartsView, has_ranges, spelling_label}
+use Rattle.filter_syntax.specs.SyntaxCommands.{spelling_parts, spelling_target, spelling_end}
 use Rattle.filter_parser.proofs.Joined.{both_joined, case_joined, part_joined, assign_joined, block_joined, if_joined, else_joined, front_joined}
 use Rattle.expression_parser.proofs.Ranges.{ranges_sound}
 use Rattle.expression_parser.proofs.SoundWords.{number_found}

@@ -1,9 +1,9 @@
 -- The loop over declarations, beside the function that reads them.
 use Rattle.std.proofs.Common.{◌≡◌, ◌<◌, List, [], ◌∷◌, ◌++◌, length, Option, Some, None, refl, arith}
 use Rattle.filter_tokens.specs.Lexemes.{Lexeme}
-use Rattle.filter_parser.specs.declared.tree.decl.Kind.{Kind}
+use Rattle.filter_syntax.specs.declared.tree.decl.Kind.{Kind}
 use Rattle.filter_parser.specs.ReadingCommands.{a_kind, decl_with, decl_turn, decls_after}
-use Rattle.filter_parser.specs.SyntaxCommands.{DeclView}
+use Rattle.filter_syntax.specs.SyntaxCommands.{DeclView}
 use Rattle.expression_parser.proofs.Turns.{Goes}
 use Rattle.expression_parser.proofs.Turns as turns
 

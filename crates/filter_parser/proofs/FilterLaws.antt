@@ -5,17 +5,17 @@ use Rattle.std.proofs.lemmas.List.{append-nil}
 use Rattle.filter_tokens.specs.Lexemes.{Lexeme}
 use Rattle.filter_tokens.specs.declared.symbol.Symbol.{Symbol}
 use Rattle.filter_tokens.specs.declared.symbol.Symbol.TheVariants as symbols
-use Rattle.filter_parser.specs.declared.tree.decl.Kind.{Kind}
-use Rattle.filter_parser.specs.declared.tree.decl.Kind.TheVariants as kind
+use Rattle.filter_syntax.specs.declared.tree.decl.Kind.{Kind}
+use Rattle.filter_syntax.specs.declared.tree.decl.Kind.TheVariants as kind
 use Rattle.filter_parser.specs.ReadingCommands.{SaidView, command_at, commands_with, decl_turn, decl_with, decls_after, filter_of, a_kind}
 use Rattle.expression_parser.specs.Readers.{a_name, turns, symbol}
 use Rattle.filter_parser.specs.ReadingCommands.{kind_of, nothing_after}
 use Rattle.expression_parser.specs.Reading.{expr_at}
-use Rattle.expression_parser.specs.Syntax.{nesting_limit}
-use Rattle.filter_parser.specs.SyntaxCommands.{TargetView, CommandView, CommandsView, DeclView, FitsCommands}
-use Rattle.filter_parser.specs.SyntaxCommands.{kind_symbol, spelling_command, spelling_commands}
-use Rattle.filter_parser.specs.SyntaxCommands.{spelling_decl, spelling_decls}
-use Rattle.filter_parser.specs.SyntaxText.{spelling_filter}
+use Rattle.filter_syntax.specs.Syntax.{nesting_limit}
+use Rattle.filter_syntax.specs.SyntaxCommands.{TargetView, CommandView, CommandsView, DeclView, FitsCommands}
+use Rattle.filter_syntax.specs.SyntaxCommands.{kind_symbol, spelling_command, spelling_commands}
+use Rattle.filter_syntax.specs.SyntaxCommands.{spelling_decl, spelling_decls}
+use Rattle.filter_syntax.specs.SyntaxText.{spelling_filter}
 use Rattle.filter_parser.proofs.CommandsComplete.{AreComplete, brace_ends, command_complete, commands_with_complete}
 use Rattle.filter_parser.proofs.CommandsSound.{AreSound, command_sound, commands_with_sound}
 use Rattle.expression_parser.proofs.Complete.{expr_complete}

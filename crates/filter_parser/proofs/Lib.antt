@@ -9,4 +9,3 @@ pub mod Joined
 pub mod Placing
 pub mod Rows
 pub mod Texts
-pub mod Views

@@ -8,9 +8,9 @@ use Rattle.filter_tokens.specs.declared.symbol.Symbol.TheVariants as symbol
 use Rattle.filter_tokens.specs.declared.token.Token.{Token}
 use Rattle.filter_tokens.specs.declared.token_kind.TokenKind.TheVariants as kind
 use Rattle.filter_tokens.proofs.Rows.{are_parts}
-use Rattle.expression_parser.specs.Syntax.{ExprView, nesting_limit}
-use Rattle.filter_parser.specs.SyntaxCommands.{CommandView, CommandsView, FitsCommands}
-use Rattle.filter_parser.specs.SyntaxText.{FilterView, IsText}
+use Rattle.filter_syntax.specs.Syntax.{ExprView, nesting_limit}
+use Rattle.filter_syntax.specs.SyntaxCommands.{CommandView, CommandsView, FitsCommands}
+use Rattle.filter_syntax.specs.SyntaxText.{FilterView, IsText}
 
 -- the tokens of `filter a{accept;}`
 abbrev tokens : List Token

@@ -5,9 +5,9 @@ use Rattle.filter_tokens.specs.Lexemes.{lexemes}
 use Rattle.filter_tokens.specs.declared.token.Token.{Token}
 use Rattle.filter_tokens.proofs.Tokenized.{tokenized_once}
 use Rattle.filter_parser.specs.ReadingCommands.{SaidView, filter_of}
-use Rattle.filter_parser.specs.SyntaxCommands.{DeclView}
-use Rattle.expression_parser.specs.Codes.{text_limit}
-use Rattle.filter_parser.specs.SyntaxText.{IsText, FilterView}
+use Rattle.filter_syntax.specs.SyntaxCommands.{DeclView}
+use Rattle.filter_syntax.specs.Syntax.{text_limit}
+use Rattle.filter_syntax.specs.SyntaxText.{IsText, FilterView}
 use Rattle.filter_parser.proofs.FilterLaws.{filter_complete, filter_sound}
 use Rattle.expression_parser.proofs.Steps.{some_is}
 

@@ -8,19 +8,19 @@ use Rattle.filter_tokens.specs.declared.symbol.Symbol.TheVariants as symbols
 use Rattle.filter_tokens.specs.declared.token.Token.{Token}
 use Rattle.expression_parser.specs.declared.input.Input.{Input}
 use Rattle.filter_parser.specs.declared.parts.Parts.{Parts}
-use Rattle.filter_parser.specs.declared.tree.command.Command.{Command}
-use Rattle.filter_parser.specs.declared.tree.command.Label.{Label}
-use Rattle.filter_parser.specs.declared.tree.decl.Kind.{Kind}
-use Rattle.filter_parser.specs.declared.tree.decl.Kind.TheVariants as kind
+use Rattle.filter_syntax.specs.declared.tree.command.Command.{Command}
+use Rattle.filter_syntax.specs.declared.tree.command.Label.{Label}
+use Rattle.filter_syntax.specs.declared.tree.decl.Kind.{Kind}
+use Rattle.filter_syntax.specs.declared.tree.decl.Kind.TheVariants as kind
 use Rattle.expression_parser.specs.Readers.{Reading, Reader, Skip, Turn, ◌>>=◌, ◌>>◌, after◌then◌else◌, with◌then◌else◌}
 use Rattle.expression_parser.specs.Readers.{when◌then◌else◌, done, given, is_there, refused}
 use Rattle.expression_parser.specs.Readers.{again, stop, turns, symbol, quote, a_name, a_number}
 use Rattle.expression_parser.specs.Reading.{expr_at, ranges_from}
 use Rattle.expression_parser.specs.Steps.{remaining}
-use Rattle.expression_parser.specs.Syntax.{ExprView, nesting_limit}
-use Rattle.filter_parser.specs.SyntaxCommands.{TargetView, CommandView, CommandsView, LabelView, PartsView}
-use Rattle.filter_parser.specs.SyntaxCommands.{DeclView, commands_of, has_ranges, parts_of}
-use Rattle.filter_parser.specs.SyntaxCommands.{view_command, view_decl, view_label, view_part}
+use Rattle.filter_syntax.specs.Syntax.{ExprView, nesting_limit}
+use Rattle.filter_syntax.specs.SyntaxCommands.{TargetView, CommandView, CommandsView, LabelView, PartsView}
+use Rattle.filter_syntax.specs.SyntaxCommands.{DeclView, commands_of, has_ranges, parts_of}
+use Rattle.filter_syntax.specs.SyntaxCommands.{view_command, view_decl, view_label, view_part}
 
 -- a command that the program read, as the reading functions answer it
 abbrev pub command_read_of : Command × Input → CommandView × List Lexeme

@@ -1,13 +1,13 @@
 //! The labels of the parts of a `case`.
 
 ghost use Rattle.std.specs.Prelude.{◌≡◌, ◌&&◌, ◌∷◌, ◌++◌, ◌≤◌, [], Some, None, IfOk, length};
-ghost use Rattle.filter_parser.specs.Placed.{label_kept};
+ghost use Rattle.filter_syntax.specs.Placed.{label_kept};
 ghost use Rattle.filter_parser.specs.ReadingCommands as spec;
 ghost use Rattle.expression_parser.specs.Steps.{Reads, Continues, ReadsAs, StaysWithinAfter, remaining};
-ghost use Rattle.filter_parser.specs.SyntaxCommands.{has_ranges, view_label};
+ghost use Rattle.filter_syntax.specs.SyntaxCommands.{has_ranges, view_label};
 
-use crate::tree::Label;
 use expression_parser::{Expected, Input, ParseFault, parse_ranges_from};
+use filter_syntax::Label;
 use filter_tokens::Symbol;
 use std::alloc::Global;
 

@@ -4,18 +4,18 @@ ghost use Rattle.std.specs.Prelude.{◌≡◌, ◌≢◌, ◌∷◌, ◌++◌, �
 ghost use Rattle.expression_parser.specs.declared.fault.ParseFault.TheVariants.{Memory};
 ghost use Rattle.expression_parser.specs.Codes.{LiesWithin};
 ghost use Rattle.filter_parser.specs.ReadingCommands as spec;
-ghost use Rattle.expression_parser.specs.Placed.{expr_kept, joined};
-ghost use Rattle.filter_parser.specs.Placed.{command_kept, end_kept, part_kept};
+ghost use Rattle.filter_syntax.specs.Placed.{expr_kept, joined};
+ghost use Rattle.filter_syntax.specs.Placed.{command_kept, end_kept, part_kept};
 ghost use Rattle.expression_parser.specs.Reading.{expr_at};
 ghost use Rattle.expression_parser.specs.Steps.{Reads, ReadsOn, Continues, Finds, Follows, IsWithin, ReadsAs};
 ghost use Rattle.expression_parser.specs.Steps.{Spans, StaysWithin, StaysWithinAfter, first_place, remaining};
-ghost use Rattle.expression_parser.specs.Syntax.{view};
-ghost use Rattle.filter_parser.specs.SyntaxCommands.{view_command, view_part, view_target};
-ghost use Rattle.filter_parser.specs.SyntaxCommands.CommandView.{if_then, if_else};
+ghost use Rattle.filter_syntax.specs.Syntax.{view};
+ghost use Rattle.filter_syntax.specs.SyntaxCommands.{view_command, view_part, view_target};
+ghost use Rattle.filter_syntax.specs.SyntaxCommands.CommandView.{if_then, if_else};
 
 use crate::case_label::{begins_part, parse_label, stays_first};
-use crate::tree::{Command, Label, Target};
-use expression_parser::{Expected, Expr, Input, ParseFault, parse_expr};
+use expression_parser::{Expected, Input, ParseFault, parse_expr};
+use filter_syntax::{Command, Expr, Label, Target};
 use filter_tokens::{Symbol, Token, TokenKind};
 use std::alloc::{AllocError, Global};
 

@@ -1,14 +1,14 @@
 //! Declarations.
 
 ghost use Rattle.std.specs.Prelude.{◌≡◌, ◌∷◌, ◌<◌, [], length, map, Some, None, IfOk, IfSome};
-ghost use Rattle.filter_parser.specs.Placed.{decl_kept};
+ghost use Rattle.filter_syntax.specs.Placed.{decl_kept};
 ghost use Rattle.expression_parser.specs.Readers.{a_name};
 ghost use Rattle.filter_parser.specs.ReadingCommands as spec;
 ghost use Rattle.expression_parser.specs.Steps.{ReadsOn, Finds, Follows, Grown, LeavesWithin, ReadsAs, Spans, StaysWithin, first_place, remaining};
-ghost use Rattle.filter_parser.specs.SyntaxCommands.{view_decl};
+ghost use Rattle.filter_syntax.specs.SyntaxCommands.{view_decl};
 
-use crate::tree::{Decl, Kind};
 use expression_parser::{Expected, Input, ParseFault};
+use filter_syntax::{Decl, Kind};
 use filter_tokens::{Symbol, TokenKind};
 use std::alloc::Global;
 

@@ -2,18 +2,18 @@
 
 ghost use Rattle.std.specs.Prelude.{◌≡◌, ◌∷◌, ℕ, [], None, IfErr, IfOk, length, map};
 ghost use Rattle.expression_parser.specs.Codes.{LiesWithin};
-ghost use Rattle.expression_parser.specs.Placed.{joined};
-ghost use Rattle.filter_parser.specs.Placed.{ArePlaced, decl_kept};
+ghost use Rattle.filter_syntax.specs.Placed.{joined};
+ghost use Rattle.filter_syntax.specs.Placed.{ArePlaced, decl_kept};
 ghost use Rattle.filter_parser.specs.ReadingCommands as spec;
 ghost use Rattle.expression_parser.specs.Steps.{IsWithin, ReadsAs, Spans, remaining};
-ghost use Rattle.filter_parser.specs.SyntaxCommands.{view_decl};
+ghost use Rattle.filter_syntax.specs.SyntaxCommands.{view_decl};
 ghost use Rattle.expression_parser.specs.declared.input.Input.{Input as TheInput};
 
 use crate::command::parse_commands;
 use crate::decl::{parse_declarations, parse_name};
 use crate::parts::Parts;
-use crate::tree::Decl;
 use expression_parser::{Expected, Input, ParseFault};
+use filter_syntax::Decl;
 use filter_tokens::Symbol;
 use std::alloc::Global;
 

@@ -1,4 +1,4 @@
-use crate::tree::{Command, Decl};
+use filter_syntax::{Command, Decl};
 
 /// What a filter says, without the tokens of its text.
 #[derive(Drop)]

@@ -9,17 +9,18 @@ ghost use Rattle.filter_tokens.specs.Tokenization.{AreInOrder, IsTokenization, S
 ghost use Rattle.filter_tokens.specs.declared.token.Token.{Token as TheToken};
 ghost use Rattle.expression_parser.specs.Codes.{LiesWithin, fault_place as parse_place};
 ghost use Rattle.filter_parser.specs.Heads.{HasHead};
-ghost use Rattle.filter_parser.specs.Placed.{IsPlaced};
-ghost use Rattle.filter_parser.specs.Surroundings.{StandsRound, TellsRound, nothing};
-ghost use Rattle.expression_parser.specs.Codes.{text_limit};
-ghost use Rattle.filter_parser.specs.SyntaxText.{IsText, FilterView, view_filter};
+ghost use Rattle.filter_syntax.specs.Placed.{IsPlaced};
+ghost use Rattle.filter_syntax.specs.Surroundings.{nothing};
+ghost use Rattle.filter_parser.specs.Telling.{StandsRound, TellsRound};
+ghost use Rattle.filter_syntax.specs.Syntax.{text_limit};
+ghost use Rattle.filter_syntax.specs.SyntaxText.{IsText, FilterView, view_filter};
 ghost use Rattle.expression_parser.specs.declared.fault.ParseFault.TheVariants.{Memory, TooLong};
 
 use crate::filter::parse_filter;
 use crate::head::with_head;
-use crate::tree::Filter;
 use crate::unparsed::Unparsed;
 use expression_parser::{Input, LexedText, ParseFault, TEXT_LIMIT};
+use filter_syntax::Filter;
 use filter_tokens::{Lexed, Token, TokenFault, lex};
 use std::alloc::Global;
 
@@ -54,12 +55,7 @@ fn filter_of_tokens(
     );
     match read {
         Ok(parts) => match fault {
-            None => Ok(Filter {
-                name: parts.name,
-                decls: parts.decls,
-                body: parts.body,
-                tokens,
-            }),
+            None => Ok(Filter::new(parts.name, parts.decls, parts.body, tokens)),
             Some(fault) => Err(Unparsed::at(tokens.as_slice(), ParseFault::Token(fault))),
         },
         Err(fault) => {

@@ -2,10 +2,10 @@
 ghost use Rattle.std.specs.Prelude.{◌≡◌};
 ghost use Rattle.expression_parser.specs.Codes.{fault_place};
 ghost use Rattle.expression_parser.specs.declared.fault.ParseFault.TheVariants.{Memory};
-ghost use Rattle.filter_parser.specs.Surroundings.{around_of, nothing};
+ghost use Rattle.filter_syntax.specs.Surroundings.{around_of, nothing};
 
-use crate::around::Around;
 use expression_parser::ParseFault;
+use filter_syntax::Around;
 use filter_tokens::Token;
 use std::alloc::AllocError;
 use std::fmt;

@@ -1,17 +1,17 @@
 -- The instructions of commands and declarations fit their fields in a code file.
 use Rattle.std.proofs.Common.{◌≡◌, ℕ, zero, suc, ◌+◌, ◌^◌, ◌<◌, ◌≤◌, ◌&&◌, Bool, true, false, List}
 use Rattle.std.proofs.Common.{[], ◌∷◌, ◌++◌, length, refl, arith, lit≤, lit<, length-append}
-use Rattle.expression_parser.specs.Syntax.{spelling}
+use Rattle.filter_syntax.specs.Syntax.{spelling}
 use Rattle.filter_tokens.specs.Lexemes.{Lexeme}
 use Rattle.filter_tokens.specs.declared.symbol.Symbol.TheVariants as symbols
-use Rattle.filter_parser.specs.SyntaxCommands.{CommandView, empty, block, if_then, if_else, case, assign}
-use Rattle.filter_parser.specs.SyntaxCommands.{accept, reject, CommandsView, no_commands, command_then}
-use Rattle.filter_parser.specs.SyntaxCommands.{ranges_label, else_label, PartsView, no_parts, part_then}
-use Rattle.filter_parser.specs.SyntaxCommands.{TargetView, to_name, to_metric, to_net, DeclView}
-use Rattle.filter_parser.specs.SyntaxCommands.{spelling_command, spelling_commands, spelling_label, spelling_parts}
-use Rattle.filter_parser.specs.SyntaxCommands.{FitsCommand, FitsCommands, FitsParts}
-use Rattle.filter_parser.specs.declared.tree.decl.Kind.{Kind}
-use Rattle.filter_parser.specs.declared.tree.decl.Kind.TheVariants as kind
+use Rattle.filter_syntax.specs.SyntaxCommands.{CommandView, empty, block, if_then, if_else, case, assign}
+use Rattle.filter_syntax.specs.SyntaxCommands.{accept, reject, CommandsView, no_commands, command_then}
+use Rattle.filter_syntax.specs.SyntaxCommands.{ranges_label, else_label, PartsView, no_parts, part_then}
+use Rattle.filter_syntax.specs.SyntaxCommands.{TargetView, to_name, to_metric, to_net, DeclView}
+use Rattle.filter_syntax.specs.SyntaxCommands.{spelling_command, spelling_commands, spelling_label, spelling_parts}
+use Rattle.filter_syntax.specs.SyntaxCommands.{FitsCommand, FitsCommands, FitsParts}
+use Rattle.filter_syntax.specs.declared.tree.decl.Kind.{Kind}
+use Rattle.filter_syntax.specs.declared.tree.decl.Kind.TheVariants as kind
 use Rattle.filter_code.specs.declared.instruction.Instr.{Instr}
 use Rattle.filter_code.specs.declared.instruction.Instr.TheVariants as instr
 use Rattle.filter_compiler.specs.SetOrder.{Sets, SetCounts, past, with_sets}

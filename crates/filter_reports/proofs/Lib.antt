@@ -1,3 +1,4 @@
+pub mod Coded
 pub mod CommandsFit
 pub mod FileLength
 pub mod InstructionsFit

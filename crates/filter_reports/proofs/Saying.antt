@@ -9,7 +9,7 @@ use Rattle.filter_compiler.specs.Need.{need}
 use Rattle.filter_compiler.specs.Same.{Agrees, MeansTheSame}
 use Rattle.filter_compiler.specs.Translation.{code_of}
 use Rattle.filter_compiler.specs.Verdicts.{Verdict, meaning}
-use Rattle.filter_parser.specs.SyntaxText as syntax
+use Rattle.filter_syntax.specs.SyntaxText as syntax
 use Rattle.filter_verifier.specs.Safe.{IsSafe}
 use Rattle.filter_verifier.proofs.Ends.{outcome_well}
 use Rattle.filter_verifier.proofs.Steps.{EndsWell}

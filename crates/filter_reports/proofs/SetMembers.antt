@@ -1,17 +1,17 @@
 -- Each member of a set has at least two lexemes of the text for itself: its own, and a comma or a bracket or a colon.
 use Rattle.std.proofs.Common.{◌≡◌, ℕ, ◌+◌, ◌*◌, ◌≤◌, Bool, true, false, List, [], ◌∷◌, ◌++◌, length, refl, arith, lit≤, length-append}
 use Rattle.std.proofs.lemmas.List.{length-map}
-use Rattle.expression_parser.specs.Syntax.{ExprView, number, address, prefix, truth, name, attribute, defined, group, negation, binary, member}
-use Rattle.expression_parser.specs.Syntax.{suffixed, SetView, of_patterns, of_ranges, SetPatternView, exact, or_longer, or_shorter, between}
-use Rattle.expression_parser.specs.Syntax.{RangeView, one, from_to, pattern_of, range_of, spelling, spelling_set, spelling_set_pattern}
-use Rattle.expression_parser.specs.Syntax.{op_symbol, membership_symbol, spelling_suffix, spelling_set_patterns}
-use Rattle.expression_parser.specs.Syntax.{spelling_range, spelling_ranges, spelling_more_ranges}
+use Rattle.filter_syntax.specs.Syntax.{ExprView, number, address, prefix, truth, name, attribute, defined, group, negation, binary, member}
+use Rattle.filter_syntax.specs.Syntax.{suffixed, SetView, of_patterns, of_ranges, SetPatternView, exact, or_longer, or_shorter, between}
+use Rattle.filter_syntax.specs.Syntax.{RangeView, one, from_to, pattern_of, range_of, spelling, spelling_set, spelling_set_pattern}
+use Rattle.filter_syntax.specs.Syntax.{op_symbol, membership_symbol, spelling_suffix, spelling_set_patterns}
+use Rattle.filter_syntax.specs.Syntax.{spelling_range, spelling_ranges, spelling_more_ranges}
 use Rattle.filter_tokens.specs.Lexemes.{Lexeme}
 use Rattle.filter_tokens.specs.declared.symbol.Symbol.TheVariants as symbols
-use Rattle.filter_parser.specs.SyntaxCommands.{CommandView, empty, block, if_then, if_else, case, assign}
-use Rattle.filter_parser.specs.SyntaxCommands.{accept, reject, CommandsView, no_commands, command_then}
-use Rattle.filter_parser.specs.SyntaxCommands.{LabelView, ranges_label, else_label, PartsView, no_parts, part_then}
-use Rattle.filter_parser.specs.SyntaxCommands.{spelling_command, spelling_commands, spelling_label, spelling_parts}
+use Rattle.filter_syntax.specs.SyntaxCommands.{CommandView, empty, block, if_then, if_else, case, assign}
+use Rattle.filter_syntax.specs.SyntaxCommands.{accept, reject, CommandsView, no_commands, command_then}
+use Rattle.filter_syntax.specs.SyntaxCommands.{LabelView, ranges_label, else_label, PartsView, no_parts, part_then}
+use Rattle.filter_syntax.specs.SyntaxCommands.{spelling_command, spelling_commands, spelling_label, spelling_parts}
 use Rattle.filter_compiler.specs.SetOrder.{Sets, no_sets, with_sets}
 use Rattle.filter_compiler.specs.Translation.{command_sets, commands_sets, has_labelled, label_sets, one_set, opening_sets, parts_sets, sets_of}
 

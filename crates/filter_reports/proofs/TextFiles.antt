@@ -3,11 +3,11 @@ use Rattle.std.proofs.Common.{ℕ, suc, ◌<◌, ◌≤◌, List, [], ◌∷◌,
 use Rattle.std.specs.List.{AllByRecursion, Any}
 use Rattle.int_sets.specs.Holding.{NumberRange}
 use Rattle.prefix_patterns.specs.Matching.{PrefixPattern}
-use Rattle.expression_parser.specs.Syntax.{nesting_limit}
+use Rattle.filter_syntax.specs.Syntax.{nesting_limit}
 use Rattle.filter_tokens.specs.Lexemes.{Lexeme, lexemes}
 use Rattle.filter_tokens.specs.declared.symbol.Symbol.TheVariants as symbols
-use Rattle.filter_parser.specs.SyntaxCommands.{CommandsView, DeclView, spelling_commands, spelling_decls}
-use Rattle.filter_parser.specs.SyntaxText.{FilterView, IsText, spelling_filter}
+use Rattle.filter_syntax.specs.SyntaxCommands.{CommandsView, DeclView, spelling_commands, spelling_decls}
+use Rattle.filter_syntax.specs.SyntaxText.{FilterView, IsText, spelling_filter}
 use Rattle.filter_code.specs.CodeView.{CodeView}
 use Rattle.filter_code.specs.declared.instruction.Instr.TheVariants as instr
 use Rattle.filter_compiler.specs.SetOrder.{none_before}

@@ -6,7 +6,7 @@ use Rattle.code_file.specs.Spelling.{spelling, spelling_in}
 use Rattle.code_file.specs.declared.version.Version.{Version}
 use Rattle.code_file.specs.declared.version.Version.TheVariants as version
 use Rattle.filter_code.specs.CodeView.{CodeView}
-use Rattle.filter_parser.specs.SyntaxText.{FilterView}
+use Rattle.filter_syntax.specs.SyntaxText.{FilterView}
 use Rattle.filter_compiler.specs.Translation.{code_of}
 use Rattle.filter_source.specs.Sources.{Translates}
 use Rattle.filter_reports.proofs.FileLength.{file_length}

@@ -7,8 +7,8 @@ use Rattle.filter_tokens.specs.Tokenization.{AreParts, tokens_among}
 use Rattle.filter_tokens.specs.declared.part.Part.{Part}
 use Rattle.filter_tokens.specs.declared.part.Part.TheVariants as part
 use Rattle.filter_tokens.specs.declared.symbol.Symbol.TheVariants as symbols
-use Rattle.filter_parser.specs.SyntaxCommands.{CommandsView, DeclView, spelling_commands, spelling_decls}
-use Rattle.filter_parser.specs.SyntaxText.{FilterView, IsText, spelling_filter}
+use Rattle.filter_syntax.specs.SyntaxCommands.{CommandsView, DeclView, spelling_commands, spelling_decls}
+use Rattle.filter_syntax.specs.SyntaxText.{FilterView, IsText, spelling_filter}
 use Rattle.filter_compiler.specs.Translation.{commands_sets}
 use Rattle.filter_reports.proofs.SetMembers.{commands_spelled, members}
 

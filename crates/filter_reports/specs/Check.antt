@@ -5,7 +5,7 @@ use Rattle.std.specs.List.{suffix_len}
 use Rattle.hex.specs.Hex.{encode_lower}
 use Rattle.code_file.specs.Spelling.{IsCode, spelling}
 use Rattle.filter_code.specs.CodeView.{CodeView}
-use Rattle.filter_parser.specs.SyntaxText.{FilterView}
+use Rattle.filter_syntax.specs.SyntaxText.{FilterView}
 use Rattle.filter_source.specs.Limits.{source_limit}
 use Rattle.filter_source.specs.Refusals.{place_in_line, refusal_code}
 use Rattle.filter_source.specs.Sources.{IsRefusedText, Translates, code_in_hexadecimal}

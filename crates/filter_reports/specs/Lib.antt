@@ -11,5 +11,6 @@ pub mod Listing
 pub mod Marking
 pub mod Notices
 pub mod Opening
+pub mod Refusing
 -- What only the bodies of this crate are proved against.
 pub mod Steps

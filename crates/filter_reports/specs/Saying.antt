@@ -6,7 +6,7 @@ use Rattle.filter_code.specs.RouteView.{RouteView}
 use Rattle.filter_code.specs.Machine.{outcome_of}
 use Rattle.filter_code.specs.CodeView as code
 use Rattle.filter_compiler.specs.Verdicts.{Verdict, accepted, rejected, meaning}
-use Rattle.filter_parser.specs.SyntaxText as syntax
+use Rattle.filter_syntax.specs.SyntaxText as syntax
 use Rattle.filter_verifier.specs.Safe.{IsRouteOf}
 
 -- the outcome is what the verdict says: accepted with that metric, or rejected; a fault says nothing

@@ -1,7 +1,7 @@
 -- A filter's text whose code is verified, and the line that refuses one. (This project's own choice.)
 use Rattle.std.specs.Prelude.{◌≡◌, ℕ, List}
 use Rattle.filter_code.specs.CodeView.{CodeView}
-use Rattle.filter_parser.specs.SyntaxText.{FilterView}
+use Rattle.filter_syntax.specs.SyntaxText.{FilterView}
 use Rattle.filter_source.specs.Refusals.{place_in_line, refusal_code}
 use Rattle.filter_source.specs.Sources.{Translates}
 use Rattle.filter_source.specs.declared.refusal.Refusal.{Refusal}

@@ -7,7 +7,7 @@ ghost use Rattle.code_file.specs.Spelling.{IsCode, spelling_in};
 ghost use Rattle.code_file.specs.declared.version.Version.{Version};
 ghost use Rattle.filter_code.specs.CodeView.{CodeView};
 ghost use Rattle.filter_compiler.specs.Same.{MeansTheSame};
-ghost use Rattle.filter_parser.specs.SyntaxText.{FilterView};
+ghost use Rattle.filter_syntax.specs.SyntaxText.{FilterView};
 ghost use Rattle.filter_source.specs.Sources.{Translates};
 ghost use Rattle.filter_verifier.specs.Safe.{IsSafe};
 ghost use Rattle.filter_reports.specs.Check.{FitsLine, GivesCode, AreCodeLines, AreLines, LinesView, printed};

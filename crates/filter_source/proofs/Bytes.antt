@@ -5,11 +5,11 @@ use Rattle.std.specs.Prelude.{Contains}
 use Rattle.std.proofs.lemmas.List.Elements.{Contains-append_cases, Contains-append_left, Contains-append_right}
 use Rattle.filter_tokens.specs.Tokenization.{AreInOrder}
 use Rattle.filter_tokens.specs.declared.token.Token.{Token}
-use Rattle.expression_parser.specs.Placed.{AreAt, Kept, joined}
-use Rattle.filter_parser.specs.Placed.{IsPlaced, command_kept, decl_kept}
-use Rattle.filter_parser.specs.Places.{body_of, decls_of}
-use Rattle.filter_parser.specs.declared.tree.decl.Decl.{Decl}
-use Rattle.filter_parser.specs.declared.tree.filter.Filter.{Filter}
+use Rattle.filter_syntax.specs.Placed.{AreAt, Kept, joined}
+use Rattle.filter_syntax.specs.Placed.{IsPlaced, command_kept, decl_kept}
+use Rattle.filter_syntax.specs.Places.{body_of, decls_of}
+use Rattle.filter_syntax.specs.declared.tree.decl.Decl.{Decl}
+use Rattle.filter_syntax.specs.declared.tree.filter.Filter.{Filter}
 use Rattle.filter_types.specs.Faults.{KeepsPlace}
 
 -- a place that is kept is that of a token

@@ -12,14 +12,14 @@ use Rattle.filter_compiler.specs.declared.fault.CompileFault.{CompileFault}
 use Rattle.filter_compiler.specs.declared.fault.CompileFault.TheVariants as compile
 use Rattle.expression_parser.specs.Codes.{LiesWithin}
 use Rattle.filter_parser.specs.Heads.{HasHead}
-use Rattle.filter_parser.specs.Surroundings.{around_of}
-use Rattle.filter_parser.specs.declared.around.Around.{Around}
-use Rattle.filter_parser.specs.Placed.{IsPlaced}
-use Rattle.expression_parser.specs.Codes.{text_limit}
-use Rattle.filter_parser.specs.SyntaxText.{FilterView, IsText, view_filter}
+use Rattle.filter_syntax.specs.Surroundings.{around_of}
+use Rattle.filter_syntax.specs.declared.around.Around.{Around}
+use Rattle.filter_syntax.specs.Placed.{IsPlaced}
+use Rattle.filter_syntax.specs.Syntax.{text_limit}
+use Rattle.filter_syntax.specs.SyntaxText.{FilterView, IsText, view_filter}
 use Rattle.expression_parser.specs.declared.fault.ParseFault.{ParseFault}
 use Rattle.expression_parser.specs.declared.fault.ParseFault.TheVariants as parse
-use Rattle.filter_parser.specs.declared.tree.filter.Filter.{Filter}
+use Rattle.filter_syntax.specs.declared.tree.filter.Filter.{Filter}
 use Rattle.filter_tokens.specs.Tokenization.{AreInOrder}
 use Rattle.filter_types.specs.Codes.{fault_place}
 use Rattle.filter_types.specs.Faults.{IsFaultOf, KeepsPlace}

@@ -5,7 +5,7 @@ use Rattle.filter_compiler.specs.Limits.{HasTooMany, IsTooLong}
 use Rattle.filter_compiler.specs.Translation.{code_of}
 use Rattle.filter_compiler.specs.declared.fault.CompileFault.{CompileFault}
 use Rattle.filter_compiler.specs.declared.fault.CompileFault.TheVariants as compile
-use Rattle.filter_parser.specs.SyntaxText.{FilterView, view_filter}
+use Rattle.filter_syntax.specs.SyntaxText.{FilterView, view_filter}
 use Rattle.filter_parser.proofs.Texts.{text_one}
 use Rattle.filter_types.specs.Kinds.{IsTyped}
 use Rattle.filter_source.specs.Sources.{AreAlike, IsOverLimit, IsRefusedText, Translates}

@@ -3,8 +3,8 @@
 use Rattle.std.specs.Prelude.{◌≡◌, ℕ, Bool, true, false, List, Option, Some, None, slice_get}
 use Rattle.filter_code.specs.CodeView.{CodeView}
 use Rattle.expression_parser.specs.Codes as parse
-use Rattle.filter_parser.specs.Surroundings as parser
-use Rattle.filter_parser.specs.declared.around.Around.{Around}
+use Rattle.filter_syntax.specs.Surroundings as parser
+use Rattle.filter_syntax.specs.declared.around.Around.{Around}
 use Rattle.filter_types.specs.Codes as types
 use Rattle.filter_verifier.specs.Faults.{fault_place}
 use Rattle.filter_verifier.specs.Ranges.{RangeView}

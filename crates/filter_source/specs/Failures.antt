@@ -7,8 +7,8 @@ use Rattle.filter_compiler.specs.declared.fault.CompileFault.TheVariants as comp
 use Rattle.expression_parser.specs.declared.fault.ParseFault.{ParseFault}
 use Rattle.expression_parser.specs.declared.fault.ParseFault.TheVariants as parse
 use Rattle.filter_types.specs.declared.fault.TypeFault.{TypeFault}
-use Rattle.filter_parser.specs.Surroundings.{nothing}
-use Rattle.filter_parser.specs.declared.around.Around.{Around}
+use Rattle.filter_syntax.specs.Surroundings.{nothing}
+use Rattle.filter_syntax.specs.declared.around.Around.{Around}
 use Rattle.filter_parser.specs.declared.unparsed.Unparsed.{Unparsed}
 use Rattle.filter_types.specs.declared.fault.TypeFault.TheVariants as types
 use Rattle.filter_types.specs.declared.typed.Untyped.{Untyped}

@@ -14,10 +14,10 @@ use Rattle.filter_compiler.specs.Same.{MeansTheSame}
 use Rattle.filter_compiler.specs.Translation.{code_of}
 use Rattle.filter_compiler.specs.declared.fault.CompileFault.{CompileFault}
 use Rattle.filter_compiler.specs.declared.fault.CompileFault.TheVariants as compile
-use Rattle.filter_parser.specs.Placed.{IsPlaced}
-use Rattle.filter_parser.specs.SyntaxText.{FilterView, IsText, view_filter}
+use Rattle.filter_syntax.specs.Placed.{IsPlaced}
+use Rattle.filter_syntax.specs.SyntaxText.{FilterView, IsText, view_filter}
 use Rattle.filter_parser.specs.Unspelled.{IsUnspelled}
-use Rattle.filter_parser.specs.declared.tree.filter.Filter.{Filter}
+use Rattle.filter_syntax.specs.declared.tree.filter.Filter.{Filter}
 use Rattle.filter_types.specs.Codes.{fault_place}
 use Rattle.filter_types.specs.Faults.{IsFaultOf}
 use Rattle.filter_types.specs.Kinds.{IsTyped}

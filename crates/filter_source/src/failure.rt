@@ -1,6 +1,6 @@
 //! What ends the work on a source.
 ghost use Rattle.std.specs.Prelude.{◌≡◌};
-ghost use Rattle.filter_parser.specs.Surroundings.{nothing};
+ghost use Rattle.filter_syntax.specs.Surroundings.{nothing};
 ghost use Rattle.filter_source.specs.Diagnoses.{of_source};
 ghost use Rattle.filter_source.specs.Failures as spec;
 ghost use Rattle.filter_source.specs.declared.failure.Failure.TheVariants as failure;

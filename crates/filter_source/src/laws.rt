@@ -1,7 +1,7 @@
 //! Laws on sources, each the contract of a function with an empty body.
 ghost use Rattle.std.specs.Prelude.{◌≡◌, ℕ, List};
 ghost use Rattle.filter_code.specs.CodeView.{CodeView};
-ghost use Rattle.filter_parser.specs.SyntaxText.{FilterView};
+ghost use Rattle.filter_syntax.specs.SyntaxText.{FilterView};
 ghost use Rattle.filter_source.specs.Sources.{AreAlike, IsRefusedText, Translates};
 ghost use Rattle.filter_source.specs.declared.refusal.Refusal.{Refusal as TheRefusal};
 

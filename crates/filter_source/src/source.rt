@@ -1,8 +1,8 @@
 //! A filter's text, or a code file, becomes code, and code is verified.
 ghost use Rattle.std.specs.Prelude.{◌≡◌, ◌<◌, ◌≤◌, ◌↔◌, [], Ok, Err, Some, None, false, IfOk, IfErr, MatchResult, OnOk, length};
 ghost use Rattle.code_file.specs.Spelling.{IsCodeIn, spelling_in};
-ghost use Rattle.filter_parser.specs.Surroundings.{nothing};
-ghost use Rattle.filter_parser.specs.SyntaxText.{FilterView};
+ghost use Rattle.filter_syntax.specs.Surroundings.{nothing};
+ghost use Rattle.filter_syntax.specs.SyntaxText.{FilterView};
 ghost use Rattle.filter_tokens.specs.Tokenization.{IsTokenization};
 ghost use Rattle.filter_verifier.specs.FirstFault.{is_size, the_fault};
 ghost use Rattle.filter_verifier.specs.Safe.{IsSafe};

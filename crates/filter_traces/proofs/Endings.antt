@@ -1,6 +1,6 @@
 -- How a run of `filter --why` ends, by its text.
 use Rattle.std.proofs.Common.{◌≡◌, ℕ, List, Option, Some, None, IfSome, inl, inr, refl, sym, subst}
-use Rattle.filter_parser.specs.SyntaxText.{FilterView}
+use Rattle.filter_syntax.specs.SyntaxText.{FilterView}
 use Rattle.filter_verifier.specs.Safe.{IsSafe}
 use Rattle.line_protocol.specs.declared.faults.StreamFault.{StreamFault}
 use Rattle.line_protocol.specs.declared.faults.StreamFault.TheVariants as stream

@@ -7,7 +7,7 @@ use Rattle.filter_code.specs.RouteView.{RouteView}
 use Rattle.filter_code.specs.declared.outcome.Outcome.{Outcome}
 use Rattle.filter_code.specs.declared.outcome.Outcome.TheVariants as outcome
 use Rattle.filter_compiler.specs.Verdicts.{Verdict, accepted, rejected, divided, meaning}
-use Rattle.filter_parser.specs.SyntaxText.{FilterView}
+use Rattle.filter_syntax.specs.SyntaxText.{FilterView}
 use Rattle.filter_source.specs.Sources.{Translates}
 use Rattle.filter_source.specs.TextPlaces.{ArePlacesOf}
 use Rattle.filter_verifier.specs.Safe.{IsSafe}

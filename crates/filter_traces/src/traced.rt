@@ -1,7 +1,7 @@
 //! A verified filter, and where in its text each instruction comes from.
 ghost use Rattle.std.specs.Prelude.{◌≡◌, ◌≤◌, ℕ, map, slice_get, IfOk, IfSome};
 ghost use Rattle.filter_code.specs.Limits.{instruction_limit};
-ghost use Rattle.filter_parser.specs.SyntaxText.{FilterView};
+ghost use Rattle.filter_syntax.specs.SyntaxText.{FilterView};
 ghost use Rattle.filter_reports.specs.Opening.{IsPlacedOf};
 ghost use Rattle.filter_traces.specs.Whys.{IsTraceOf, site_in};
 

@@ -7,14 +7,14 @@ use Rattle.std.specs.Prelude.{Contains, flat_map, slice_get}
 use Rattle.std.proofs.lemmas.List.{get_or-map, length-map, map-append}
 use Rattle.std.proofs.lemmas.List.Elements.{Contains-append_left, Contains-append_right}
 use Rattle.std.proofs.lemmas.Option.{get_or_from_slice_get, slice_get_read, slice_get_within}
-use Rattle.expression_parser.specs.Places.{expr_place}
-use Rattle.expression_parser.specs.Syntax.{ExprView, suffixes_of, chain_of, view, view_more}
-use Rattle.filter_parser.specs.SyntaxCommands.{DeclView}
-use Rattle.filter_parser.specs.declared.tree.decl.Kind.{Kind}
-use Rattle.expression_parser.specs.declared.tree.expr.Expr.{Expr}
-use Rattle.expression_parser.specs.declared.tree.op.Op.{Op}
-use Rattle.expression_parser.specs.declared.tree.op.Suffix.{Suffix}
-use Rattle.expression_parser.specs.declared.tree.op.Suffix.TheVariants as suffix
+use Rattle.filter_syntax.specs.Places.{expr_place}
+use Rattle.filter_syntax.specs.Syntax.{ExprView, suffixes_of, chain_of, view, view_more}
+use Rattle.filter_syntax.specs.SyntaxCommands.{DeclView}
+use Rattle.filter_syntax.specs.declared.tree.decl.Kind.{Kind}
+use Rattle.filter_syntax.specs.declared.tree.expr.Expr.{Expr}
+use Rattle.filter_syntax.specs.declared.tree.op.Op.{Op}
+use Rattle.filter_syntax.specs.declared.tree.op.Suffix.{Suffix}
+use Rattle.filter_syntax.specs.declared.tree.op.Suffix.TheVariants as suffix
 use Rattle.filter_types.specs.Codes.{fault_place}
 use Rattle.filter_types.specs.Faults.{IsRefusedOperator, IsRefusedSuffix}
 use Rattle.filter_types.specs.Kinds.{kind_in, of_one}

@@ -3,11 +3,11 @@ use Rattle.std.proofs.Common.{◌≡◌, ℕ, zero, suc, ◌+◌, ◌<◌, ◌�
 use Rattle.std.proofs.Common.{length, map, take, get_or, refl, sym, ap, subst, arith, Vec, Global, Some, Result, Ok, Err}
 use Rattle.std.proofs.lemmas.List.{get_or-take, length-take-le, length-map, take_all}
 use Rattle.int_sets.specs.Holding.{NumberRange}
-use Rattle.expression_parser.specs.Syntax.{ExprView}
-use Rattle.filter_parser.specs.SyntaxCommands.{CommandView, CommandsView, PartsView, DeclView, LabelView}
-use Rattle.filter_parser.specs.SyntaxCommands.{commands_of, parts_of, view_command, view_part}
-use Rattle.filter_parser.specs.declared.tree.command.Command.{Command}
-use Rattle.filter_parser.specs.declared.tree.command.Label.{Label}
+use Rattle.filter_syntax.specs.Syntax.{ExprView}
+use Rattle.filter_syntax.specs.SyntaxCommands.{CommandView, CommandsView, PartsView, DeclView, LabelView}
+use Rattle.filter_syntax.specs.SyntaxCommands.{commands_of, parts_of, view_command, view_part}
+use Rattle.filter_syntax.specs.declared.tree.command.Command.{Command}
+use Rattle.filter_syntax.specs.declared.tree.command.Label.{Label}
 use Rattle.filter_types.specs.Answers.{DoPartsFit, Judges}
 use Rattle.filter_types.specs.Kinds.{KindsFit, KindsFitAll, KindsFitParts, kind_in}
 use Rattle.filter_types.specs.Labels.{AreAllApart, labels_of}

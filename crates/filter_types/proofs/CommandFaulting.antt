@@ -5,16 +5,16 @@ use Rattle.std.proofs.Common.{◌+◌, ◌<◌, length, take, get_or, arith}
 use Rattle.std.proofs.Common.{◌≡◌, ◌≢◌, ◌⊎◌, inl, inr, ℕ, Option, Some, None, Result, Ok, Err}
 use Rattle.std.proofs.Common.{List, [], ◌∷◌, Box, Vec, Global, map, refl, sym, ap, subst, ◌∙◌}
 use Rattle.std.specs.Prelude.{Contains, IfErr, flat_map}
-use Rattle.expression_parser.specs.Places.{expr_place}
-use Rattle.expression_parser.specs.Syntax.{view}
-use Rattle.filter_parser.specs.SyntaxCommands.{DeclView}
-use Rattle.filter_parser.specs.declared.tree.command.Command.{Command}
-use Rattle.filter_parser.specs.declared.tree.command.Command.TheOpen.{Command-F}
-use Rattle.filter_parser.specs.declared.tree.command.Command.TheVariants as command
-use Rattle.filter_parser.specs.declared.tree.command.Label.{Label}
-use Rattle.filter_parser.specs.declared.tree.command.Target.{Target}
-use Rattle.filter_parser.specs.declared.tree.decl.Kind.{Kind}
-use Rattle.expression_parser.specs.declared.tree.expr.Expr.{Expr}
+use Rattle.filter_syntax.specs.Places.{expr_place}
+use Rattle.filter_syntax.specs.Syntax.{view}
+use Rattle.filter_syntax.specs.SyntaxCommands.{DeclView}
+use Rattle.filter_syntax.specs.declared.tree.command.Command.{Command}
+use Rattle.filter_syntax.specs.declared.tree.command.Command.TheOpen.{Command-F}
+use Rattle.filter_syntax.specs.declared.tree.command.Command.TheVariants as command
+use Rattle.filter_syntax.specs.declared.tree.command.Label.{Label}
+use Rattle.filter_syntax.specs.declared.tree.command.Target.{Target}
+use Rattle.filter_syntax.specs.declared.tree.decl.Kind.{Kind}
+use Rattle.filter_syntax.specs.declared.tree.expr.Expr.{Expr}
 use Rattle.filter_types.specs.Codes.{expected_of}
 use Rattle.filter_types.specs.Faults.{CommandHasFault, HasFault, IsOtherKind, IsOtherThanTarget, IsTargetFault, SharesLabel}
 use Rattle.filter_types.specs.Kinds.{kind_in}
@@ -24,10 +24,10 @@ use Rattle.filter_types.specs.Sweep.{part_ranges}
 use Rattle.filter_types.specs.Table.{argument_kind, condition_kind}
 use Rattle.filter_types.specs.declared.fault.TypeFault.{TypeFault}
 use Rattle.filter_types.specs.declared.fault.TypeFault.TheVariants as fault
-use Rattle.filter_parser.specs.Places.{body_of, decls_of}
-use Rattle.filter_parser.specs.SyntaxCommands.{view_decl}
-use Rattle.filter_parser.specs.declared.tree.decl.Decl.{Decl}
-use Rattle.filter_parser.specs.declared.tree.filter.Filter.{Filter}
+use Rattle.filter_syntax.specs.Places.{body_of, decls_of}
+use Rattle.filter_syntax.specs.SyntaxCommands.{view_decl}
+use Rattle.filter_syntax.specs.declared.tree.decl.Decl.{Decl}
+use Rattle.filter_syntax.specs.declared.tree.filter.Filter.{Filter}
 use Rattle.filter_types.specs.Faults.{IsDeclaredTwice, IsFaultOf, IsOneTooMany}
 use Rattle.filter_types.proofs.Blaming.{contains_first, contains_later}
 use Rattle.filter_types.proofs.Faulting.{with_kind}

@@ -1,7 +1,7 @@
 -- What holds of an error.
 use Rattle.std.proofs.Common.{◌≡◌, ◌≢◌, Option, None, Result, Ok, Err, subst, sym}
 use Rattle.std.specs.Prelude.{IfErr}
-use Rattle.filter_parser.specs.declared.tree.decl.Kind.{Kind}
+use Rattle.filter_syntax.specs.declared.tree.decl.Kind.{Kind}
 use Rattle.filter_types.specs.Answers.{AnswersKind}
 use Rattle.filter_types.specs.declared.fault.TypeFault.{TypeFault}
 use Rattle.filter_types.specs.declared.fault.TypeFault.TheVariants as fault

@@ -1,20 +1,20 @@
 -- The fault of an expression, from what its judgement found of its parts.
 use Rattle.std.proofs.Common.{◌≡◌, inl, inr, ℕ, Some, None, List, [], ◌∷◌, Box, Vec, Global, refl, sym, ap, subst, ◌∙◌}
 use Rattle.std.specs.Prelude.{Contains}
-use Rattle.expression_parser.specs.Places.{expr_place, expr_place_step}
-use Rattle.expression_parser.specs.Syntax.{view, view_members}
-use Rattle.filter_parser.specs.SyntaxCommands.{DeclView}
-use Rattle.filter_parser.specs.declared.tree.decl.Kind.{Kind}
-use Rattle.expression_parser.specs.declared.tree.expr.Attribute.{Attribute}
-use Rattle.expression_parser.specs.declared.tree.expr.Expr.{Expr}
-use Rattle.expression_parser.specs.declared.tree.expr.Expr.TheFolds.{fold-roll-Expr}
-use Rattle.expression_parser.specs.declared.tree.expr.Expr.TheOpen.{Expr-F}
-use Rattle.expression_parser.specs.declared.tree.expr.Expr.TheVariants as e
-use Rattle.expression_parser.specs.declared.tree.expr.Expr.TheViews.{roll-Expr}
-use Rattle.expression_parser.specs.declared.tree.op.Membership.{Membership}
-use Rattle.expression_parser.specs.declared.tree.op.Op.{Op}
-use Rattle.expression_parser.specs.declared.tree.op.Suffix.{Suffix}
-use Rattle.expression_parser.specs.declared.tree.set.Set.{Set}
+use Rattle.filter_syntax.specs.Places.{expr_place, expr_place_step}
+use Rattle.filter_syntax.specs.Syntax.{view, view_members}
+use Rattle.filter_syntax.specs.SyntaxCommands.{DeclView}
+use Rattle.filter_syntax.specs.declared.tree.decl.Kind.{Kind}
+use Rattle.filter_syntax.specs.declared.tree.expr.Attribute.{Attribute}
+use Rattle.filter_syntax.specs.declared.tree.expr.Expr.{Expr}
+use Rattle.filter_syntax.specs.declared.tree.expr.Expr.TheFolds.{fold-roll-Expr}
+use Rattle.filter_syntax.specs.declared.tree.expr.Expr.TheOpen.{Expr-F}
+use Rattle.filter_syntax.specs.declared.tree.expr.Expr.TheVariants as e
+use Rattle.filter_syntax.specs.declared.tree.expr.Expr.TheViews.{roll-Expr}
+use Rattle.filter_syntax.specs.declared.tree.op.Membership.{Membership}
+use Rattle.filter_syntax.specs.declared.tree.op.Op.{Op}
+use Rattle.filter_syntax.specs.declared.tree.op.Suffix.{Suffix}
+use Rattle.filter_syntax.specs.declared.tree.set.Set.{Set}
 use Rattle.filter_types.specs.Faults.{HasFault, HasOwnFault, IsRefusedOperator, operands}
 use Rattle.filter_types.specs.Kinds.{kind_in, kind_named}
 use Rattle.filter_types.specs.Refusals.{OperandView, member_refusal, operator_refusal, suffix_refusal, wrong_kind}

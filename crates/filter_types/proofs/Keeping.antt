@@ -6,35 +6,35 @@ use Rattle.std.proofs.lemmas.List.Quantifiers.{all_pairs_push}
 use Rattle.std.proofs.lemmas.Option.{get_or_from_slice_get, slice_get_within}
 use Rattle.int_sets.specs.Holding.{NumberRange, HoldsAny}
 use Rattle.std.proofs.lemmas.List.Elements.{Contains-append_cases, Contains-append_left, Contains-append_right}
-use Rattle.expression_parser.specs.Placed.{Kept, expr_kept, expr_kept_step, joined, operand_kept, range_kept, ranges_kept, suffix_kept}
-use Rattle.filter_parser.specs.Placed.{command_kept, command_kept_step, decl_kept, label_kept, part_kept}
-use Rattle.expression_parser.specs.Places.{expr_place, expr_place_step, range_place}
-use Rattle.filter_parser.specs.Places.{body_of, decls_of}
-use Rattle.expression_parser.specs.Syntax.{range_of, view_range}
-use Rattle.filter_parser.specs.SyntaxCommands.{DeclView, view_decl, view_label}
-use Rattle.filter_parser.specs.declared.tree.command.Command.{Command}
-use Rattle.filter_parser.specs.declared.tree.command.Command.TheFolds.{fold-roll-Command, map-Command}
-use Rattle.filter_parser.specs.declared.tree.command.Command.TheOpen.{Command-F}
-use Rattle.filter_parser.specs.declared.tree.command.Command.TheVariants as command
-use Rattle.filter_parser.specs.declared.tree.command.Command.TheViews.{roll-Command}
-use Rattle.filter_parser.specs.declared.tree.command.Label.{Label}
-use Rattle.filter_parser.specs.declared.tree.command.Label.TheVariants as label
-use Rattle.filter_parser.specs.declared.tree.command.Target.{Target}
-use Rattle.filter_parser.specs.declared.tree.command.Target.TheVariants as target
-use Rattle.filter_parser.specs.declared.tree.decl.Decl.{Decl}
-use Rattle.expression_parser.specs.declared.tree.expr.Expr.{Expr}
-use Rattle.expression_parser.specs.declared.tree.expr.Expr.TheFolds.{fold-roll-Expr, ind-Expr, map-Expr}
-use Rattle.expression_parser.specs.declared.tree.expr.Expr.TheOpen.{Expr-F}
-use Rattle.expression_parser.specs.declared.tree.expr.Expr.TheViews.{roll-Expr}
-use Rattle.filter_parser.specs.declared.tree.filter.Filter.{Filter}
-use Rattle.expression_parser.specs.declared.tree.op.Op.{Op}
-use Rattle.expression_parser.specs.declared.tree.set.SetRange.{SetRange}
-use Rattle.expression_parser.specs.declared.tree.set.SetRange.TheVariants as range
-use Rattle.filter_parser.proofs.Placing.{kept_case}
+use Rattle.filter_syntax.specs.Placed.{Kept, expr_kept, expr_kept_step, joined, operand_kept, range_kept, ranges_kept, suffix_kept}
+use Rattle.filter_syntax.specs.Placed.{command_kept, command_kept_step, decl_kept, label_kept, part_kept}
+use Rattle.filter_syntax.specs.Places.{expr_place, expr_place_step, range_place}
+use Rattle.filter_syntax.specs.Places.{body_of, decls_of}
+use Rattle.filter_syntax.specs.Syntax.{range_of, view_range}
+use Rattle.filter_syntax.specs.SyntaxCommands.{DeclView, view_decl, view_label}
+use Rattle.filter_syntax.specs.declared.tree.command.Command.{Command}
+use Rattle.filter_syntax.specs.declared.tree.command.Command.TheFolds.{fold-roll-Command, map-Command}
+use Rattle.filter_syntax.specs.declared.tree.command.Command.TheOpen.{Command-F}
+use Rattle.filter_syntax.specs.declared.tree.command.Command.TheVariants as command
+use Rattle.filter_syntax.specs.declared.tree.command.Command.TheViews.{roll-Command}
+use Rattle.filter_syntax.specs.declared.tree.command.Label.{Label}
+use Rattle.filter_syntax.specs.declared.tree.command.Label.TheVariants as label
+use Rattle.filter_syntax.specs.declared.tree.command.Target.{Target}
+use Rattle.filter_syntax.specs.declared.tree.command.Target.TheVariants as target
+use Rattle.filter_syntax.specs.declared.tree.decl.Decl.{Decl}
+use Rattle.filter_syntax.specs.declared.tree.expr.Expr.{Expr}
+use Rattle.filter_syntax.specs.declared.tree.expr.Expr.TheFolds.{fold-roll-Expr, ind-Expr, map-Expr}
+use Rattle.filter_syntax.specs.declared.tree.expr.Expr.TheOpen.{Expr-F}
+use Rattle.filter_syntax.specs.declared.tree.expr.Expr.TheViews.{roll-Expr}
+use Rattle.filter_syntax.specs.declared.tree.filter.Filter.{Filter}
+use Rattle.filter_syntax.specs.declared.tree.op.Op.{Op}
+use Rattle.filter_syntax.specs.declared.tree.set.SetRange.{SetRange}
+use Rattle.filter_syntax.specs.declared.tree.set.SetRange.TheVariants as range
+use Rattle.filter_syntax.proofs.Placing.{kept_case}
 use Rattle.filter_types.specs.Codes.{fault_place}
 use Rattle.filter_types.specs.Faults.{CommandHasFault, CommandHasOwnFault, HasFault, HasOwnFault, IsFaultOf, IsOtherKind, IsOtherThanTarget}
 use Rattle.filter_types.specs.Faults.{IsRefusedOperator, IsTargetFault, KeepsPlace, SharesLabel, commands_in, expressions, operands}
-use Rattle.filter_parser.specs.Surroundings.{variable_limit}
+use Rattle.filter_syntax.specs.Surroundings.{variable_limit}
 use Rattle.filter_types.specs.Labels.{AreAllApart, AreApart, label_ranges}
 use Rattle.filter_types.specs.Refusals.{first_place, label_place}
 use Rattle.filter_types.specs.Table.{argument_kind}

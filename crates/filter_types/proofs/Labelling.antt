@@ -7,12 +7,12 @@ use Rattle.std.proofs.lemmas.List as lists
 use Rattle.std.proofs.lemmas.List.Elements.{All-contains, Contains-append_cases, Contains-append_left, Contains-append_right, Contains-get_or}
 use Rattle.std.specs.List.{All, Contains}
 use Rattle.int_sets.specs.Holding.{NumberRange, Holds, HoldsAny}
-use Rattle.expression_parser.specs.Syntax.{range_of, view_range}
-use Rattle.filter_parser.specs.SyntaxCommands.{view_label}
-use Rattle.filter_parser.specs.declared.tree.command.Command.{Command}
-use Rattle.filter_parser.specs.declared.tree.command.Label.{Label}
-use Rattle.filter_parser.specs.declared.tree.command.Label.TheVariants as label
-use Rattle.expression_parser.specs.declared.tree.set.SetRange.{SetRange}
+use Rattle.filter_syntax.specs.Syntax.{range_of, view_range}
+use Rattle.filter_syntax.specs.SyntaxCommands.{view_label}
+use Rattle.filter_syntax.specs.declared.tree.command.Command.{Command}
+use Rattle.filter_syntax.specs.declared.tree.command.Label.{Label}
+use Rattle.filter_syntax.specs.declared.tree.command.Label.TheVariants as label
+use Rattle.filter_syntax.specs.declared.tree.set.SetRange.{SetRange}
 use Rattle.filter_types.specs.Labels.{AreAllApart, label_ranges}
 use Rattle.filter_types.specs.Sweep.{AreDisjoint, AreApartBefore, AreAllApartBefore, labelled, labelled_range, part_ranges, written_range}
 use Rattle.filter_types.specs.declared.labels.Labelled.{Labelled}

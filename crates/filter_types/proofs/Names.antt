@@ -10,8 +10,8 @@ use Rattle.std.proofs.lemmas.List.Quantifiers.{all_pairs_push}
 use Rattle.std.proofs.lemmas.List.Sums.{fails_before_first, passes_at_first}
 use Rattle.std.proofs.lemmas.Option.{slice_get-map, slice_get_past, slice_get_read}
 use Rattle.std.proofs.lemmas.Slice.Eq.{bytes_eq-Decides}
-use Rattle.filter_parser.specs.SyntaxCommands.{DeclView, view_decl}
-use Rattle.filter_parser.specs.declared.tree.decl.Decl.{Decl}
+use Rattle.filter_syntax.specs.SyntaxCommands.{DeclView, view_decl}
+use Rattle.filter_syntax.specs.declared.tree.decl.Decl.{Decl}
 use Rattle.filter_types.specs.Kinds.{AreDeclaredOnce, kind_named, number_of}
 use Rattle.filter_types.proofs.Lists.{map_next}
 

@@ -1,14 +1,14 @@
 -- Worked rows: the definitions say of these filters what they should.
 use Rattle.std.proofs.Common.{◌≡◌, ℕ, true, false, Some, None, List, [], ◌∷◌, refl, arith}
 use Rattle.std.specs.Prelude.{codes}
-use Rattle.expression_parser.specs.Syntax.{ExprView, RangeView, SetView}
-use Rattle.filter_parser.specs.SyntaxCommands.{CommandView, CommandsView, LabelView, PartsView, TargetView, DeclView}
-use Rattle.filter_parser.specs.SyntaxText.{FilterView}
-use Rattle.filter_parser.specs.declared.tree.decl.Kind.TheVariants as kind
-use Rattle.expression_parser.specs.declared.tree.expr.Attribute.TheVariants as attributes
-use Rattle.expression_parser.specs.declared.tree.op.Membership.TheVariants as membership
-use Rattle.expression_parser.specs.declared.tree.op.Op.TheVariants as o
-use Rattle.expression_parser.specs.declared.tree.op.Suffix.TheVariants as suffix
+use Rattle.filter_syntax.specs.Syntax.{ExprView, RangeView, SetView}
+use Rattle.filter_syntax.specs.SyntaxCommands.{CommandView, CommandsView, LabelView, PartsView, TargetView, DeclView}
+use Rattle.filter_syntax.specs.SyntaxText.{FilterView}
+use Rattle.filter_syntax.specs.declared.tree.decl.Kind.TheVariants as kind
+use Rattle.filter_syntax.specs.declared.tree.expr.Attribute.TheVariants as attributes
+use Rattle.filter_syntax.specs.declared.tree.op.Membership.TheVariants as membership
+use Rattle.filter_syntax.specs.declared.tree.op.Op.TheVariants as o
+use Rattle.filter_syntax.specs.declared.tree.op.Suffix.TheVariants as suffix
 use Rattle.filter_types.specs.Kinds.{KindsFit, IsTyped, kind_in, number_of}
 
 -- `int a; ip b; int c;`

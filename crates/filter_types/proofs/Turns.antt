@@ -1,10 +1,10 @@
 -- Chains and operands with suffixes, judged part by part, have the kinds that their trees have.
 use Rattle.std.proofs.Common.{◌≡◌, ℕ, Option, Some, None, List, [], ◌∷◌, Result, refl, sym, ap, subst, ◌∙◌}
-use Rattle.expression_parser.specs.Syntax.{ExprView, chain_of, suffixes_of}
-use Rattle.filter_parser.specs.SyntaxCommands.{DeclView}
-use Rattle.filter_parser.specs.declared.tree.decl.Kind.{Kind}
-use Rattle.expression_parser.specs.declared.tree.op.Op.{Op}
-use Rattle.expression_parser.specs.declared.tree.op.Suffix.{Suffix}
+use Rattle.filter_syntax.specs.Syntax.{ExprView, chain_of, suffixes_of}
+use Rattle.filter_syntax.specs.SyntaxCommands.{DeclView}
+use Rattle.filter_syntax.specs.declared.tree.decl.Kind.{Kind}
+use Rattle.filter_syntax.specs.declared.tree.op.Op.{Op}
+use Rattle.filter_syntax.specs.declared.tree.op.Suffix.{Suffix}
 use Rattle.filter_types.specs.Answers.{AnswersKind}
 use Rattle.filter_types.specs.Kinds.{kind_in, of_one, of_two}
 use Rattle.filter_types.specs.Table.{operator, suffixed_by}

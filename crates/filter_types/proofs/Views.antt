@@ -1,18 +1,18 @@
 -- What is seen at a chain, at an operand with suffixes and at a `case`.
 use Rattle.std.proofs.Common.{◌≡◌, ℕ, Box, Global, List, [], ◌∷◌, Vec, map, refl, ap, sym, ◌∙◌}
-use Rattle.expression_parser.specs.Syntax.{ExprView, chain_of, suffixes_of, view, view_expr_step, view_more}
-use Rattle.expression_parser.specs.declared.tree.expr.Expr.{Expr}
-use Rattle.expression_parser.specs.declared.tree.expr.Expr.TheFolds.{fold-roll-Expr}
-use Rattle.expression_parser.specs.declared.tree.expr.Expr.TheOpen.{Expr-F}
-use Rattle.expression_parser.specs.declared.tree.expr.Expr.TheVariants as e
-use Rattle.expression_parser.specs.declared.tree.op.Op.{Op}
-use Rattle.expression_parser.specs.declared.tree.op.Suffix.{Suffix}
-use Rattle.filter_parser.specs.SyntaxCommands.{CommandView, CommandsView, LabelView, parts_of, view_command, view_part, view_part_step, view_step}
-use Rattle.filter_parser.specs.declared.tree.command.Command.{Command}
-use Rattle.filter_parser.specs.declared.tree.command.Command.TheFolds.{fold-roll-Command}
-use Rattle.filter_parser.specs.declared.tree.command.Command.TheOpen.{Command-F}
-use Rattle.filter_parser.specs.declared.tree.command.Command.TheVariants as command
-use Rattle.filter_parser.specs.declared.tree.command.Label.{Label}
+use Rattle.filter_syntax.specs.Syntax.{ExprView, chain_of, suffixes_of, view, view_expr_step, view_more}
+use Rattle.filter_syntax.specs.declared.tree.expr.Expr.{Expr}
+use Rattle.filter_syntax.specs.declared.tree.expr.Expr.TheFolds.{fold-roll-Expr}
+use Rattle.filter_syntax.specs.declared.tree.expr.Expr.TheOpen.{Expr-F}
+use Rattle.filter_syntax.specs.declared.tree.expr.Expr.TheVariants as e
+use Rattle.filter_syntax.specs.declared.tree.op.Op.{Op}
+use Rattle.filter_syntax.specs.declared.tree.op.Suffix.{Suffix}
+use Rattle.filter_syntax.specs.SyntaxCommands.{CommandView, CommandsView, LabelView, parts_of, view_command, view_part, view_part_step, view_step}
+use Rattle.filter_syntax.specs.declared.tree.command.Command.{Command}
+use Rattle.filter_syntax.specs.declared.tree.command.Command.TheFolds.{fold-roll-Command}
+use Rattle.filter_syntax.specs.declared.tree.command.Command.TheOpen.{Command-F}
+use Rattle.filter_syntax.specs.declared.tree.command.Command.TheVariants as command
+use Rattle.filter_syntax.specs.declared.tree.command.Label.{Label}
 
 pub view_binary : (x : Expr) (parts : Box (Expr × ℕ × Op × Expr) Global) (y : Expr × ℕ × Op × Expr) → x ≡ e.Binary parts → y ≡ parts.value
     → view x ≡ ExprView.binary y.2 (view y.0) (view y.3)

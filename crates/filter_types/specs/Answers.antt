@@ -1,7 +1,7 @@
 -- What an answer says. A refusal for refused memory says nothing of the filter. (This project's own choice.)
 use Rattle.std.specs.Prelude.{◌≡◌, ◌≢◌, Option, Some, None, Result, MatchResult}
 use Rattle.std.specs.Prelude.{List}
-use Rattle.filter_parser.specs.SyntaxCommands.{DeclView, PartsView}
+use Rattle.filter_syntax.specs.SyntaxCommands.{DeclView, PartsView}
 use Rattle.filter_types.specs.Kinds.{KindsFitParts}
 use Rattle.filter_types.specs.Labels.{AreAllApart, labels_of}
 use Rattle.filter_types.specs.declared.fault.TypeFault.{TypeFault}

@@ -1,7 +1,7 @@
 -- The codes, places and words of the faults of names and kinds. (This project's own choice.)
 use Rattle.std.specs.Prelude.{ℕ, List, codes}
-use Rattle.filter_parser.specs.declared.tree.decl.Kind.{Kind}
-use Rattle.filter_parser.specs.declared.tree.decl.Kind.TheVariants as kind
+use Rattle.filter_syntax.specs.declared.tree.decl.Kind.{Kind}
+use Rattle.filter_syntax.specs.declared.tree.decl.Kind.TheVariants as kind
 use Rattle.filter_types.specs.declared.fault.TypeFault.{TypeFault}
 use Rattle.filter_types.specs.declared.fault.TypeFault.TheVariants as fault
 use Rattle.filter_types.specs.declared.fault.ExpectedKind.{ExpectedKind}

@@ -3,28 +3,28 @@
 -- are, as the codes, is this project's own choice.)
 use Rattle.std.specs.Prelude.{◌≡◌, ◌≢◌, ◌⊎◌, ◌+◌, ℕ, Some, None, List, [], ◌∷◌, ◌++◌, map, flat_map, take, slice_get, Contains, Vec}
 use Rattle.std.specs.declared.alloc.Global.{Global}
-use Rattle.expression_parser.specs.Placed.{Kept, joined}
-use Rattle.filter_parser.specs.Placed.{command_kept, decl_kept}
-use Rattle.expression_parser.specs.Places.{expr_place}
-use Rattle.filter_parser.specs.Places.{body_of, decls_of}
-use Rattle.expression_parser.specs.Syntax.{ExprView, chain_of, suffixes_of, view, view_members, view_more}
-use Rattle.filter_parser.specs.SyntaxCommands.{DeclView, view_decl, view_label, view_target}
-use Rattle.filter_parser.specs.declared.tree.command.Command.{Command}
-use Rattle.filter_parser.specs.declared.tree.command.Command.TheOpen.{Command-F}
-use Rattle.filter_parser.specs.declared.tree.command.Command.TheViews.{roll-Command}
-use Rattle.filter_parser.specs.declared.tree.command.Label.{Label}
-use Rattle.filter_parser.specs.declared.tree.command.Target.{Target}
-use Rattle.filter_parser.specs.declared.tree.command.Target.TheVariants as target
-use Rattle.filter_parser.specs.declared.tree.decl.Decl.{Decl}
-use Rattle.filter_parser.specs.declared.tree.decl.Kind.{Kind}
-use Rattle.expression_parser.specs.declared.tree.expr.Expr.{Expr}
-use Rattle.expression_parser.specs.declared.tree.expr.Expr.TheOpen.{Expr-F}
-use Rattle.expression_parser.specs.declared.tree.expr.Expr.TheViews.{roll-Expr}
-use Rattle.filter_parser.specs.declared.tree.filter.Filter.{Filter}
-use Rattle.expression_parser.specs.declared.tree.op.Op.{Op}
-use Rattle.expression_parser.specs.declared.tree.op.Suffix.{Suffix}
+use Rattle.filter_syntax.specs.Placed.{Kept, joined}
+use Rattle.filter_syntax.specs.Placed.{command_kept, decl_kept}
+use Rattle.filter_syntax.specs.Places.{expr_place}
+use Rattle.filter_syntax.specs.Places.{body_of, decls_of}
+use Rattle.filter_syntax.specs.Syntax.{ExprView, chain_of, suffixes_of, view, view_members, view_more}
+use Rattle.filter_syntax.specs.SyntaxCommands.{DeclView, view_decl, view_label, view_target}
+use Rattle.filter_syntax.specs.declared.tree.command.Command.{Command}
+use Rattle.filter_syntax.specs.declared.tree.command.Command.TheOpen.{Command-F}
+use Rattle.filter_syntax.specs.declared.tree.command.Command.TheViews.{roll-Command}
+use Rattle.filter_syntax.specs.declared.tree.command.Label.{Label}
+use Rattle.filter_syntax.specs.declared.tree.command.Target.{Target}
+use Rattle.filter_syntax.specs.declared.tree.command.Target.TheVariants as target
+use Rattle.filter_syntax.specs.declared.tree.decl.Decl.{Decl}
+use Rattle.filter_syntax.specs.declared.tree.decl.Kind.{Kind}
+use Rattle.filter_syntax.specs.declared.tree.expr.Expr.{Expr}
+use Rattle.filter_syntax.specs.declared.tree.expr.Expr.TheOpen.{Expr-F}
+use Rattle.filter_syntax.specs.declared.tree.expr.Expr.TheViews.{roll-Expr}
+use Rattle.filter_syntax.specs.declared.tree.filter.Filter.{Filter}
+use Rattle.filter_syntax.specs.declared.tree.op.Op.{Op}
+use Rattle.filter_syntax.specs.declared.tree.op.Suffix.{Suffix}
 use Rattle.filter_types.specs.Codes.{expected_of}
-use Rattle.filter_parser.specs.Surroundings.{variable_limit}
+use Rattle.filter_syntax.specs.Surroundings.{variable_limit}
 use Rattle.filter_types.specs.Kinds.{kind_in, kind_named, target_kind}
 use Rattle.filter_types.specs.Labels.{AreAllApart, label_ranges}
 use Rattle.filter_types.specs.Refusals.{OperandView, label_place, member_refusal, operator_refusal, suffix_refusal, wrong_kind}

@@ -6,16 +6,16 @@ use Rattle.std.specs.Prelude.{◌≡◌, ◌≢◌, ℕ, ◌≤◌, Option, Some
 use Rattle.std.specs.List.{position_or_len, find}
 use Rattle.std.specs.Option.{option_map}
 use Rattle.std.specs.Str.{bytes_eq}
-use Rattle.expression_parser.specs.Syntax.{ExprView, number, address, prefix, truth, name, attribute, defined}
-use Rattle.expression_parser.specs.Syntax.{group, negation, binary, member, suffixed}
-use Rattle.filter_parser.specs.Surroundings.{variable_limit}
-use Rattle.filter_parser.specs.SyntaxCommands.{CommandView, CommandsView, PartsView, TargetView, DeclView, to_name, to_metric, to_net}
-use Rattle.filter_parser.specs.SyntaxCommands.{empty, block, if_then, if_else, case, assign, accept, reject, no_commands, command_then}
-use Rattle.filter_parser.specs.SyntaxCommands.{no_parts, part_then}
-use Rattle.filter_parser.specs.SyntaxText.{FilterView}
-use Rattle.filter_parser.specs.declared.tree.decl.Kind.{Kind}
-use Rattle.filter_parser.specs.declared.tree.decl.Kind.TheVariants as kind
-use Rattle.expression_parser.specs.declared.tree.expr.Attribute.TheVariants as attributes
+use Rattle.filter_syntax.specs.Syntax.{ExprView, number, address, prefix, truth, name, attribute, defined}
+use Rattle.filter_syntax.specs.Syntax.{group, negation, binary, member, suffixed}
+use Rattle.filter_syntax.specs.Surroundings.{variable_limit}
+use Rattle.filter_syntax.specs.SyntaxCommands.{CommandView, CommandsView, PartsView, TargetView, DeclView, to_name, to_metric, to_net}
+use Rattle.filter_syntax.specs.SyntaxCommands.{empty, block, if_then, if_else, case, assign, accept, reject, no_commands, command_then}
+use Rattle.filter_syntax.specs.SyntaxCommands.{no_parts, part_then}
+use Rattle.filter_syntax.specs.SyntaxText.{FilterView}
+use Rattle.filter_syntax.specs.declared.tree.decl.Kind.{Kind}
+use Rattle.filter_syntax.specs.declared.tree.decl.Kind.TheVariants as kind
+use Rattle.filter_syntax.specs.declared.tree.expr.Attribute.TheVariants as attributes
 use Rattle.filter_types.specs.Labels.{AreAllApart, labels_of}
 use Rattle.filter_types.specs.Table.{operator, negated, in_set, suffixed_by, attribute_kind, condition_kind, argument_kind}
 

@@ -1,8 +1,8 @@
 -- The labels of a `case`: when two of them share a number. That none may share one with an earlier label is this project's own choice.
 use Rattle.std.specs.Prelude.{ℕ, List, [], ◌∷◌, map, AllPairs}
 use Rattle.int_sets.specs.Holding.{NumberRange, HoldsAny}
-use Rattle.expression_parser.specs.Syntax.{range_of}
-use Rattle.filter_parser.specs.SyntaxCommands.{LabelView, PartsView, ranges_label, else_label, no_parts, part_then}
+use Rattle.filter_syntax.specs.Syntax.{range_of}
+use Rattle.filter_syntax.specs.SyntaxCommands.{LabelView, PartsView, ranges_label, else_label, no_parts, part_then}
 
 -- the ranges of a label; `else` has none
 abbrev pub label_ranges : LabelView → List NumberRange

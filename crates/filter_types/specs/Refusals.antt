@@ -1,16 +1,16 @@
 -- What the kinds table says of operands that it does not take: which of them is blamed, and what is expected there. The left
 -- operand is judged first; where each would do alone but the two differ, the right one is blamed. (This project's own choice.)
 use Rattle.std.specs.Prelude.{ℕ, Bool, true, false, if◌then◌else◌, List, [], ◌∷◌}
-use Rattle.expression_parser.specs.Places.{expr_place, range_place}
-use Rattle.expression_parser.specs.Syntax.{SetView}
-use Rattle.filter_parser.specs.declared.tree.command.Label.{Label}
-use Rattle.filter_parser.specs.declared.tree.command.Label.TheVariants as label
-use Rattle.filter_parser.specs.declared.tree.decl.Kind.{Kind}
-use Rattle.filter_parser.specs.declared.tree.decl.Kind.TheVariants as kind
-use Rattle.expression_parser.specs.declared.tree.op.Op.{Op}
-use Rattle.expression_parser.specs.declared.tree.op.Suffix.{Suffix}
-use Rattle.expression_parser.specs.declared.tree.op.Suffix.TheVariants as suffix
-use Rattle.expression_parser.specs.declared.tree.set.SetRange.{SetRange}
+use Rattle.filter_syntax.specs.Places.{expr_place, range_place}
+use Rattle.filter_syntax.specs.Syntax.{SetView}
+use Rattle.filter_syntax.specs.declared.tree.command.Label.{Label}
+use Rattle.filter_syntax.specs.declared.tree.command.Label.TheVariants as label
+use Rattle.filter_syntax.specs.declared.tree.decl.Kind.{Kind}
+use Rattle.filter_syntax.specs.declared.tree.decl.Kind.TheVariants as kind
+use Rattle.filter_syntax.specs.declared.tree.op.Op.{Op}
+use Rattle.filter_syntax.specs.declared.tree.op.Suffix.{Suffix}
+use Rattle.filter_syntax.specs.declared.tree.op.Suffix.TheVariants as suffix
+use Rattle.filter_syntax.specs.declared.tree.set.SetRange.{SetRange}
 use Rattle.filter_types.specs.Codes.{expected_of}
 use Rattle.filter_types.specs.Table.{OperatorRow, row_of, member_kind}
 use Rattle.filter_types.specs.Table.OperatorRow.{Arithmetic, Equality, Order, Within, Logic}

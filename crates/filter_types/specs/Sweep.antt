@@ -4,11 +4,11 @@ use Rattle.std.specs.Prelude.{List, [], ◌∷◌, ◌++◌, map, All}
 use Rattle.int_sets.specs.Holding.{NumberRange, Holds}
 use Rattle.std.specs.Prelude.{Vec}
 use Rattle.std.specs.declared.alloc.Global.{Global}
-use Rattle.expression_parser.specs.Syntax.{range_of, view_range}
-use Rattle.filter_parser.specs.SyntaxCommands.{view_label}
-use Rattle.filter_parser.specs.declared.tree.command.Command.{Command}
-use Rattle.filter_parser.specs.declared.tree.command.Label.{Label}
-use Rattle.expression_parser.specs.declared.tree.set.SetRange.{SetRange}
+use Rattle.filter_syntax.specs.Syntax.{range_of, view_range}
+use Rattle.filter_syntax.specs.SyntaxCommands.{view_label}
+use Rattle.filter_syntax.specs.declared.tree.command.Command.{Command}
+use Rattle.filter_syntax.specs.declared.tree.command.Label.{Label}
+use Rattle.filter_syntax.specs.declared.tree.set.SetRange.{SetRange}
 use Rattle.filter_types.specs.Labels.{label_ranges}
 use Rattle.filter_types.specs.declared.labels.Labelled.{Labelled}
 

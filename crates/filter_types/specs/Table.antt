@@ -1,15 +1,15 @@
 -- The kinds table: which kinds of operands each form takes, and which kind it gives. It is None where the form does not
 -- take them. As in the BIRD 2.0 User's Guide on filters; what is left out is this project's own choice.
 use Rattle.std.specs.Prelude.{Option, Some, None}
-use Rattle.expression_parser.specs.Syntax.{SetView, of_patterns, of_ranges}
-use Rattle.filter_parser.specs.declared.tree.decl.Kind.{Kind}
-use Rattle.filter_parser.specs.declared.tree.decl.Kind.TheVariants as kind
-use Rattle.expression_parser.specs.declared.tree.expr.Attribute.{Attribute}
-use Rattle.expression_parser.specs.declared.tree.expr.Attribute.TheVariants as attributes
-use Rattle.expression_parser.specs.declared.tree.op.Op.{Op}
-use Rattle.expression_parser.specs.declared.tree.op.Op.TheVariants as o
-use Rattle.expression_parser.specs.declared.tree.op.Suffix.{Suffix}
-use Rattle.expression_parser.specs.declared.tree.op.Suffix.TheVariants as suffix
+use Rattle.filter_syntax.specs.Syntax.{SetView, of_patterns, of_ranges}
+use Rattle.filter_syntax.specs.declared.tree.decl.Kind.{Kind}
+use Rattle.filter_syntax.specs.declared.tree.decl.Kind.TheVariants as kind
+use Rattle.filter_syntax.specs.declared.tree.expr.Attribute.{Attribute}
+use Rattle.filter_syntax.specs.declared.tree.expr.Attribute.TheVariants as attributes
+use Rattle.filter_syntax.specs.declared.tree.op.Op.{Op}
+use Rattle.filter_syntax.specs.declared.tree.op.Op.TheVariants as o
+use Rattle.filter_syntax.specs.declared.tree.op.Suffix.{Suffix}
+use Rattle.filter_syntax.specs.declared.tree.op.Suffix.TheVariants as suffix
 
 -- `+ - * /`: two ints give an int
 abbrev pub arithmetic : Kind → Kind → Option Kind

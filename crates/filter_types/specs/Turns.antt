@@ -1,12 +1,12 @@
 -- The kinds of chains and of operands with suffixes, part by part from the left, as they are judged.
 use Rattle.std.specs.Prelude.{◌≡◌, ◌⊎◌, ℕ, Option, Some, None, List, [], ◌∷◌, Contains, slice_get, take}
-use Rattle.expression_parser.specs.Places.{expr_place}
-use Rattle.expression_parser.specs.Syntax.{ExprView, view, view_more}
-use Rattle.filter_parser.specs.SyntaxCommands.{DeclView}
-use Rattle.filter_parser.specs.declared.tree.decl.Kind.{Kind}
-use Rattle.expression_parser.specs.declared.tree.expr.Expr.{Expr}
-use Rattle.expression_parser.specs.declared.tree.op.Op.{Op}
-use Rattle.expression_parser.specs.declared.tree.op.Suffix.{Suffix}
+use Rattle.filter_syntax.specs.Places.{expr_place}
+use Rattle.filter_syntax.specs.Syntax.{ExprView, view, view_more}
+use Rattle.filter_syntax.specs.SyntaxCommands.{DeclView}
+use Rattle.filter_syntax.specs.declared.tree.decl.Kind.{Kind}
+use Rattle.filter_syntax.specs.declared.tree.expr.Expr.{Expr}
+use Rattle.filter_syntax.specs.declared.tree.op.Op.{Op}
+use Rattle.filter_syntax.specs.declared.tree.op.Suffix.{Suffix}
 use Rattle.filter_types.specs.Faults.{HasFault, IsRefusedOperator}
 use Rattle.filter_types.specs.Kinds.{kind_in, of_one}
 use Rattle.filter_types.specs.Refusals.{OperandView, operator_refusal, suffix_refusal}

@@ -1,9 +1,9 @@
 //! The names and kinds of commands.
 
 ghost use Rattle.std.specs.Prelude.{◌≡◌, ◌≢◌, ◌⊎◌, Contains, IfErr, Some, flat_map, map};
-ghost use Rattle.expression_parser.specs.Syntax.{view};
-ghost use Rattle.filter_parser.specs.SyntaxCommands.{commands_of, parts_of, view_command, view_decl, view_part, view_target};
-ghost use Rattle.filter_parser.specs.declared.tree.command.Command.{Command as TheCommand};
+ghost use Rattle.filter_syntax.specs.Syntax.{view};
+ghost use Rattle.filter_syntax.specs.SyntaxCommands.{commands_of, parts_of, view_command, view_decl, view_part, view_target};
+ghost use Rattle.filter_syntax.specs.declared.tree.command.Command.{Command as TheCommand};
 ghost use Rattle.filter_types.specs.Answers.{AnswersKind, DoPartsFit, Judges};
 ghost use Rattle.filter_types.specs.Codes.{expected_of};
 ghost use Rattle.filter_types.specs.Faults.{CommandHasFault, HasFault, IsOtherKind, IsOtherThanTarget, IsTargetFault, SharesLabel};
@@ -17,7 +17,7 @@ use crate::kinds::kind_of;
 use crate::parts::{first_shared_label, shared_label};
 use crate::table::{Operand, attribute_kind};
 use crate::variables::resolve;
-use filter_parser::{Attribute, Command, Decl, Expr, Kind, Label, Target};
+use filter_syntax::{Attribute, Command, Decl, Expr, Kind, Label, Target};
 use std::alloc::Global;
 
 /// The kind of what an assignment sets.

@@ -8,7 +8,7 @@ ghost use Rattle.std.specs.Prelude.{◌≡◌};
 ghost use Rattle.filter_types.specs.Codes.{expected_of};
 ghost use Rattle.filter_types.specs.declared.fault.TypeFault.TheVariants.{Memory};
 
-use filter_parser::Kind;
+use filter_syntax::Kind;
 use std::alloc::{AllocError, AllocFailed};
 use std::fmt::{self, Display, Formatter, Write};
 use thiserror::Error;

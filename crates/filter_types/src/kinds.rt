@@ -1,8 +1,8 @@
 //! The kinds of expressions.
 
 ghost use Rattle.std.specs.Prelude.{IfErr, map};
-ghost use Rattle.expression_parser.specs.Syntax.{binary, view, view_more};
-ghost use Rattle.filter_parser.specs.SyntaxCommands.{view_decl};
+ghost use Rattle.filter_syntax.specs.Syntax.{binary, view, view_more};
+ghost use Rattle.filter_syntax.specs.SyntaxCommands.{view_decl};
 ghost use Rattle.filter_types.specs.Answers.{AnswersKind};
 ghost use Rattle.filter_types.specs.Faults.{HasFault};
 ghost use Rattle.filter_types.specs.Kinds.{kind_in};
@@ -12,7 +12,7 @@ ghost use Rattle.filter_types.specs.Turns.{BinaryHasFault, ChainHasFault, Suffix
 use crate::fault::TypeFault;
 use crate::table::{Operand, attribute_kind, in_set, negated, operator, suffixed_by};
 use crate::variables::resolve;
-use filter_parser::{Decl, Expr, Kind, Op, Suffix};
+use filter_syntax::{Decl, Expr, Kind, Op, Suffix};
 
 /// The kind of an operand with the suffixes after it.
 fn kind_with_suffixes(operand: Operand, suffixes: &[Suffix]) -> Result<Kind, TypeFault>

@@ -1,7 +1,7 @@
 //! The parts of a `case`: the first of them whose label shares a number with an earlier one.
 
 ghost use Rattle.std.specs.Prelude.{◌≡◌, ◌+◌, ◌<◌, ◌≤◌, ◌++◌, All, IfOk, OnOk, length, map, take};
-ghost use Rattle.filter_parser.specs.SyntaxCommands.{view_label};
+ghost use Rattle.filter_syntax.specs.SyntaxCommands.{view_label};
 ghost use Rattle.filter_types.specs.Labels.{AreAllApart, label_ranges};
 ghost use Rattle.filter_types.specs.Refusals.{label_place};
 ghost use Rattle.filter_types.specs.Sweep.{IsOrdered, labelled_range, part_ranges, written_range};
@@ -9,7 +9,7 @@ ghost use Rattle.filter_types.specs.declared.fault.TypeFault.TheVariants as faul
 
 use crate::fault::TypeFault;
 use crate::labels::{Labelled, first_shared};
-use filter_parser::{Command, Label, SetRange};
+use filter_syntax::{Command, Label, SetRange};
 use int_sets::IntRange;
 use std::alloc::{AllocError, Global};
 

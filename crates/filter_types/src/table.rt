@@ -2,14 +2,14 @@
 
 ghost use Rattle.std.specs.Prelude.{◌≡◌, IfErr};
 ghost use Rattle.filter_types.specs.Answers.{AnswersKind};
-ghost use Rattle.expression_parser.specs.Syntax.{view_members};
+ghost use Rattle.filter_syntax.specs.Syntax.{view_members};
 ghost use Rattle.filter_types.specs.Refusals.{arithmetic_refusal, equality_refusal, logic_refusal, member_refusal, operator_refusal};
 ghost use Rattle.filter_types.specs.Refusals.{order_refusal, suffix_refusal, view_operand, within_refusal, wrong_kind};
 ghost use Rattle.filter_types.specs.Table.{arithmetic, attribute_kind, equality, in_set, logic};
 ghost use Rattle.filter_types.specs.Table.{negated, operator, order, suffixed_by, within};
 
 use crate::fault::{ExpectedKind, TypeFault};
-use filter_parser::{Attribute, Expr, Kind, Members, Op, Suffix};
+use filter_syntax::{Attribute, Expr, Kind, Members, Op, Suffix};
 
 /// An operand whose kind is known.
 #[derive(Clone, Copy)]

@@ -1,8 +1,8 @@
 //! Filters whose names and kinds fit.
 
 ghost use Rattle.std.specs.Prelude.{◌≡◌, ◌≢◌, IfOk, IfErr, OnOk};
-ghost use Rattle.filter_parser.specs.Surroundings.{around_of};
-ghost use Rattle.filter_parser.specs.SyntaxText.{view_filter};
+ghost use Rattle.filter_syntax.specs.Surroundings.{around_of};
+ghost use Rattle.filter_syntax.specs.SyntaxText.{view_filter};
 ghost use Rattle.filter_types.specs.declared.fault.TypeFault.TheVariants as fault;
 ghost use Rattle.filter_types.specs.Codes.{fault_place};
 ghost use Rattle.filter_types.specs.Faults.{IsFaultOf, KeepsPlace};
@@ -11,7 +11,7 @@ ghost use Rattle.filter_types.specs.Kinds.{IsTyped, number_of};
 use crate::commands::check_commands;
 use crate::fault::TypeFault;
 use crate::variables::{check_variables, number_of};
-use filter_parser::{Around, Filter};
+use filter_syntax::{Around, Filter};
 use std::alloc::Global;
 use std::fmt;
 use std::marker::Model;
@@ -41,9 +41,9 @@ pub struct Typed {
 }
 
 impl Model for Typed {
-    ghost use Rattle.filter_parser.specs.declared.tree.filter.Filter.{Filter as TheFilter};
-    ghost use Rattle.filter_parser.specs.SyntaxText.{view_filter};
-    ghost use Rattle.filter_parser.specs.contracts.tree.filter.Filter as tree_filter;
+    ghost use Rattle.filter_syntax.specs.declared.tree.filter.Filter.{Filter as TheFilter};
+    ghost use Rattle.filter_syntax.specs.SyntaxText.{view_filter};
+    ghost use Rattle.filter_syntax.specs.contracts.tree.filter.Filter as tree_filter;
     ghost use Rattle.filter_types.specs.Kinds.{IsTyped};
 
     ghost Value = { TheFilter };

@@ -4,14 +4,14 @@
 //! the numbers in the order of their uses would save little, and whoever reads it would have to walk the tree in that order.
 
 ghost use Rattle.std.specs.Prelude.{◌≡◌, ◌≤◌, ◌⊎◌, IfErr, None, length, map};
-ghost use Rattle.filter_parser.specs.SyntaxCommands.{view_decl};
+ghost use Rattle.filter_syntax.specs.SyntaxCommands.{view_decl};
 ghost use Rattle.filter_types.specs.Answers.{AnswersKind, Judges};
 ghost use Rattle.filter_types.specs.Faults.{IsDeclaredTwice, IsOneTooMany};
 ghost use Rattle.filter_types.specs.Kinds.{AreDeclared, kind_named, number_of};
 ghost use Rattle.filter_types.specs.declared.fault.TypeFault.TheVariants as fault;
 
 use crate::fault::TypeFault;
-use filter_parser::{Decl, Kind, VARIABLE_LIMIT};
+use filter_syntax::{Decl, Kind, VARIABLE_LIMIT};
 
 /// The number of a variable, and the count of the variables where none has the name.
 pub(crate) fn number_of(variables: &[Decl], name: &[u8]) -> usize

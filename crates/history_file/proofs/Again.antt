@@ -7,7 +7,6 @@ use Rattle.code_file.proofs.FileBytes.{a_file}
 use Rattle.code_file.proofs.Grammar.{file_of_spelling}
 use Rattle.code_file.specs.Spelling.{IsCode, spelling}
 use Rattle.filter_code.specs.CodeView.{CodeView}
-use Rattle.filter_source.specs.Sources.{code_in_bytes, code_in_hexadecimal, code_or_fault}
 use Rattle.filter_verifier.specs.VerifiedView.{VerifiedView}
 use Rattle.hex.proofs.HexLemmas.{decode_of-encode_lower}
 use Rattle.hex.specs.Hex.{encode_lower}
@@ -24,16 +23,18 @@ use Rattle.prefix_patterns.proofs.Displayed.{prefix_text-writes}
 use Rattle.prefix_patterns.proofs.Tokens.{parts_at-joined, prefix_in-only}
 use Rattle.prefix_patterns.specs.Spelling.{prefix_text}
 use Rattle.history_file.proofs.Numbers.{decimal_digits, number_in-decimal}
-use Rattle.history_file.specs.Fits.{FitsEntry, FitsEvent, FitsFilter, FitsMessage, FitsOpening, FitsReply}
-use Rattle.history_file.specs.Fits.{FitsVia, largest_limit, largest_number, largest_session}
-use Rattle.history_file.specs.Keywords.{keyword_in, keyword_text, refusal_in}
+use Rattle.history_lines.specs.Fits.{FitsEntry, FitsEvent, FitsFilter, FitsMessage, FitsOpening, FitsReply}
+use Rattle.history_lines.specs.Fits.{FitsVia, largest_number, largest_session}
+use Rattle.route_history.specs.Limits.{largest_limit}
+use Rattle.history_lines.specs.Keywords.{keyword_in, keyword_text, refusal_in}
+use Rattle.history_file.specs.Reading.{code_if_file, code_in_bytes, code_in_hexadecimal}
 use Rattle.history_file.specs.Reading.{all_messages, all_prefixes, all_reply, all_via, entry_in, event_of}
 use Rattle.history_file.specs.Reading.{first_event, first_filter, first_keyword, first_number, message_in}
 use Rattle.history_file.specs.Reading.{opening_parts, reply_of, unless_fault, verified_code, via_of}
-use Rattle.history_file.specs.Text.{event_words, filter_words, message_word, opening_words, reply_words, via_words}
-use Rattle.history_file.specs.Views.{EntryView, EventView, Up, Down, Receive, Take, SetImport, SetExport, Show}
-use Rattle.history_file.specs.declared.keyword.HistoryKeyword.{HistoryKeyword}
-use Rattle.history_file.specs.declared.keyword.HistoryKeyword.TheVariants as word
+use Rattle.history_lines.specs.Text.{event_words, filter_words, message_word, opening_words, reply_words, via_words}
+use Rattle.history_lines.specs.Views.{EntryView, EventView, Up, Down, Receive, Take, SetImport, SetExport, Show}
+use Rattle.history_lines.specs.declared.keyword.HistoryKeyword.{HistoryKeyword}
+use Rattle.history_lines.specs.declared.keyword.HistoryKeyword.TheVariants as word
 
 number_again : (most n : ℕ) (ws : List (List ℕ)) → n ≤ most → n < 2 ^ 64 → first_number most (decimal n ∷ ws) ≡ Some (n, ws)
 unfolding first_number
@@ -77,9 +78,9 @@ code_again refusal.BadDist = refl
 code_again refusal.OtherSize = refl
 code_again refusal.NoSession = refl
 
-digits_again : (program : CodeView) → IsCode program → code_in_hexadecimal (encode_lower (spelling program)) ≡ Ok program
+digits_again : (program : CodeView) → IsCode program → code_in_hexadecimal (encode_lower (spelling program)) ≡ Some program
 digits_again program h = ap code_in_bytes (decode_of-encode_lower (spelling program) (a_file program h).each)
-    ∙ ap code_or_fault (file_of_spelling program h)
+    ∙ ap code_if_file (file_of_spelling program h)
 
 pub filter_again : (f : VerifiedView) (ws : List (List ℕ)) → FitsFilter f → first_filter (filter_words f ++ ws) ≡ Some (f, ws)
 unfolding first_filter

@@ -16,10 +16,10 @@ use Rattle.history_file.specs.Chains.{AreChained, AreReplayed, BeginsWithState, 
 use Rattle.history_file.specs.Chains.{Begins, Follows, IsLegalChain}
 use Rattle.history_file.specs.Chains.{IsFollowFault, IsReplayFault, IsStateFault, IsWrongEntry, Replays, SegmentView, all_entries, feeds, last_state}
 use Rattle.history_file.specs.Files.{BeginsWithLine, IsNoEntry, IsUnended}
-use Rattle.history_file.specs.Fits.{FitsEntry}
+use Rattle.history_lines.specs.Fits.{FitsEntry}
 use Rattle.history_file.specs.Segments.{AddsState}
-use Rattle.history_file.specs.Text.{entries_text, entry_line}
-use Rattle.history_file.specs.Views.{EntryView, entry_view}
+use Rattle.history_lines.specs.Text.{entries_text, entry_line}
+use Rattle.history_lines.specs.Views.{EntryView, entry_view}
 use Rattle.history_file.specs.declared.chain.Chain.{Chain}
 use Rattle.history_file.specs.declared.chain.ChainFault.{ChainFault}
 use Rattle.history_file.specs.declared.chain.ChainFault.TheVariants as fault

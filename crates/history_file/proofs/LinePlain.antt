@@ -21,12 +21,12 @@ use Rattle.netchange_core.specs.declared.reply.Via.{Via}
 use Rattle.netchange_core.specs.declared.reply.Via.TheVariants as via
 use Rattle.prefix_patterns.specs.Spelling.{prefix_text}
 use Rattle.history_file.proofs.Plain.{IsPlain, IsPlainByte, ArePlain, are_plain-append, plain-decimal, plain-prefix, plain-joined}
-use Rattle.history_file.specs.Fits.{FitsEntry, FitsEvent, FitsFilter, FitsMessage, FitsOpening, FitsReply, FitsVia}
-use Rattle.history_file.specs.Keywords.{keyword_text}
-use Rattle.history_file.specs.Text.{event_words, filter_words, message_word, opening_words, reply_words, via_words}
-use Rattle.history_file.specs.Views.{EntryView, EventView, Up, Down, Receive, Take, SetImport, SetExport, Show}
-use Rattle.history_file.specs.declared.keyword.HistoryKeyword.{HistoryKeyword}
-use Rattle.history_file.specs.declared.keyword.HistoryKeyword.TheVariants as word
+use Rattle.history_lines.specs.Fits.{FitsEntry, FitsEvent, FitsFilter, FitsMessage, FitsOpening, FitsReply, FitsVia}
+use Rattle.history_lines.specs.Keywords.{keyword_text}
+use Rattle.history_lines.specs.Text.{event_words, filter_words, message_word, opening_words, reply_words, via_words}
+use Rattle.history_lines.specs.Views.{EntryView, EventView, Up, Down, Receive, Take, SetImport, SetExport, Show}
+use Rattle.history_lines.specs.declared.keyword.HistoryKeyword.{HistoryKeyword}
+use Rattle.history_lines.specs.declared.keyword.HistoryKeyword.TheVariants as word
 
 -- a word that computes to plain bytes
 pub computed : (w : List ℕ) → 0 < length w → list_all (nat_lt 32) w ≡ true → IsPlain w

@@ -10,10 +10,10 @@ use Rattle.history_file.proofs.Again.{entry_again, opening_again}
 use Rattle.history_file.proofs.LinePlain.{plain-entry, plain-mark, plain-opening}
 use Rattle.history_file.proofs.Plain.{line_bytes, no_feed, plain-decimal, words-spaced}
 use Rattle.history_file.specs.Files.{IsNoEntry, IsNoOpening}
-use Rattle.history_file.specs.Fits.{FitsEntry, FitsOpening}
+use Rattle.history_lines.specs.Fits.{FitsEntry, FitsOpening}
 use Rattle.history_file.specs.Reading.{IsRead, OpeningParts, entry_in, opening_parts}
-use Rattle.history_file.specs.Text.{entry_line, event_words, opening_line, opening_words, reply_words}
-use Rattle.history_file.specs.Views.{EntryView, entry_view}
+use Rattle.history_lines.specs.Text.{entry_line, event_words, opening_line, opening_words, reply_words}
+use Rattle.history_lines.specs.Views.{EntryView, entry_view}
 use Rattle.history_file.specs.declared.fault.HistoryLineFault.{HistoryLineFault}
 use Rattle.history_file.specs.declared.fault.HistoryLineFault.TheVariants as fault
 

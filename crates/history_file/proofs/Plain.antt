@@ -10,7 +10,7 @@ use Rattle.prefix_patterns.proofs.TokenBytes.{IsFromDot, prefix_bytes, prefix_so
 use Rattle.prefix_patterns.proofs.Displayed.{prefix_text-writes}
 use Rattle.prefix_patterns.specs.Spelling.{prefix_text}
 use Rattle.history_file.proofs.Numbers.{decimal_digits}
-use Rattle.history_file.specs.Text.{spaced}
+use Rattle.history_lines.specs.Text.{spaced}
 
 -- a byte behind the space in the order of ASCII
 abbrev pub IsPlainByte : ℕ → Type 0

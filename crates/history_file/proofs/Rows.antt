@@ -12,11 +12,11 @@ use Rattle.netchange_core.specs.World.{NeighbourView, neighbour_at}
 use Rattle.history_file.proofs.Again.{filter_again}
 use Rattle.history_file.proofs.LinePlain.{plain-filter, plain-mark}
 use Rattle.history_file.proofs.Plain.{words-spaced}
-use Rattle.history_file.specs.Fits.{FitsFilter}
+use Rattle.history_lines.specs.Fits.{FitsFilter}
 use Rattle.history_file.specs.Numbering.{AreNumbered, AreRows, Extends, IsFound, IsNumbered, IsNumberedIn, IsRow, row_of, rows_text, texts_of}
 use Rattle.history_file.specs.Reading.{first_filter}
 use Rattle.history_file.specs.Segments.{AreUses, IsTable, IsUse, filters_text, filter_line, nodes_text, node_text, uses_at}
-use Rattle.history_file.specs.Text.{filter_words, spaced}
+use Rattle.history_lines.specs.Text.{filter_words, spaced}
 use Rattle.history_file.specs.declared.numbering.Uses.{Uses}
 
 some_is : {A : Type 0} (x y : A) → Some x ≡ Some y → x ≡ y

@@ -4,13 +4,13 @@ use Rattle.std.proofs.lemmas.List.{length-map, map-append}
 use Rattle.netchange_core.specs.World.{NeighbourView, World}
 use Rattle.netchange_core.specs.declared.message.Message.{Message}
 use Rattle.history_file.proofs.Rows.{spaced_both, table_text}
-use Rattle.history_file.specs.Fits.{FitsOpening}
+use Rattle.history_lines.specs.Fits.{FitsOpening}
 use Rattle.history_file.specs.Numbering.{AreNumbered, row_of, rows_text}
 use Rattle.history_file.specs.Segments.{AddsState, end_text, filters_text, mark_line, nodes_text, place_line, state_text}
-use Rattle.history_file.specs.Keywords.{keyword_text}
+use Rattle.history_lines.specs.Keywords.{keyword_text}
 use Rattle.history_file.specs.Segments.{link_words, node_line, use_words}
-use Rattle.history_file.specs.Text.{message_word, spaced}
-use Rattle.history_file.specs.declared.keyword.HistoryKeyword.TheVariants as word
+use Rattle.history_lines.specs.Text.{message_word, spaced}
+use Rattle.history_lines.specs.declared.keyword.HistoryKeyword.TheVariants as word
 use Rattle.history_file.specs.declared.numbering.Uses.{Uses}
 
 -- one part before the others

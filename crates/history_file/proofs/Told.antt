@@ -18,13 +18,13 @@ use Rattle.history_file.proofs.LinePlain.{computed, plain-filter, plain-keyword,
 use Rattle.history_file.proofs.Lines.{opening_from, parts_of}
 use Rattle.history_file.proofs.Numbers.{number_in-decimal}
 use Rattle.history_file.proofs.Plain.{ArePlain, IsPlain, are_plain-append, line_bytes, no_feed, plain-decimal, words-spaced}
-use Rattle.history_file.specs.Fits.{FitsFilter, FitsMessage, FitsOpening}
-use Rattle.history_file.specs.Keywords.{keyword_text}
+use Rattle.history_lines.specs.Fits.{FitsFilter, FitsMessage, FitsOpening}
+use Rattle.history_lines.specs.Keywords.{keyword_text}
 use Rattle.history_file.specs.Reading.{OpeningParts, all_messages, first_filter, opening_parts}
 use Rattle.history_file.specs.Segments.{AreUses, IsOneState, IsStateText, IsTable, IsUse, end_text, filters_text, filter_line, link_words, mark_line, node_line, node_text}
 use Rattle.history_file.specs.Segments.{node_words, nodes_text, place_line, place_words, queue_line, queue_text, state_text, use_words, uses_at}
-use Rattle.history_file.specs.Text.{filter_words, message_word, opening_words, spaced}
-use Rattle.history_file.specs.declared.keyword.HistoryKeyword.TheVariants as word
+use Rattle.history_lines.specs.Text.{filter_words, message_word, opening_words, spaced}
+use Rattle.history_lines.specs.declared.keyword.HistoryKeyword.TheVariants as word
 use Rattle.history_file.specs.declared.numbering.Uses.{Uses}
 
 some_is : {A : Type 0} (x y : A) → Some x ≡ Some y → x ≡ y

@@ -11,10 +11,10 @@ use Rattle.history_file.proofs.Lines.{entry_cut, entry_of_line, opening_cut, ope
 use Rattle.std.proofs.lemmas.List.{length-map, map_push}
 use Rattle.history_file.specs.Files.{AreFront, AreRead, BeginsWithLine, IsEntriesFault, IsFaultOf, IsRead}
 use Rattle.history_file.specs.Files.{IsRest, history_view, IsNoEntry, IsUnended, IsWrongAt, Tells}
-use Rattle.history_file.specs.Fits.{FitsEntry, FitsHistory, FitsOpening}
+use Rattle.history_lines.specs.Fits.{FitsEntry, FitsHistory, FitsOpening}
 use Rattle.history_file.specs.Reading.{OpeningParts, entry_in, opening_parts}
-use Rattle.history_file.specs.Text.{entries_text, entry_line, history_text, opening_line}
-use Rattle.history_file.specs.Views.{EntryView, HistoryView, entry_view}
+use Rattle.history_lines.specs.Text.{entries_text, entry_line, history_text, opening_line}
+use Rattle.history_lines.specs.Views.{EntryView, HistoryView, entry_view}
 use Rattle.history_file.specs.declared.history.SavedHistory.{SavedHistory}
 use Rattle.route_history.specs.declared.entry.Entry.{Entry}
 use Rattle.history_file.specs.declared.fault.HistoryFault.{HistoryFault}

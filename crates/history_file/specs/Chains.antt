@@ -10,10 +10,10 @@ use Rattle.netchange_core.specs.declared.reply.Reply.{Reply}
 use Rattle.route_history.specs.History.{IsLegalFrom, world_after}
 use Rattle.route_history.specs.declared.entry.Entry.{Entry}
 use Rattle.history_file.specs.Files.{BeginsWithLine, IsNoEntry, IsUnended}
-use Rattle.history_file.specs.Fits.{FitsEntry}
+use Rattle.history_lines.specs.Fits.{FitsEntry}
 use Rattle.history_file.specs.Segments.{IsStateText}
-use Rattle.history_file.specs.Text.{entries_text, entry_line}
-use Rattle.history_file.specs.Views.{entry_view}
+use Rattle.history_lines.specs.Text.{entries_text, entry_line}
+use Rattle.history_lines.specs.Views.{entry_view}
 use Rattle.history_file.specs.declared.chain.Chain.{Chain}
 use Rattle.history_file.specs.declared.chain.ChainFault.{ChainFault}
 use Rattle.history_file.specs.declared.chain.ChainFault.TheVariants as fault

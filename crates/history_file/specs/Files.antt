@@ -2,9 +2,9 @@
 use Rattle.std.specs.Prelude.{◌≡◌, ◌⊎◌, ℕ, ◌+◌, ◌≤◌, List, All, ◌++◌, length, map, Some, None, ⊤}
 use Rattle.netchange_core.specs.OpeningView.{OpeningView}
 use Rattle.prefix_patterns.specs.Reading.{parts_at}
-use Rattle.history_file.specs.Fits.{FitsEntry, FitsHistory, FitsOpening}
-use Rattle.history_file.specs.Text.{entries_text, entry_line, history_text, opening_line}
-use Rattle.history_file.specs.Views.{EntryView, HistoryView, entry_view}
+use Rattle.history_lines.specs.Fits.{FitsEntry, FitsHistory, FitsOpening}
+use Rattle.history_lines.specs.Text.{entries_text, entry_line, history_text, opening_line}
+use Rattle.history_lines.specs.Views.{EntryView, HistoryView, entry_view}
 use Rattle.history_file.specs.declared.fault.HistoryFault.{HistoryFault}
 use Rattle.history_file.specs.declared.fault.HistoryFault.TheVariants as fault
 use Rattle.history_file.specs.declared.history.SavedHistory.{SavedHistory}

@@ -1,9 +1,5 @@
 -- What callers cite: what a text shows of a history, the text itself, which histories have one, and which one bytes tell.
-pub mod Views
-pub mod Keywords
-pub mod Text
 pub mod Segments
-pub mod Fits
 pub mod Files
 pub mod Replays
 pub mod Chains

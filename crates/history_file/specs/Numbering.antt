@@ -4,7 +4,7 @@ use Rattle.std.specs.declared.alloc.Global.{Global}
 use Rattle.filter_verifier.specs.VerifiedView.{VerifiedView}
 use Rattle.netchange_core.specs.World.{NeighbourView, neighbour_at}
 use Rattle.history_file.specs.Segments.{AreUses, IsTable, IsUse, uses_at}
-use Rattle.history_file.specs.Text.{filter_words, spaced}
+use Rattle.history_lines.specs.Text.{filter_words, spaced}
 use Rattle.history_file.specs.declared.numbering.Uses.{Uses}
 
 -- texts as lists of bytes

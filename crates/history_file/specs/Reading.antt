@@ -2,8 +2,10 @@
 -- with the line, so a position, zeros in front and further blanks are not looked at here. (This project's own choice.)
 use Rattle.std.specs.Prelude.{◌≡◌, ℕ, Bool, List, [], ◌∷◌, Option, Some, None, Result, Ok, Err, ⊤}
 use Rattle.filter_code.specs.CodeView.{CodeView}
-use Rattle.filter_source.specs.Sources.{code_in_hexadecimal}
-use Rattle.filter_source.specs.declared.refusal.Refusal.{Refusal}
+use Rattle.code_file.specs.Reading.{file_of}
+use Rattle.code_file.specs.declared.fault.FileFault.{FileFault}
+use Rattle.hex.specs.Hex.{decode_of}
+use Rattle.hex.specs.declared.error.FromHexError.{FromHexError}
 use Rattle.filter_verifier.specs.FirstFault.{the_fault}
 use Rattle.filter_verifier.specs.VerifiedView.{VerifiedView}
 use Rattle.filter_verifier.specs.declared.fault.VerifyFault.{VerifyFault}
@@ -13,13 +15,14 @@ use Rattle.netchange_core.specs.declared.reply.Reply.TheVariants as reply
 use Rattle.netchange_core.specs.declared.reply.Via.{Via}
 use Rattle.netchange_core.specs.declared.reply.Via.TheVariants as via
 use Rattle.prefix_patterns.specs.Reading.{◌>>=◌, number_in, parts_at, prefix_in}
-use Rattle.history_file.specs.Fits.{largest_number, largest_session, largest_limit}
-use Rattle.history_file.specs.Keywords.{keyword_in, refusal_in}
-use Rattle.history_file.specs.Views.{EventView, Up, Down, Receive, Take, SetImport, SetExport, Show, EntryView}
+use Rattle.history_lines.specs.Fits.{largest_number, largest_session}
+use Rattle.route_history.specs.Limits.{largest_limit}
+use Rattle.history_lines.specs.Keywords.{keyword_in, refusal_in}
+use Rattle.history_lines.specs.Views.{EventView, Up, Down, Receive, Take, SetImport, SetExport, Show, EntryView}
 use Rattle.history_file.specs.declared.fault.HistoryLineFault.{HistoryLineFault}
 use Rattle.history_file.specs.declared.fault.HistoryLineFault.TheVariants as fault
-use Rattle.history_file.specs.declared.keyword.HistoryKeyword.{HistoryKeyword}
-use Rattle.history_file.specs.declared.keyword.HistoryKeyword.TheVariants as word
+use Rattle.history_lines.specs.declared.keyword.HistoryKeyword.{HistoryKeyword}
+use Rattle.history_lines.specs.declared.keyword.HistoryKeyword.TheVariants as word
 
 -- what is read, and the words after it
 abbrev pub Read : Type 0 → Type 0
@@ -54,9 +57,22 @@ abbrev pub unless_fault : Option VerifyFault → VerifiedView → Option Verifie
 unless_fault None f = Some f
 unless_fault (Some why) f = None
 
-abbrev pub verified_code : ℕ → Result CodeView Refusal → Option VerifiedView
-verified_code size (Ok program) = unless_fault (the_fault program size) (record { program = program; size = size })
-verified_code size (Err why) = None
+abbrev pub verified_code : ℕ → Option CodeView → Option VerifiedView
+verified_code size (Some program) = unless_fault (the_fault program size) (record { program = program; size = size })
+verified_code size None = None
+
+-- the code of a code file, where bytes are one
+abbrev pub code_if_file : Result CodeView FileFault → Option CodeView
+code_if_file (Ok program) = Some program
+code_if_file (Err why) = None
+
+-- the code of a code file in hexadecimal
+abbrev pub code_in_bytes : Result (List ℕ) FromHexError → Option CodeView
+code_in_bytes (Ok bytes) = code_if_file (file_of bytes)
+code_in_bytes (Err why) = None
+
+abbrev pub code_in_hexadecimal : List ℕ → Option CodeView
+code_in_hexadecimal digits = code_in_bytes (decode_of digits)
 
 -- a filter
 unfoldable pub first_filter : List (List ℕ) → Read VerifiedView

@@ -6,7 +6,7 @@ use Rattle.netchange_core.specs.declared.reply.Reply.{Reply}
 use Rattle.route_history.specs.History.{IsFirstWrong, IsLegal, world_of}
 use Rattle.route_history.specs.declared.entry.Entry.{Entry}
 use Rattle.history_file.specs.Files.{IsRead, IsUnended, IsWrongAt, history_view}
-use Rattle.history_file.specs.Text.{reply_words, spaced}
+use Rattle.history_lines.specs.Text.{reply_words, spaced}
 use Rattle.history_file.specs.declared.history.SavedHistory.{SavedHistory}
 use Rattle.history_file.specs.declared.verdict.ReplayVerdict.{ReplayVerdict}
 use Rattle.history_file.specs.declared.verdict.ReplayVerdict.TheVariants as verdict

@@ -6,10 +6,10 @@ use Rattle.filter_verifier.specs.VerifiedView.{VerifiedView}
 use Rattle.netchange_core.specs.OpeningView.{OpeningView}
 use Rattle.netchange_core.specs.World.{NeighbourView, World, neighbour_at}
 use Rattle.netchange_core.specs.declared.message.Message.{Message}
-use Rattle.history_file.specs.Fits.{FitsFilter, FitsOpening}
-use Rattle.history_file.specs.Keywords.{keyword_text}
-use Rattle.history_file.specs.Text.{filter_words, message_word, opening_words, spaced}
-use Rattle.history_file.specs.declared.keyword.HistoryKeyword.TheVariants as word
+use Rattle.history_lines.specs.Fits.{FitsFilter, FitsOpening}
+use Rattle.history_lines.specs.Keywords.{keyword_text}
+use Rattle.history_lines.specs.Text.{filter_words, message_word, opening_words, spaced}
+use Rattle.history_lines.specs.declared.keyword.HistoryKeyword.TheVariants as word
 use Rattle.history_file.specs.declared.numbering.Uses.{Uses}
 
 -- the line of its opening: the form's mark, the size, the node, the room of the router, and each node's prefix

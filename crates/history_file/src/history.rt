@@ -1,13 +1,14 @@
 //! The text of a whole history is read.
 ghost use Rattle.std.specs.Prelude.{◌≡◌, ◌≤◌, IfOk, IfErr, MatchResult, map};
 ghost use Rattle.history_file.specs.Files as spec;
-ghost use Rattle.history_file.specs.Fits.{FitsEntry, FitsOpening, largest_limit};
-ghost use Rattle.history_file.specs.Text.{entry_line, opening_line};
-ghost use Rattle.history_file.specs.Views.{entry_view};
+ghost use Rattle.history_lines.specs.Fits.{FitsEntry, FitsOpening};
+ghost use Rattle.route_history.specs.Limits.{largest_limit};
+ghost use Rattle.history_lines.specs.Text.{entry_line, opening_line};
+ghost use Rattle.history_lines.specs.Views.{entry_view};
 
 use crate::fault::{HistoryFault, HistoryLineFault};
 use crate::reading::{entry_in, opening_parts};
-use crate::writing::{push_entry, push_opening};
+use history_lines::{push_entry, push_opening};
 use netchange_core::Opening;
 use prefix_patterns::cut_at;
 use route_history::Entry;

@@ -9,7 +9,7 @@ ghost use Rattle.history_file.specs.Chains.{AreChained, Begins, Follows, IsLegal
 ghost use Rattle.history_file.specs.declared.chain.Chain.{Chain as Joined};
 ghost use Rattle.history_file.specs.Files.{IsFaultOf, Tells};
 ghost use Rattle.history_file.specs.Segments.{IsOneState, IsStateText};
-ghost use Rattle.history_file.specs.Views.{HistoryView};
+ghost use Rattle.history_lines.specs.Views.{HistoryView};
 ghost use Rattle.history_file.specs.declared.fault.HistoryFault.{HistoryFault as Fault};
 ghost use Rattle.history_file.specs.declared.fault.HistoryFault.TheVariants.{Memory};
 

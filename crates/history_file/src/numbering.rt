@@ -4,8 +4,8 @@ ghost use Rattle.filter_verifier.specs.VerifiedView.{VerifiedView};
 ghost use Rattle.netchange_core.specs.Kept.{filter_of};
 ghost use Rattle.history_file.specs.Numbering as spec;
 
-use crate::writing::push_filter;
 use filter_verifier::Verified;
+use history_lines::push_filter;
 use netchange_core::Tables;
 use std::alloc::{AllocError, Global};
 use std::sync::Arc;

@@ -6,17 +6,19 @@
 //! **Reading does not judge replies.** A file's reader says which history the bytes tell, and `replay` whether it is right: the two have nothing in
 //! common.
 ghost use Rattle.std.specs.Prelude.{◌≡◌, ◌≤◌, MatchResult, ⊤};
-ghost use Rattle.filter_source.specs.Sources.{code_in_hexadecimal};
 ghost use Rattle.line_protocol.specs.Words.{words};
 ghost use Rattle.prefix_patterns.specs.Reading.{number_in};
-ghost use Rattle.history_file.specs.Fits.{largest_limit, largest_number, largest_session};
+ghost use Rattle.history_lines.specs.Fits.{largest_number, largest_session};
+ghost use Rattle.route_history.specs.Limits.{largest_limit};
 ghost use Rattle.history_file.specs.Reading as spec;
-ghost use Rattle.history_file.specs.Views.{entry_view, event_view};
+ghost use Rattle.history_lines.specs.Views.{entry_view, event_view};
 
 use crate::fault::HistoryLineFault;
-use crate::keyword::{HistoryKeyword, find_keyword, find_refusal};
-use filter_source::{Failure, read_hexadecimal, verify_code};
-use filter_verifier::Verified;
+use code_file::{FileFault, read_code};
+use filter_code::Code;
+use filter_verifier::{Verified, VerifyFault, verify};
+use hex::FromHexError;
+use history_lines::{HistoryKeyword, find_keyword, find_refusal};
 use line_protocol::next_word;
 use netchange_core::{Event, Message, Messages, Reply, Via};
 use prefix_patterns::{Prefix, cut_at, read_number, read_prefix};
@@ -84,19 +86,31 @@ fn first_keyword(line: &[u8]) -> Result<(HistoryKeyword, &[u8]), HistoryLineFaul
     }
 }
 
+/// The code of a code file in hexadecimal.
+fn read_code_file(alloc: Global, digits: &[u8]) -> Result<Code, HistoryLineFault>
+    ensures { spec.IsRead (λ code. code) (spec.code_in_hexadecimal digits.now) result }
+{
+    let bytes = match hex::decode(alloc, digits) {
+        Ok(bytes) => bytes,
+        Err(FromHexError::OutOfMemory) => return Err(HistoryLineFault::Memory),
+        Err(_) => return Err(HistoryLineFault::Form),
+    };
+    match read_code(alloc, bytes.as_slice()) {
+        Ok(code) => Ok(code),
+        Err(FileFault::Memory) => Err(HistoryLineFault::Memory),
+        Err(_) => Err(HistoryLineFault::Form),
+    }
+}
+
 /// The code of a file in hexadecimal, verified for domains of a size.
 fn read_filter(alloc: Global, size: u16, digits: &[u8]) -> Result<Arc<Verified>, HistoryLineFault>
-    ensures { spec.IsRead (λ f. f.value) (spec.verified_code size (code_in_hexadecimal digits.now)) result }
+    ensures { spec.IsRead (λ f. f.value) (spec.verified_code size (spec.code_in_hexadecimal digits.now)) result }
 {
-    let code = match read_hexadecimal(alloc, digits) {
-        Ok(code) => code,
-        Err(Failure::Refused(_)) => return Err(HistoryLineFault::Form),
-        Err(Failure::Memory) => return Err(HistoryLineFault::Memory),
-    };
-    match verify_code(alloc, code, u32::from(size)) {
+    let code = read_code_file(alloc, digits)?;
+    match verify(alloc, code, u32::from(size)) {
         Ok(filter) => Ok(Arc::new(alloc, filter)?),
-        Err(Failure::Refused(_)) => Err(HistoryLineFault::Form),
-        Err(Failure::Memory) => Err(HistoryLineFault::Memory),
+        Err((_, VerifyFault::Memory)) => Err(HistoryLineFault::Memory),
+        Err(_) => Err(HistoryLineFault::Form),
     }
 }
 

@@ -2,15 +2,17 @@
 ghost use Rattle.std.specs.Prelude.{◌≡◌, ◌++◌, ◌∷◌, [], ◌<◌, ◌≤◌, ◌^◌, OnErr, OnOk, decimal, length, map};
 ghost use Rattle.std.specs.Io.{StartsWith};
 ghost use Rattle.netchange_core.specs.Kept.{view_of};
-ghost use Rattle.history_file.specs.Fits.{FitsOpening, largest_limit};
-ghost use Rattle.history_file.specs.Keywords.{keyword_text};
+ghost use Rattle.history_lines.specs.Fits.{FitsOpening};
+ghost use Rattle.route_history.specs.Limits.{largest_limit};
+ghost use Rattle.history_lines.specs.Keywords.{keyword_text};
 ghost use Rattle.history_file.specs.Numbering.{row_line, rows_text, texts_of};
 ghost use Rattle.history_file.specs.Segments as spec;
-ghost use Rattle.history_file.specs.Text.{message_word, spaced};
+ghost use Rattle.history_lines.specs.Text.{message_word, spaced};
 
-use crate::keyword::HistoryKeyword;
 use crate::numbering::{Uses, number_filters};
-use crate::writing::{push_keyword, push_messages, push_number, push_opening_words, push_word};
+use history_lines::{
+    HistoryKeyword, push_keyword, push_messages, push_number, push_opening_words, push_word,
+};
 use line_protocol::push_decimal;
 use netchange_core::{Message, Neighbour, Opening, Tables};
 use std::alloc::{AllocError, Global};

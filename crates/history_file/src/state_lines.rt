@@ -2,7 +2,7 @@
 //! blanks are not looked at here.
 ghost use Rattle.std.specs.Prelude.{◌≤◌, IfErr, IfOk};
 ghost use Rattle.history_file.specs.Chains.{IsStateFault};
-ghost use Rattle.history_file.specs.Fits.{largest_limit};
+ghost use Rattle.route_history.specs.Limits.{largest_limit};
 
 use crate::chain::{ChainFault, fault_at, is_segment};
 use crate::fault::HistoryLineFault;

@@ -6,7 +6,7 @@ ghost use Rattle.history_file.specs.Replays as spec;
 
 use crate::fault::HistoryFault;
 use crate::history::{SavedHistory, read_history};
-use crate::writing::push_reply;
+use history_lines::push_reply;
 use line_protocol::{push_decimal, push_refusal};
 use netchange_core::Reply;
 use route_history::{ReplayFault, replay_list};

@@ -7,9 +7,9 @@ use Rattle.netchange_core.specs.Calls.{opened}
 use Rattle.netchange_core.specs.World.{World}
 use Rattle.history_file.proofs.Chained.{after_append, legal_front, legal_later, of_opening}
 use Rattle.history_file.specs.Chains.{AreJoined, Begins, Follows}
-use Rattle.history_file.specs.Fits.{FitsEntry}
-use Rattle.history_file.specs.Text.{entries_text}
-use Rattle.history_file.specs.Views.{entry_view}
+use Rattle.history_lines.specs.Fits.{FitsEntry}
+use Rattle.history_lines.specs.Text.{entries_text}
+use Rattle.history_lines.specs.Views.{entry_view}
 use Rattle.history_saver.specs.Adding.{between}
 use Rattle.history_saver.specs.Folders.{FolderView, Segment, longer}
 use Rattle.history_saver.specs.Segments.{AreComplete, AreSegments, HasSegments, Holds, IsOldest, IsSegment, SegmentsView}

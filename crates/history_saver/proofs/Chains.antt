@@ -6,10 +6,10 @@ use Rattle.std.specs.Option.{option_map}
 use Rattle.std.proofs.lemmas.List.Elements.{All-append}
 use Rattle.std.proofs.lemmas.List.{drop-append-le, length-append, length-drop, length-map, length-take, length-take-le}
 use Rattle.std.proofs.lemmas.List.{map-append, take-append-drop, take-append-le, take-take, take_all}
-use Rattle.history_file.specs.Fits.{FitsEntry}
+use Rattle.history_lines.specs.Fits.{FitsEntry}
 use Rattle.history_file.specs.Segments.{IsStateText}
-use Rattle.history_file.specs.Text.{entries_text}
-use Rattle.history_file.specs.Views.{EntryView, entry_view}
+use Rattle.history_lines.specs.Text.{entries_text}
+use Rattle.history_lines.specs.Views.{EntryView, entry_view}
 use Rattle.history_saver.specs.Adding.{between}
 use Rattle.history_saver.specs.Folders.{FolderView, Segment, longer, with_named, with_newest, with_next, with_written}
 use Rattle.history_saver.specs.Segments.{AreComplete, AreSegments, BeginsAt, HasSegments, Holds, IsNewest, IsOldest, IsSegment, SegmentsView}

@@ -2,10 +2,10 @@
 use Rattle.std.proofs.Common.{◌≡◌, ◌∙◌, sym, ap, subst, ℕ, ◌≤◌, List, [], ◌∷◌, ◌++◌, length, map, take, drop, Option, Some, None, arith}
 use Rattle.std.specs.Prelude.{All, IfSome}
 use Rattle.std.proofs.lemmas.List.{length-take-le, take-take}
-use Rattle.history_file.specs.Fits.{FitsEntry}
+use Rattle.history_lines.specs.Fits.{FitsEntry}
 use Rattle.history_file.specs.Segments.{IsStateText}
-use Rattle.history_file.specs.Text.{entries_text}
-use Rattle.history_file.specs.Views.{EntryView, entry_view}
+use Rattle.history_lines.specs.Text.{entries_text}
+use Rattle.history_lines.specs.Views.{EntryView, entry_view}
 use Rattle.history_saver.specs.Adding.{between}
 use Rattle.history_saver.specs.Folders.{FolderView, Segment}
 use Rattle.history_saver.specs.Segments.{AreComplete, AreSegments, HasSegments, Holds, IsSegment, SegmentsView}

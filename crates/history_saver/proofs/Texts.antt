@@ -6,9 +6,9 @@ use Rattle.std.proofs.Math.Seq.{take-suc}
 use Rattle.std.proofs.Math.ListN.{drop_of_length-le}
 use Rattle.std.proofs.lemmas.List.Elements.{All-nil, All-push}
 use Rattle.std.proofs.lemmas.List.{drop-append-le, length-drop, length-map, length-take, map-append}
-use Rattle.history_file.specs.Fits.{FitsEntry}
-use Rattle.history_file.specs.Text.{entries_text, entry_line}
-use Rattle.history_file.specs.Views.{EntryView, entry_view}
+use Rattle.history_lines.specs.Fits.{FitsEntry}
+use Rattle.history_lines.specs.Text.{entries_text, entry_line}
+use Rattle.history_lines.specs.Views.{EntryView, entry_view}
 use Rattle.route_history.specs.declared.entry.Entry.{Entry}
 use Rattle.history_saver.specs.Adding.{between}
 

@@ -1,8 +1,8 @@
 -- The text of what is not saved of a journal. (This project's own choice.)
 use Rattle.std.specs.Prelude.{◌≡◌, ℕ, ◌+◌, ◌++◌, max, min, List, All, map, take, drop}
-use Rattle.history_file.specs.Fits.{FitsEntry}
-use Rattle.history_file.specs.Text.{entries_text}
-use Rattle.history_file.specs.Views.{EntryView, entry_view}
+use Rattle.history_lines.specs.Fits.{FitsEntry}
+use Rattle.history_lines.specs.Text.{entries_text}
+use Rattle.history_lines.specs.Views.{EntryView, entry_view}
 use Rattle.route_history.specs.declared.entry.Entry.{Entry}
 
 -- the most entries that are read at once

@@ -1,8 +1,8 @@
 -- What the segments of a folder have of a router's history. (This project's own choice.)
 use Rattle.std.specs.Prelude.{◌≡◌, ℕ, ◌≤◌, List, [], ◌∷◌, ◌++◌, All, length, take, Option, Some, None, IfSome, ⊤}
-use Rattle.history_file.specs.Fits.{FitsEntry}
+use Rattle.history_lines.specs.Fits.{FitsEntry}
 use Rattle.history_file.specs.Segments.{IsStateText}
-use Rattle.history_file.specs.Text.{entries_text}
+use Rattle.history_lines.specs.Text.{entries_text}
 use Rattle.history_saver.specs.Adding.{between}
 use Rattle.history_saver.specs.Folders.{FolderView, Segment}
 use Rattle.route_history.specs.History.{world_of}

@@ -1,7 +1,7 @@
 -- What the steps of saving segments do. (This project's own choice.)
 use Rattle.std.specs.Prelude.{◌≡◌, ◌⊎◌, ℕ, ◌+◌, ◌-◌, ◌<◌, ◌≤◌, max, true, List, [], length, take, Option, Some, None}
 use Rattle.std.specs.Option.{option_map}
-use Rattle.history_file.specs.Fits.{largest_limit}
+use Rattle.route_history.specs.Limits.{largest_limit}
 use Rattle.history_file.specs.Segments.{IsStateText}
 use Rattle.history_saver.specs.Adding.{next_count}
 use Rattle.history_saver.specs.Folders.{FolderView, with_next}

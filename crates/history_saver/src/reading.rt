@@ -3,7 +3,7 @@ ghost use Rattle.std.specs.Prelude.{◌≡◌, ◌+◌, ◌≤◌, IfOk, length}
 ghost use Rattle.route_history.specs.Long.{OfHistory};
 ghost use Rattle.history_saver.specs.Adding as spec;
 
-use history_file::write_entry;
+use history_lines::write_entry;
 use route_history::LongJournal;
 use std::alloc::{AllocError, Global};
 

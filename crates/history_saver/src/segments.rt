@@ -2,7 +2,7 @@
 ghost use Rattle.std.specs.Prelude.{◌≡◌, ◌+◌, ◌-◌, ◌<◌, ◌≤◌, IfErr, IfOk, IfSome, IsTrue, OnOk, OnErr, [], length, max, None, take, true};
 ghost use Rattle.std.specs.Option.{option_map};
 ghost use Rattle.netchange_core.specs.Calls.{opened};
-ghost use Rattle.history_file.specs.Fits.{largest_limit};
+ghost use Rattle.route_history.specs.Limits.{largest_limit};
 ghost use Rattle.history_file.specs.Segments.{IsStateText};
 ghost use Rattle.history_saver.specs.Adding.{next_count};
 ghost use Rattle.history_saver.specs.Folders.{size_of, with_named, with_next};

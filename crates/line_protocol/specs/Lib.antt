@@ -3,6 +3,7 @@ pub mod Answers
 pub mod Faults
 pub mod Limits
 pub mod Lines
+pub mod Names
 pub mod Runs
 pub mod Words
 -- What only bodies are proved against: how far an engine has come.

@@ -15,6 +15,7 @@ mod answers;
 mod engine;
 mod faults;
 mod input;
+mod name;
 mod spelled;
 mod streams;
 mod words;
@@ -23,6 +24,7 @@ pub use answers::{LineReply, Service, push_decimal, push_refusal};
 pub use engine::{answer_lines, answer_lines_within, is_skipped, strip_carriage_return};
 pub use faults::StreamFault;
 pub use input::read_input;
+pub use name::is_name;
 pub use spelled::{Spelled, first_spelled};
 pub use streams::{read_some, write_text};
 pub use words::{next_word, trim_blanks, trim_front_blanks};
@@ -36,3 +38,6 @@ pub const NUMBER_LIMIT: u32 = 65_535;
 
 /// An input of more bytes than this ends with `StreamFault::TooLong`, unless the engine is given another limit.
 pub const INPUT_LIMIT: usize = 16_777_216;
+
+/// A name of more bytes than this names nothing.
+pub const NAME_LIMIT: usize = 64;

@@ -13,7 +13,7 @@ ghost use Rattle.ncimport.specs.Noting.{place_from};
 ghost use Rattle.ncimport.specs.Places.{config_of};
 ghost use Rattle.program_console.specs.Streaming.{Tells, Writes};
 ghost use Rattle.filter_reports.specs.Check.{IsRefused};
-ghost use Rattle.filter_parser.specs.Surroundings.{TellsRound};
+ghost use Rattle.filter_parser.specs.Telling.{TellsRound};
 ghost use Rattle.filter_parser.specs.Unspelled.{IsUnspelled};
 ghost use Rattle.filter_source.specs.Diagnoses.{TellsOfText};
 ghost use Rattle.filter_source.specs.VerifiedLine.{verified_line};

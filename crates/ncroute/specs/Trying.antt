@@ -1,7 +1,7 @@
 -- What the program does with routes that are taken through the filter of a file. (This project's own choice.)
 use Rattle.std.specs.Prelude.{◌≡◌, ◌⊎◌, ℕ, Bool, List, Option, IfSome, Result}
 use Rattle.std.specs.declared.io.Error.{Error}
-use Rattle.filter_parser.specs.SyntaxText.{FilterView}
+use Rattle.filter_syntax.specs.SyntaxText.{FilterView}
 use Rattle.filter_reports.specs.Notices.{Named, words_if}
 use Rattle.filter_reports.specs.Opening.{IsFilterRefusal}
 use Rattle.filter_reports.specs.Reports.{ReportView, status_of}

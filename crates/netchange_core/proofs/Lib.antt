@@ -9,6 +9,7 @@ pub mod Lists
 pub mod Mapped
 pub mod Nearest
 pub mod Opened
+pub mod Openings
 pub mod Presence
 pub mod Queued
 pub mod Received

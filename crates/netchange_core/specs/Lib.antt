@@ -8,6 +8,7 @@ pub mod Kept
 pub mod Leading
 pub mod Next
 pub mod OpeningView
+pub mod Openings
 pub mod Present
 pub mod Room
 pub mod Whole

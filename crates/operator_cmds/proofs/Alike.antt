@@ -15,8 +15,8 @@ use Rattle.filter_source.specs.declared.refusal.Refusal.TheVariants as refusal
 use Rattle.filter_source.proofs.Translations as translations
 use Rattle.filter_verifier.specs.FirstFault.{the_fault}
 use Rattle.filter_verifier.specs.VerifiedView.{VerifiedView}
-use Rattle.history_file.specs.Views.{EntryView, EventView, entry_view, event_view}
-use Rattle.history_file.specs.Views as views
+use Rattle.history_lines.specs.Views.{EntryView, EventView, entry_view, event_view}
+use Rattle.history_lines.specs.Views as views
 use Rattle.line_protocol.specs.Answers.{Answer, is_end}
 use Rattle.line_protocol.specs.Lines.{numbered}
 use Rattle.line_protocol.specs.Runs.{Runs}

@@ -3,7 +3,7 @@ use Rattle.std.proofs.Common.{◌≡◌, ◌∙◌, sym, ap, refl, subst, ℕ, �
 use Rattle.std.proofs.Common.{append-nil, length, map, take, drop, get_or, length-drop, length-take, Result, Ok, Err, IfOk, arith}
 use Rattle.std.specs.Prelude.{codes, min}
 use Rattle.std.proofs.lemmas.List.{drop_all, get_or-drop, take_min}
-use Rattle.history_file.specs.Views.{entry_view}
+use Rattle.history_lines.specs.Views.{entry_view}
 use Rattle.line_protocol.specs.declared.answers.LineReply.{LineReply}
 use Rattle.line_protocol.specs.declared.answers.LineReply.TheVariants.{Answered}
 use Rattle.netchange_core.specs.OpeningView.{OpeningView}

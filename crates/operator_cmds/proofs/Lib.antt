@@ -1,4 +1,3 @@
-pub mod Openings
 pub mod Answering
 pub mod Naming
 pub mod Sourced

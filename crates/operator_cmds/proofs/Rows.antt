@@ -18,7 +18,7 @@ use Rattle.route_history.specs.JournalView.{JournalView}
 use Rattle.route_history.specs.declared.entry.Entry.{Entry}
 use Rattle.operator_cmds.specs.CommandView.{Load, Receive}
 use Rattle.operator_cmds.specs.Commands.{command_in}
-use Rattle.operator_cmds.specs.Domain.{default_opening}
+use Rattle.netchange_core.specs.Openings.{default_opening}
 use Rattle.operator_cmds.specs.Looks.{looked, texts_below, told_text}
 use Rattle.operator_cmds.specs.Replies.{answered, refused}
 use Rattle.operator_cmds.specs.Script.{AnswersLine, Keeps, MovesTo, ScriptView, fresh, tables_of}

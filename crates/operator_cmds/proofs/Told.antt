@@ -1,8 +1,8 @@
 -- Entries that are told one after another, from a position on.
 use Rattle.std.proofs.Common.{◌≡◌, ◌∙◌, sym, ap, suc, ℕ, ◌+◌, ◌-◌, ◌<◌, ◌≤◌, List, ◌∷◌, ◌++◌, append_assoc, length, map, take}
 use Rattle.std.proofs.Common.{drop, get_or, length-take-le, length-drop, drop-cons, get_or-take, get_or-drop, arith}
-use Rattle.history_file.specs.Text.{entry_line}
-use Rattle.history_file.specs.Views.{entry_view}
+use Rattle.history_lines.specs.Text.{entry_line}
+use Rattle.history_lines.specs.Views.{entry_view}
 use Rattle.operator_cmds.specs.Looks.{bar_before, entries_text}
 use Rattle.route_history.specs.declared.entry.Entry.{Entry}
 

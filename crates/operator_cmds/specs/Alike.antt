@@ -4,7 +4,7 @@ use Rattle.std.specs.Io.KnownBytes.{Appends}
 use Rattle.filter_source.specs.Refusals.{place_in_line, refusal_code}
 use Rattle.filter_source.specs.Sources as sources
 use Rattle.filter_source.specs.declared.refusal.Refusal.{Refusal}
-use Rattle.history_file.specs.Views.{entry_view}
+use Rattle.history_lines.specs.Views.{entry_view}
 use Rattle.line_protocol.specs.Answers.{Answer, text_of}
 use Rattle.line_protocol.specs.Lines.{numbered}
 use Rattle.route_history.specs.JournalView.{JournalView}

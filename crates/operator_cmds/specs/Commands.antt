@@ -6,9 +6,10 @@ use Rattle.line_protocol.specs.Limits.{line_limit, number_limit}
 use Rattle.line_protocol.specs.Words.{words, without_front_blanks}
 use Rattle.prefix_patterns.specs.Reading.{number_in, prefix_in}
 use Rattle.operator_cmds.specs.CommandView.{CommandView, Network, Prefix, Load, Code, Import, Export, Up, Down, Receive, Take, Show, Look, History}
-use Rattle.operator_cmds.specs.Limits.{largest_limit, largest_position}
-use Rattle.operator_cmds.specs.Names.{is_name}
-use Rattle.operator_cmds.specs.Networks.{is_network}
+use Rattle.route_history.specs.Limits.{largest_limit}
+use Rattle.operator_cmds.specs.Limits.{largest_position}
+use Rattle.line_protocol.specs.Names.{is_name}
+use Rattle.netchange_core.specs.Openings.{is_network}
 use Rattle.operator_cmds.specs.Verbs.{verb_in}
 use Rattle.operator_cmds.specs.WordLists.{after_word, one_of, two_of, three_of}
 use Rattle.operator_cmds.specs.declared.command.Look.{Look as TablesLook}

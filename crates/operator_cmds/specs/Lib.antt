@@ -2,7 +2,6 @@
 pub mod Limits
 pub mod Faults
 pub mod Verbs
-pub mod Names
 pub mod WordLists
 pub mod Networks
 pub mod CommandView
@@ -10,7 +9,6 @@ pub mod Commands
 pub mod Readings
 pub mod PlainLines
 pub mod Replies
-pub mod Domain
 pub mod Stages
 pub mod Looks
 pub mod Script

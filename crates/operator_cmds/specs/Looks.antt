@@ -1,8 +1,8 @@
 -- What is told of a router to who looks at it. (This project's own choice.)
 use Rattle.std.specs.Prelude.{ℕ, suc, zero, ◌+◌, ◌<◌, ◌==◌, nat_le, Bool, true, if◌then◌else◌, List, [], ◌∷◌, ◌++◌}
 use Rattle.std.specs.Prelude.{map, take, drop, slice_index, codes, decimal, Option, Some, None, is_some}
-use Rattle.history_file.specs.Text.{entry_line}
-use Rattle.history_file.specs.Views.{EntryView, entry_view}
+use Rattle.history_lines.specs.Text.{entry_line}
+use Rattle.history_lines.specs.Views.{EntryView, entry_view}
 use Rattle.line_protocol.specs.Answers.{Answer}
 use Rattle.netchange_core.specs.Best.{best, neighbour_distance}
 use Rattle.netchange_core.specs.Calls.{session_of}

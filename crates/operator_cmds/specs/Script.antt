@@ -5,7 +5,7 @@ use Rattle.std.specs.Str.{bytes_eq}
 use Rattle.std.specs.declared.sync.Arc.{Arc}
 use Rattle.std.specs.declared.alloc.Global.{Global}
 use Rattle.filter_code.specs.CodeView.{CodeView}
-use Rattle.filter_parser.specs.SyntaxText.{FilterView}
+use Rattle.filter_syntax.specs.SyntaxText.{FilterView}
 use Rattle.filter_source.specs.Diagnoses.{TellsOfCode, TellsOfFile, TellsOfText}
 use Rattle.filter_source.specs.Refusals.{place_in_line, refusal_code}
 use Rattle.filter_source.specs.Sources.{IsRefusedText, IsUnsafe, Translates, code_in_file}
@@ -29,7 +29,8 @@ use Rattle.route_history.specs.History.{world_of}
 use Rattle.route_history.specs.JournalView.{JournalView}
 use Rattle.operator_cmds.specs.CommandView.{CommandView, Network, Prefix, Load, Code, Import, Export, Up, Down, Receive, Take, Show, Look, History}
 use Rattle.operator_cmds.specs.Commands.{Read, command_in}
-use Rattle.operator_cmds.specs.Domain.{default_opening, limit_or}
+use Rattle.netchange_core.specs.Openings.{default_opening}
+use Rattle.route_history.specs.Limits.{limit_or}
 use Rattle.operator_cmds.specs.Faults.{fault_code}
 use Rattle.line_protocol.specs.Limits.{number_limit}
 use Rattle.operator_cmds.specs.Looks.{history_text, looked}

@@ -1,7 +1,8 @@
 //! A command of the script.
 ghost use Rattle.std.specs.Prelude.{◌≡◌, true};
 ghost use Rattle.std.proofs.Props.{props};
-ghost use Rattle.operator_cmds.specs.Networks.{IsLimit, is_network};
+ghost use Rattle.operator_cmds.specs.Networks.{IsLimit};
+ghost use Rattle.netchange_core.specs.Openings.{is_network};
 
 use prefix_patterns::Prefix;
 

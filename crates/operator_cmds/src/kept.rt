@@ -1,7 +1,7 @@
 //! What is answered to who looks at a history whose first entries may be forgotten.
 ghost use Rattle.std.specs.Prelude.{◌≡◌, ◌+◌, ◌-◌, ◌++◌, ◌∷◌, [], ◌≤◌, nat_le, true, min, IfOk, OnOk, OnErr, codes, drop, length, map, take};
 ghost use Rattle.std.specs.Io.{StartsWith};
-ghost use Rattle.history_file.specs.Views.{entry_view};
+ghost use Rattle.history_lines.specs.Views.{entry_view};
 ghost use Rattle.route_history.specs.Long.{OfHistory};
 ghost use Rattle.operator_cmds.specs.Looks as spec;
 ghost use Rattle.operator_cmds.specs.Replies.{Adds, refused};
@@ -9,7 +9,7 @@ ghost use Rattle.operator_cmds.specs.Replies.{Adds, refused};
 use crate::HISTORY_COUNT;
 use crate::look::push_bar;
 use crate::reply::refuse;
-use history_file::push_entry;
+use history_lines::push_entry;
 use line_protocol::LineReply;
 use route_history::LongJournal;
 use std::alloc::{AllocError, Global};

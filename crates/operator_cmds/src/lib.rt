@@ -5,7 +5,6 @@
 #![tactic(auto)]
 
 mod command;
-mod domain;
 mod event;
 mod fault;
 mod filter;
@@ -13,7 +12,6 @@ mod kept;
 mod laws;
 mod long;
 mod look;
-mod name;
 mod plain;
 mod read;
 mod reply;
@@ -22,7 +20,6 @@ mod watch;
 mod words;
 
 pub use command::{Command, Look, Network};
-pub use domain::default_prefixes;
 pub use event::{Direction, enter, session_number};
 pub use fault::{CommandFault, StateFault};
 pub use filter::{FilterSource, NamedFilters, give_name, name_source, verify_text};
@@ -30,7 +27,6 @@ pub use kept::answer_kept;
 pub use laws::{one_line_one_entry, two_runs_are_answered_alike};
 pub use long::read_long;
 pub use look::{answer_history, answer_look};
-pub use name::is_name;
 pub use plain::{PlainCommand, read_plain};
 pub use read::{read_code, read_command, read_load, read_node, read_node_prefix, read_small};
 pub use reply::{answer_reply, confirm, push_via, refuse};
@@ -39,6 +35,3 @@ pub use words::{cut_word, one_word, text_in, three_words, two_words};
 
 /// The most entries that are told at once.
 pub const HISTORY_COUNT: usize = 100;
-
-/// The most bytes of a filter's name in a script.
-pub const NAME_LIMIT: usize = 64;

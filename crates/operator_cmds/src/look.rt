@@ -12,7 +12,7 @@
 //! **FROM has 64 bits in scripts too**, whose histories are shorter: one command has one range.
 ghost use Rattle.std.specs.Prelude.{◌≡◌, ◌++◌, ◌<◌, ◌≤◌, ◌-◌, ◌^◌, true, IfOk, OnOk, OnErr, drop, length, map, take};
 ghost use Rattle.std.specs.Io.{StartsWith};
-ghost use Rattle.history_file.specs.Views.{entry_view};
+ghost use Rattle.history_lines.specs.Views.{entry_view};
 ghost use Rattle.operator_cmds.specs.Looks as spec;
 ghost use Rattle.operator_cmds.specs.Replies.{Adds, answered};
 
@@ -20,7 +20,7 @@ use crate::HISTORY_COUNT;
 use crate::command::Look;
 use crate::fault::CommandFault;
 use crate::reply::{push_pair, refuse};
-use history_file::push_entry;
+use history_lines::push_entry;
 use line_protocol::{LineReply, push_decimal};
 use netchange_core::{BestRoute, Tables, Via};
 use route_history::{Entries, Journal};

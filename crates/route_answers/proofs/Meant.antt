@@ -9,7 +9,7 @@ use Rattle.filter_code.specs.declared.outcome.Outcome.{Outcome}
 use Rattle.filter_code.specs.declared.outcome.Outcome.TheVariants as outcome
 use Rattle.filter_compiler.specs.Same.{MeansTheSame}
 use Rattle.filter_compiler.specs.Verdicts.{Verdict, meaning}
-use Rattle.filter_parser.specs.SyntaxText.{FilterView}
+use Rattle.filter_syntax.specs.SyntaxText.{FilterView}
 use Rattle.filter_verifier.specs.Safe.{IsRouteOf, IsSafe}
 use Rattle.line_protocol.specs.Answers.{Answer}
 use Rattle.line_protocol.specs.Limits.{line_limit, number_limit}

@@ -4,7 +4,7 @@ use Rattle.std.specs.Io.KnownBytes.{Appends, Consumes}
 use Rattle.filter_code.specs.CodeView.{CodeView}
 use Rattle.filter_code.specs.RouteView.{RouteView}
 use Rattle.filter_compiler.specs.Verdicts.{Verdict, accepted, rejected, divided, meaning}
-use Rattle.filter_parser.specs.SyntaxText.{FilterView}
+use Rattle.filter_syntax.specs.SyntaxText.{FilterView}
 use Rattle.line_protocol.specs.Answers.{Answer, refusal, refusals, text_of}
 use Rattle.line_protocol.specs.Lines.{numbered, whole_lines}
 use Rattle.line_protocol.specs.Runs.{IsWritten}

@@ -7,7 +7,7 @@ ghost use Rattle.filter_code.specs.Machine.{outcome_of};
 ghost use Rattle.filter_code.specs.RouteView.{RouteView};
 ghost use Rattle.filter_compiler.specs.Verdicts.{meaning};
 ghost use Rattle.filter_machine.specs.Verdicts.{announced};
-ghost use Rattle.filter_parser.specs.SyntaxText.{FilterView};
+ghost use Rattle.filter_syntax.specs.SyntaxText.{FilterView};
 ghost use Rattle.filter_reports.specs.Check.{FitsLine, GivesCode, printed};
 ghost use Rattle.filter_reports.specs.Saying.{Says, SaysTheSame};
 ghost use Rattle.hex.specs.Hex.{encode_lower};

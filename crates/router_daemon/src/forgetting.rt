@@ -4,7 +4,7 @@
 //! room in memory, whether the history is saved or not, and a disk that is full makes the router wait, not forget.
 ghost use Rattle.std.specs.Prelude.{◌≡◌, ◌+◌, ◌-◌, ◌/◌, ◌<◌, ◌≤◌, [], true, IfOk, IfSome, length};
 ghost use Rattle.std.specs.Option.{option_map};
-ghost use Rattle.operator_cmds.specs.Limits.{largest_limit};
+ghost use Rattle.route_history.specs.Limits.{largest_limit};
 ghost use Rattle.slot_lock.specs.Passes.{IsNew};
 ghost use Rattle.router_daemon.specs.Forgetting as spec;
 ghost use Rattle.router_daemon.specs.Passes.{IsLegalPass};

@@ -4,7 +4,7 @@ use Rattle.std.specs.Prelude.{if◌then◌else◌, codes, decimal, IfOk}
 use Rattle.std.specs.Str.{bytes_eq}
 use Rattle.std.specs.declared.sync.Arc.{Arc}
 use Rattle.std.specs.declared.alloc.Global.{Global}
-use Rattle.filter_checks.specs.Comparing.{TellsParts}
+use Rattle.filter_differences.specs.Differences.{TellsParts}
 use Rattle.filter_verifier.specs.VerifiedView.{VerifiedView}
 use Rattle.line_protocol.specs.Answers.{Answer}
 use Rattle.line_protocol.specs.Words.{words}
@@ -13,7 +13,7 @@ use Rattle.line_protocol.specs.declared.answers.LineReply.TheVariants as line_re
 use Rattle.netchange_core.specs.Kept.{filter_of}
 use Rattle.netchange_core.specs.World.{NeighbourView, World, neighbour_at}
 use Rattle.operator_cmds.specs.CommandView.{Load}
-use Rattle.operator_cmds.specs.Names.{is_name}
+use Rattle.line_protocol.specs.Names.{is_name}
 use Rattle.operator_cmds.specs.Replies.{answered}
 use Rattle.operator_cmds.specs.Script.{setting, tables_of}
 use Rattle.operator_cmds.specs.WordLists.{one_of, two_of}

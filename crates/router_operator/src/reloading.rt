@@ -19,7 +19,7 @@ use crate::configuration::{Configured, LinkChange, NamedUse};
 use crate::listener::Listener;
 use crate::naming::Naming;
 use crate::operator::Operator;
-use filter_checks::difference_text;
+use filter_differences::difference_text;
 use filter_verifier::Verified;
 use line_protocol::{LineReply, push_decimal};
 use netchange_core::{Neighbour, Tables};

@@ -4,7 +4,7 @@ use Rattle.std.specs.Prelude.{Option, Some, None, codes, if◌then◌else◌, is
 use Rattle.std.specs.List.{after_first, before_first, position_or_len}
 use Rattle.std.specs.Str.{bytes_eq}
 use Rattle.line_protocol.specs.Limits.{number_limit}
-use Rattle.operator_cmds.specs.Names.{is_name}
+use Rattle.line_protocol.specs.Names.{is_name}
 use Rattle.prefix_patterns.specs.Reading.{number_in, prefix_in}
 use Rattle.router_options.specs.declared.fault.OptionFault.{OptionFault}
 use Rattle.router_options.specs.declared.fault.OptionFault.TheVariants as fault

@@ -4,7 +4,7 @@ use Rattle.std.specs.List.{list_any}
 use Rattle.std.specs.Str.{bytes_eq}
 use Rattle.std.specs.declared.alloc.Global.{Global}
 use Rattle.netchange_core.specs.OpeningView.{OpeningView}
-use Rattle.operator_cmds.specs.Limits.{largest_limit}
+use Rattle.route_history.specs.Limits.{largest_limit}
 use Rattle.router_options.specs.declared.parts.ControlFiles.{ControlFiles}
 use Rattle.router_options.specs.declared.parts.FilterUse.{FilterUse}
 use Rattle.router_options.specs.declared.parts.LinkFiles.{LinkFiles}

@@ -4,9 +4,10 @@ use Rattle.std.specs.Prelude.{◌∷◌, ◌++◌, Option, Some, None, String, s
 use Rattle.std.specs.declared.alloc.Global.{Global}
 use Rattle.filter_code.specs.Limits.{smallest_size, largest_size}
 use Rattle.netchange_core.specs.OpeningView.{OpeningView}
-use Rattle.operator_cmds.specs.Networks.{is_network}
-use Rattle.operator_cmds.specs.Domain.{default_opening, limit_or}
-use Rattle.operator_cmds.specs.Limits.{largest_limit}
+use Rattle.netchange_core.specs.Openings.{is_network}
+use Rattle.netchange_core.specs.Openings.{default_opening}
+use Rattle.route_history.specs.Limits.{limit_or}
+use Rattle.route_history.specs.Limits.{largest_limit}
 use Rattle.router_options.specs.Forms.{IsControl, IsLink, IsNoForm, IsPrefix, IsUse, is_control, is_link, is_prefix, is_use, node_in, said_in}
 use Rattle.router_options.specs.PlanView.{PlanView, longest_hold, has_filter, has_link, has_prefix, has_use, is_member, is_neighbour, smallest_room}
 use Rattle.router_options.specs.declared.fault.NodeFault.{NodeFault}

@@ -4,8 +4,8 @@ ghost use Rattle.router_options.specs.Forms as spec;
 ghost use Rattle.router_options.specs.declared.fault.OptionFault.TheVariants as fault;
 
 use crate::fault::OptionFault;
-use operator_cmds::{is_name, read_small};
-use prefix_patterns::{Prefix, read_prefix};
+use line_protocol::{NUMBER_LIMIT, is_name};
+use prefix_patterns::{Prefix, read_number, read_prefix};
 use std::alloc::Global;
 
 /// A link: the neighbour, and the files that its lines come from and go to.
@@ -54,8 +54,8 @@ fn cut_node(text: &str) -> Option<(u16, &str)>
         (λ cut. (spec.node_in text.now ≡ Some cut.0) × (cut.1.now ≡ spec.said_in text.now)) }
 {
     match text.split_once('=') {
-        Some((node, said)) => match read_small(node.as_bytes()) {
-            Some(node) => Some((node, said)),
+        Some((node, said)) => match read_number(node.as_bytes(), NUMBER_LIMIT) {
+            Some(node) => Some((node as u16, said)),
             None => None,
         },
         None => None,

@@ -19,8 +19,7 @@ ghost use Rattle.router_options.specs.declared.fault.OptionFault.TheVariants as 
 use crate::fault::{NodeFault, NumberFault, OptionFault};
 use crate::parts::{ControlFiles, FilterUse, LinkFiles, NodePrefix};
 use filter_code::{LARGEST_SIZE, SMALLEST_SIZE};
-use netchange_core::Opening;
-use operator_cmds::default_prefixes;
+use netchange_core::{Opening, default_prefixes};
 use route_history::LARGEST_LIMIT;
 use std::alloc::Global;
 use std::marker::Model;

@@ -3,8 +3,8 @@ use Rattle.std.proofs.Common.{◌≡◌, ℕ, ◌+◌, Bool, true, List, [], ◌
 use Rattle.std.proofs.Common.{refl, sym, ap, subst, ◌∙◌, append_assoc, append-nil, inl, inr, arith}
 use Rattle.std.proofs.lemmas.List.{length-map, map-append}
 use Rattle.std.specs.Io.KnownBytes.{Appends}
-use Rattle.history_file.specs.Text.{entries_text, entry_line, opening_line}
-use Rattle.history_file.specs.Views.{entry_view}
+use Rattle.history_lines.specs.Text.{entries_text, entry_line, opening_line}
+use Rattle.history_lines.specs.Views.{entry_view}
 use Rattle.history_file.proofs.Whole.{text_push}
 use Rattle.line_protocol.specs.Answers.{Answer}
 use Rattle.netchange_core.specs.OpeningView.{OpeningView}

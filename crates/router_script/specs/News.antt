@@ -2,8 +2,8 @@
 use Rattle.std.specs.Prelude.{◌≡◌, ℕ, List, [], ◌∷◌, ◌++◌, length, Option, Some, None, slice_get, take}
 use Rattle.filter_source.specs.declared.failure.Failure.{Failure}
 use Rattle.filter_source.specs.declared.failure.Failure.TheVariants as failure
-use Rattle.history_file.specs.Text.{entry_line, opening_line}
-use Rattle.history_file.specs.Views.{entry_view}
+use Rattle.history_lines.specs.Text.{entry_line, opening_line}
+use Rattle.history_lines.specs.Views.{entry_view}
 use Rattle.line_protocol.specs.declared.answers.LineReply.{LineReply}
 use Rattle.line_protocol.specs.declared.answers.LineReply.TheVariants.{Ended}
 use Rattle.operator_cmds.specs.Stages.{StageView, Empty, Setting, Open}

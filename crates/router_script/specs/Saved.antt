@@ -1,8 +1,8 @@
 -- What is saved of a script. (This project's own choice.)
 use Rattle.std.specs.Prelude.{◌≡◌, ℕ, Bool, true, List, [], ◌++◌, map, Option}
 use Rattle.std.specs.Io.KnownBytes.{Appends}
-use Rattle.history_file.specs.Text.{history_text}
-use Rattle.history_file.specs.Views.{HistoryView, entry_view}
+use Rattle.history_lines.specs.Text.{history_text}
+use Rattle.history_lines.specs.Views.{HistoryView, entry_view}
 use Rattle.line_protocol.specs.Answers.{Answer}
 use Rattle.operator_cmds.specs.Stages.{StageView, Empty, Setting, Open, new_journal}
 use Rattle.route_history.specs.JournalView.{JournalView}

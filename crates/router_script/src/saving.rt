@@ -14,7 +14,7 @@
 ghost use Rattle.std.specs.Prelude.{◌≡◌, ◌++◌, ◌∷◌, [], Ok, IfErr, IfOk, IfSome, MatchResult, OnErr, OnOk, true};
 ghost use Rattle.std.specs.Io.{StartsWith};
 ghost use Rattle.std.specs.Io.KnownBytes.{Appends};
-ghost use Rattle.history_file.specs.Text.{opening_line};
+ghost use Rattle.history_lines.specs.Text.{opening_line};
 ghost use Rattle.router_script.specs.State.{script_of};
 ghost use Rattle.router_script.specs.Faults.{stream_of};
 ghost use Rattle.router_script.specs.News as spec;
@@ -25,7 +25,7 @@ ghost use Rattle.router_script.specs.Stopping as stopping;
 use crate::fault::SavingFault;
 use crate::filter_naming::{NamedFilter, Prepared, Unfit};
 use crate::script::{Script, ScriptFault};
-use history_file::{write_entry, write_opening};
+use history_lines::{write_entry, write_opening};
 use line_protocol::{LineReply, Service, StreamFault, answer_lines, write_text};
 use netchange_core::Opening;
 use operator_cmds::Watch;

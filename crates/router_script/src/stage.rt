@@ -1,10 +1,11 @@
 //! How far a script has come: whether a domain is set up, and whether its router runs.
 ghost use Rattle.std.specs.Prelude.{◌≡◌, ◌<◌, ◌≤◌, IfOk, OnOk, length, slice_set};
-ghost use Rattle.operator_cmds.specs.Domain as spec;
-ghost use Rattle.operator_cmds.specs.Limits.{largest_limit};
+ghost use Rattle.netchange_core.specs.Openings.{default_opening};
+ghost use Rattle.route_history.specs.Limits.{limit_or};
+ghost use Rattle.route_history.specs.Limits.{largest_limit};
 
-use netchange_core::Opening;
-use operator_cmds::{Network, default_prefixes};
+use netchange_core::{Opening, default_prefixes};
+use operator_cmds::Network;
 use prefix_patterns::Prefix;
 use route_history::{Journal, LARGEST_LIMIT};
 use std::alloc::{AllocError, Global};
@@ -35,8 +36,8 @@ impl Setup {
 
     /// A domain with the default prefixes.
     pub fn new(alloc: Global, network: Network) -> Result<Setup, AllocError>
-        ensures { IfOk result (λ setup. (setup.opening ≡ spec.default_opening network.size network.me)
-            × (setup.limit ≡ spec.limit_or network.limit)) }
+        ensures { IfOk result (λ setup. (setup.opening ≡ default_opening network.size network.me)
+            × (setup.limit ≡ limit_or network.limit)) }
     {
         let prefixes = default_prefixes(alloc, network.size)?;
         let opening = Opening::new(network.size, network.me, prefixes).unwrap();

@@ -7,7 +7,7 @@ use Rattle.std.specs.Str.{bytes_eq}
 use Rattle.command_line.specs.declared.filter_words.NamedFile.{NamedFile}
 use Rattle.program_words.specs.Sources.{path_of}
 use Rattle.command_line.specs.declared.router_words.RouterWords.{RouterWords}
-use Rattle.operator_cmds.specs.Names.{is_name}
+use Rattle.line_protocol.specs.Names.{is_name}
 use Rattle.router_files.specs.Again.{IsAgain, NoneAgain}
 use Rattle.router_files.specs.Files.{StatementView, statement_of}
 use Rattle.router_files.specs.Said.{SaidView, Given, Number, Text, Named}

@@ -12,7 +12,7 @@ ghost use Rattle.router_words.specs.Stated.{nth_stated};
 
 use crate::stated::{is_of, nth_stated};
 use command_line::{NamedFile, RouterWords};
-use operator_cmds::is_name;
+use line_protocol::is_name;
 use program_words::Source;
 use router_files::{RouterOption, Said, Statement, find_again};
 use std::alloc::{AllocError, Global};

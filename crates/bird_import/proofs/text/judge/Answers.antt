@@ -1,7 +1,7 @@
 use Rattle.std.proofs.Common.{◌≡◌, ◌∙◌, ◌<◌, ℕ, List, ap, length, slice_get, subst, sym, true}
-use Rattle.filter_parser.specs.SyntaxCommands.{DeclView, view_decl}
-use Rattle.filter_parser.specs.SyntaxText.{view_filter}
-use Rattle.filter_parser.specs.declared.tree.decl.Decl.{Decl}
+use Rattle.filter_syntax.specs.SyntaxCommands.{DeclView, view_decl}
+use Rattle.filter_syntax.specs.SyntaxText.{view_filter}
+use Rattle.filter_syntax.specs.declared.tree.decl.Decl.{Decl}
 use Rattle.filter_tokens.specs.declared.token.Token.{Token}
 use Rattle.bird_import.specs.Alike.{AreAlike}
 use Rattle.bird_import.specs.Indices.{IsNamedAt}

@@ -1,5 +1,5 @@
 use Rattle.std.proofs.Common.{◌+◌, ◌∙◌, drop, map, refl, sym, ap}
-use Rattle.filter_parser.specs.SyntaxCommands.{commands_of, parts_of, view_command, view_part}
+use Rattle.filter_syntax.specs.SyntaxCommands.{commands_of, parts_of, view_command, view_part}
 use Rattle.bird_import.specs.Unassigned.{assigns, assigns_in, assigns_in_parts, has_else}
 use Rattle.bird_import.proofs.Unassigned.{and_here, and_next, none_left, one_left, or_here, or_next, view_case}
 use Rattle.bird_import.proofs.unset.+assigning.Goals as goal

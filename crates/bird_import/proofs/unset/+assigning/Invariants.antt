@@ -1,5 +1,5 @@
 use Rattle.std.proofs.Common.{◌≡◌, ◌+◌, ◌*◌, drop, map}
-use Rattle.filter_parser.specs.SyntaxCommands.{commands_of, parts_of, view_command, view_part}
+use Rattle.filter_syntax.specs.SyntaxCommands.{commands_of, parts_of, view_command, view_part}
 use Rattle.bird_import.specs.Unassigned.{assigns_in, assigns_in_parts}
 use Rattle.bird_import.proofs.unset.+assigning.Given as goal
 

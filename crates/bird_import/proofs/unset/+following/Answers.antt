@@ -1,6 +1,6 @@
 use Rattle.std.proofs.Common.{◌∙◌, is_some, map, refl, sym, ap}
-use Rattle.filter_parser.specs.SyntaxCommands.{commands_of, parts_of, view_command, view_part}
-use Rattle.expression_parser.specs.Syntax.{view}
+use Rattle.filter_syntax.specs.SyntaxCommands.{commands_of, parts_of, view_command, view_part}
+use Rattle.filter_syntax.specs.Syntax.{view}
 use Rattle.bird_import.specs.Unassigned.{assigns, reads, reads_first, reads_first_in, reads_first_in_parts}
 use Rattle.bird_import.proofs.Unassigned.{goes_on, none_left, one_left, or_here, or_next, stops_here, view_case}
 use Rattle.bird_import.proofs.unset.+following.Goals as goal

@@ -1,5 +1,5 @@
 use Rattle.std.proofs.Common.{◌∙◌, is_some, refl, sym, ap}
-use Rattle.expression_parser.specs.Syntax.{view, view_more}
+use Rattle.filter_syntax.specs.Syntax.{view, view_more}
 use Rattle.bird_import.specs.Unassigned.{reads, reads_among}
 use Rattle.bird_import.proofs.Unassigned.{none_left, one_left, or_here, or_next, reads_chain, reads_suffixed, view_chain, view_suffixed}
 use Rattle.bird_import.proofs.unset.+reading.Goals as goal

@@ -1,5 +1,5 @@
 use Rattle.std.proofs.Common.{◌≡◌, drop}
-use Rattle.expression_parser.specs.Syntax.{view_more}
+use Rattle.filter_syntax.specs.Syntax.{view_more}
 use Rattle.bird_import.specs.Unassigned.{reads_among}
 use Rattle.bird_import.proofs.unset.+reading.Given as goal
 

@@ -1,8 +1,8 @@
 use Rattle.std.proofs.Common.{◌∙◌, ap, length, refl, sym, arith}
 use Rattle.std.proofs.lemmas.Option.{slice_get_read}
-use Rattle.filter_parser.specs.SyntaxCommands.{commands_of, view_command}
-use Rattle.filter_parser.specs.SyntaxText.{view_filter}
-use Rattle.filter_parser.specs.declared.tree.decl.Decl.{Decl}
+use Rattle.filter_syntax.specs.SyntaxCommands.{commands_of, view_command}
+use Rattle.filter_syntax.specs.SyntaxText.{view_filter}
+use Rattle.filter_syntax.specs.declared.tree.decl.Decl.{Decl}
 use Rattle.std.proofs.Common.{map}
 use Rattle.bird_import.specs.Unassigned.{reads_first_in}
 use Rattle.bird_import.proofs.FirstUnset.{all_assigned, none_further, some_further, some_unset}

@@ -1,6 +1,6 @@
 use Rattle.std.specs.Prelude.{◌≡◌, ◌<◌, ℕ, IfSome, None, Some, false, map, slice_get, true}
-use Rattle.filter_parser.specs.SyntaxCommands.{commands_of, view_command}
-use Rattle.filter_parser.specs.declared.tree.decl.Decl.{Decl}
+use Rattle.filter_syntax.specs.SyntaxCommands.{commands_of, view_command}
+use Rattle.filter_syntax.specs.declared.tree.decl.Decl.{Decl}
 use Rattle.bird_import.specs.Unassigned.{reads_first_in}
 use Rattle.bird_import.proofs.unset.first_unset.Given as goal
 

@@ -1,5 +1,5 @@
 use Rattle.std.proofs.Common.{◌∙◌, not, sym}
-use Rattle.filter_parser.specs.SyntaxCommands.{has_ranges, parts_of, view_label, view_part}
+use Rattle.filter_syntax.specs.SyntaxCommands.{has_ranges, parts_of, view_label, view_part}
 use Rattle.bird_import.specs.Unassigned.{has_else}
 use Rattle.bird_import.proofs.Unassigned.{none_left, one_left, or_here, or_next}
 use Rattle.bird_import.proofs.unset.has_else.Goals as goal

@@ -1,5 +1,5 @@
 use Rattle.std.proofs.Common.{◌≡◌, drop, map}
-use Rattle.filter_parser.specs.SyntaxCommands.{parts_of, view_part}
+use Rattle.filter_syntax.specs.SyntaxCommands.{parts_of, view_part}
 use Rattle.bird_import.specs.Unassigned.{has_else}
 use Rattle.bird_import.proofs.unset.has_else.Given as goal
 

@@ -1,6 +1,6 @@
 -- The prefixes of a plan are those of a plan.
 use Rattle.std.proofs.Common.{◌≡◌, ◌∙◌, ap, length, arith}
-use Rattle.operator_cmds.proofs.Openings.{is_there}
+use Rattle.netchange_core.proofs.Openings.{is_there}
 use Rattle.domain_cmds.proofs.asking.marks.Goals as goal
 
 pub unwrap-unlinked-requires : goal.unwrap-unlinked-requires

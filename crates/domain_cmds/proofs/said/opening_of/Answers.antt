@@ -1,6 +1,6 @@
 -- The prefixes of a plan are those of a domain.
 use Rattle.std.proofs.Common.{◌≡◌, length, sym, ap, ◌∙◌, arith}
-use Rattle.operator_cmds.proofs.Openings.{is_there}
+use Rattle.netchange_core.proofs.Openings.{is_there}
 use Rattle.domain_cmds.proofs.said.opening_of.Goals as goal
 
 pub unwrap-requires : goal.unwrap-requires

@@ -1,15 +1,15 @@
 use Rattle.std.proofs.Common.{◌≡◌, ℕ, zero, suc, None, refl, ◌-◌, ◌∙◌, ◌∷◌, [], Some, List, sym, append_assoc, arith, rules}
-use Rattle.expression_parser.specs.Placed.{expr_kept}
+use Rattle.filter_syntax.specs.Placed.{expr_kept}
 use Rattle.filter_tokens.specs.Lexemes.{Lexeme}
 use Rattle.filter_tokens.specs.declared.symbol.Symbol.TheVariants as symbols
 use Rattle.expression_parser.specs.Readers.{symbol}
 use Rattle.expression_parser.specs.Reading.{an_operator, expr_at, inner_at, joins, unary_at, next_with, postfix_with, read_of, sum_with}
 use Rattle.expression_parser.specs.Steps.{remaining}
-use Rattle.expression_parser.specs.Syntax.{ExprView, view}
+use Rattle.filter_syntax.specs.Syntax.{ExprView, view}
 use Rattle.expression_parser.proofs.Chains.{more_one, right_none, chain_on, chain_ends, chain_stops}
 use Rattle.expression_parser.proofs.Placing.{grown_more, ok_map, spans_as, spans_at, spans_both, unkept_last}
 use Rattle.expression_parser.proofs.Turns.{starts}
-use Rattle.expression_parser.proofs.Views.{chain_more}
+use Rattle.filter_syntax.proofs.Views.{chain_more}
 use Rattle.expression_parser.proofs.Chains.{group_read, join_read, more_read}
 use Rattle.expression_parser.proofs.Levels.{kept_binary, more_kept, operand_none, operand_read, rest_ends, rest_on, rest_stops, view_binary}
 use Rattle.expression_parser.proofs.Within.{failed, unread}

@@ -1,11 +1,11 @@
 -- How deep each function may go, and what the loops have made.
 use Rattle.std.proofs.Common.{◌≡◌, ◌≤◌, ◌+◌, ◌-◌, ◌*◌, ◌∷◌, ℕ, None, [], length}
 use Rattle.expression_parser.specs.Levels.{least, most, rest_with, strength}
-use Rattle.expression_parser.specs.Placed.{expr_kept}
+use Rattle.filter_syntax.specs.Placed.{expr_kept}
 use Rattle.expression_parser.specs.Readers.{turns}
 use Rattle.expression_parser.specs.Reading.{joins, unary_at, next_with}
 use Rattle.expression_parser.specs.Steps.{Continues, Follows, Grown, remaining}
-use Rattle.expression_parser.specs.Syntax.{ExprView, chain_of, view, view_more}
+use Rattle.filter_syntax.specs.Syntax.{ExprView, chain_of, view, view_more}
 use Rattle.expression_parser.proofs.Placing.{right_kept}
 use Rattle.expression_parser.proofs.Turns.{Goes}
 use Rattle.expression_parser.proofs.expr.+expr.Given as goal

@@ -1,5 +1,5 @@
 use Rattle.std.proofs.Common.{◌∙◌, ◌∷◌, [], None, sym, append_assoc}
-use Rattle.expression_parser.specs.Placed.{expr_kept, set_kept}
+use Rattle.filter_syntax.specs.Placed.{expr_kept, set_kept}
 use Rattle.expression_parser.proofs.Placing.{spans_as, spans_both}
 use Rattle.expression_parser.proofs.expr.parse_member.Goals as goal
 

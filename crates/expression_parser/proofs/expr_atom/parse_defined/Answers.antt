@@ -1,6 +1,6 @@
 use Rattle.std.proofs.Common.{refl, rules}
 use Rattle.expression_parser.proofs.Placing.{kept_defined, spans_as, spans_both, unkept}
-use Rattle.expression_parser.proofs.Views.{view_defined}
+use Rattle.filter_syntax.proofs.Views.{view_defined}
 use Rattle.expression_parser.proofs.Within.{failed}
 use Rattle.expression_parser.proofs.expr_atom.parse_defined.Goals as goal
 

@@ -1,15 +1,15 @@
 use Rattle.std.proofs.Common.{◌≡◌, refl, None, ◌∙◌, ◌∷◌, ◌++◌, [], ap, map, List, arith, rules}
 use Rattle.filter_tokens.specs.declared.symbol.Symbol.TheVariants as symbols
-use Rattle.expression_parser.specs.Placed.{expr_kept, joined, suffix_kept}
+use Rattle.filter_syntax.specs.Placed.{expr_kept, joined, suffix_kept}
 use Rattle.expression_parser.specs.Readers.{symbol}
 use Rattle.expression_parser.specs.Reading.{suffixes}
 use Rattle.expression_parser.specs.Steps.{remaining}
-use Rattle.expression_parser.specs.Syntax.{view}
-use Rattle.expression_parser.specs.declared.tree.op.Suffix.{Suffix}
+use Rattle.filter_syntax.specs.Syntax.{view}
+use Rattle.filter_syntax.specs.declared.tree.op.Suffix.{Suffix}
 use Rattle.expression_parser.proofs.Chains.{suffix_on, suffix_ends, suffix_stops}
 use Rattle.expression_parser.proofs.Placing.{grown_more, grown_none, spans_as, spans_both, unkept}
 use Rattle.expression_parser.proofs.Turns.{starts}
-use Rattle.expression_parser.proofs.Views.{suffixes_more}
+use Rattle.filter_syntax.proofs.Views.{suffixes_more}
 use Rattle.expression_parser.proofs.expr_atom.parse_dotted.Goals as goal
 
 -- the first suffix is none

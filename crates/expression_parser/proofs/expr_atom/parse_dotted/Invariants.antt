@@ -1,9 +1,9 @@
 -- The loop has made the operand with the suffixes so far, and will answer what the reading function does.
 use Rattle.std.proofs.Common.{◌≡◌, ◌≤◌, [], length}
 use Rattle.expression_parser.specs.Reading.{suffixes, suffixes_from}
-use Rattle.expression_parser.specs.Placed.{suffix_kept}
+use Rattle.filter_syntax.specs.Placed.{suffix_kept}
 use Rattle.expression_parser.specs.Steps.{Follows, Grown, remaining}
-use Rattle.expression_parser.specs.Syntax.{suffixes_of, view}
+use Rattle.filter_syntax.specs.Syntax.{suffixes_of, view}
 use Rattle.expression_parser.proofs.Turns.{Goes}
 use Rattle.expression_parser.proofs.expr_atom.parse_dotted.Given as goal
 

@@ -1,5 +1,5 @@
 use Rattle.std.proofs.Common.{arith}
-use Rattle.expression_parser.specs.Syntax.{view_range}
+use Rattle.filter_syntax.specs.Syntax.{view_range}
 use Rattle.expression_parser.proofs.Chains.{map_one}
 use Rattle.expression_parser.proofs.Placing.{grown_more, spans_both, unkept}
 use Rattle.expression_parser.proofs.Ranges.{range_ends, range_on, range_stops}

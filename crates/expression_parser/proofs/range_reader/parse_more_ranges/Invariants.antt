@@ -1,9 +1,9 @@
 -- The loop has read these ranges, and will answer what the reading function does.
 use Rattle.std.proofs.Common.{◌≤◌, length, map}
 use Rattle.expression_parser.specs.Reading.{adds_range, more_ranges}
-use Rattle.expression_parser.specs.Placed.{next_range_kept}
+use Rattle.filter_syntax.specs.Placed.{next_range_kept}
 use Rattle.expression_parser.specs.Steps.{Follows, Grown, remaining}
-use Rattle.expression_parser.specs.Syntax.{view_range}
+use Rattle.filter_syntax.specs.Syntax.{view_range}
 use Rattle.expression_parser.proofs.Turns.{Goes}
 use Rattle.expression_parser.proofs.range_reader.parse_more_ranges.Given as goal
 

@@ -1,6 +1,6 @@
 use Rattle.std.proofs.Common.{map, rules}
 use Rattle.expression_parser.specs.Steps.{remaining}
-use Rattle.expression_parser.specs.Syntax.{view_set_pattern}
+use Rattle.filter_syntax.specs.Syntax.{view_set_pattern}
 use Rattle.expression_parser.proofs.Chains.{set_after_none}
 use Rattle.expression_parser.proofs.Within.{failed, unread}
 use Rattle.expression_parser.proofs.Placing.{set_grown}

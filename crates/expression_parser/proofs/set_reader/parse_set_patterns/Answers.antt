@@ -1,5 +1,5 @@
 use Rattle.std.proofs.Common.{arith}
-use Rattle.expression_parser.specs.Syntax.{view_set_pattern}
+use Rattle.filter_syntax.specs.Syntax.{view_set_pattern}
 use Rattle.expression_parser.proofs.Chains.{set_pattern_on, set_pattern_ends, map_one}
 use Rattle.expression_parser.proofs.Placing.{grown_more, spans_both, unkept}
 use Rattle.expression_parser.proofs.set_reader.parse_set_patterns.Goals as goal

@@ -1,9 +1,9 @@
 -- The loop has read these patterns, and will answer what the reading function does.
 use Rattle.std.proofs.Common.{◌≤◌, length, map}
 use Rattle.expression_parser.specs.Reading.{adds_set_pattern, set_patterns_from}
-use Rattle.expression_parser.specs.Placed.{next_pattern_kept}
+use Rattle.filter_syntax.specs.Placed.{next_pattern_kept}
 use Rattle.expression_parser.specs.Steps.{Follows, Grown, remaining}
-use Rattle.expression_parser.specs.Syntax.{view_set_pattern}
+use Rattle.filter_syntax.specs.Syntax.{view_set_pattern}
 use Rattle.expression_parser.proofs.Turns.{Goes}
 use Rattle.expression_parser.proofs.set_reader.parse_set_patterns.Given as goal
 

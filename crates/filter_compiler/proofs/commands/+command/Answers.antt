@@ -3,14 +3,14 @@ use Rattle.std.proofs.lemmas.Grind.{common_steps}
 use Rattle.std.proofs.lemmas.List.{nil_from_length}
 use Rattle.std.specs.Prelude.{flat_map}
 use Rattle.filter_code.specs.declared.instruction.Instr.TheVariants as instr
-use Rattle.expression_parser.specs.Syntax.{view, view_range}
-use Rattle.filter_parser.specs.SyntaxCommands.{CommandView, PartsView, assign, case, commands_of, if_else, if_then}
-use Rattle.filter_parser.specs.SyntaxCommands.{no_commands, parts_of, view_command, view_part, view_target}
-use Rattle.filter_parser.specs.SyntaxText.{view_filter}
-use Rattle.filter_parser.specs.declared.tree.command.Command.{Command}
-use Rattle.filter_parser.specs.declared.tree.command.Command.TheVariants as command
-use Rattle.filter_parser.specs.declared.tree.command.Label.TheVariants as label
-use Rattle.filter_parser.proofs.Views.{view_case, view_if, view_if_else}
+use Rattle.filter_syntax.specs.Syntax.{view, view_range}
+use Rattle.filter_syntax.specs.SyntaxCommands.{CommandView, PartsView, assign, case, commands_of, if_else, if_then}
+use Rattle.filter_syntax.specs.SyntaxCommands.{no_commands, parts_of, view_command, view_part, view_target}
+use Rattle.filter_syntax.specs.SyntaxText.{view_filter}
+use Rattle.filter_syntax.specs.declared.tree.command.Command.{Command}
+use Rattle.filter_syntax.specs.declared.tree.command.Command.TheVariants as command
+use Rattle.filter_syntax.specs.declared.tree.command.Label.TheVariants as label
+use Rattle.filter_syntax.proofs.Views.{view_case, view_if, view_if_else}
 use Rattle.filter_compiler.specs.InstructionPlaces.{command_places, expression_places, label_place, opening_places}
 use Rattle.filter_compiler.specs.InstructionPlaces.{part_of, part_places, parts_places}
 use Rattle.filter_compiler.specs.SetOrder.{past}

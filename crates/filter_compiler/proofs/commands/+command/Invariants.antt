@@ -1,7 +1,7 @@
 use Rattle.std.proofs.Common.{◌+◌, map, take}
 use Rattle.std.specs.Prelude.{flat_map}
-use Rattle.filter_parser.specs.SyntaxCommands.{commands_of, view_command}
-use Rattle.filter_parser.specs.SyntaxText.{view_filter}
+use Rattle.filter_syntax.specs.SyntaxCommands.{commands_of, view_command}
+use Rattle.filter_syntax.specs.SyntaxText.{view_filter}
 use Rattle.filter_compiler.specs.InstructionPlaces.{command_places}
 use Rattle.filter_compiler.specs.Written.{Emits, Notes, commands_part}
 use Rattle.filter_compiler.proofs.Weights.{commands_weight, parts_weight, weight}

@@ -1,6 +1,6 @@
 use Rattle.std.proofs.Common.{map, take}
 use Rattle.std.specs.Prelude.{flat_map}
-use Rattle.filter_parser.specs.SyntaxCommands.{view_decl}
+use Rattle.filter_syntax.specs.SyntaxCommands.{view_decl}
 use Rattle.filter_compiler.specs.InstructionPlaces.{decl_places}
 use Rattle.filter_compiler.specs.Translation.{declarations_code}
 use Rattle.filter_compiler.specs.Written.{Notes, Puts}

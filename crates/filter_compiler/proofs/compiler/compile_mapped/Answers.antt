@@ -4,9 +4,9 @@ use Rattle.int_sets.specs.Holding.{NumberRange}
 use Rattle.prefix_patterns.specs.Matching.{PrefixPattern}
 use Rattle.filter_code.specs.CodeView.{CodeView}
 use Rattle.filter_code.specs.declared.instruction.Instr.{Instr}
-use Rattle.filter_parser.specs.SyntaxCommands.{view_decl}
-use Rattle.filter_parser.specs.SyntaxText.{view_filter}
-use Rattle.filter_parser.specs.declared.tree.filter.Filter.{Filter}
+use Rattle.filter_syntax.specs.SyntaxCommands.{view_decl}
+use Rattle.filter_syntax.specs.SyntaxText.{view_filter}
+use Rattle.filter_syntax.specs.declared.tree.filter.Filter.{Filter}
 use Rattle.filter_compiler.specs.Same.{MeansTheSame}
 use Rattle.filter_compiler.specs.Translation.{code_of}
 use Rattle.filter_compiler.proofs.Whole.{means_the_same}

@@ -2,8 +2,8 @@ use Rattle.std.proofs.Common.{ℕ, ◌+◌, [], ◌∷◌, refl, sym, subst}
 use Rattle.std.proofs.lemmas.List.{append-nil}
 use Rattle.filter_code.specs.declared.instruction.Instr.{Instr}
 use Rattle.filter_code.specs.declared.instruction.Instr.TheVariants as instr
-use Rattle.expression_parser.specs.Syntax.{ExprView, view}
-use Rattle.filter_parser.specs.SyntaxText.{view_filter}
+use Rattle.filter_syntax.specs.Syntax.{ExprView, view}
+use Rattle.filter_syntax.specs.SyntaxText.{view_filter}
 use Rattle.filter_types.proofs.Views.{view_binary, view_chain, view_grouped}
 use Rattle.filter_compiler.specs.InstructionPlaces.{expression_places}
 use Rattle.filter_compiler.specs.Translation.{expression_code, operator_code}

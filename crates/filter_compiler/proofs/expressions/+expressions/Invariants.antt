@@ -1,7 +1,7 @@
 use Rattle.std.proofs.Common.{◌++◌, take}
 use Rattle.std.specs.Prelude.{flat_map, replicate}
-use Rattle.expression_parser.specs.Syntax.{ExprView, chain_of, suffixes_of, view, view_more}
-use Rattle.filter_parser.specs.SyntaxText.{view_filter}
+use Rattle.filter_syntax.specs.Syntax.{ExprView, chain_of, suffixes_of, view, view_more}
+use Rattle.filter_syntax.specs.SyntaxText.{view_filter}
 use Rattle.filter_compiler.specs.InstructionPlaces.{expression_places}
 use Rattle.filter_compiler.specs.declared.numbers.SetNumbers.{SetNumbers}
 use Rattle.filter_compiler.specs.declared.output.Output.{Output}

@@ -1,6 +1,6 @@
 use Rattle.std.proofs.Common.{map, sym, subst}
 use Rattle.filter_code.specs.declared.instruction.Instr.TheVariants as instr
-use Rattle.expression_parser.specs.Syntax.{view_members, view_range, view_set_pattern}
+use Rattle.filter_syntax.specs.Syntax.{view_members, view_range, view_set_pattern}
 use Rattle.filter_compiler.specs.Written.{Emits, member_part}
 use Rattle.filter_compiler.proofs.Cases.{asks_patterns, asks_ranges, same_places}
 use Rattle.filter_compiler.proofs.Notes.{as_noted, then_notes}

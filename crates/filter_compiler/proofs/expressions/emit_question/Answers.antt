@@ -1,5 +1,5 @@
 use Rattle.filter_code.specs.declared.instruction.Instr.TheVariants as instr
-use Rattle.expression_parser.specs.declared.tree.op.Membership.TheVariants as membership
+use Rattle.filter_syntax.specs.declared.tree.op.Membership.TheVariants as membership
 use Rattle.filter_compiler.proofs.Notes.{then_notes}
 use Rattle.filter_compiler.proofs.Puts.{puts_then}
 use Rattle.filter_compiler.proofs.Trees.{numbered}

@@ -1,5 +1,5 @@
 use Rattle.std.proofs.Common.{sym, subst}
-use Rattle.expression_parser.specs.declared.tree.op.Membership.{Membership}
+use Rattle.filter_syntax.specs.declared.tree.op.Membership.{Membership}
 use Rattle.filter_compiler.specs.InstructionPlaces.{all_at}
 use Rattle.filter_compiler.specs.Translation.{member_code}
 use Rattle.filter_compiler.specs.Written.{Notes, Puts}

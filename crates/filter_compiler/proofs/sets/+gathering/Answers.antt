@@ -1,5 +1,5 @@
 use Rattle.std.proofs.Common.{refl, ap, sym, ◌∙◌}
-use Rattle.expression_parser.specs.Syntax.{view}
+use Rattle.filter_syntax.specs.Syntax.{view}
 use Rattle.filter_types.proofs.Views.{view_binary, view_chain, view_grouped, view_suffixed}
 use Rattle.filter_compiler.specs.Translation.{sets_of}
 use Rattle.filter_compiler.proofs.Gathering.{as_sets, chain_gathers, gathers_then, suffixes_sets}

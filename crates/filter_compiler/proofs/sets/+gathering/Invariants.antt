@@ -1,5 +1,5 @@
 use Rattle.std.proofs.Common.{take}
-use Rattle.expression_parser.specs.Syntax.{ExprView, chain_of, view_more}
+use Rattle.filter_syntax.specs.Syntax.{ExprView, chain_of, view_more}
 use Rattle.filter_compiler.specs.declared.sets.SetLists.{SetLists}
 use Rattle.filter_compiler.specs.Translation.{sets_of}
 use Rattle.filter_compiler.specs.Written.{Gathers}

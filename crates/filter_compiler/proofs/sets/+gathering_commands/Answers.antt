@@ -1,9 +1,9 @@
 use Rattle.std.proofs.Common.{◌≡◌, map, ap, sym, subst, ◌∙◌}
-use Rattle.expression_parser.specs.Syntax.{view}
-use Rattle.filter_parser.specs.SyntaxCommands.{case, commands_of, if_else, if_then, parts_of, view_command, view_part}
-use Rattle.filter_parser.specs.declared.tree.command.Command.{Command}
-use Rattle.filter_parser.specs.declared.tree.command.Command.TheVariants as command
-use Rattle.filter_parser.proofs.Views.{view_case, view_if, view_if_else}
+use Rattle.filter_syntax.specs.Syntax.{view}
+use Rattle.filter_syntax.specs.SyntaxCommands.{case, commands_of, if_else, if_then, parts_of, view_command, view_part}
+use Rattle.filter_syntax.specs.declared.tree.command.Command.{Command}
+use Rattle.filter_syntax.specs.declared.tree.command.Command.TheVariants as command
+use Rattle.filter_syntax.proofs.Views.{view_case, view_if, view_if_else}
 use Rattle.filter_compiler.specs.Translation.{command_sets, commands_sets, has_labelled, opening_sets, parts_sets}
 use Rattle.filter_compiler.specs.Written.{Gathers}
 use Rattle.filter_compiler.proofs.Gathering.{as_sets, command_gathers, gathers_then, parts_gathers}

@@ -1,5 +1,5 @@
 use Rattle.std.proofs.Common.{◌+◌, ◌*◌, map, take}
-use Rattle.filter_parser.specs.SyntaxCommands.{commands_of, parts_of, view_command, view_part}
+use Rattle.filter_syntax.specs.SyntaxCommands.{commands_of, parts_of, view_command, view_part}
 use Rattle.filter_compiler.specs.Translation.{commands_sets, parts_sets}
 use Rattle.filter_compiler.specs.Written.{Gathers}
 use Rattle.filter_compiler.proofs.sets.+gathering_commands.Given as goal

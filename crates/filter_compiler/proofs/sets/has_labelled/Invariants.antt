@@ -1,6 +1,6 @@
 use Rattle.std.proofs.Common.{◌≡◌, map}
 use Rattle.std.proofs.Math.ListN.{drop}
-use Rattle.filter_parser.specs.SyntaxCommands.{parts_of, view_part}
+use Rattle.filter_syntax.specs.SyntaxCommands.{parts_of, view_part}
 use Rattle.filter_compiler.specs.Translation.{has_labelled}
 use Rattle.filter_compiler.proofs.sets.has_labelled.Given as goal
 

@@ -1,5 +1,5 @@
 use Rattle.std.proofs.Common.{◌≡◌, map, take}
-use Rattle.expression_parser.specs.Syntax.{pattern_of, view_set_pattern}
+use Rattle.filter_syntax.specs.Syntax.{pattern_of, view_set_pattern}
 use Rattle.filter_compiler.proofs.sets.patterns_of.Given as goal
 
 -- the patterns so far

@@ -1,5 +1,5 @@
 use Rattle.std.proofs.Common.{◌≡◌, map, take}
-use Rattle.expression_parser.specs.Syntax.{range_of, view_range}
+use Rattle.filter_syntax.specs.Syntax.{range_of, view_range}
 use Rattle.filter_compiler.proofs.sets.ranges_of.Given as goal
 
 -- the ranges so far

@@ -1,7 +1,7 @@
 use Rattle.std.proofs.Common.{◌≡◌, map, ap, subst, ◌∙◌}
-use Rattle.filter_parser.specs.SyntaxCommands.{commands_of, view_command}
-use Rattle.filter_parser.specs.SyntaxText.{view_filter}
-use Rattle.filter_parser.specs.declared.tree.filter.Filter.{Filter}
+use Rattle.filter_syntax.specs.SyntaxCommands.{commands_of, view_command}
+use Rattle.filter_syntax.specs.SyntaxText.{view_filter}
+use Rattle.filter_syntax.specs.declared.tree.filter.Filter.{Filter}
 use Rattle.filter_compiler.specs.SetOrder.{no_sets}
 use Rattle.filter_compiler.specs.Translation.{commands_sets}
 use Rattle.filter_compiler.specs.Written.{HoldsSets}

@@ -1,18 +1,18 @@
 use Rattle.std.proofs.Common.{refl, ◌∙◌, ◌∷◌, [], None, Some, List, ap, map, sym, append_assoc, arith, rules}
 use Rattle.std.specs.Prelude.{Vec}
 use Rattle.std.specs.declared.alloc.Global.{Global}
-use Rattle.filter_parser.specs.declared.tree.command.Command.{Command}
-use Rattle.filter_parser.specs.declared.tree.command.Label.{Label}
-use Rattle.expression_parser.specs.Placed.{Kept, expr_kept, joined}
-use Rattle.filter_parser.specs.Placed.{command_kept, label_kept, part_kept}
+use Rattle.filter_syntax.specs.declared.tree.command.Command.{Command}
+use Rattle.filter_syntax.specs.declared.tree.command.Label.{Label}
+use Rattle.filter_syntax.specs.Placed.{Kept, expr_kept, joined}
+use Rattle.filter_syntax.specs.Placed.{command_kept, label_kept, part_kept}
 use Rattle.filter_parser.specs.ReadingCommands.{command_at, commands_with}
 use Rattle.expression_parser.specs.Steps.{remaining}
-use Rattle.filter_parser.specs.SyntaxCommands.{view_command, view_part}
+use Rattle.filter_syntax.specs.SyntaxCommands.{view_command, view_part}
 use Rattle.filter_parser.proofs.Bodies.{begins, case_is, goes_on, map_one, stops, ends}
 use Rattle.filter_parser.proofs.CaseParts as parts
 use Rattle.expression_parser.proofs.Placing.{grown_more, grown_none, ok_map, spans_as, spans_both, unkept}
-use Rattle.filter_parser.proofs.Placing.{kept_block, kept_case}
-use Rattle.filter_parser.proofs.Views.{view_case}
+use Rattle.filter_syntax.proofs.Placing.{kept_block, kept_case}
+use Rattle.filter_syntax.proofs.Views.{view_case}
 use Rattle.expression_parser.proofs.Within.{failed}
 use Rattle.filter_parser.proofs.command.+command.Goals as goal
 

@@ -1,8 +1,8 @@
 use Rattle.std.proofs.Common.{◌≤◌, ◌+◌, ◌*◌, [], length, map}
 use Rattle.filter_parser.specs.ReadingCommands.{command_at, commands_with, parts_with}
-use Rattle.filter_parser.specs.Placed.{command_kept, part_kept}
+use Rattle.filter_syntax.specs.Placed.{command_kept, part_kept}
 use Rattle.expression_parser.specs.Steps.{Follows, Grown, remaining}
-use Rattle.filter_parser.specs.SyntaxCommands.{view_command, view_part}
+use Rattle.filter_syntax.specs.SyntaxCommands.{view_command, view_part}
 use Rattle.filter_parser.proofs.Bodies.{Goes}
 use Rattle.filter_parser.proofs.CaseParts.{Goes as GoesOn}
 use Rattle.filter_parser.proofs.command.+command.Given as goal

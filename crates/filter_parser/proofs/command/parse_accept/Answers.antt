@@ -1,7 +1,7 @@
 use Rattle.std.proofs.Common.{refl, rules}
-use Rattle.filter_parser.proofs.Views.{view_accepted}
+use Rattle.filter_syntax.proofs.Views.{view_accepted}
 use Rattle.expression_parser.proofs.Placing.{spans_as, spans_both}
-use Rattle.filter_parser.proofs.Placing.{kept_accept}
+use Rattle.filter_syntax.proofs.Placing.{kept_accept}
 use Rattle.filter_parser.proofs.command.parse_accept.Goals as goal
 
 pub returns : goal.returns

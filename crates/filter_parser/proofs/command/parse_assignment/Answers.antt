@@ -1,7 +1,7 @@
 use Rattle.std.proofs.Common.{refl, rules}
 use Rattle.expression_parser.proofs.Placing.{spans_as, spans_both, unkept}
-use Rattle.filter_parser.proofs.Placing.{kept_assign}
-use Rattle.filter_parser.proofs.Views.{view_assigned}
+use Rattle.filter_syntax.proofs.Placing.{kept_assign}
+use Rattle.filter_syntax.proofs.Views.{view_assigned}
 use Rattle.expression_parser.proofs.Within.{failed}
 use Rattle.filter_parser.proofs.command.parse_assignment.Goals as goal
 

@@ -1,6 +1,6 @@
 use Rattle.std.proofs.Common.{map, arith}
 use Rattle.expression_parser.specs.Steps.{remaining}
-use Rattle.filter_parser.specs.SyntaxCommands.{view_decl}
+use Rattle.filter_syntax.specs.SyntaxCommands.{view_decl}
 use Rattle.filter_parser.proofs.Decls.{begins, goes_on, stops, ends}
 use Rattle.filter_parser.proofs.Bodies.{map_one}
 use Rattle.expression_parser.proofs.Placing.{grown_more, grown_none, unkept}

@@ -1,8 +1,8 @@
 use Rattle.std.proofs.Common.{length, map}
 use Rattle.filter_parser.specs.ReadingCommands.{decl_turn, decls_after}
-use Rattle.filter_parser.specs.Placed.{decl_kept}
+use Rattle.filter_syntax.specs.Placed.{decl_kept}
 use Rattle.expression_parser.specs.Steps.{Follows, Grown, remaining}
-use Rattle.filter_parser.specs.SyntaxCommands.{view_decl}
+use Rattle.filter_syntax.specs.SyntaxCommands.{view_decl}
 use Rattle.expression_parser.proofs.Turns.{Goes}
 use Rattle.filter_parser.proofs.decl.parse_declarations.Given as goal
 

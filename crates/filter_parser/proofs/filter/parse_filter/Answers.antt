@@ -1,7 +1,7 @@
 use Rattle.std.proofs.Common.{◌∙◌, ◌∷◌, ◌++◌, None, List, ap, map}
-use Rattle.filter_parser.specs.declared.tree.decl.Decl.{Decl}
-use Rattle.expression_parser.specs.Placed.{joined}
-use Rattle.filter_parser.specs.Placed.{decl_kept}
+use Rattle.filter_syntax.specs.declared.tree.decl.Decl.{Decl}
+use Rattle.filter_syntax.specs.Placed.{joined}
+use Rattle.filter_syntax.specs.Placed.{decl_kept}
 use Rattle.expression_parser.proofs.Placing.{ok_map, spans_as, spans_both, unkept}
 use Rattle.expression_parser.proofs.Within.{failed}
 use Rattle.filter_parser.proofs.filter.parse_filter.Goals as goal

@@ -1,6 +1,6 @@
 use Rattle.std.proofs.Common.{Err, ap, ◌∙◌, subst, sym}
 use Rattle.filter_compiler.specs.InstructionPlaces.{places_of}
-use Rattle.filter_parser.specs.SyntaxText.{view_filter}
+use Rattle.filter_syntax.specs.SyntaxText.{view_filter}
 use Rattle.filter_compiler.specs.Limits.{HasTooMany, IsTooLong}
 use Rattle.filter_compiler.specs.Same.{MeansTheSame}
 use Rattle.filter_compiler.specs.Translation.{code_of}

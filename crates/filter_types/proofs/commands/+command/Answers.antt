@@ -1,10 +1,10 @@
 use Rattle.std.proofs.Common.{◌≡◌, ◌≢◌, Some, inl, inr, map, ap, subst, ◌∙◌, arith}
 use Rattle.std.proofs.lemmas.List.{take_all}
 use Rattle.std.proofs.lemmas.Result.{err_from_is_err_and}
-use Rattle.expression_parser.specs.Syntax.{view}
-use Rattle.filter_parser.specs.SyntaxCommands.{parts_of, view_command, view_decl, view_part}
+use Rattle.filter_syntax.specs.Syntax.{view}
+use Rattle.filter_syntax.specs.SyntaxCommands.{parts_of, view_command, view_decl, view_part}
 use Rattle.filter_types.specs.Kinds.{KindsFitParts}
-use Rattle.filter_parser.specs.declared.tree.command.Command.TheVariants as command
+use Rattle.filter_syntax.specs.declared.tree.command.Command.TheVariants as command
 use Rattle.filter_types.specs.Faults.{CommandHasFault}
 use Rattle.filter_types.specs.declared.fault.TypeFault.{TypeFault}
 use Rattle.filter_types.specs.declared.fault.TypeFault.TheVariants as fault

@@ -1,5 +1,5 @@
 use Rattle.std.proofs.Common.{◌≤◌, ◌+◌, ◌*◌, map, take}
-use Rattle.filter_parser.specs.SyntaxCommands.{commands_of, parts_of, view_command, view_decl, view_part}
+use Rattle.filter_syntax.specs.SyntaxCommands.{commands_of, parts_of, view_command, view_decl, view_part}
 use Rattle.filter_types.specs.Kinds.{KindsFitAll, KindsFitParts}
 use Rattle.filter_types.proofs.commands.+command.Given as goal
 

@@ -1,8 +1,8 @@
 use Rattle.std.proofs.Common.{◌≡◌, Some, inl, inr, refl, sym, ap, ◌∙◌, map}
 use Rattle.std.proofs.lemmas.Result.{err_from_is_err_and}
-use Rattle.expression_parser.specs.Syntax.{view, view_more}
-use Rattle.filter_parser.specs.SyntaxCommands.{view_decl}
-use Rattle.expression_parser.specs.Syntax.{view_members}
+use Rattle.filter_syntax.specs.Syntax.{view, view_more}
+use Rattle.filter_syntax.specs.SyntaxCommands.{view_decl}
+use Rattle.filter_syntax.specs.Syntax.{view_members}
 use Rattle.filter_types.specs.Faults.{HasFault}
 use Rattle.filter_types.specs.Kinds.{kind_in}
 use Rattle.filter_types.specs.Refusals.{member_refusal, operator_refusal, suffix_refusal, wrong_kind}

@@ -1,6 +1,6 @@
 use Rattle.std.proofs.Common.{◌≡◌, Some, drop, map, take}
-use Rattle.expression_parser.specs.Syntax.{view_more}
-use Rattle.filter_parser.specs.SyntaxCommands.{view_decl}
+use Rattle.filter_syntax.specs.Syntax.{view_more}
+use Rattle.filter_syntax.specs.SyntaxCommands.{view_decl}
 use Rattle.filter_types.specs.Turns.{kind_with}
 use Rattle.filter_types.proofs.kinds.+kinds.Given as goal
 

@@ -3,8 +3,8 @@ use Rattle.std.specs.Prelude.{slice_get}
 use Rattle.std.proofs.lemmas.List.{length-take-le}
 use Rattle.std.proofs.lemmas.Option.{slice_get_read}
 use Rattle.std.proofs.lemmas.List.{length-map, take_all}
-use Rattle.filter_parser.specs.SyntaxCommands.{view_decl}
-use Rattle.filter_parser.specs.Surroundings.{variable_limit}
+use Rattle.filter_syntax.specs.SyntaxCommands.{view_decl}
+use Rattle.filter_syntax.specs.Surroundings.{variable_limit}
 use Rattle.filter_types.specs.Kinds.{AreDeclaredOnce, number_of}
 use Rattle.filter_types.proofs.Names.{earlier, once_next, twice}
 use Rattle.filter_types.proofs.variables.check_variables.Goals as goal

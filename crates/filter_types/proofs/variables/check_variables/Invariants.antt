@@ -1,6 +1,6 @@
 use Rattle.std.proofs.Common.{◌≤◌, map, take}
-use Rattle.filter_parser.specs.SyntaxCommands.{view_decl}
-use Rattle.filter_parser.specs.Surroundings.{variable_limit}
+use Rattle.filter_syntax.specs.SyntaxCommands.{view_decl}
+use Rattle.filter_syntax.specs.Surroundings.{variable_limit}
 use Rattle.filter_types.specs.Kinds.{AreDeclaredOnce}
 use Rattle.filter_types.proofs.variables.check_variables.Given as goal
 

@@ -1,8 +1,8 @@
 use Rattle.std.proofs.Common.{◌≡◌, ◌+◌, refl, sym, ap, subst, ◌∙◌, inl, inr, arith}
 use Rattle.history_file.proofs.Whole.{read_on, stopped}
 use Rattle.history_file.specs.Files.{IsNoEntry}
-use Rattle.history_file.specs.Text.{entry_line}
-use Rattle.history_file.specs.Views.{entry_view}
+use Rattle.history_lines.specs.Text.{entry_line}
+use Rattle.history_lines.specs.Views.{entry_view}
 use Rattle.history_file.proofs.history.read_entries.Goals as goal
 
 pub returns-in-Err-Form : goal.returns-in-Err-Form

@@ -1,6 +1,6 @@
 use Rattle.std.proofs.Common.{◌≡◌, length, map}
 use Rattle.history_file.specs.Files.{AreFront}
-use Rattle.history_file.specs.Views.{entry_view}
+use Rattle.history_lines.specs.Views.{entry_view}
 use Rattle.history_file.proofs.history.read_entries.Given as goal
 
 -- so many entries were read, a line each

@@ -1,7 +1,7 @@
 use Rattle.std.proofs.Common.{◌++◌, sym, ap, ◌∙◌, arith}
 use Rattle.history_file.proofs.Lines.{different, entry_unread, no_entry_other}
-use Rattle.history_file.specs.Text.{entry_line}
-use Rattle.history_file.specs.Views.{entry_view}
+use Rattle.history_lines.specs.Text.{entry_line}
+use Rattle.history_lines.specs.Views.{entry_view}
 use Rattle.route_history.specs.Whole.{whole_entry}
 use Rattle.route_history.specs.declared.entry.Entry.{Entry}
 use Rattle.history_file.proofs.history.read_entry.Goals as goal

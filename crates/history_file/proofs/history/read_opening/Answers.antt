@@ -1,7 +1,7 @@
 use Rattle.std.proofs.Common.{◌≡◌, ◌++◌, sym, ap, ◌∙◌, arith}
 use Rattle.history_file.proofs.Lines.{different, no_opening_other, opening_from, opening_unread}
 use Rattle.history_file.specs.Reading.{OpeningParts}
-use Rattle.history_file.specs.Text.{opening_line}
+use Rattle.history_lines.specs.Text.{opening_line}
 use Rattle.history_file.specs.declared.reading.OpeningParts.{OpeningParts as Parts}
 use Rattle.history_file.proofs.history.read_opening.Goals as goal
 

@@ -1,7 +1,7 @@
 use Rattle.std.proofs.Common.{◌≡◌, ◌++◌, Some, sym, ◌∙◌, ap, subst}
 use Rattle.netchange_core.specs.Kept.{filter_of}
 use Rattle.history_file.proofs.Rows.{numbered_row}
-use Rattle.history_file.specs.Fits.{FitsFilter}
+use Rattle.history_lines.specs.Fits.{FitsFilter}
 use Rattle.history_file.specs.Numbering.{IsNumbered, IsRow, row_of, texts_of}
 use Rattle.history_file.proofs.numbering.number_filter.Goals as goal
 

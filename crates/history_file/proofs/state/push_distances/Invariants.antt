@@ -1,6 +1,6 @@
 use Rattle.std.proofs.Common.{◌≡◌, ◌++◌, decimal, drop, map}
 use Rattle.std.specs.Io.{StartsWith}
-use Rattle.history_file.specs.Text.{spaced}
+use Rattle.history_lines.specs.Text.{spaced}
 use Rattle.history_file.proofs.state.push_distances.Given as goal
 
 -- the distances so far were added, and those that are left will be

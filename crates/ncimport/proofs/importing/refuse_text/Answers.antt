@@ -1,6 +1,6 @@
 use Rattle.std.proofs.Common.{ℕ, false, List, subst, sym, inl}
 use Rattle.filter_reports.specs.Check.{IsRefused}
-use Rattle.filter_parser.specs.Surroundings.{TellsRound}
+use Rattle.filter_parser.specs.Telling.{TellsRound}
 use Rattle.filter_parser.specs.Unspelled.{IsUnspelled}
 use Rattle.filter_source.specs.Diagnoses.{TellsOfText}
 use Rattle.ncimport.proofs.ResultTexts.{of_refusal}

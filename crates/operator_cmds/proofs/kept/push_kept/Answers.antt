@@ -1,7 +1,7 @@
 -- One entry more.
 use Rattle.std.proofs.Common.{◌≡◌, ◌∙◌, ◌+◌, ◌-◌, ◌++◌, ◌≤◌, ap, arith, drop, get_or, length, map, take, ℕ}
 use Rattle.std.proofs.lemmas.Grind.{common_steps}
-use Rattle.history_file.specs.Views.{entry_view}
+use Rattle.history_lines.specs.Views.{entry_view}
 use Rattle.route_history.specs.Whole.{whole_entry}
 use Rattle.route_history.proofs.Windows.{kept_are}
 use Rattle.operator_cmds.specs.Looks.{entries_text}

@@ -1,6 +1,6 @@
 use Rattle.std.proofs.Common.{◌≡◌, ◌++◌, drop, map, take}
 use Rattle.std.specs.Io.{StartsWith}
-use Rattle.history_file.specs.Views.{entry_view}
+use Rattle.history_lines.specs.Views.{entry_view}
 use Rattle.route_history.specs.Long.{OfHistory}
 use Rattle.operator_cmds.specs.Looks.{entries_text}
 use Rattle.operator_cmds.proofs.kept.push_kept.Given as goal

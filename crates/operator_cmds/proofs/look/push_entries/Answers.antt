@@ -1,7 +1,7 @@
 -- One entry more.
 use Rattle.std.proofs.Common.{◌+◌, ◌++◌, arith, drop, map, take}
 use Rattle.std.proofs.lemmas.Grind.{common_steps}
-use Rattle.history_file.specs.Views.{entry_view}
+use Rattle.history_lines.specs.Views.{entry_view}
 use Rattle.route_history.specs.Whole.{whole_entry}
 use Rattle.operator_cmds.specs.Looks.{entries_text}
 use Rattle.operator_cmds.proofs.Told.{one_told}

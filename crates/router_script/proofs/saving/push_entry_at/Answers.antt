@@ -1,7 +1,7 @@
 -- The entry at the position, if there is one.
 use Rattle.std.proofs.Common.{◌≡◌, ◌++◌, ℕ, List, Option, Some, None, OnOk, [], ◌∷◌, append_assoc, slice_get, sym, ap, subst, ◌∙◌, append-nil}
-use Rattle.history_file.specs.Text.{entry_line}
-use Rattle.history_file.specs.Views.{entry_view}
+use Rattle.history_lines.specs.Text.{entry_line}
+use Rattle.history_lines.specs.Views.{entry_view}
 use Rattle.route_history.specs.Whole.{whole_entry}
 use Rattle.route_history.specs.declared.entry.Entry.{Entry}
 use Rattle.router_script.specs.News.{line_of}

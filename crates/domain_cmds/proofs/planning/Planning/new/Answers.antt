@@ -2,7 +2,7 @@
 use Rattle.std.proofs.Common.{◌≡◌, length, sym, subst, ◌∙◌, arith}
 use Rattle.std.proofs.lemmas.Grind.{common_steps}
 use Rattle.domain_routes.specs.Edits.{unlinked}
-use Rattle.operator_cmds.proofs.Openings.{is_there}
+use Rattle.netchange_core.proofs.Openings.{is_there}
 use Rattle.domain_cmds.specs.Origins.{AreLastOf}
 use Rattle.domain_cmds.specs.State.{FiltersView}
 use Rattle.domain_cmds.proofs.Noting.{none_known}

@@ -1,6 +1,6 @@
 use Rattle.std.proofs.Common.{rules, ◌≡◌, ◌<◌, ◌≤◌, true, inl, inr, length, map, refl, sym, subst, arith}
 use Rattle.std.proofs.lemmas.List.{append-nil, length-map}
-use Rattle.expression_parser.specs.Syntax.{of_patterns, pattern_of, view_set_pattern}
+use Rattle.filter_syntax.specs.Syntax.{of_patterns, pattern_of, view_set_pattern}
 use Rattle.filter_compiler.specs.Translation.{one_set}
 use Rattle.filter_compiler.specs.Written.{Gathers}
 use Rattle.filter_compiler.proofs.Gathering.{few_patterns, many_patterns, put_past, put_within}

@@ -1,6 +1,6 @@
 use Rattle.std.proofs.Common.{rules, ◌≡◌, ◌<◌, ◌≤◌, true, inl, inr, length, map, refl, sym, subst, arith}
 use Rattle.std.proofs.lemmas.List.{append-nil, length-map}
-use Rattle.expression_parser.specs.Syntax.{range_of, view_range}
+use Rattle.filter_syntax.specs.Syntax.{range_of, view_range}
 use Rattle.filter_compiler.specs.Translation.{ranges_set}
 use Rattle.filter_compiler.specs.Written.{Gathers}
 use Rattle.filter_compiler.proofs.Gathering.{few_ranges, many_ranges, put_past, put_within}

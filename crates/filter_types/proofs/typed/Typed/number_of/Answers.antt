@@ -1,6 +1,6 @@
 use Rattle.std.proofs.Common.{◌≡◌, length, map, ap, sym, arith}
 use Rattle.std.proofs.lemmas.List.{length-map}
-use Rattle.filter_parser.specs.SyntaxCommands.{view_decl}
+use Rattle.filter_syntax.specs.SyntaxCommands.{view_decl}
 use Rattle.filter_types.proofs.typed.Typed.number_of.Goals as goal
 
 pub overflow_cast-result : goal.overflow_cast-result

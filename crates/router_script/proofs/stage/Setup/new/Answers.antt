@@ -1,5 +1,6 @@
 -- A domain whose numbers fit is an opening.
-use Rattle.operator_cmds.proofs.Openings.{is_opening, is_there}
+use Rattle.netchange_core.proofs.Openings.{is_opening}
+use Rattle.netchange_core.proofs.Openings.{is_there}
 use Rattle.router_script.proofs.stage.Setup.new.Goals as goal
 
 pub unwrap-opening-requires : goal.unwrap-opening-requires

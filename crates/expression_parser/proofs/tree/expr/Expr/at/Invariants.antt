@@ -1,7 +1,0 @@
-use Rattle.std.proofs.Common.{◌≡◌}
-use Rattle.expression_parser.specs.Places.{expr_place}
-use Rattle.expression_parser.proofs.tree.expr.Expr.at.Given as goal
-
--- the part in hand begins where the expression does
-abbrev pub invariant-loop-first : goal.invariant-loop-first
-invariant-loop-first l = expr_place l.first ≡ expr_place l.self

@@ -1,0 +1,2 @@
+mod EqualCodes
+mod Joined

@@ -1,0 +1,2 @@
+pub mod PartLines
+pub mod Differences

@@ -1,0 +1,4 @@
+pub mod Fits
+pub mod Keywords
+pub mod Text
+pub mod Views
