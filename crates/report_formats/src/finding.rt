@@ -1,10 +1,12 @@
 //! The line of a finding.
 ghost use Rattle.std.specs.Prelude.{◌≡◌, ◌++◌, IfOk, OnOk};
+ghost use Rattle.serde_json.specs.Data.{string};
 ghost use Rattle.serde_json.specs.View.{view};
 ghost use Rattle.report_formats.specs.Findings as spec;
 
+use crate::object::ObjectBuilder;
 use crate::text::{number_or_null, push_value, text_or_null, text_value};
-use serde_json::{Value, json};
+use serde_json::Value;
 use std::alloc::{AllocError, Global};
 
 /// What a finding says of what it is about.
@@ -38,7 +40,7 @@ pub struct Finding<'a> {
 }
 
 /// The word for a severity.
-pub(crate) fn severity_word(severity: Severity) -> &'static str
+fn severity_word(severity: Severity) -> &'static str
     ensures { result.now ≡ spec.severity_word severity }
 {
     match severity {
@@ -49,17 +51,25 @@ pub(crate) fn severity_word(severity: Severity) -> &'static str
     }
 }
 
+/// The word for a severity as a text.
+pub(crate) fn severity_value(alloc: Global, severity: Severity) -> Result<Value, AllocError>
+    ensures { IfOk result (λ value. view value ≡ string (spec.severity_word severity)) }
+{
+    Value::try_from_str(alloc, severity_word(severity))
+}
+
 /// A finding as an object.
 fn value_of(alloc: Global, finding: &Finding<'_>) -> Result<Value, AllocError>
     ensures { IfOk result (λ value. view value ≡ spec.finding_data (spec.finding_view finding.now)) }
 {
-    let code = text_or_null(alloc, finding.code)?;
-    let column = number_or_null(finding.column);
-    let file = text_value(alloc, finding.file)?;
-    let line = number_or_null(finding.line);
-    let severity = severity_word(finding.severity);
-    let words = text_value(alloc, finding.words)?;
-    json!(in alloc; {"code": code, "column": column, "file": file, "line": line, "severity": severity, "words": words})
+    ObjectBuilder::new(alloc)
+        .try_member("code", text_or_null(alloc, finding.code))
+        .member("column", number_or_null(finding.column))
+        .try_member("file", text_value(alloc, finding.file))
+        .member("line", number_or_null(finding.line))
+        .try_member("severity", severity_value(alloc, finding.severity))
+        .try_member("words", text_value(alloc, finding.words))
+        .finish()
 }
 
 /// Puts the line of a finding at the end of `out`.

@@ -12,6 +12,7 @@ mod escaping;
 mod finding;
 mod format;
 mod laws;
+mod object;
 mod options;
 mod part;
 mod text;
@@ -20,6 +21,7 @@ pub use case::{document_end, document_head, push_broken, push_failed, push_passe
 pub use finding::{Finding, Severity, push_finding};
 pub use format::{Format, TestFormat};
 pub use laws::{attributes_are_closed, readable_text_is_kept};
+pub use object::ObjectBuilder;
 pub use options::{CheckOptions, DiffOptions, LintOptions, TestOptions};
 pub use part::{PartReport, push_part};
 pub use text::{number_or_null, push_value, text_or_null, text_value};

@@ -3,9 +3,10 @@ ghost use Rattle.std.specs.Prelude.{◌≡◌, ◌++◌, IfOk, OnOk};
 ghost use Rattle.serde_json.specs.View.{view};
 ghost use Rattle.report_formats.specs.Parts as spec;
 
-use crate::finding::{Severity, severity_word};
+use crate::finding::{Severity, severity_value};
+use crate::object::ObjectBuilder;
 use crate::text::{push_value, text_or_null, text_value};
-use serde_json::{Value, json};
+use serde_json::Value;
 use std::alloc::{AllocError, Global};
 
 /// What was found of a part of the routes.
@@ -35,17 +36,17 @@ pub struct PartReport<'a> {
 fn value_of(alloc: Global, part: &PartReport<'_>) -> Result<Value, AllocError>
     ensures { IfOk result (λ value. view value ≡ spec.part_data (spec.part_view part.now)) }
 {
-    let after = text_or_null(alloc, part.after)?;
-    let before = text_or_null(alloc, part.before)?;
-    let (greatest, least) = (part.greatest, part.least);
-    let (longest, shortest) = (part.longest, part.shortest);
-    let prefix = text_value(alloc, part.prefix)?;
-    let severity = severity_word(part.severity);
-    let words = text_value(alloc, part.words)?;
-    json!(in alloc; {
-        "after": after, "before": before, "greatest": greatest, "least": least, "longest": longest,
-        "prefix": prefix, "severity": severity, "shortest": shortest, "words": words
-    })
+    ObjectBuilder::new(alloc)
+        .try_member("after", text_or_null(alloc, part.after))
+        .try_member("before", text_or_null(alloc, part.before))
+        .member("greatest", Value::from(part.greatest))
+        .member("least", Value::from(part.least))
+        .member("longest", Value::from(part.longest))
+        .try_member("prefix", text_value(alloc, part.prefix))
+        .try_member("severity", severity_value(alloc, part.severity))
+        .member("shortest", Value::from(part.shortest))
+        .try_member("words", text_value(alloc, part.words))
+        .finish()
 }
 
 /// Puts the line of a part at the end of `out`.
